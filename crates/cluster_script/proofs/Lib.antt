@@ -1,0 +1,5 @@
+pub mod Follows
+pub mod Counting
+pub mod Pieces
+pub mod DigitLemmas
+pub mod LineSteps

@@ -1,0 +1,10 @@
+pub mod Statements
+pub mod OneDisk
+pub mod Settings
+pub mod Reading
+pub mod Words
+pub mod Numbers
+pub mod Requests
+pub mod Script
+pub mod Totals
+pub mod Causes

@@ -1,0 +1,88 @@
+-- Words over lists of statements: what kinds there are among them, and what they make, read and write.
+use Rattle.std.specs.Prelude.{ℕ, ◌==◌, Bool, true, false, List, [], ◌∷◌, Option, Some, None, filter}
+use Rattle.std.specs.List.{list_any}
+use Rattle.std.specs.Option.{option_or}
+use Rattle.cluster_script.specs.declared.statement.Statement.{Statement}
+use Rattle.cluster_script.specs.declared.statement.Statement.TheVariants.{Cluster, Session, Create, OpenDisk, Close, Read, Write}
+
+-- a statement says how many nodes there are
+abbrev pub is_cluster : Statement → Bool
+is_cluster (Cluster nodes) = true
+is_cluster s = false
+
+-- settings stand before every other statement
+abbrev pub is_setting : Statement → Bool
+is_setting (Cluster nodes) = true
+is_setting s = false
+
+-- a statement declares this session
+abbrev pub declares : ℕ → Statement → Bool
+declares number (Session session node) = session == number
+declares number s = false
+
+-- a statement makes a disk
+abbrev pub is_create : Statement → Bool
+is_create (Create session policy shift name size) = true
+is_create s = false
+
+-- a statement opens a disk
+abbrev pub is_open : Statement → Bool
+is_open (OpenDisk session name tag) = true
+is_open s = false
+
+-- a statement closes the disk that its session has open
+abbrev pub is_close : Statement → Bool
+is_close (Close session) = true
+is_close s = false
+
+-- a request is what a session asks for; requests are numbered from 1
+abbrev pub is_request : Statement → Bool
+is_request (Cluster nodes) = false
+is_request (Session session node) = false
+is_request (Create session policy shift name size) = true
+is_request (OpenDisk session name tag) = true
+is_request (Close session) = true
+is_request (Read session offset length) = true
+is_request (Write session offset length pattern) = true
+
+-- how many bytes a statement reads
+abbrev pub read_bytes : Statement → ℕ
+read_bytes (Read session offset length) = length
+read_bytes s = 0
+
+-- how many bytes a statement writes
+abbrev pub write_bytes : Statement → ℕ
+write_bytes (Write session offset length pattern) = length
+write_bytes s = 0
+
+-- the name of the disk that a statement makes
+abbrev pub name_made : Statement → Option (List ℕ)
+name_made (Create session policy shift name size) = Some name
+name_made s = None
+
+-- the size in bytes of the disk that a statement makes
+abbrev pub size_made : Statement → Option ℕ
+size_made (Create session policy shift name size) = Some size
+size_made s = None
+
+-- whether a statement of a kind is among them
+abbrev pub has : (Statement → Bool) → List Statement → Bool
+has kind statements = list_any kind statements
+
+-- whether a session is declared by one of them
+abbrev pub declared : ℕ → List Statement → Bool
+declared number statements = list_any (declares number) statements
+
+-- the requests among them, in order
+abbrev pub requests_of : List Statement → List Statement
+requests_of statements = filter is_request statements
+
+-- the name of the first disk that they make
+abbrev pub disk_name : List Statement → Option (List ℕ)
+disk_name [] = None
+disk_name (s ∷ rest) = option_or (name_made s) (disk_name rest)
+
+-- the size of the first disk that they make
+abbrev pub disk_size : List Statement → Option ℕ
+disk_size [] = None
+disk_size (s ∷ rest) = option_or (size_made s) (disk_size rest)

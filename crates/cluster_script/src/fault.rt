@@ -1,0 +1,72 @@
+ghost use Rattle.std.specs.Prelude.{◌≡◌};
+ghost use Rattle.cluster_script.specs.Causes.{number_of_cause};
+
+use object_id::NoMemory;
+use thiserror::Error;
+
+/// What is wrong with the first bad word of a line. Where one word has several causes, the one listed first is given.
+#[derive(Clone, Copy, Debug, PartialEq, Eq)]
+pub enum LineCause {
+    /// A word isn't one of those that may stand there, is missing or too many, or is no name.
+    Word = 1,
+    /// A number isn't digits, with its suffix where one is allowed, or isn't below 2^64.
+    Number = 2,
+    /// A number is outside its limits.
+    Range = 3,
+    /// A size, offset or length isn't in whole blocks.
+    Unaligned = 4,
+    /// A session was declared before.
+    Twice = 5,
+    /// A session wasn't declared.
+    Unknown = 6,
+    /// The line makes the requests, the bytes read or the bytes written more than a script may have.
+    TooMany = 7,
+    /// The line isn't UTF-8. Nothing else of it was looked at.
+    NotUtf8 = 8,
+}
+
+impl LineCause {
+    /// The number by which a report names the cause.
+    pub fn number(self) -> u8
+        ensures { result ≡ number_of_cause self }
+    {
+        self as u8
+    }
+}
+
+/// Why a text is no script.
+#[derive(Clone, Copy, Debug, PartialEq, Eq, Error)]
+pub enum ScriptFault {
+    /// The first bad line, from 1.
+    #[error("line {line} is bad: {cause:?}")]
+    BadLine { line: u32, cause: LineCause },
+    #[error("no memory")]
+    NoMemory,
+}
+
+/// Why a line could not be taken.
+#[derive(Clone, Copy, Debug, PartialEq, Eq)]
+pub enum ReadError {
+    NoMemory,
+    Cause(LineCause),
+}
+
+impl From<NoMemory> for ReadError {
+    ghost use Rattle.cluster_script.specs.declared.fault.ReadError.TheVariants as errors;
+
+    ghost from_gives = { λ _ e. e ≡ errors.NoMemory };
+
+    fn from(_error: NoMemory) -> ReadError {
+        ReadError::NoMemory
+    }
+}
+
+impl From<LineCause> for ReadError {
+    ghost use Rattle.cluster_script.specs.declared.fault.ReadError.TheVariants as errors;
+
+    ghost from_gives = { λ cause e. e ≡ errors.Cause cause };
+
+    fn from(cause: LineCause) -> ReadError {
+        ReadError::Cause(cause)
+    }
+}

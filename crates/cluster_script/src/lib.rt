@@ -1,0 +1,28 @@
+//! Cluster scripts: texts that say, line by line, what a cluster is and what is asked of it.
+//!
+//! A text is a script or it isn't: [`parse`] answers the statements that its lines spell, or else the first bad line
+//! and the cause of its first bad word. Both are exact, by a grammar over lines and words whose only state is the list
+//! of the statements so far. Want of memory is the one answer that the text doesn't decide.
+//!
+//! So far a script has one node, one session, and one disk with one copy. A definition apart from the grammar says
+//! which lists of statements are such scripts, and a [`Script`] keeps it. Of the workspace the crate stands on
+//! `object_id` alone.
+#![tactic(auto)]
+
+mod draft;
+mod fault;
+mod limits;
+mod line;
+mod number;
+mod request;
+mod script;
+mod statement;
+mod words;
+
+pub use fault::{LineCause, ScriptFault};
+pub use limits::TEXT_BYTES_MAX;
+pub use script::{Script, parse};
+pub use statement::{Pattern, Statement};
+
+#[cfg(test)]
+mod tests;

@@ -1,0 +1,219 @@
+ghost use Rattle.std.specs.Prelude.{◌≡◌, true, false, [], IfOk};
+ghost use Rattle.cluster_script.specs.Statements.{is_open, has, requests_of, declared};
+ghost use Rattle.cluster_script.specs.OneDisk.{MayFollow, IsDiskOpen, IsSpan};
+ghost use Rattle.cluster_script.specs.Reading.{Gives, GivesInMemory};
+ghost use Rattle.cluster_script.specs.Words.{words_of};
+ghost use Rattle.cluster_script.specs.Requests.{create_at, open_at, close_at, span_at, read_at, write_at, disk_verb_at, verb_at, request_at};
+
+use crate::draft::Draft;
+use crate::fault::{LineCause, ReadError};
+use crate::limits::{BLOCK, LENGTH_MAX, SHIFT_DEFAULT, SIZE_MAX};
+use crate::number::{blocks, number};
+use crate::statement::{Pattern, Statement};
+use crate::words::{end, is_word, keyword, name, word};
+use object_id::{Bytes, Policy};
+use std::alloc::Global;
+
+/// A request of the session, from its word `vdi` on.
+#[tactic(auto, unfolding(crate::specs::Requests::request_at))]
+pub fn request(
+    alloc: Global,
+    before: &Draft,
+    session: u32,
+    line: &[u8],
+) -> Result<Statement, ReadError>
+    requires one { session ≡ 1 }
+    requires declared { declared session before.now ≡ true }
+    ensures request { GivesInMemory (λ s. s) result (request_at before.now session (words_of line.now)) }
+    ensures follows { IfOk result (MayFollow before.now) }
+{
+    let rest = keyword(b"vdi", line)?;
+    let (verb, rest) = word(rest)?;
+    asked(alloc, before, session, verb, rest)
+}
+
+/// What the verb asks for. The first request is a create, and the second an open.
+#[tactic(auto, unfolding(crate::specs::Requests::verb_at))]
+fn asked(
+    alloc: Global,
+    before: &Draft,
+    session: u32,
+    verb: &[u8],
+    line: &[u8],
+) -> Result<Statement, ReadError>
+    requires one { session ≡ 1 }
+    requires declared { declared session before.now ≡ true }
+    ensures request { GivesInMemory (λ s. s) result (verb_at before.now session verb.now (words_of line.now)) }
+    ensures follows { IfOk result (MayFollow before.now) }
+{
+    if is_word(verb, b"create") {
+        return if before.has_no_request() {
+            create(alloc, before, session, line)
+        } else {
+            Err(ReadError::Cause(LineCause::Word))
+        };
+    }
+    if is_word(verb, b"open") {
+        return if before.awaits_open() {
+            open_disk(alloc, before, session, line)
+        } else {
+            Err(ReadError::Cause(LineCause::Word))
+        };
+    }
+    Ok(asked_of_open_disk(before, session, verb, line)?)
+}
+
+/// After the open the disk is read and written, and at last closed.
+#[tactic(auto, unfolding(crate::specs::Requests::disk_verb_at))]
+fn asked_of_open_disk(
+    before: &Draft,
+    session: u32,
+    verb: &[u8],
+    line: &[u8],
+) -> Result<Statement, LineCause>
+    requires one { session ≡ 1 }
+    requires declared { declared session before.now ≡ true }
+    ensures request { Gives (λ s. s) result (disk_verb_at before.now session verb.now (words_of line.now)) }
+    ensures follows { IfOk result (MayFollow before.now) }
+{
+    if !before.has_open_disk() {
+        return Err(LineCause::Word);
+    }
+    if is_word(verb, b"close") {
+        return close(before, session, line);
+    }
+    if is_word(verb, b"read") {
+        return read(before, session, line);
+    }
+    if is_word(verb, b"write") {
+        return write(before, session, line);
+    }
+    Err(LineCause::Word)
+}
+
+/// `-c 1 NAME SIZE`.
+#[tactic(auto, unfolding(crate::specs::Requests::create_at))]
+fn create(alloc: Global, before: &Draft, session: u32, line: &[u8]) -> Result<Statement, ReadError>
+    requires one { session ≡ 1 }
+    requires declared { declared session before.now ≡ true }
+    requires turn { requests_of before.now ≡ [] }
+    ensures request { GivesInMemory (λ s. s) result (create_at before.now session (words_of line.now)) }
+    ensures follows { IfOk result (MayFollow before.now) }
+{
+    let rest = keyword(b"-c", line)?;
+    let (copies, rest) = number(1, 1, rest)?;
+    let (name, rest) = name(rest)?;
+    let (size, rest) = blocks(BLOCK, SIZE_MAX, rest)?;
+    end(rest)?;
+    if !before.has_room(0, 0) {
+        return Err(ReadError::Cause(LineCause::TooMany));
+    }
+    Ok(Statement::Create {
+        session,
+        policy: Policy::Copies(copies as u8),
+        shift: SHIFT_DEFAULT,
+        name: Bytes::from_slice(alloc, name)?,
+        size,
+    })
+}
+
+/// `NAME`, that of the disk that was made.
+#[tactic(auto, unfolding(crate::specs::Requests::open_at))]
+fn open_disk(
+    alloc: Global,
+    before: &Draft,
+    session: u32,
+    line: &[u8],
+) -> Result<Statement, ReadError>
+    requires one { session ≡ 1 }
+    requires declared { declared session before.now ≡ true }
+    requires turn { has is_open before.now ≡ false }
+    ensures request { GivesInMemory (λ s. s) result (open_at before.now session (words_of line.now)) }
+    ensures follows { IfOk result (MayFollow before.now) }
+{
+    let (name, rest) = name(line)?;
+    if !before.names_disk(name) {
+        return Err(ReadError::Cause(LineCause::Word));
+    }
+    end(rest)?;
+    if !before.has_room(0, 0) {
+        return Err(ReadError::Cause(LineCause::TooMany));
+    }
+    Ok(Statement::OpenDisk {
+        session,
+        name: Bytes::from_slice(alloc, name)?,
+        tag: None,
+    })
+}
+
+/// Nothing follows the verb.
+#[tactic(auto, unfolding(crate::specs::Requests::close_at))]
+fn close(before: &Draft, session: u32, line: &[u8]) -> Result<Statement, LineCause>
+    requires one { session ≡ 1 }
+    requires declared { declared session before.now ≡ true }
+    requires turn { IsDiskOpen before.now }
+    ensures request { Gives (λ s. s) result (close_at before.now session (words_of line.now)) }
+    ensures follows { IfOk result (MayFollow before.now) }
+{
+    end(line)?;
+    if !before.has_room(0, 0) {
+        return Err(LineCause::TooMany);
+    }
+    Ok(Statement::Close { session })
+}
+
+/// `OFFSET LENGTH`, in bytes and whole blocks, and what follows.
+#[tactic(auto, unfolding(crate::specs::Requests::span_at))]
+fn span(line: &[u8]) -> Result<(u64, u32, &[u8]), LineCause>
+    ensures span { Gives (λ x. (x.0, x.1, words_of x.2.now)) result (span_at (words_of line.now)) }
+    ensures is_span { IfOk result (λ x. IsSpan x.0 x.1) }
+{
+    let (offset, rest) = blocks(0, u64::MAX, line)?;
+    let (length, rest) = blocks(BLOCK, LENGTH_MAX, rest)?;
+    Ok((offset, length as u32, rest))
+}
+
+/// `OFFSET LENGTH`.
+#[tactic(auto, unfolding(crate::specs::Requests::read_at))]
+fn read(before: &Draft, session: u32, line: &[u8]) -> Result<Statement, LineCause>
+    requires one { session ≡ 1 }
+    requires declared { declared session before.now ≡ true }
+    requires turn { IsDiskOpen before.now }
+    ensures request { Gives (λ s. s) result (read_at before.now session (words_of line.now)) }
+    ensures follows { IfOk result (MayFollow before.now) }
+{
+    let (offset, length, rest) = span(line)?;
+    end(rest)?;
+    if !before.has_room(length as u64, 0) {
+        return Err(LineCause::TooMany);
+    }
+    Ok(Statement::Read {
+        session,
+        offset,
+        length,
+    })
+}
+
+/// `OFFSET LENGTH fill BYTE`.
+#[tactic(auto, unfolding(crate::specs::Requests::write_at))]
+fn write(before: &Draft, session: u32, line: &[u8]) -> Result<Statement, LineCause>
+    requires one { session ≡ 1 }
+    requires declared { declared session before.now ≡ true }
+    requires turn { IsDiskOpen before.now }
+    ensures request { Gives (λ s. s) result (write_at before.now session (words_of line.now)) }
+    ensures follows { IfOk result (MayFollow before.now) }
+{
+    let (offset, length, rest) = span(line)?;
+    let rest = keyword(b"fill", rest)?;
+    let (byte, rest) = number(0, 255, rest)?;
+    end(rest)?;
+    if !before.has_room(0, length as u64) {
+        return Err(LineCause::TooMany);
+    }
+    Ok(Statement::Write {
+        session,
+        offset,
+        length,
+        pattern: Pattern::Fill(byte as u8),
+    })
+}

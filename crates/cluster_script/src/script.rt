@@ -1,0 +1,120 @@
+ghost use Rattle.std.specs.Prelude.{◌≡◌, ◌≤◌, ◌<◌, [], length, IfOk};
+ghost use Rattle.cluster_script.specs.OneDisk.{IsOneDiskScript};
+ghost use Rattle.cluster_script.specs.Settings.{nodes_set, nodes_of, vnodes_of, tries_of, limit_of};
+ghost use Rattle.cluster_script.specs.Words.{lines_of};
+ghost use Rattle.cluster_script.specs.Script.{script_of, Answers};
+
+use crate::draft::Draft;
+use crate::fault::{ReadError, ScriptFault};
+use crate::limits::{LIMIT_DEFAULT, NODES_DEFAULT, TEXT_BYTES_MAX, TRIES_DEFAULT, VNODES_DEFAULT};
+use crate::line::take_line;
+use crate::statement::Statement;
+use crate::words::cut;
+use object_id::Items;
+use std::alloc::Global;
+use std::marker::Model;
+
+/// The statements of a text that is a script, in order.
+#[derive(Debug, Drop)]
+pub struct Script {
+    statements: Items<Statement>,
+}
+
+impl Model for Script {
+    ghost use Rattle.std.specs.Prelude.{List, length, ◌≤◌};
+    ghost use Rattle.cluster_script.specs.declared.statement.Statement.{Statement as Line};
+    ghost use Rattle.cluster_script.specs.declared.limits.TheConstants.{TEXT_BYTES_MAX};
+    ghost use Rattle.cluster_script.specs.OneDisk.{IsOneDiskScript};
+
+    ghost Value = { List Line };
+
+    ghost view = { λ script. script.statements };
+
+    ghost invariant = { λ script. (length script.statements ≤ TEXT_BYTES_MAX) × IsOneDiskScript script.statements };
+}
+
+impl Script {
+    /// How many nodes are the opening members.
+    pub fn nodes(&self) -> u32
+        ensures { result ≡ nodes_of self.now }
+    {
+        first_nodes(self.statements())
+    }
+
+    /// How many virtual nodes each node has.
+    pub fn vnodes(&self) -> u16
+        ensures { result ≡ vnodes_of self.now }
+    {
+        VNODES_DEFAULT
+    }
+
+    /// How many attempts a request has.
+    pub fn tries(&self) -> u32
+        ensures { result ≡ tries_of self.now }
+    {
+        TRIES_DEFAULT
+    }
+
+    /// How many events a run may take.
+    pub fn limit(&self) -> u32
+        ensures { result ≡ limit_of self.now }
+    {
+        LIMIT_DEFAULT
+    }
+
+    pub fn statements(&self) -> &[Statement]
+        ensures statements { result.now ≡ self.now }
+        ensures count { length result.now ≤ TEXT_BYTES_MAX }
+        ensures one_disk { IsOneDiskScript result.now }
+    {
+        self.statements.as_slice()
+    }
+}
+
+/// The number of opening members that the first setting of it gives, or the default.
+fn first_nodes(statements: &[Statement]) -> u32
+    ensures { result ≡ nodes_of statements.now }
+{
+    for s in statements {
+        if let Some(nodes) = nodes_in(s) {
+            return nodes;
+        }
+    }
+    NODES_DEFAULT
+}
+
+fn nodes_in(s: &Statement) -> Option<u32>
+    ensures { result ≡ nodes_set s.now }
+{
+    match s {
+        Statement::Cluster { nodes } => Some(*nodes),
+        _ => None,
+    }
+}
+
+/// Reads a text. A script is answered as its statements; else the answer is the first bad line, from 1, and its cause.
+pub fn parse(alloc: Global, text: &[u8]) -> Result<Script, ScriptFault>
+    requires { length text.now ≤ TEXT_BYTES_MAX }
+    ensures exact { Answers result (script_of [] 1 (lines_of text.now)) }
+    ensures one_disk { IfOk result IsOneDiskScript }
+{
+    let mut draft = Draft::new(alloc);
+    let mut rest = text;
+    let mut number = 1;
+    while !rest.is_empty() {
+        let (line, after) = cut(rest, b'\n');
+        match take_line(alloc, &mut draft, line) {
+            Ok(()) => {}
+            Err(ReadError::NoMemory) => return Err(ScriptFault::NoMemory),
+            Err(ReadError::Cause(cause)) => return Err(ScriptFault::BadLine {
+                line: number,
+                cause,
+            }),
+        }
+        rest = after;
+        number += 1;
+    }
+    Ok(Script {
+        statements: draft.into_statements(),
+    })
+}

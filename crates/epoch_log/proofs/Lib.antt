@@ -1,0 +1,5 @@
+pub mod GreatestLemmas
+pub mod EpochLemmas
+pub mod RecoveredLemmas
+pub mod MembersLemmas
+pub mod TallyLemmas

@@ -1,0 +1,271 @@
+-- The members of an epoch ascend and are below 64, whatever entries made them.
+use Rattle.std.proofs.Common.{◌≡◌, ◌≢◌, ◌⊎◌, inl, inr, ℕ, zero, suc, ◌+◌, ◌<◌, ◌≤◌, ◌==◌, ◌||◌, nat_lt, not, Bool, true, false, cond, List, [], ◌∷◌, ◌++◌, length, get_or, slice_index, ◌-◌, take, map, filter, fold, All, refl, ap, sym, ◌∙◌, subst, arith}
+use Rattle.std.specs.List.{list_any}
+use Rattle.std.specs.List.Sorted.{IsStrictlyIncreasing}
+use Rattle.std.proofs.lemmas.Bool.{ltb-true, ltb-false, eqb-false, eqb-true, or_parts, cases_eq, cases_lt}
+use Rattle.std.proofs.lemmas.List.Elements.{All-head, All-tail, All-cons, All-nil}
+use Rattle.std.proofs.lemmas.List.{append_assoc, append-nil, length_push, take_all}
+use Rattle.object_id.specs.declared.entry.Member.{Member}
+use Rattle.object_id.specs.declared.entry.Entry.{Entry}
+use Rattle.object_id.specs.declared.entry.Entry.TheVariants.{Format, Join, Leave, Reweight, Recovered, Reserve, Publish, Clone, Snapshot, Delete, Lock, Unlock}
+use Rattle.epoch_log.specs.Members.{is_node, is_member, joined, without, reweighted, moved, numbers_of, AreMembers}
+use Rattle.epoch_log.specs.Epochs.{begins, epoch_of, members_in}
+use Rattle.epoch_log.specs.Appending.{FitsMembers, MayAppend, MayOpen, AreAppended, IsLog}
+use Rattle.epoch_log.proofs.EpochLemmas.{members_in-append, members_in-begun, epoch_of-append}
+
+-- the same by recursion: from the least number that may come next
+Ascend : ℕ → List Member → Type 0
+Ascend least [] = Unit {0}
+Ascend least (member ∷ members) = (least ≤ member.node.0) × (member.node.0 < 64) × Ascend (suc member.node.0) members
+
+Ascend-weaker : (low least : ℕ) (members : List Member) → low ≤ least → Ascend least members → Ascend low members
+unfolding Ascend
+Ascend-weaker low least [] below up = tt
+Ascend-weaker low least (member ∷ members) below up =
+    let first : least ≤ member.node.0 = up.0 in
+    (omega arith, up.1, up.2)
+
+Ascend-length : (least : ℕ) (members : List Member) → least ≤ 64 → Ascend least members → length members + least ≤ 64
+unfolding Ascend
+Ascend-length least [] below up = omega arith
+Ascend-length least (member ∷ members) below up =
+    let first : least ≤ member.node.0 = up.0 in
+    let last : member.node.0 < 64 = up.1 in
+    let rest : length members + suc member.node.0 ≤ 64 = Ascend-length (suc member.node.0) members (omega arith) up.2 in
+    omega arith
+
+Ascend-joined : (least : ℕ) (member : Member) (members : List Member) → least ≤ member.node.0 → member.node.0 < 64
+    → is_member member.node.0 members ≡ false → Ascend least members → Ascend least (joined member members)
+unfolding Ascend
+Ascend-joined least member [] below small absent up = (below, small, tt)
+Ascend-joined least member (other ∷ members) below small absent up =
+    by_order (nat_lt member.node.0 other.node.0) refl
+    (λ above. Ascend-joined (suc other.node.0) member members above small (or_parts (is_node member.node.0 other) (is_member member.node.0 members) absent).1 up.2)
+  where
+    by_order : (b : Bool) → nat_lt member.node.0 other.node.0 ≡ b
+        → (suc other.node.0 ≤ member.node.0 → Ascend (suc other.node.0) (joined member members))
+        → Ascend least (cond b (member ∷ other ∷ members) (other ∷ joined member members))
+    by_order true less rest = (below, small, (let l : member.node.0 < other.node.0 = ltb-true member.node.0 other.node.0 less in (omega arith, up.1, up.2)))
+    by_order false less rest =
+        let l : other.node.0 ≤ member.node.0 = ltb-false member.node.0 other.node.0 less in
+        let apart : other.node.0 ≡ member.node.0 → ⊥ = eqb-false other.node.0 member.node.0 (or_parts (is_node member.node.0 other) (is_member member.node.0 members) absent).0 in
+        let above : suc other.node.0 ≤ member.node.0 = next other.node.0 member.node.0 l apart in
+        (up.0, up.1, rest above)
+      where
+        next : (a b : ℕ) → a ≤ b → (a ≡ b → ⊥) → suc a ≤ b
+        next a b at_most apart = elim (cases_lt a b) [
+          | inl less ↦ less
+          | inr least ↦ absurd (apart (omega arith))
+        ]
+
+Ascend-filter : (p : Member → Bool) (least : ℕ) (members : List Member) → Ascend least members → Ascend least (filter p members)
+unfolding Ascend
+Ascend-filter p least [] up = tt
+Ascend-filter p least (member ∷ members) up = by_test (p member) (Ascend-filter p (suc member.node.0) members up.2)
+  where
+    by_test : (b : Bool) → Ascend (suc member.node.0) (filter p members) → Ascend least (cond b (member ∷ filter p members) (filter p members))
+    by_test true rest = (up.0, up.1, rest)
+    by_test false rest =
+        let first : least ≤ member.node.0 = up.0 in
+        Ascend-weaker least (suc member.node.0) (filter p members) (omega arith) rest
+
+Ascend-reweighted : (node vnodes least : ℕ) (members : List Member) → Ascend least members → Ascend least (reweighted node vnodes members)
+unfolding Ascend
+Ascend-reweighted node vnodes least [] up = tt
+Ascend-reweighted node vnodes least (member ∷ members) up = by_test (is_node node member) (Ascend-reweighted node vnodes (suc member.node.0) members up.2)
+  where
+    by_test : (b : Bool) → Ascend (suc member.node.0) (reweighted node vnodes members)
+        → Ascend least (cond b (record member { vnodes = vnodes }) member ∷ reweighted node vnodes members)
+    by_test true rest = (up.0, up.1, rest)
+    by_test false rest = (up.0, up.1, rest)
+
+Ascend-moved : (members : List Member) (entry : Entry) → FitsMembers members entry → Ascend 0 members → Ascend 0 (moved members entry)
+unfolding Ascend
+Ascend-moved members (Format opening) fits up = up
+Ascend-moved members (Join node zone vnodes) fits up = Ascend-joined 0 (record { node = node; zone = zone; vnodes = vnodes }) members (omega arith) fits.0 fits.1 up
+Ascend-moved members (Leave node) fits up = Ascend-filter (λ member. not (is_node node.0 member)) 0 members up
+Ascend-moved members (Reweight node vnodes) fits up = Ascend-reweighted node.0 vnodes 0 members up
+Ascend-moved members (Recovered node epoch) fits up = up
+Ascend-moved members (Reserve by session name origin) fits up = up
+Ascend-moved members (Publish by vid) fits up = up
+Ascend-moved members (Clone by vid) fits up = up
+Ascend-moved members (Snapshot by old vid) fits up = up
+Ascend-moved members (Delete by session name tag) fits up = up
+Ascend-moved members (Lock by session name tag) fits up = up
+Ascend-moved members (Unlock by session vid) fits up = up
+
+-- the next number, one place on
+one_on : (x : ℕ) (xs : List ℕ) (k : ℕ) → slice_index xs k < slice_index xs (k + 1) → slice_index (x ∷ xs) (suc k) < slice_index (x ∷ xs) (suc k + 1)
+one_on x xs k less =
+    let same : suc k + 1 ≡ suc (k + 1) = omega arith in
+    subst (λ (j : ℕ). slice_index (x ∷ xs) (suc k) < slice_index (x ∷ xs) j) (sym same) less
+
+one_back : (x : ℕ) (xs : List ℕ) (k : ℕ) → slice_index (x ∷ xs) (suc k) < slice_index (x ∷ xs) (suc k + 1) → slice_index xs k < slice_index xs (k + 1)
+one_back x xs k less =
+    let same : suc k + 1 ≡ suc (k + 1) = omega arith in
+    subst (λ (j : ℕ). slice_index (x ∷ xs) (suc k) < slice_index (x ∷ xs) j) same less
+
+-- between the two forms
+Ascend-to : (least : ℕ) (members : List Member) → Ascend least members → IsStrictlyIncreasing (numbers_of members)
+unfolding Ascend
+Ascend-to least [] up k within = absurd (omega arith)
+Ascend-to least (member ∷ []) up k within = absurd (omega arith)
+Ascend-to least (member ∷ other ∷ members) up zero within =
+    let next : suc member.node.0 ≤ other.node.0 = up.2.0 in omega arith
+Ascend-to least (member ∷ other ∷ members) up (suc k) within =
+    one_on member.node.0 (numbers_of (other ∷ members)) k (Ascend-to (suc member.node.0) (other ∷ members) up.2 k (omega arith))
+
+Ascend-below : (least : ℕ) (members : List Member) → Ascend least members → All (λ node. node < 64) (numbers_of members)
+unfolding Ascend
+Ascend-below least [] up = All-nil (λ node. node < 64)
+Ascend-below least (member ∷ members) up =
+    All-cons (λ node. node < 64) member.node.0 (numbers_of members) up.1 (Ascend-below (suc member.node.0) members up.2)
+
+Ascend-from : (least : ℕ) (members : List Member) → ((d : ℕ) → 0 < length members → least ≤ get_or (numbers_of members) 0 d)
+    → IsStrictlyIncreasing (numbers_of members) → All (λ node. node < 64) (numbers_of members) → Ascend least members
+unfolding Ascend
+Ascend-from least [] first up small = tt
+Ascend-from least (member ∷ members) first up small = (
+  first 0 (omega arith),
+  All-head (λ node. node < 64) member.node.0 (numbers_of members) small,
+  Ascend-from (suc member.node.0) members (next members up) (λ k within. one_back member.node.0 (numbers_of members) k (up (suc k) (omega arith)))
+      (All-tail (λ node. node < 64) member.node.0 (numbers_of members) small),
+)
+  where
+    next : (rest : List Member) → IsStrictlyIncreasing (numbers_of (member ∷ rest)) → (d : ℕ) → 0 < length rest → suc member.node.0 ≤ get_or (numbers_of rest) 0 d
+    next [] up d some = absurd (omega arith)
+    next (other ∷ rest) up d some = let less : member.node.0 < other.node.0 = up 0 (omega arith) in omega arith
+
+-- one entry more keeps that every epoch's members ascend
+Ascend-push : (entries : List Entry) (entry : Entry) → 1 ≤ length entries → ((epoch : ℕ) → epoch ≤ epoch_of entries → Ascend 0 (members_in entries epoch))
+    → MayAppend entries entry → (epoch : ℕ) → epoch ≤ epoch_of (entries ++ entry ∷ []) → Ascend 0 (members_in (entries ++ entry ∷ []) epoch)
+Ascend-push entries entry some up may epoch begun = by_place (cases_lt (epoch_of entries) epoch)
+  where
+    by_test : (b : Bool) → begins entry ≡ b → epoch_of entries < epoch → epoch ≡ epoch_of entries + 1
+    by_test true begins_one above =
+        let grown : epoch_of (entries ++ entry ∷ []) ≡ epoch_of entries + length (filter begins (entry ∷ [])) = epoch_of-append entries (entry ∷ []) in
+        let one : length (filter begins (entry ∷ [])) ≡ 1 = ap (λ b. length (cond b (entry ∷ []) [])) begins_one in
+        omega arith
+    by_test false begins_none above =
+        let grown : epoch_of (entries ++ entry ∷ []) ≡ epoch_of entries + length (filter begins (entry ∷ [])) = epoch_of-append entries (entry ∷ []) in
+        let none : length (filter begins (entry ∷ [])) ≡ 0 = ap (λ b. length (cond b (entry ∷ []) [])) begins_none in
+        absurd (omega arith)
+
+    must_begin : (b : Bool) → begins entry ≡ b → epoch_of entries < epoch → begins entry ≡ true
+    must_begin true begins_one above = begins_one
+    must_begin false begins_none above =
+        let grown : epoch_of (entries ++ entry ∷ []) ≡ epoch_of entries + length (filter begins (entry ∷ [])) = epoch_of-append entries (entry ∷ []) in
+        let none : length (filter begins (entry ∷ [])) ≡ 0 = ap (λ b. length (cond b (entry ∷ []) [])) begins_none in
+        absurd (omega arith)
+
+    by_place : (epoch_of entries < epoch) ⊎ (epoch ≤ epoch_of entries) → Ascend 0 (members_in (entries ++ entry ∷ []) epoch)
+    by_place (inl above) =
+        let is_one : epoch ≡ epoch_of entries + 1 = by_test (begins entry) refl above in
+        let made : members_in (entries ++ entry ∷ []) (epoch_of entries + 1) ≡ moved (members_in entries (epoch_of entries)) entry
+        = members_in-begun entries entry some (must_begin (begins entry) refl above) in
+        subst (Ascend 0) (sym (ap (members_in (entries ++ entry ∷ [])) is_one ∙ made))
+        (Ascend-moved (members_in entries (epoch_of entries)) entry may.fits (up (epoch_of entries) (omega arith)))
+    by_place (inr within) = subst (Ascend 0) (sym (members_in-append entries (entry ∷ []) epoch some within)) (up epoch within)
+
+Ascend-along : (before later : List Entry) → 1 ≤ length before → ((epoch : ℕ) → epoch ≤ epoch_of before → Ascend 0 (members_in before epoch))
+    → AreAppended before later → (epoch : ℕ) → epoch ≤ epoch_of (before ++ later) → Ascend 0 (members_in (before ++ later) epoch)
+Ascend-along before [] some up may =
+    subst (λ (entries : List Entry). (epoch : ℕ) → epoch ≤ epoch_of entries → Ascend 0 (members_in entries epoch)) (sym (append-nil before)) up
+Ascend-along before (entry ∷ later) some up may =
+    let long : length (before ++ entry ∷ []) ≡ length before + 1 = length_push before entry in
+    subst (λ (entries : List Entry). (epoch : ℕ) → epoch ≤ epoch_of entries → Ascend 0 (members_in entries epoch)) (append_assoc before (entry ∷ []) later)
+    (Ascend-along (before ++ entry ∷ []) later (omega arith) (Ascend-push before entry some up may.0) may.1)
+
+-- how a log begins
+IsLog-opens : (entries : List Entry) → IsLog entries
+    → (members : List Member) × (later : List Entry) × (entries ≡ Format members ∷ later) × MayOpen members × AreAppended (Format members ∷ []) later
+IsLog-opens [] log = absurd log
+IsLog-opens (Format members ∷ later) log = (members, later, refl, log.0, log.1)
+IsLog-opens (Join node zone vnodes ∷ later) log = absurd log
+IsLog-opens (Leave node ∷ later) log = absurd log
+IsLog-opens (Reweight node vnodes ∷ later) log = absurd log
+IsLog-opens (Recovered node epoch ∷ later) log = absurd log
+IsLog-opens (Reserve by session name origin ∷ later) log = absurd log
+IsLog-opens (Publish by vid ∷ later) log = absurd log
+IsLog-opens (Clone by vid ∷ later) log = absurd log
+IsLog-opens (Snapshot by old vid ∷ later) log = absurd log
+IsLog-opens (Delete by session name tag ∷ later) log = absurd log
+IsLog-opens (Lock by session name tag ∷ later) log = absurd log
+IsLog-opens (Unlock by session vid ∷ later) log = absurd log
+
+pub IsLog-some : (entries : List Entry) → IsLog entries → 1 ≤ length entries
+IsLog-some entries log =
+    let opens = IsLog-opens entries log in
+    let long : length entries ≡ length (Format opens.0 ∷ opens.1) = ap length opens.2 in
+    omega arith
+
+IsLog-ascends : (entries : List Entry) → IsLog entries → (epoch : ℕ) → epoch ≤ epoch_of entries → Ascend 0 (members_in entries epoch)
+IsLog-ascends entries log =
+    let opens = IsLog-opens entries log in
+    let first : Ascend 0 opens.0 = Ascend-from 0 opens.0 (λ d _. omega arith) opens.3.ordered.ascending opens.3.ordered.below_64 in
+    subst (λ (all : List Entry). (epoch : ℕ) → epoch ≤ epoch_of all → Ascend 0 (members_in all epoch)) (sym opens.2)
+    (Ascend-along (Format opens.0 ∷ []) opens.1 (omega arith)
+    (λ epoch _. subst (λ (changes : List Entry). Ascend 0 (fold moved opens.0 changes)) (sym (take_all (epoch - 1) [] (omega arith))) first) opens.4)
+
+pub IsLog-members : (entries : List Entry) (epoch : ℕ) → IsLog entries → epoch ≤ epoch_of entries
+    → AreMembers (members_in entries epoch) × (length (members_in entries epoch) ≤ 64)
+IsLog-members entries epoch log begun =
+    let up : Ascend 0 (members_in entries epoch) = IsLog-ascends entries log epoch begun in
+    let most : length (members_in entries epoch) + 0 ≤ 64 = Ascend-length 0 (members_in entries epoch) (omega arith) up in
+    (record { ascending = Ascend-to 0 (members_in entries epoch) up; below_64 = Ascend-below 0 (members_in entries epoch) up }, omega arith)
+
+AreAppended-push : (before later : List Entry) (entry : Entry) → AreAppended before later → MayAppend (before ++ later) entry
+    → AreAppended before (later ++ entry ∷ [])
+AreAppended-push before [] entry ok may = (subst (λ (entries : List Entry). MayAppend entries entry) (append-nil before) may, tt)
+AreAppended-push before (first ∷ later) entry ok may =
+    (ok.0, AreAppended-push (before ++ first ∷ []) later entry ok.1 (subst (λ (entries : List Entry). MayAppend entries entry) (sym (append_assoc before (first ∷ []) later)) may))
+
+pub IsLog-push : (entries : List Entry) (entry : Entry) → IsLog entries → MayAppend entries entry → IsLog (entries ++ entry ∷ [])
+IsLog-push entries entry log may =
+    let opens = IsLog-opens entries log in
+    subst (λ (all : List Entry). IsLog (all ++ entry ∷ [])) (sym opens.2)
+    (opens.3, AreAppended-push (Format opens.0 ∷ []) opens.1 entry opens.4 (subst (λ (all : List Entry). MayAppend all entry) opens.2 may))
+
+AreAppended-join : (before first later : List Entry) → AreAppended before first → AreAppended (before ++ first) later
+    → AreAppended before (first ++ later)
+AreAppended-join before [] later ok rest = subst (λ (entries : List Entry). AreAppended entries later) (append-nil before) rest
+AreAppended-join before (entry ∷ first) later ok rest = (
+  ok.0,
+  AreAppended-join (before ++ entry ∷ []) first later ok.1
+      (subst (λ (entries : List Entry). AreAppended entries later) (sym (append_assoc before (entry ∷ []) first)) rest),
+)
+
+AreAppended-split : (before first later : List Entry) → AreAppended before (first ++ later)
+    → AreAppended before first × AreAppended (before ++ first) later
+AreAppended-split before [] later ok = (tt, subst (λ (entries : List Entry). AreAppended entries later) (sym (append-nil before)) ok)
+AreAppended-split before (entry ∷ first) later ok =
+    let rest : AreAppended (before ++ entry ∷ []) first × AreAppended (before ++ entry ∷ [] ++ first) later
+    = AreAppended-split (before ++ entry ∷ []) first later ok.1 in
+    ((ok.0, rest.0), subst (λ (entries : List Entry). AreAppended entries later) (append_assoc before (entry ∷ []) first) rest.1)
+
+pub IsLog-append : (entries later : List Entry) → IsLog entries → AreAppended entries later → IsLog (entries ++ later)
+IsLog-append entries later log ok =
+    let opens = IsLog-opens entries log in
+    subst (λ (all : List Entry). IsLog (all ++ later)) (sym opens.2) (
+      opens.3,
+      AreAppended-join (Format opens.0 ∷ []) opens.1 later opens.4
+          (subst (λ (all : List Entry). AreAppended all later) opens.2 ok),
+    )
+
+pub IsLog-prefix : (entries later : List Entry) → 1 ≤ length entries → IsLog (entries ++ later) → IsLog entries × AreAppended entries later
+IsLog-prefix [] later some log = absurd (omega arith)
+IsLog-prefix (Format members ∷ rest) later some log =
+    let parts : AreAppended (Format members ∷ []) rest × AreAppended (Format members ∷ rest) later
+    = AreAppended-split (Format members ∷ []) rest later log.1 in
+    ((log.0, parts.0), parts.1)
+IsLog-prefix (Join node zone vnodes ∷ rest) later some log = absurd log
+IsLog-prefix (Leave node ∷ rest) later some log = absurd log
+IsLog-prefix (Reweight node vnodes ∷ rest) later some log = absurd log
+IsLog-prefix (Recovered node epoch ∷ rest) later some log = absurd log
+IsLog-prefix (Reserve by session name origin ∷ rest) later some log = absurd log
+IsLog-prefix (Publish by vid ∷ rest) later some log = absurd log
+IsLog-prefix (Clone by vid ∷ rest) later some log = absurd log
+IsLog-prefix (Snapshot by old vid ∷ rest) later some log = absurd log
+IsLog-prefix (Delete by session name tag ∷ rest) later some log = absurd log
+IsLog-prefix (Lock by session name tag ∷ rest) later some log = absurd log
+IsLog-prefix (Unlock by session vid ∷ rest) later some log = absurd log

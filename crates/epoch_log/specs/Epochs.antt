@@ -1,0 +1,78 @@
+-- Epochs of a list of entries: how many have begun, the members of each, and which are settled.
+use Rattle.std.specs.Prelude.{◌≡◌, ℕ, suc, zero, ◌+◌, ◌-◌, ◌<◌, ◌≤◌, ◌==◌, Bool, true, false, not, ◌&&◌, ◌||◌, List, [], ◌∷◌, length, take, filter, fold, Option, Some, None, if◌then◌else◌}
+use Rattle.std.specs.List.{list_any}
+use Rattle.object_id.specs.declared.node.NodeId.{NodeId}
+use Rattle.object_id.specs.declared.node.Epoch.{Epoch}
+use Rattle.object_id.specs.declared.entry.Member.{Member}
+use Rattle.object_id.specs.declared.entry.Entry.{Entry}
+use Rattle.object_id.specs.declared.entry.Entry.TheVariants.{Format, Join, Leave, Reweight, Recovered, Reserve, Publish, Clone, Snapshot, Delete, Lock, Unlock}
+use Rattle.epoch_log.specs.Members.{moved}
+
+-- whether an entry begins an epoch
+abbrev pub begins : Entry → Bool
+begins (Format members) = false
+begins (Join node zone vnodes) = true
+begins (Leave node) = true
+begins (Reweight node vnodes) = true
+begins (Recovered node epoch) = false
+begins (Reserve by session name origin) = false
+begins (Publish by vid) = false
+begins (Clone by vid) = false
+begins (Snapshot by old vid) = false
+begins (Delete by session name tag) = false
+begins (Lock by session name tag) = false
+begins (Unlock by session vid) = false
+
+-- the newest epoch: 1 plus the number of entries that begin one
+abbrev pub epoch_of : List Entry → ℕ
+epoch_of entries = length (filter begins entries) + 1
+
+-- the members that the log opens with
+abbrev pub opening : List Entry → List Member
+opening [] = []
+opening (entry ∷ later) = opened entry
+  where
+    opened : Entry → List Member
+    opened (Format members) = members
+    opened _ = []
+
+-- the members of an epoch: the opening ones, changed by each entry up to the one that begins the epoch
+abbrev pub members_in : List Entry → ℕ → List Member
+members_in entries epoch = fold moved (opening entries) (take (epoch - 1) (filter begins entries))
+
+-- whether an entry says that the node has recovered what it keeps in the epoch
+abbrev pub recovers : ℕ → ℕ → Entry → Bool
+recovers epoch node (Recovered by of) = of.0 == epoch && by.0 == node
+recovers epoch node _ = false
+
+abbrev pub has_recovered : List Entry → ℕ → ℕ → Bool
+has_recovered entries epoch node = list_any (recovers epoch node) entries
+
+-- the node and the epoch of a `Recovered`
+abbrev pub recovery_of : Entry → Option (NodeId × Epoch)
+recovery_of (Recovered node epoch) = Some (node, epoch)
+recovery_of _ = None
+
+-- the members of an epoch that have not recovered in it
+abbrev pub missing_in : List Entry → ℕ → List Member
+missing_in entries epoch = filter (λ (member : Member). not (has_recovered entries epoch member.node.0)) (members_in entries epoch)
+
+-- an epoch is settled where it is the first, or where every member has recovered
+abbrev pub is_settled : List Entry → ℕ → Bool
+is_settled entries epoch = epoch == 1 || length (missing_in entries epoch) == 0
+
+-- the greatest number up to `most` that passes a test; 0 where none does
+abbrev pub greatest : (ℕ → Bool) → ℕ → ℕ
+greatest passes zero = 0
+greatest passes (suc most) = if passes (suc most) then suc most else greatest passes most
+
+-- the settled epoch: the greatest settled one of those that have begun
+abbrev pub settled_of : List Entry → ℕ
+settled_of entries = greatest (is_settled entries) (epoch_of entries)
+
+-- the same at a place: what counts is the entries before it
+abbrev pub epoch_at : List Entry → ℕ → ℕ
+epoch_at entries place = epoch_of (take place entries)
+
+abbrev pub settled_at : List Entry → ℕ → ℕ
+settled_at entries place = settled_of (take place entries)

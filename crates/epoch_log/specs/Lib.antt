@@ -1,0 +1,4 @@
+pub mod Members
+pub mod Epochs
+pub mod Appending
+pub mod Tally

@@ -1,0 +1,55 @@
+-- The members of an epoch, ascending by number, and what an entry of the log makes of them.
+use Rattle.std.specs.Prelude.{◌≡◌, ℕ, ◌+◌, ◌<◌, ◌≤◌, ◌==◌, nat_lt, Bool, true, false, not, List, [], ◌∷◌, length, map, filter, All, if◌then◌else◌}
+use Rattle.std.specs.List.{list_any}
+use Rattle.std.specs.List.Sorted.{IsStrictlyIncreasing}
+use Rattle.object_id.specs.declared.node.NodeId.{NodeId}
+use Rattle.object_id.specs.declared.entry.Member.{Member}
+use Rattle.object_id.specs.declared.entry.Entry.{Entry}
+use Rattle.object_id.specs.declared.entry.Entry.TheVariants.{Format, Join, Leave, Reweight, Recovered, Reserve, Publish, Clone, Snapshot, Delete, Lock, Unlock}
+
+-- whether the member is the node of this number
+abbrev pub is_node : ℕ → Member → Bool
+is_node node member = member.node.0 == node
+
+-- whether a node is one of the members
+abbrev pub is_member : ℕ → List Member → Bool
+is_member node members = list_any (is_node node) members
+
+-- the members with one more, before the first of a greater number
+abbrev pub joined : Member → List Member → List Member
+joined member [] = member ∷ []
+joined member (first ∷ rest) =
+    if nat_lt member.node.0 first.node.0 then member ∷ first ∷ rest else first ∷ joined member rest
+
+-- the members without a node
+abbrev pub without : ℕ → List Member → List Member
+without node members = filter (λ member. not (is_node node member)) members
+
+-- the members, with another weight for a node
+abbrev pub reweighted : ℕ → ℕ → List Member → List Member
+reweighted node vnodes members =
+    map (λ member. if is_node node member then record member { vnodes = vnodes } else member) members
+
+-- what an entry makes of the members
+abbrev pub moved : List Member → Entry → List Member
+moved members (Format opening) = members
+moved members (Join node zone vnodes) = joined (record { node = node; zone = zone; vnodes = vnodes }) members
+moved members (Leave node) = without node.0 members
+moved members (Reweight node vnodes) = reweighted node.0 vnodes members
+moved members (Recovered node epoch) = members
+moved members (Reserve by session name origin) = members
+moved members (Publish by vid) = members
+moved members (Clone by vid) = members
+moved members (Snapshot by old vid) = members
+moved members (Delete by session name tag) = members
+moved members (Lock by session name tag) = members
+moved members (Unlock by session vid) = members
+
+-- the nodes of members, by number
+abbrev pub numbers_of : List Member → List ℕ
+numbers_of members = map (λ (member : Member). member.node.0) members
+
+-- ascending, so all different, and below 64
+pub record AreMembers (members : List Member) : Type 0 where
+  pub ascending : IsStrictlyIncreasing (numbers_of members)
+  pub below_64 : All (λ node. node < 64) (numbers_of members)

@@ -1,0 +1,5 @@
+pub mod Hash
+pub mod Oid
+pub mod Policy
+pub mod Spec
+pub mod Piece

@@ -1,0 +1,25 @@
+ghost use Rattle.std.specs.Prelude.{◌≡◌, ◌+◌, ◌≤◌, length};
+ghost use Rattle.object_id.specs.Piece.{laid_over};
+
+/// The unit of disk sizes, offsets and lengths, in bytes. A history speaks of disks block by block.
+pub const BLOCK_BYTES: u32 = 512;
+
+/// Lays a piece over the bytes from `offset` on.
+pub fn lay_over(bytes: &mut [u8], offset: usize, piece: &[u8])
+    requires { offset + length piece.now ≤ length bytes.old }
+    ensures { bytes.new ≡ laid_over bytes.old offset piece.now }
+{
+    bytes[offset..offset + piece.len()].copy_from_slice(piece);
+}
+
+#[cfg(test)]
+mod tests {
+    use super::*;
+
+    #[test]
+    fn lays_a_piece_over(rt: HostRuntime) {
+        let mut bytes = [1, 2, 3, 4, 5];
+        lay_over(&mut bytes, 2, &[8, 9]);
+        assert_eq!(rt; bytes, [1, 2, 8, 9, 5]);
+    }
+}

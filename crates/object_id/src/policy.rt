@@ -1,0 +1,109 @@
+ghost use Rattle.std.specs.Prelude.{◌≡◌, ◌≤◌, IfOk};
+ghost use Rattle.object_id.specs.Policy.{IsPolicy, policy_byte, strips_of, wanted_of, need_of};
+
+use crate::oid::Kind;
+
+/// How an object of a disk is kept on several nodes.
+#[derive(Clone, Copy, Debug, PartialEq, Eq)]
+pub enum Policy {
+    /// So many whole copies, 1 to 31.
+    Copies(u8),
+    /// `d` data strips, 2, 4, 8 or 16, and `p` parity strips, 1 to 15. Inodes have `p + 1` whole copies.
+    Coded { d: u8, p: u8 },
+}
+
+/// A policy byte and a number of copies that spell no policy.
+#[derive(Clone, Copy, Debug, PartialEq, Eq)]
+pub struct BadPolicy;
+
+impl Policy {
+    /// Reads the policy that a policy byte and the number of copies beside it spell: byte 0 with 1 to 31 whole
+    /// copies, or d / 2 in the high four bits and p in the low four, with d + p strips.
+    pub fn from_byte(byte: u8, copies: u8) -> Result<Self, BadPolicy>
+        ensures ok { IfOk result (λ policy. IsPolicy policy × (policy_byte policy ≡ byte) × (strips_of policy ≡ copies)) }
+        // Each policy has one spelling, and it is read.
+        ensures only { (policy : Policy) → IsPolicy policy → policy_byte policy ≡ byte → strips_of policy ≡ copies
+            → result ≡ Ok policy }
+    {
+        if byte == 0 {
+            return if 1 <= copies && copies <= 31 {
+                Ok(Policy::Copies(copies))
+            } else {
+                Err(BadPolicy)
+            };
+        }
+        let d = byte / 16 * 2;
+        let p = byte % 16;
+        let is_width = d == 2 || d == 4 || d == 8 || d == 16;
+        if is_width && p != 0 && copies == d + p {
+            Ok(Policy::Coded { d, p })
+        } else {
+            Err(BadPolicy)
+        }
+    }
+
+    /// The policy byte: 0 for whole copies, else d / 2 in the high four bits and p in the low four.
+    pub fn to_byte(self) -> u8
+        requires { IsPolicy self }
+        ensures { result ≡ policy_byte self }
+    {
+        match self {
+            Policy::Copies(_) => 0,
+            Policy::Coded { d, p } => d / 2 * 16 + p,
+        }
+    }
+
+    /// On how many nodes an object of this kind is kept.
+    pub fn wanted(self, kind: Kind) -> u8
+        requires { IsPolicy self }
+        ensures { result ≡ wanted_of self kind }
+    {
+        match (self, kind) {
+            (Policy::Copies(copies), _) => copies,
+            (Policy::Coded { d, p }, Kind::Block) => d + p,
+            (Policy::Coded { d: _, p }, Kind::Inode) => p + 1,
+        }
+    }
+
+    /// How many of these nodes a read needs.
+    pub fn need(self, kind: Kind) -> u8
+        requires { IsPolicy self }
+        ensures { result ≡ need_of self kind }
+    {
+        match (self, kind) {
+            (Policy::Coded { d, p: _ }, Kind::Block) => d,
+            _ => 1,
+        }
+    }
+}
+
+#[cfg(test)]
+mod tests {
+    use super::*;
+
+    #[test]
+    fn reads_policy_bytes(rt: HostRuntime) {
+        let cases = [
+            (0, 1, Ok(Policy::Copies(1))),
+            (0, 31, Ok(Policy::Copies(31))),
+            (0x11, 3, Ok(Policy::Coded { d: 2, p: 1 })),
+            (0x22, 6, Ok(Policy::Coded { d: 4, p: 2 })),
+            (0x8f, 31, Ok(Policy::Coded { d: 16, p: 15 })),
+            (0, 0, Err(BadPolicy)),
+            (0, 32, Err(BadPolicy)),
+            (0x22, 7, Err(BadPolicy)),
+            (0x20, 4, Err(BadPolicy)),
+            (0x31, 7, Err(BadPolicy)),
+        ];
+        for (byte, copies, want) in cases {
+            assert_eq!(rt; Policy::from_byte(byte, copies), want, "at {byte} {copies}");
+        }
+        let coded = Policy::Coded { d: 4, p: 2 };
+        assert_eq!(rt; coded.to_byte(), 0x22);
+        assert_eq!(rt;
+            (coded.wanted(Kind::Block), coded.wanted(Kind::Inode)),
+            (6, 3)
+        );
+        assert_eq!(rt; (coded.need(Kind::Block), coded.need(Kind::Inode)), (4, 1));
+    }
+}

@@ -1,0 +1,55 @@
+-- Bytes that end in zeros, and a piece laid over zeros.
+use Rattle.std.proofs.Common.{◌≡◌, ℕ, zero, suc, ◌+◌, ◌-◌, ◌<◌, ◌≤◌, Bool, true, false, cond, ◌&&◌, nat_eq, List, [], ◌∷◌, ◌++◌, length, take, drop, get_or, refl, ap, sym, ◌∙◌, arith}
+use Rattle.std.proofs.lemmas.List.{length-append, take-replicate, drop-replicate, take_more}
+use Rattle.std.proofs.lemmas.Bool.Decides.{nat_tests}
+use Rattle.object_id.specs.Piece.{laid_over}
+use Rattle.object_store.specs.Bytes.{zeros, trimmed}
+
+and_false : (a : Bool) → (a && false) ≡ false
+and_false true = refl
+and_false false = refl
+
+pub trimmed-zeros : (n : ℕ) → trimmed (zeros n) ≡ []
+trimmed-zeros zero = refl
+trimmed-zeros (suc n) = ap (λ bytes. cond (nat_eq 0 0 && nat_eq (length bytes) 0) [] (0 ∷ bytes)) (trimmed-zeros n)
+
+pub trimmed-append_zeros : (bytes : List ℕ) (n : ℕ) → trimmed (bytes ++ zeros n) ≡ trimmed bytes
+trimmed-append_zeros [] n = trimmed-zeros n
+trimmed-append_zeros (byte ∷ bytes) n =
+    ap (λ rest. cond (nat_eq byte 0 && nat_eq (length rest) 0) [] (byte ∷ rest)) (trimmed-append_zeros bytes n)
+
+not_nil : (bytes : List ℕ) (byte : ℕ) → nat_eq (length (bytes ++ byte ∷ [])) 0 ≡ false
+not_nil [] byte = grind (arith, nat_tests)
+not_nil (b ∷ bytes) byte = grind (arith, nat_tests)
+
+pub trimmed-push : (bytes : List ℕ) (byte : ℕ) → nat_eq byte 0 ≡ false → trimmed (bytes ++ byte ∷ []) ≡ bytes ++ byte ∷ []
+trimmed-push [] byte some = ap (λ b. cond (b && true) [] (byte ∷ [])) some
+trimmed-push (b ∷ bytes) byte some =
+    ap (λ rest. cond (nat_eq b 0 && nat_eq (length rest) 0) [] (b ∷ rest)) (trimmed-push bytes byte some)
+    ∙ ap (λ long. cond (nat_eq b 0 && long) [] (b ∷ bytes ++ byte ∷ [])) (not_nil bytes byte)
+    ∙ ap (λ none. cond none [] (b ∷ bytes ++ byte ∷ [])) (and_false (nat_eq b 0))
+
+last_of : (bytes : List ℕ) (n : ℕ) → 0 < n → n ≤ length bytes → take n bytes ≡ take (n - 1) bytes ++ get_or bytes (n - 1) 0 ∷ []
+last_of bytes n some within =
+    let back : n - 1 + 1 ≡ n = omega arith in
+    ap (λ k. take k bytes) (sym back) ∙ take_more bytes (n - 1) 0 (omega arith)
+
+-- one byte less, where it is 0
+pub trimmed-take_zero : (bytes : List ℕ) (n : ℕ) → 0 < n → n ≤ length bytes → get_or bytes (n - 1) 0 ≡ 0
+    → trimmed (take (n - 1) bytes) ≡ trimmed (take n bytes)
+trimmed-take_zero bytes n some within is =
+    sym (ap trimmed (last_of bytes n some within) ∙ ap (λ byte. trimmed (take (n - 1) bytes ++ byte ∷ [])) is
+    ∙ trimmed-append_zeros (take (n - 1) bytes) 1)
+
+-- nothing is cut where the last byte isn't 0
+pub trimmed-take_other : (bytes : List ℕ) (n : ℕ) → 0 < n → n ≤ length bytes → nat_eq (get_or bytes (n - 1) 0) 0 ≡ false
+    → trimmed (take n bytes) ≡ take n bytes
+trimmed-take_other bytes n some within other =
+    ap trimmed (last_of bytes n some within) ∙ trimmed-push (take (n - 1) bytes) _ other ∙ sym (last_of bytes n some within)
+
+pub laid_over-zeros : (size offset : ℕ) (piece : List ℕ) → offset + length piece ≤ size
+    → (zeros offset ++ piece) ++ zeros (size - (offset + length piece)) ≡ laid_over (zeros size) offset piece
+laid_over-zeros size offset piece within =
+    let front : take offset (zeros size) ≡ zeros offset = take-replicate offset size 0 (omega arith) in
+    let rest : drop (offset + length piece) (zeros size) ≡ zeros (size - (offset + length piece)) = drop-replicate (offset + length piece) size 0 in
+    rw (front, rest) refl

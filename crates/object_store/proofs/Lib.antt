@@ -1,0 +1,11 @@
+pub mod ByteLemmas
+pub mod RowLemmas
+pub mod KeptLemmas
+pub mod SeenLemmas
+pub mod MapLemmas
+pub mod PlainLemmas
+pub mod RoomLemmas
+pub mod AnswerLemmas
+pub mod StoreLaws
+pub mod CallLaws
+pub mod OrderLaws

@@ -1,0 +1,140 @@
+-- The objects that a plain store keeps, as the finite map as which they are seen.
+use Rattle.std.proofs.Common.{◌≡◌, ◌≢◌, ℕ, ◌+◌, ◌≤◌, Bool, true, false, cond, T, List, [], ◌∷◌, map, Option, Some, None, Result, Ok, Err, unwrap_or, IfSome, refl, ap, sym, ◌∙◌, subst, length, nat_le}
+use Rattle.std.specs.Option.{option_map}
+use Rattle.std.specs.Ordering.{is_eq, nat_cmp}
+use Rattle.std.specs.Cmp.{nat_cmp_total}
+use Rattle.std.specs.List.Sorted.{IsStrictlySortedBy}
+use Rattle.std.specs.Map.{lookup, keys_of}
+use Rattle.std.specs.BTreeMap.{is_at}
+use Rattle.std.specs.FinMap as tree
+use Rattle.std.specs.FinMap.Entries.{find, is_sorted, below_all}
+use Rattle.object_store.specs.declared.key.Key.{Key}
+use Rattle.object_store.specs.declared.row.Row.{Row}
+use Rattle.object_store.specs.declared.fault.StoreFault.{StoreFault}
+use Rattle.object_store.specs.Bytes.{Kept}
+use Rattle.object_store.specs.Rows.{open_at}
+use Rattle.object_store.specs.Store.{SeenRow, AllRows, rows_of, open_row, with_rows, each_entry, each}
+use Rattle.object_store.specs.Answers.{KeepsRoom, KeepsOtherRoom}
+use Rattle.object_store.specs.Kept.{seen, RoomIn, KeepsRowRoom}
+use Rattle.object_store.specs.Plain.{Objects, seen_entry, all_seen, kept_of, HasRoomIn, IsPut}
+use Rattle.object_store.proofs.MapLemmas.{same_key, own_key, other_key, turned_key, find-lookup, sorted_from, entries-from_entries, rows_at, rows_at-each_entry}
+use Rattle.object_store.proofs.SeenLemmas.{seen-open_at}
+
+find-seen : (q : ℕ) (es : Objects) → find nat_cmp q (map seen_entry es) ≡ option_map (map seen) (lookup (is_at (nat_cmp q)) es)
+find-seen q [] = refl
+find-seen q (e ∷ es) = go (is_eq (nat_cmp q e.0)) (find-seen q es)
+  where
+    go : (b : Bool) → find nat_cmp q (map seen_entry es) ≡ option_map (map seen) (lookup (is_at (nat_cmp q)) es)
+        → cond b (Some (map seen e.1)) (find nat_cmp q (map seen_entry es)) ≡ option_map (map seen) (cond b (Some e.1) (lookup (is_at (nat_cmp q)) es))
+    go true rest = refl
+    go false rest = rest
+
+pub get-all_seen : (es : Objects) (q : ℕ) → tree.get (all_seen es) q ≡ option_map (map seen) (lookup (is_at (nat_cmp q)) es)
+get-all_seen es q = tree.get-from_entries nat_cmp_total (map seen_entry es) q ∙ find-seen q es
+
+or_none : (o : Option (List (Row Kept))) → unwrap_or (option_map (map seen) o) [] ≡ map seen (unwrap_or o [])
+or_none None = refl
+or_none (Some rows) = refl
+
+pub rows_of-all_seen : (es : Objects) (oid : ℕ) → rows_of (all_seen es) oid ≡ map seen (kept_of es oid)
+rows_of-all_seen es oid = ap (λ o. unwrap_or o []) (get-all_seen es oid) ∙ or_none (lookup (is_at (nat_cmp oid)) es)
+
+pub open_row-all_seen : (es : Objects) (key : Key) → open_row (all_seen es) key ≡ option_map seen (open_at key.index (kept_of es key.oid))
+open_row-all_seen es key = ap (open_at key.index) (rows_of-all_seen es key.oid) ∙ sym (seen-open_at key.index (kept_of es key.oid))
+
+pub kept_of-found : (es : Objects) (oid : ℕ) (rows : List (Row Kept)) → lookup (is_at (nat_cmp oid)) es ≡ Some rows → kept_of es oid ≡ rows
+kept_of-found es oid rows found = ap (λ o. unwrap_or o []) found
+
+put-here : (es fs : Objects) (oid : ℕ) (rows : List (Row Kept)) → IsPut es fs oid rows → kept_of fs oid ≡ rows
+put-here es fs oid rows put =
+    ap (λ o. unwrap_or o []) (put oid ∙ ap (λ b. cond b (Some rows) (lookup (is_at (nat_cmp oid)) es)) (own_key oid))
+
+put-other : (es fs : Objects) (oid q : ℕ) (rows : List (Row Kept)) → IsPut es fs oid rows → is_at (nat_cmp oid) q ≡ false → kept_of fs q ≡ kept_of es q
+put-other es fs oid q rows put other =
+    ap (λ o. unwrap_or o []) (put q ∙ ap (λ b. cond b (Some rows) (lookup (is_at (nat_cmp q)) es)) other)
+
+-- one object's rows are put
+pub one_put : (es fs : Objects) (oid : ℕ) (rows : List (Row Kept)) → IsPut es fs oid rows → all_seen fs ≡ tree.insert (all_seen es) oid (map seen rows)
+one_put es fs oid rows put = tree.same_map nat_cmp_total tree.nat_cmp-IsAntisymmetric (all_seen fs) (tree.insert (all_seen es) oid (map seen rows)) at
+  where
+    choice : (b : Bool) (o : Option (List (Row Kept))) → option_map (map seen) (cond b (Some rows) o) ≡ cond b (Some (map seen rows)) (option_map (map seen) o)
+    choice true o = refl
+    choice false o = refl
+
+    at : (q : ℕ) → tree.get (all_seen fs) q ≡ tree.get (tree.insert (all_seen es) oid (map seen rows)) q
+    at q =
+        get-all_seen fs q ∙ ap (option_map (map seen)) (put q) ∙ choice (is_at (nat_cmp oid) q) (lookup (is_at (nat_cmp q)) es)
+        ∙ sym (tree.get-insert nat_cmp_total (all_seen es) oid (map seen rows) q
+        ∙ ap (λ b. cond b (Some (map seen rows)) (tree.get (all_seen es) q)) (turned_key q oid)
+        ∙ ap (cond (is_at (nat_cmp oid) q) (Some (map seen rows))) (get-all_seen es q))
+
+-- rows that are seen as those before are put in their place
+pub put_unseen : (es fs : Objects) (oid : ℕ) (rows old : List (Row Kept)) → IsPut es fs oid rows → lookup (is_at (nat_cmp oid)) es ≡ Some old
+    → map seen rows ≡ map seen old → all_seen fs ≡ all_seen es
+put_unseen es fs oid rows old put found same = tree.same_map nat_cmp_total tree.nat_cmp-IsAntisymmetric (all_seen fs) (all_seen es) at
+  where
+    choice : (q : ℕ) (b : Bool) → is_at (nat_cmp oid) q ≡ b
+        → option_map (map seen) (cond b (Some rows) (lookup (is_at (nat_cmp q)) es)) ≡ option_map (map seen) (lookup (is_at (nat_cmp q)) es)
+    choice q true here = ap Some same ∙ ap (option_map (map seen)) (sym found ∙ ap (λ k. lookup (is_at (nat_cmp k)) es) (same_key oid q here))
+    choice q false other = refl
+
+    at : (q : ℕ) → tree.get (all_seen fs) q ≡ tree.get (all_seen es) q
+    at q = get-all_seen fs q ∙ ap (option_map (map seen)) (put q) ∙ choice q (is_at (nat_cmp oid) q) refl ∙ sym (get-all_seen es q)
+
+-- what one object keeps, all keep
+pub KeepsRoom-put : (es fs : Objects) (oid : ℕ) (rows : List (Row Kept)) → IsPut es fs oid rows → KeepsRowRoom (kept_of es oid) rows
+    → KeepsRoom (HasRoomIn es) (HasRoomIn fs)
+KeepsRoom-put es fs oid rows put keeps key offset n had = go (is_at (nat_cmp oid) key.oid) refl
+  where
+    go : (b : Bool) → is_at (nat_cmp oid) key.oid ≡ b → HasRoomIn fs key offset n
+    go true here =
+        let same : oid ≡ key.oid = same_key oid key.oid here in
+        let new : kept_of fs key.oid ≡ rows = ap (kept_of fs) (sym same) ∙ put-here es fs oid rows put in
+        subst (λ rs. RoomIn (open_at key.index rs) (offset + n)) (sym new)
+        (keeps key.index (offset + n) (subst (λ k. RoomIn (open_at key.index (kept_of es k)) (offset + n)) (sym same) had))
+    go false other = subst (λ rs. RoomIn (open_at key.index rs) (offset + n)) (sym (put-other es fs oid key.oid rows put other)) had
+
+pub KeepsOtherRoom-put : (es fs : Objects) (oid : ℕ) (rows : List (Row Kept)) → IsPut es fs oid rows → KeepsOtherRoom oid (HasRoomIn es) (HasRoomIn fs)
+KeepsOtherRoom-put es fs oid rows put key offset n apart had =
+    subst (λ rs. RoomIn (open_at key.index rs) (offset + n)) (sym (put-other es fs oid key.oid rows put (other_key oid key.oid apart))) had
+
+pub HasRoomIn-put : (es fs : Objects) (key : Key) (rows : List (Row Kept)) (end : ℕ) → IsPut es fs key.oid rows → RoomIn (open_at key.index rows) end
+    → RoomIn (open_at key.index (kept_of fs key.oid)) end
+HasRoomIn-put es fs key rows end put room = subst (λ rs. RoomIn (open_at key.index rs) end) (sym (put-here es fs key.oid rows put)) room
+
+keys-seen : (es : Objects) → keys_of (map seen_entry es) ≡ keys_of es
+keys-seen [] = refl
+keys-seen (e ∷ es) = ap (λ ks. e.0 ∷ ks) (keys-seen es)
+
+pub entries-all_seen : (es : Objects) → IsStrictlySortedBy nat_cmp (keys_of es) → tree.entries (all_seen es) ≡ map seen_entry es
+entries-all_seen es sorted =
+    entries-from_entries (map seen_entry es) (sorted_from (map seen_entry es) (subst (IsStrictlySortedBy nat_cmp) (sym (keys-seen es)) sorted))
+
+pub keys-all_seen : (es : Objects) → IsStrictlySortedBy nat_cmp (keys_of es) → tree.keys (all_seen es) ≡ keys_of es
+keys-all_seen es sorted = ap keys_of (entries-all_seen es sorted) ∙ keys-seen es
+
+-- each object's rows are changed, and are seen changed
+pub all_seen-each_entry : (change : ℕ → List (Row Kept) → List (Row Kept)) (shown : ℕ → List SeenRow → List SeenRow)
+    → ((oid : ℕ) (rows : List (Row Kept)) → map seen (change oid rows) ≡ shown oid (map seen rows))
+    → (es : Objects) → IsStrictlySortedBy nat_cmp (keys_of es) → all_seen (each_entry change es) ≡ each shown (all_seen es)
+unfolding each
+all_seen-each_entry change shown same es sorted =
+    ap tree.from_entries (entry_by_entry es ∙ ap (each_entry shown) (sym (entries-all_seen es sorted)))
+  where
+    one : (oid : ℕ) (rows : List (Row Kept)) (rest : Objects) → map seen_entry (with_rows oid rows rest) ≡ with_rows oid (map seen rows) (map seen_entry rest)
+    one oid [] rest = refl
+    one oid (row ∷ rows) rest = refl
+
+    entry_by_entry : (fs : Objects) → map seen_entry (each_entry change fs) ≡ each_entry shown (map seen_entry fs)
+    entry_by_entry [] = refl
+    entry_by_entry (f ∷ fs) =
+        one f.0 (change f.0 f.1) (each_entry change fs)
+        ∙ (λ i. with_rows f.0 (same f.0 f.1 i) (entry_by_entry fs i))
+
+-- no row loses room where no object's rows do
+pub KeepsRoom-each_entry : (change : ℕ → List (Row Kept) → List (Row Kept)) → ((oid : ℕ) → change oid [] ≡ [])
+    → ((oid : ℕ) (rows : List (Row Kept)) → KeepsRowRoom rows (change oid rows))
+    → (es : Objects) → IsStrictlySortedBy nat_cmp (keys_of es) → KeepsRoom (HasRoomIn es) (HasRoomIn (each_entry change es))
+KeepsRoom-each_entry change none keeps es sorted key offset n had =
+    subst (λ rs. RoomIn (open_at key.index rs) (offset + n)) (sym (rows_at-each_entry change key.oid (none key.oid) es (sorted_from es sorted)))
+    (keeps key.oid (kept_of es key.oid) key.index (offset + n) had)

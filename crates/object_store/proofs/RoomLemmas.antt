@@ -1,0 +1,155 @@
+-- What closing, purging and dropping rows, and laying a piece over one, leave of the open row of an index.
+use Rattle.std.proofs.Common.{◌≡◌, ℕ, ◌-◌, Bool, true, false, not, cond, ◌&&◌, nat_eq, List, [], ◌∷◌, ◌++◌, map, filter, Option, Some, None, is_some, refl, ap, sym, ◌∙◌, subst, arith}
+use Rattle.std.proofs.lemmas.Bool.Decides.{nat_tests}
+use Rattle.object_id.specs.Oid.{vid_of}
+use Rattle.object_id.specs.declared.node.Epoch.{Epoch}
+use Rattle.object_store.specs.declared.key.Key.{Key}
+use Rattle.object_store.specs.declared.row.Row.{Row}
+use Rattle.object_store.specs.Bytes.{Kept}
+use Rattle.object_store.specs.Rows.{is_open, is_open_at, open_at, closed, closed_all, changed, is_kept, advanced_row, advanced, purged, ended_before, without_disk}
+use Rattle.object_store.specs.Kept.{RoomIn, KeepsRowRoom, lay, written}
+use Rattle.object_store.proofs.RowLemmas.{AllClosed, closed_all-closed}
+
+same_number : (a b : ℕ) → nat_eq a b ≡ true → a ≡ b
+same_number a b e = grind (arith, nat_tests)
+
+both_true : (a b : Bool) → (a && b) ≡ true → b ≡ true
+both_true true b e = e
+both_true false b e = absurd (cc)
+
+module _ {B : Type 0} where
+  pub open-none : (index : ℕ) (rows : List (Row B)) → AllClosed rows → open_at index rows ≡ None
+  open-none index [] all_closed = refl
+  open-none index (row ∷ rows) all_closed =
+      ap (λ b. cond (b && nat_eq row.index index) (Some row) (open_at index rows)) all_closed.0 ∙ open-none index rows all_closed.1
+
+  pub open-closed_all : (index last : ℕ) (rows : List (Row B)) → open_at index (closed_all last rows) ≡ None
+  open-closed_all index last rows = open-none index (closed_all last rows) (closed_all-closed last rows)
+
+  is_open-closed : (last : ℕ) (row : Row B) → is_open (closed last row) ≡ false
+  is_open-closed last row = (closed_all-closed last (row ∷ [])).0
+
+  index-closed : (last : ℕ) (row : Row B) → (closed last row).index ≡ row.index
+  index-closed last row = go (is_open row)
+    where
+      go : (b : Bool) → (cond b (record row { to = Some (record { 0 = last }) }) row).index ≡ row.index
+      go true = refl
+      go false = refl
+
+  -- the open row of a kept key stays, and no other does
+  pub open-advanced : (keeps : List Key) (next oid index : ℕ) (rows : List (Row B))
+      → open_at index (advanced keeps next oid rows) ≡ cond (is_kept keeps oid index) (open_at index rows) None
+  open-advanced keeps next oid index [] = go (is_kept keeps oid index)
+    where
+      none : Option (Row B)
+      none = None
+
+      go : (b : Bool) → none ≡ cond b none none
+      go true = refl
+      go false = refl
+  open-advanced keeps next oid index (row ∷ rows) =
+      step (is_kept keeps oid row.index) refl (is_open_at index row) refl (open-advanced keeps next oid index rows)
+    where
+      rest : Option (Row B)
+      rest = open_at index (advanced keeps next oid rows)
+
+      all : Bool
+      all = is_kept keeps oid index
+
+      found : is_open_at index row ≡ true → is_kept keeps oid row.index ≡ all
+      found e = ap (is_kept keeps oid) (same_number row.index index (both_true (is_open row) _ e))
+
+      shut : open_at index (closed (next - 1) row ∷ advanced keeps next oid rows) ≡ rest
+      shut = ap (λ b. cond (b && nat_eq (closed (next - 1) row).index index) (Some (closed (next - 1) row)) rest) (is_open-closed (next - 1) row)
+
+      step : (k : Bool) → is_kept keeps oid row.index ≡ k → (t : Bool) → is_open_at index row ≡ t → rest ≡ cond all (open_at index rows) None
+          → open_at index (cond (is_kept keeps oid row.index) row (closed (next - 1) row) ∷ advanced keeps next oid rows)
+          ≡ cond all (cond (is_open_at index row) (Some row) (open_at index rows)) None
+      step true kept true here tail =
+          ap (λ b. open_at index (cond b row (closed (next - 1) row) ∷ advanced keeps next oid rows)) kept
+          ∙ ap (λ b. cond b (Some row) rest) here
+          ∙ sym (ap (λ b. cond all (cond b (Some row) (open_at index rows)) None) here ∙ ap (λ b. cond b (Some row) None) (sym (found here) ∙ kept))
+      step true kept false other tail =
+          ap (λ b. open_at index (cond b row (closed (next - 1) row) ∷ advanced keeps next oid rows)) kept
+          ∙ ap (λ b. cond b (Some row) rest) other ∙ tail
+          ∙ sym (ap (λ b. cond all (cond b (Some row) (open_at index rows)) None) other)
+      step false gone true here tail =
+          ap (λ b. open_at index (cond b row (closed (next - 1) row) ∷ advanced keeps next oid rows)) gone ∙ shut ∙ tail
+          ∙ ap (λ b. cond b (open_at index rows) None) (sym (found here) ∙ gone)
+          ∙ sym (ap (λ b. cond b (cond (is_open_at index row) (Some row) (open_at index rows)) None) (sym (found here) ∙ gone))
+      step false gone false other tail =
+          ap (λ b. open_at index (cond b row (closed (next - 1) row) ∷ advanced keeps next oid rows)) gone ∙ shut ∙ tail
+          ∙ sym (ap (λ b. cond all (cond b (Some row) (open_at index rows)) None) other)
+
+  pub open-purged : (settled index : ℕ) (rows : List (Row B)) → open_at index (purged settled rows) ≡ open_at index rows
+  open-purged settled index [] = refl
+  open-purged settled index (row ∷ rows) = step row.to refl (open-purged settled index rows)
+    where
+      left : List (Row B)
+      left = purged settled rows
+
+      either : (b : Bool) → is_open_at index row ≡ false → open_at index (cond b (row ∷ left) left) ≡ open_at index left
+      either true other = ap (λ t. cond t (Some row) (open_at index left)) other
+      either false other = refl
+
+      step : (o : Option Epoch) → row.to ≡ o → open_at index left ≡ open_at index rows
+          → open_at index (cond (not (ended_before settled row.to)) (row ∷ left) left) ≡ cond (is_open_at index row) (Some row) (open_at index rows)
+      step None is rest =
+          ap (λ to. open_at index (cond (not (ended_before settled to)) (row ∷ left) left)) is
+          ∙ ap (cond (is_open_at index row) (Some row)) rest
+      step (Some to) is rest =
+          let other : is_open_at index row ≡ false = ap (λ o. not (is_some o) && nat_eq row.index index) is in
+          either (not (ended_before settled row.to)) other ∙ rest ∙ sym (ap (λ t. cond t (Some row) (open_at index rows)) other)
+
+pub KeepsRowRoom-closed_all : (last : ℕ) (rows : List (Row Kept)) → KeepsRowRoom rows (closed_all last rows)
+KeepsRowRoom-closed_all last rows index n had = subst (λ o. RoomIn o n) (sym (open-closed_all index last rows)) tt
+
+pub KeepsRowRoom-advanced : (keeps : List Key) (next oid : ℕ) (rows : List (Row Kept)) → KeepsRowRoom rows (advanced keeps next oid rows)
+KeepsRowRoom-advanced keeps next oid rows index n had =
+    subst (λ o. RoomIn o n) (sym (open-advanced keeps next oid index rows)) (go (is_kept keeps oid index))
+  where
+    go : (b : Bool) → RoomIn (cond b (open_at index rows) None) n
+    go true = had
+    go false = tt
+
+pub KeepsRowRoom-purged : (settled : ℕ) (rows : List (Row Kept)) → KeepsRowRoom rows (purged settled rows)
+KeepsRowRoom-purged settled rows index n had = subst (λ o. RoomIn o n) (sym (open-purged settled index rows)) had
+
+pub KeepsRowRoom-without_disk : (vid oid : ℕ) (rows : List (Row Kept)) → KeepsRowRoom rows (without_disk vid oid rows)
+KeepsRowRoom-without_disk vid oid rows index n had = go (nat_eq (vid_of oid) vid)
+  where
+    go : (b : Bool) → RoomIn (open_at index (cond b [] rows)) n
+    go true = tt
+    go false = had
+
+pub KeepsRowRoom-written : (at offset : ℕ) (piece : List ℕ) (rows : List (Row Kept)) → KeepsRowRoom rows (written at offset piece rows)
+KeepsRowRoom-written at offset piece [] index n had = tt
+KeepsRowRoom-written at offset piece (row ∷ rows) index n had =
+    step (is_open_at at row) (KeepsRowRoom-written at offset piece rows index n)
+  where
+    new : Row Kept
+    new = record row { bytes = lay offset piece row.bytes }
+
+    laid : (u : Bool) → RoomIn (cond u (Some row) (open_at index rows)) n → RoomIn (cond u (Some new) (open_at index rows)) n
+    laid true room = room
+    laid false room = room
+
+    passed : (u : Bool) → (RoomIn (open_at index rows) n → RoomIn (open_at index (written at offset piece rows)) n)
+        → RoomIn (cond u (Some row) (open_at index rows)) n → RoomIn (cond u (Some row) (open_at index (written at offset piece rows))) n
+    passed true rest room = room
+    passed false rest room = rest room
+
+    step : (t : Bool) → (RoomIn (open_at index rows) n → RoomIn (open_at index (written at offset piece rows)) n)
+        → RoomIn (open_at index (cond t (new ∷ rows) (row ∷ written at offset piece rows))) n
+    step true rest = laid (is_open_at index row) had
+    step false rest = passed (is_open_at index row) rest had
+
+pub without_disk-none : {B : Type 0} (vid oid : ℕ) → without_disk {B = B} vid oid [] ≡ []
+without_disk-none {B} vid oid = go (nat_eq (vid_of oid) vid)
+  where
+    none : List (Row B)
+    none = []
+
+    go : (b : Bool) → cond b none none ≡ none
+    go true = refl
+    go false = refl

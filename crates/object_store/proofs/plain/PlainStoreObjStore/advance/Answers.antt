@@ -1,0 +1,29 @@
+use Rattle.std.proofs.Common.{◌≡◌, ◌∙◌, ap, sym, subst, refl, rules}
+use Rattle.object_store.specs.Rows.{advanced}
+use Rattle.object_store.specs.Store.{each_entry, each}
+use Rattle.object_store.specs.Answers.{KeepsRoom}
+use Rattle.object_store.specs.Plain.{all_seen, HasRoomIn}
+use Rattle.object_store.proofs.MapLemmas.{retained}
+use Rattle.object_store.proofs.SeenLemmas.{seen-advanced}
+use Rattle.object_store.proofs.RoomLemmas.{KeepsRowRoom-advanced}
+use Rattle.object_store.proofs.PlainLemmas.{all_seen-each_entry, KeepsRoom-each_entry}
+use Rattle.object_store.proofs.plain.PlainStoreObjStore.advance.Goals as goal
+
+pub returns-clause-rows : goal.returns-clause-rows
+returns-clause-rows c =
+    let keeps = c.args.keeps.now in
+    let next = c.args.next.0 in
+    let es = c.self.inside.objects.entries in
+    let kept : c.retain.new.self.entries ≡ each_entry (advanced keeps next) es = retained _ (advanced keeps next) _ (λ k v b w f' t. search rules) es _ c.retain.ensures.filtered in
+    ap all_seen kept ∙ all_seen-each_entry (advanced keeps next) (advanced keeps next) (seen-advanced keeps next) es c.retain.ensures.was_ordered
+    ∙ ap (λ os. each (advanced keeps next) (all_seen os)) c.self.view_is
+
+pub returns-clause-room : goal.returns-clause-room
+returns-clause-room c =
+    let keeps = c.args.keeps.now in
+    let next = c.args.next.0 in
+    let es = c.self.inside.objects.entries in
+    let kept : c.retain.new.self.entries ≡ each_entry (advanced keeps next) es = retained _ (advanced keeps next) _ (λ k v b w f' t. search rules) es _ c.retain.ensures.filtered in
+    subst (λ os. KeepsRoom (HasRoomIn os) (HasRoomIn c.retain.new.self.entries)) c.self.view_is
+    (subst (λ os. KeepsRoom (HasRoomIn es) (HasRoomIn os)) (sym kept)
+    (KeepsRoom-each_entry (advanced keeps next) (λ _. refl) (KeepsRowRoom-advanced keeps next) es c.retain.ensures.was_ordered))

@@ -1,0 +1,20 @@
+-- The bytes of a row: a list of the row's length.
+use Rattle.std.specs.Prelude.{ℕ, ◌+◌, Bool, ◌&&◌, List, [], ◌∷◌, length, take, drop, replicate, nat_eq, if◌then◌else◌}
+
+-- what was never written
+abbrev pub zeros : ℕ → List ℕ
+zeros n = replicate n 0
+
+-- the n bytes from offset on
+abbrev pub piece_at : List ℕ → ℕ → ℕ → List ℕ
+piece_at bytes offset n = take n (drop offset bytes)
+
+-- bytes that end at their last one that isn't 0
+abbrev pub trimmed : List ℕ → List ℕ
+trimmed [] = []
+trimmed (byte ∷ bytes) = if nat_eq byte 0 && nat_eq (length (trimmed bytes)) 0 then [] else byte ∷ trimmed bytes
+
+-- a row's bytes, and how many of the first ones a store keeps; the others are 0
+pub record Kept : Type 0 where
+  pub bytes : List ℕ
+  pub room : ℕ

@@ -1,0 +1,7 @@
+pub mod Bytes
+pub mod Rows
+pub mod Store
+pub mod Answers
+pub mod Kept
+pub mod Plain
+pub mod Calls

@@ -1,0 +1,34 @@
+-- The plain store: a list of objects with the rows that it keeps of each, by ascending id.
+use Rattle.std.specs.Prelude.{◌≡◌, ℕ, ◌+◌, List, [], map, Some, cond, unwrap_or}
+use Rattle.std.specs.Map.{lookup}
+use Rattle.std.specs.BTreeMap.{is_at}
+use Rattle.std.specs.Ordering.{nat_cmp}
+use Rattle.std.specs.FinMap as tree
+use Rattle.object_store.specs.declared.key.Key.{Key}
+use Rattle.object_store.specs.declared.row.Row.{Row}
+use Rattle.object_store.specs.Bytes.{Kept}
+use Rattle.object_store.specs.Rows.{open_at}
+use Rattle.object_store.specs.Store.{AllRows}
+use Rattle.object_store.specs.Kept.{seen, RoomIn}
+
+abbrev pub Objects : Type 0
+Objects = List (ℕ × List (Row Kept))
+
+abbrev pub seen_entry : ℕ × List (Row Kept) → ℕ × List (Row (List ℕ))
+seen_entry e = (e.0, map seen e.1)
+
+abbrev pub all_seen : Objects → AllRows
+all_seen es = tree.from_entries (map seen_entry es)
+
+-- what is kept of an object
+abbrev pub kept_of : Objects → ℕ → List (Row Kept)
+kept_of es oid = unwrap_or (lookup (is_at (nat_cmp oid)) es) []
+
+-- the open row of the key keeps its first bytes up to the piece's end
+abbrev pub HasRoomIn : Objects → Key → ℕ → ℕ → Type 0
+HasRoomIn es key offset n = RoomIn (open_at key.index (kept_of es key.oid)) (offset + n)
+
+-- one object has these rows, and each other what it had
+abbrev pub IsPut : Objects → Objects → ℕ → List (Row Kept) → Type 0
+IsPut old new oid rows =
+    (q : ℕ) → lookup (is_at (nat_cmp q)) new ≡ cond (is_at (nat_cmp oid) q) (Some rows) (lookup (is_at (nat_cmp q)) old)

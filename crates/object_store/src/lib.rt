@@ -1,0 +1,32 @@
+//! The versioned object store: what a node keeps of each object, as rows with the epochs from which and up to
+//! which they are the object's.
+//!
+//! The crate stands on `object_id`. Everything above it names the trait [`ObjStore`] alone: what a store holds is
+//! seen as a finite map from object ids to lists of rows, beside it which pieces have room, and each call says
+//! what it does to each row, when it is refused and what stays. [`PlainStore`] keeps each row's bytes up to the
+//! last one that was ever written or reserved, and is proved against the trait. A call that can't answer
+//! `NoMemory` takes no memory.
+#![tactic(auto)]
+
+mod content;
+mod fault;
+mod key;
+mod laws;
+mod object_rows;
+mod oid_list;
+mod plain;
+mod row;
+mod store;
+#[cfg(test)]
+mod tests;
+
+pub use fault::StoreFault;
+pub use key::Key;
+pub use laws::{
+    open_rows_are_from_epochs_so_far, other_rows_stay, reads_what_was_written_last,
+    rows_are_in_order, rows_of_one_object,
+};
+pub use oid_list::OidList;
+pub use plain::PlainStore;
+pub use row::{Row, RowCopy};
+pub use store::ObjStore;

@@ -1,0 +1,236 @@
+ghost use Rattle.std.specs.Prelude.{◌≡◌, ℕ, ◌+◌, ◌≤◌, List, [], length, IfSome, IfOk, OnOk, OnErr, IsSome};
+ghost use Rattle.std.specs.Option.{option_map, option_copied};
+ghost use Rattle.std.specs.Map.{lookup};
+ghost use Rattle.std.specs.BTreeMap.{is_at};
+ghost use Rattle.std.specs.Ordering.{nat_cmp};
+ghost use Rattle.std.specs.FinMap as tree;
+ghost use Rattle.object_store.specs.Rows.{open_at, created};
+ghost use Rattle.object_store.specs.Store.{open_row, piece_there, within, copy_of};
+ghost use Rattle.object_store.specs.Answers.{KeepsRoom};
+ghost use Rattle.object_store.specs.Kept.{seen, written, RoomIn};
+ghost use Rattle.object_store.specs.Plain.{all_seen, kept_of, HasRoomIn, IsPut};
+
+use crate::content::Content;
+use crate::fault::StoreFault;
+use crate::key::Key;
+use crate::object_rows::ObjectRows;
+use crate::oid_list::OidList;
+use crate::row::{Row, RowCopy};
+use crate::store::ObjStore;
+use object_id::{Epoch, NoMemory, Oid, Vid};
+use std::alloc::Global;
+use std::collections::BTreeMap;
+use std::marker::Model;
+
+/// A store in memory that keeps the first bytes of each row, up to the last one that was written or reserved.
+#[derive(Drop)]
+pub struct PlainStore {
+    alloc: Global,
+    objects: BTreeMap<Oid, ObjectRows>,
+}
+
+impl Model for PlainStore {
+    ghost use Rattle.object_store.specs.Plain.{Objects};
+
+    ghost Value = { Objects };
+
+    ghost view = { λ s. s.objects.entries };
+}
+
+impl PlainStore {
+    /// The store without rows. Takes no memory.
+    pub fn new(alloc: Global) -> PlainStore
+        ensures { ⟦<PlainStore as ObjStore>⟧.rows result ≡ tree.empty }
+    {
+        PlainStore {
+            alloc,
+            objects: BTreeMap::new(alloc),
+        }
+    }
+
+    /// The open row of a key.
+    fn open_row(&self, key: &Key) -> Option<&Row<Content>>
+        ensures { option_map seen (option_copied result) ≡ open_row (all_seen self.now) key.now }
+    {
+        match self.objects.get(&key.oid) {
+            Some(rows) => rows.open_row(key.index),
+            None => None,
+        }
+    }
+
+    /// Whether a piece is inside the open row of a key, or why not.
+    fn check_piece(&self, key: &Key, offset: u32, length: usize) -> Result<(), StoreFault>
+        ensures { result ≡ piece_there (all_seen self.now) key.now offset length }
+    {
+        match self.open_row(key) {
+            Some(row) => check_end(offset, length, row.bytes.len()),
+            None => Err(StoreFault::NoObj),
+        }
+    }
+
+    /// Makes the open row of an object. Without memory the rows stay.
+    fn put(&mut self, key: &Key, epoch: Epoch, bytes: Content) -> Result<(), NoMemory>
+        ensures ok { OnOk result (IsPut self.old self.new key.now.oid (created key.now.index epoch.0 bytes (kept_of self.old key.now.oid))) }
+        ensures err { OnErr result (self.new ≡ self.old) }
+    {
+        if self.objects.contains_key(&key.oid) {
+            self.put_there(key, epoch, bytes)
+        } else {
+            self.put_new(key, epoch, bytes)
+        }
+    }
+
+    fn put_there(&mut self, key: &Key, epoch: Epoch, bytes: Content) -> Result<(), NoMemory>
+        requires { IsSome (lookup (is_at (nat_cmp key.now.oid)) self.old) }
+        ensures ok { OnOk result (IsPut self.old self.new key.now.oid (created key.now.index epoch.0 bytes (kept_of self.old key.now.oid))) }
+        ensures err { OnErr result (self.new ≡ self.old) }
+    {
+        let Some(rows) = self.objects.get_mut(&key.oid) else {
+            return Ok(());
+        };
+        rows.create(key.index, epoch, bytes)
+    }
+
+    fn put_new(&mut self, key: &Key, epoch: Epoch, bytes: Content) -> Result<(), NoMemory>
+        requires { lookup (is_at (nat_cmp key.now.oid)) self.old ≡ None }
+        ensures ok { OnOk result (IsPut self.old self.new key.now.oid (created key.now.index epoch.0 bytes (kept_of self.old key.now.oid))) }
+        ensures err { OnErr result (self.new ≡ self.old) }
+    {
+        let mut rows = ObjectRows::new(self.alloc);
+        rows.create(key.index, epoch, bytes)?;
+        self.objects.insert(key.oid, rows)?;
+        Ok(())
+    }
+
+    /// Keeps the first `end` bytes of the open row of a key.
+    fn keep(&mut self, key: &Key, end: usize) -> Result<(), NoMemory>
+        requires { IfSome (open_at key.now.index (kept_of self.old key.now.oid)) (λ row. end ≤ length row.bytes.bytes) }
+        ensures rows { all_seen self.new ≡ all_seen self.old }
+        ensures room { KeepsRoom (HasRoomIn self.old) (HasRoomIn self.new) }
+        ensures ok { OnOk result (RoomIn (open_at key.now.index (kept_of self.new key.now.oid)) end) }
+    {
+        let Some(rows) = self.objects.get_mut(&key.oid) else {
+            return Ok(());
+        };
+        rows.reserve(key.index, end)
+    }
+
+    /// Lays a piece over the open row of a key.
+    fn lay(&mut self, key: &Key, offset: u32, piece: &[u8])
+        requires there { IsSome (lookup (is_at (nat_cmp key.now.oid)) self.old) }
+        requires room { HasRoomIn self.old key.now offset (length piece.now) }
+        ensures { IsPut self.old self.new key.now.oid (written key.now.index offset piece.now (kept_of self.old key.now.oid)) }
+    {
+        let Some(rows) = self.objects.get_mut(&key.oid) else {
+            return;
+        };
+        rows.write(key.index, offset, piece);
+    }
+}
+
+impl ObjStore for PlainStore {
+    ghost rows = { all_seen };
+
+    ghost HasRoom = { HasRoomIn };
+
+    fn create(
+        &mut self,
+        key: Key,
+        epoch: Epoch,
+        length: u32,
+        offset: u32,
+        bytes: &[u8],
+    ) -> Result<(), StoreFault> {
+        check_end(offset, bytes.len(), length)?;
+        let content = Content::new(self.alloc, length, offset, bytes)?;
+        self.put(&key, epoch, content)?;
+        Ok(())
+    }
+
+    fn reserve_write(&mut self, key: Key, offset: u32, length: u32) -> Result<(), StoreFault> {
+        self.check_piece(&key, offset, length as usize)?;
+        self.keep(&key, offset as usize + length as usize)?;
+        Ok(())
+    }
+
+    fn write(&mut self, key: Key, offset: u32, bytes: &[u8]) -> Result<(), StoreFault> {
+        self.check_piece(&key, offset, bytes.len())?;
+        self.lay(&key, offset, bytes);
+        Ok(())
+    }
+
+    fn read(&self, key: Key, offset: u32, out: &mut [u8]) -> Result<(), StoreFault> {
+        let Some(row) = self.open_row(&key) else {
+            return Err(StoreFault::NoObj);
+        };
+        check_end(offset, out.len(), row.bytes.len())?;
+        row.bytes.read(offset, out);
+        Ok(())
+    }
+
+    fn row_at(&self, oid: Oid, level: Epoch) -> Result<Option<RowCopy>, NoMemory> {
+        let Some(rows) = self.objects.get(&oid) else {
+            return Ok(None);
+        };
+        let Some(row) = rows.row_holding(level) else {
+            return Ok(None);
+        };
+        Ok(Some(copy_row(self.alloc, row)?))
+    }
+
+    fn advance(&mut self, next: Epoch, keeps: &[Key]) {
+        self.objects.retain(|oid, rows| {
+            rows.advance(keeps, next, *oid);
+            !rows.is_empty()
+        });
+    }
+
+    fn close_all(&mut self, last: Epoch) {
+        self.objects.retain(|_, rows| {
+            rows.close_all(last);
+            !rows.is_empty()
+        });
+    }
+
+    fn purge_below(&mut self, settled: Epoch) {
+        self.objects.retain(|_, rows| {
+            rows.purge_below(settled);
+            !rows.is_empty()
+        });
+    }
+
+    fn drop_vid(&mut self, vid: Vid) {
+        self.objects.retain(|oid, rows| {
+            rows.drop_vid(vid, *oid);
+            !rows.is_empty()
+        });
+    }
+
+    fn list(&self) -> Result<OidList, NoMemory> {
+        let oids = self.objects.keys().copied().collect(self.alloc)?;
+        Ok(OidList::from_vec(oids))
+    }
+}
+
+/// Whether a piece of `length` bytes from `offset` on ends within `size` bytes.
+fn check_end(offset: u32, length: usize, size: u32) -> Result<(), StoreFault>
+    ensures { result ≡ within (offset + length) size tt }
+{
+    if length <= size as usize && offset as usize <= size as usize - length {
+        Ok(())
+    } else {
+        Err(StoreFault::OutOfObject)
+    }
+}
+
+fn copy_row(alloc: Global, row: &Row<Content>) -> Result<RowCopy, NoMemory>
+    ensures { IfOk result (λ copy. copy ≡ copy_of (seen row.now)) }
+{
+    Ok(RowCopy {
+        index: row.index,
+        from: row.from,
+        to: row.to,
+        length: row.bytes.len(),
+        bytes: row.bytes.trimmed(alloc)?,
+    })
+}

@@ -1,0 +1,20 @@
+//! Strips of blocks: encoding a block of 512 bytes into strips, and decoding it from any d of them.
+//!
+//! A block of d data strips, 2, 4, 8 or 16, has a strip for each index from 0 to 30: the first d are
+//! the block's own bytes in order, and each byte column of the strips is the values of one polynomial
+//! of degree below d at the points that the indexes are. [`encode_block`] makes the strip of an index;
+//! [`decode_block`] gives the one block that has given strips at d different indexes.
+//! The crate stands on `gf256`, where strips are defined, and on `object_id` for policies. It takes no
+//! memory.
+#![tactic(auto)]
+
+mod choice;
+mod coding;
+mod combine;
+mod interpolate;
+mod laws;
+mod rows;
+
+pub use coding::{decode_block, encode_block};
+pub use gf256::TooFewStrips;
+pub use laws::{choice_laws, enough_parts, part_laws};
