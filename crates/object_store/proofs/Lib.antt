@@ -9,3 +9,4 @@ pub mod AnswerLemmas
 pub mod StoreLaws
 pub mod CallLaws
 pub mod OrderLaws
+pub mod KeepsLemmas

@@ -10,6 +10,7 @@
 
 mod content;
 mod fault;
+mod keeps;
 mod key;
 mod laws;
 mod object_rows;
