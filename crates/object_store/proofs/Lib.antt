@@ -10,3 +10,4 @@ pub mod StoreLaws
 pub mod CallLaws
 pub mod OrderLaws
 pub mod KeepsLemmas
+pub mod CopyLaws
