@@ -9,3 +9,5 @@ pub mod AnswerLemmas
 pub mod StoreLaws
 pub mod CallLaws
 pub mod OrderLaws
+pub mod KeepsLemmas
+pub mod CopyLaws

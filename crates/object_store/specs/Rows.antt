@@ -1,6 +1,6 @@
 -- The rows of one object, in the order in which they were made. A row's bytes are of any type, so that the words
 -- serve rows as they are seen and rows as a store keeps them.
-use Rattle.std.specs.Prelude.{◌≡◌, ℕ, ◌-◌, Bool, true, false, not, ◌&&◌, IsTrue, List, [], ◌∷◌, ◌++◌, map, filter, fold, Option, None, Some, is_some, nat_eq, nat_lt, nat_le, cond, if◌then◌else◌}
+use Rattle.std.specs.Prelude.{◌≡◌, ℕ, ◌-◌, ◌<◌, ◌≤◌, Bool, true, false, not, ◌&&◌, IsTrue, List, [], ◌∷◌, ◌++◌, map, filter, fold, Option, None, Some, is_some, nat_eq, nat_lt, nat_le, cond, if◌then◌else◌}
 use Rattle.std.specs.List.{find, list_any, AllByRecursion}
 use Rattle.object_id.specs.Oid.{vid_of}
 use Rattle.object_id.specs.declared.node.Epoch.{Epoch}
@@ -84,6 +84,13 @@ module _ {B : Type 0} where
   -- of the rows that hold the level the one with the greatest from, and of equal ones the one made last
   abbrev pub row_holding : ℕ → List (Row B) → Option (Row B)
   row_holding level rows = fold (better level) None rows
+
+  -- the row holds the level; of the others that do, those made before are from no later epoch, those after from an earlier one
+  abbrev pub IsRowAt : ℕ → List (Row B) → Row B → Type 0
+  IsRowAt level rows row =
+      (before : List (Row B)) × (after : List (Row B)) × (rows ≡ before ++ row ∷ after) × (holds level row ≡ true)
+      × AllByRecursion (λ r. holds level r ≡ true → r.from.0 ≤ row.from.0) before
+      × AllByRecursion (λ r. holds level r ≡ true → r.from.0 < row.from.0) after
 
   -- behind an open row there is none: at most the last row is open
   abbrev pub IsOrderly : List (Row B) → Type 0

@@ -1,8 +1,10 @@
 //! Laws of what calls make of rows, for the proofs of the layers above: each is the contract of a function that does nothing.
-ghost use Rattle.std.specs.Prelude.{◌≡◌, ◌≢◌, ℕ, ◌<◌, ◌≤◌, List, [], Some, Ok, false};
+ghost use Rattle.std.specs.Prelude.{◌≡◌, ◌≢◌, ℕ, ◌-◌, ◌<◌, ◌≤◌, List, [], ◌∷◌, ◌++◌, length, Some, None, Ok, false};
+ghost use Rattle.std.specs.List.{AllByRecursion};
 ghost use Rattle.std.specs.FinMap as tree;
 ghost use Rattle.object_store.specs.declared.key.Key.{Key};
-ghost use Rattle.object_store.specs.Rows.{closed_all, advanced, purged, without_disk, IsOrderly};
+ghost use Rattle.object_store.specs.Rows.{closed_all, advanced, purged, without_disk, holds, row_holding, IsRowAt, IsOrderly};
+ghost use Rattle.object_store.specs.Bytes.{zeros, trimmed};
 ghost use Rattle.object_store.specs.Store.{AllRows, SeenRow, rows_of, create_at, write_at, read_at, each, OpenUpTo, OpenBelow};
 ghost use Rattle.object_store.specs.Calls.{Call, step, after, story_of, read_story, touches, Has};
 
@@ -45,4 +47,13 @@ pub fn other_rows_stay()
 pub fn rows_are_in_order()
     ensures last { (calls : List Call) (oid : ℕ) → IsOrderly (rows_of (after calls) oid) }
     ensures there { (calls : List Call) (oid : ℕ) → tree.get (after calls) oid ≢ Some [] }
+{}
+
+/// The row that `row_at` copies: of those that hold the level the one from the greatest epoch, and of equal ones
+/// the one made last; none only where none holds it. A copy has the row's bytes up to the last that isn't 0.
+pub fn copies_are_of_the_latest_row()
+    ensures some { (level : ℕ) (rows : List SeenRow) (row : SeenRow) → row_holding level rows ≡ Some row → IsRowAt level rows row }
+    ensures none { (level : ℕ) (rows : List SeenRow) → row_holding level rows ≡ None → AllByRecursion (λ row. holds level row ≡ false) rows }
+    ensures bytes { (bytes : List ℕ) → trimmed bytes ++ zeros (length bytes - length (trimmed bytes)) ≡ bytes }
+    ensures last { (bytes front : List ℕ) → trimmed bytes ≢ front ++ 0 ∷ [] }
 {}

@@ -10,6 +10,7 @@
 
 mod content;
 mod fault;
+mod keeps;
 mod key;
 mod laws;
 mod object_rows;
@@ -23,8 +24,8 @@ mod tests;
 pub use fault::StoreFault;
 pub use key::Key;
 pub use laws::{
-    open_rows_are_from_epochs_so_far, other_rows_stay, reads_what_was_written_last,
-    rows_are_in_order, rows_of_one_object,
+    copies_are_of_the_latest_row, open_rows_are_from_epochs_so_far, other_rows_stay,
+    reads_what_was_written_last, rows_are_in_order, rows_of_one_object,
 };
 pub use oid_list::OidList;
 pub use plain::PlainStore;

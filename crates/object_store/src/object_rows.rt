@@ -1,10 +1,10 @@
 ghost use Rattle.std.specs.Prelude.{◌≡◌, ◌↔◌, ℕ, ◌+◌, ◌-◌, ◌≤◌, Bool, true, not, ◌&&◌, List, [], ◌∷◌, length, map, filter, IfSome, OnOk, OnErr, IsTrue, nat_eq, if◌then◌else◌, Some, vec_len, vec_capacity};
 ghost use Rattle.std.specs.Option.{option_copied};
-ghost use Rattle.object_store.specs.Rows.{is_open_at, is_replaced, ended, open_at, closed, closed_all, created, advanced_row, advanced, purged, without_disk, ended_before, is_kept, row_holding, better, IsOrderly};
+ghost use Rattle.object_store.specs.Rows.{is_open_at, is_replaced, ended, open_at, closed, closed_all, created, advanced_row, advanced, purged, without_disk, ended_before, row_holding, better, IsOrderly};
 ghost use Rattle.object_store.specs.Kept.{seen, written, lay, RoomIn, KeepsRowRoom};
 
 use crate::content::Content;
-use crate::key::Key;
+use crate::keeps::Keeps;
 use crate::row::Row;
 use object_id::{Epoch, NoMemory, Oid, Vid};
 use std::alloc::Global;
@@ -106,7 +106,7 @@ impl ObjectRows {
     }
 
     /// Ends the open row with the epoch before `next`, unless its key is kept.
-    pub fn advance(&mut self, keeps: &[Key], next: Epoch, oid: Oid)
+    pub fn advance(&mut self, keeps: &Keeps, next: Epoch, oid: Oid)
         ensures { self.new ≡ advanced keeps.now next.0 oid self.old }
     {
         let count = self.rows.len();
@@ -176,12 +176,6 @@ fn is_old(row: &Row<Content>, settled: Epoch) -> bool
     }
 }
 
-fn is_in(keeps: &[Key], oid: Oid, index: u8) -> bool
-    ensures { result ≡ is_kept keeps.now oid index }
-{
-    keeps.iter().any(|key| key.oid == oid && key.index == index)
-}
-
 fn is_better(row: &Row<Content>, best: Option<&Row<Content>>, level: Epoch) -> bool
     ensures { better level.0 (option_copied best.entry) row.now ≡ (if result then Some row.now else option_copied best.entry) }
 {
@@ -205,10 +199,10 @@ fn close(row: &mut Row<Content>, last: Epoch)
     }
 }
 
-fn advance_row(row: &mut Row<Content>, keeps: &[Key], next: Epoch, oid: Oid)
+fn advance_row(row: &mut Row<Content>, keeps: &Keeps, next: Epoch, oid: Oid)
     ensures { row.new ≡ advanced_row keeps.now next.0 oid row.old }
 {
-    if !is_in(keeps, oid, row.index) {
+    if !keeps.has(oid, row.index) {
         close(row, Epoch(next.0.saturating_sub(1)));
     }
 }

@@ -12,6 +12,7 @@ ghost use Rattle.object_store.specs.Plain.{all_seen, kept_of, HasRoomIn, IsPut};
 
 use crate::content::Content;
 use crate::fault::StoreFault;
+use crate::keeps::Keeps;
 use crate::key::Key;
 use crate::object_rows::ObjectRows;
 use crate::oid_list::OidList;
@@ -179,8 +180,9 @@ impl ObjStore for PlainStore {
     }
 
     fn advance(&mut self, next: Epoch, keeps: &[Key]) {
+        let keeps = Keeps::new(keeps);
         self.objects.retain(|oid, rows| {
-            rows.advance(keeps, next, *oid);
+            rows.advance(&keeps, next, *oid);
             !rows.is_empty()
         });
     }
