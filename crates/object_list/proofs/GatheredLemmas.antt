@@ -1,9 +1,10 @@
 -- What was gathered after a list of answers.
-use Rattle.std.proofs.Common.{◌≡◌, ◌↔◌, ◌⊎◌, inl, inr, ℕ, zero, suc, ◌<◌, not, ◌&&◌, ◌||◌, Bool, true, false, cond, List, [], ◌∷◌, length, get_or, filter, fold, Contains, Any, refl, ap, sym, subst, ◌∙◌, arith}
+use Rattle.std.proofs.Common.{◌≡◌, ◌↔◌, ◌⊎◌, inl, inr, ℕ, zero, suc, ◌<◌, not, ◌&&◌, ◌||◌, Bool, true, false, cond, List, [], ◌∷◌, length, get_or, filter, fold, All, Contains, Any, refl, ap, sym, subst, ◌∙◌, arith}
 use Rattle.std.specs.List.{list_all}
 use Rattle.std.specs.List.Sorted.{IsStrictlyIncreasing}
-use Rattle.std.proofs.lemmas.Bool.{cases_Bool, and_right, eqb-true}
-use Rattle.std.proofs.lemmas.List.Elements.{filter_agree}
+use Rattle.std.proofs.lemmas.Bool.{cases_Bool, and_right, eqb-true, eq-eqb}
+use Rattle.std.proofs.lemmas.List.Elements.{filter_agree, All-head, All-tail}
+use Rattle.std.proofs.lemmas.List.Folds.{list_any_at}
 use Rattle.object_id.specs.declared.node.NodeId.{NodeId}
 use Rattle.object_list.specs.Union.{union}
 use Rattle.object_list.specs.Gathered.{Gathered, Answer, is_node, has_node, asked, answered, after, has_answered}
@@ -72,6 +73,23 @@ pub waits_for_after : (me : NodeId) (members : List NodeId) (answers : List Answ
 waits_for_after me members answers node =
     ap (has_node node) (waiting_after me members answers)
     ∙ has_node-filter (λ other. not (is_node me other) && not (has_answered other answers)) node members
+
+-- two tests that agree on the elements of a list keep the same of it
+filter-on : {X : Type 0} (p q : X → Bool) (xs : List X) → All (λ x. p x ≡ q x) xs → filter p xs ≡ filter q xs
+filter-on p q [] same = refl
+filter-on p q (x ∷ xs) same =
+    ap (λ b. cond b (x ∷ filter p xs) (filter p xs)) (All-head (λ x. p x ≡ q x) x xs same)
+    ∙ ap (λ rest. cond (q x) (x ∷ rest) rest) (filter-on p q xs (All-tail (λ x. p x ≡ q x) x xs same))
+
+pub in_order_after : (me : NodeId) (members : List NodeId) (answers : List Answer)
+    → filter (λ node. has_node node (after me members answers).waiting) members ≡ (after me members answers).waiting
+in_order_after me members answers =
+    filter-on (λ node. has_node node (after me members answers).waiting) (λ node. not (is_node me node) && not (has_answered node answers)) members
+    (λ k d within.
+    (let node : NodeId = get_or members k d in
+    waits_for_after me members answers node
+    ∙ ap (λ b. b && (not (is_node me node) && not (has_answered node answers))) (list_any_at (is_node node) members k d within (eq-eqb node.0 node.0 refl))))
+    ∙ sym (waiting_after me members answers)
 
 none_left : (p q : NodeId → Bool) (nodes : List NodeId) → ((node : NodeId) → p node ≡ not (q node)) → (filter p nodes ≡ []) ↔ (list_all q nodes ≡ true)
 none_left p q [] other = (λ _. refl, λ _. refl)

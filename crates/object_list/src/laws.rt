@@ -23,6 +23,10 @@ pub fn gathered_from_all_answers()
     ensures waits_for { (me : NodeId) (members : List NodeId) (answers : List Answer) (node : NodeId)
         → has_node node (after me members answers).waiting
         ≡ (has_node node members && (not (is_node me node) && not (has_answered node answers))) }
+    // Who asks the members one after another whether they are waited for, finds them all, in this order.
+    ensures in_order { (me : NodeId) (members : List NodeId) (answers : List Answer)
+        → filter (λ node. has_node node (after me members answers).waiting) members
+        ≡ (after me members answers).waiting }
     ensures finished { (me : NodeId) (members : List NodeId) (answers : List Answer)
         → ((after me members answers).waiting ≡ [])
         ↔ IsTrue (list_all (λ node. is_node me node || has_answered node answers) members) }
