@@ -1,0 +1,5 @@
+use Rattle.gateway_queue.proofs.LawLemmas.{running_apart}
+use Rattle.gateway_queue.proofs.laws.running_requests_are_apart.Goals as goal
+
+pub returns : goal.returns
+returns c = running_apart
