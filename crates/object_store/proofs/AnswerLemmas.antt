@@ -1,5 +1,5 @@
 -- What a piece that is inside an open row means for the calls that are given one.
-use Rattle.std.proofs.Common.{◌≡◌, ℕ, ◌+◌, ◌≤◌, Bool, true, false, cond, List, [], length, map, Option, Some, None, Result, Ok, Err, OnErr, IfSome, IsSome, unwrap_or, nat_le, refl, ap, sym, ◌∙◌, subst, arith}
+use Rattle.std.proofs.Common.{◌≡◌, ℕ, ◌+◌, ◌≤◌, Bool, true, false, cond, List, [], length, Option, Some, None, Result, Ok, Err, OnErr, IfSome, IsSome, unwrap_or, nat_le, refl, ap, sym, ◌∙◌, arith}
 use Rattle.std.specs.Option.{option_map}
 use Rattle.std.specs.Ordering.{nat_cmp}
 use Rattle.std.specs.Map.{lookup}
@@ -8,7 +8,7 @@ use Rattle.std.proofs.lemmas.Bool.Decides.{nat_tests}
 use Rattle.object_store.specs.declared.key.Key.{Key}
 use Rattle.object_store.specs.declared.row.Row.{Row}
 use Rattle.object_store.specs.declared.fault.StoreFault.{StoreFault}
-use Rattle.object_store.specs.declared.fault.StoreFault.TheVariants.{NoObj, OutOfObject}
+use Rattle.object_store.specs.declared.fault.StoreFault.TheVariants.{OutOfObject}
 use Rattle.object_store.specs.Bytes.{Kept}
 use Rattle.object_store.specs.Rows.{open_at, row_holding}
 use Rattle.object_store.specs.Store.{SeenRow, within, on_open, piece_there, copy_of, copy_at}

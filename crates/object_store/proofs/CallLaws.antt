@@ -1,5 +1,5 @@
 -- What a store holds after any list of calls.
-use Rattle.std.proofs.Common.{◌≡◌, ◌≢◌, ◌⊎◌, inl, inr, ℕ, zero, suc, ◌+◌, ◌-◌, ◌<◌, ◌≤◌, Bool, true, false, not, cond, ◌&&◌, nat_eq, nat_le, nat_lt, List, [], ◌∷◌, ◌++◌, length, map, filter, fold, take, drop, get_or, Option, Some, None, Result, Ok, Err, refl, ap, sym, ◌∙◌, subst, arith}
+use Rattle.std.proofs.Common.{◌≡◌, ◌≢◌, inl, inr, ℕ, ◌+◌, ◌-◌, ◌<◌, ◌≤◌, Bool, true, false, not, cond, ◌&&◌, nat_eq, nat_le, nat_lt, List, [], ◌∷◌, ◌++◌, length, map, filter, fold, take, drop, get_or, Option, Some, None, Result, Ok, Err, refl, ap, sym, ◌∙◌, subst, arith}
 use Rattle.std.proofs.lemmas.List.{length-append, length-take-le, length-drop, get_or_append_left, get_or-take, get_or-append_right, get_or-drop, get_or-replicate, length-replicate, ext_get_or}
 use Rattle.std.proofs.lemmas.List.FromFn.{length-map-range_with_len, get_or-map-range_with_len}
 use Rattle.std.proofs.lemmas.Bool.Decides.{nat_tests}
@@ -10,13 +10,12 @@ use Rattle.std.specs.FinMap as tree
 use Rattle.object_id.specs.Oid.{vid_of}
 use Rattle.object_id.specs.Piece.{laid_over}
 use Rattle.object_store.specs.declared.key.Key.{Key}
-use Rattle.object_store.specs.declared.row.Row.{Row}
 use Rattle.object_store.specs.declared.fault.StoreFault.{StoreFault}
-use Rattle.object_store.specs.declared.fault.StoreFault.TheVariants.{NoObj, OutOfObject}
+use Rattle.object_store.specs.declared.fault.StoreFault.TheVariants.{OutOfObject}
 use Rattle.object_store.specs.Bytes.{zeros, piece_at}
 use Rattle.object_store.specs.Rows.{is_open, is_open_at, open_at, closed, closed_all, is_replaced, ended, created, changed, is_kept, advanced_row, advanced, purged, ended_before, without_disk}
-use Rattle.object_store.specs.Store.{SeenRow, AllRows, rows_of, open_row, within, on_open, read_at, create_at, create_in, write_at, write_in, each}
-use Rattle.object_store.specs.Calls.{Call, Create, Write, Advance, CloseAll, PurgeBelow, DropVid, step, after, Story, byte_at, is_same, with_piece, told, story_of, read_story, touches, Has}
+use Rattle.object_store.specs.Store.{SeenRow, AllRows, rows_of, open_row, within, on_open, read_at, create_in, write_in, each}
+use Rattle.object_store.specs.Calls.{Call, Create, Write, Advance, CloseAll, PurgeBelow, DropVid, step, after, Story, byte_at, with_piece, told, story_of, read_story, touches, Has}
 use Rattle.object_store.proofs.RowLemmas.{find-front, closed_all-closed, closed-same}
 use Rattle.object_store.proofs.RoomLemmas.{open-closed_all, open-advanced, open-purged, without_disk-none}
 use Rattle.object_store.proofs.StoreLaws.{rows_of-empty, rows_of-insert_same, rows_of-insert_other, rows_of-each}

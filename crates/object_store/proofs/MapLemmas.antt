@@ -1,5 +1,5 @@
 -- Lists of objects by ascending id, and the finite maps as which they are seen: for any store, at any kind of row.
-use Rattle.std.proofs.Common.{◌≡◌, ◌≢◌, ℕ, suc, Bool, true, false, not, cond, ◌&&◌, T, nat_eq, List, [], ◌∷◌, length, map, Option, Some, None, unwrap_or, refl, ap, sym, ◌∙◌, subst, Ordering, arith}
+use Rattle.std.proofs.Common.{◌≡◌, ◌≢◌, ℕ, Bool, true, false, not, cond, ◌&&◌, T, nat_eq, List, [], ◌∷◌, length, Some, unwrap_or, refl, ap, sym, ◌∙◌, subst, Ordering, arith}
 use Rattle.std.specs.declared.cmp.Ordering.TheVariants.{Less, Equal, Greater}
 use Rattle.std.specs.Ordering.{is_eq, is_lt, nat_cmp}
 use Rattle.std.specs.Cmp.{nat_cmp_total, tied_itself, eq_by_cmp_equiv}

@@ -1,5 +1,5 @@
 -- After any list of calls at most the last row of an object is open, and an object without rows isn't there.
-use Rattle.std.proofs.Common.{◌≡◌, ◌≢◌, ℕ, ◌+◌, ◌-◌, Bool, true, false, not, cond, ◌&&◌, nat_eq, nat_le, List, [], ◌∷◌, ◌++◌, length, map, filter, fold, Option, Some, None, Result, Ok, Err, refl, ap, sym, ◌∙◌, subst, arith}
+use Rattle.std.proofs.Common.{◌≡◌, ◌≢◌, ℕ, ◌+◌, ◌-◌, Bool, true, false, not, cond, nat_eq, nat_le, List, [], ◌∷◌, ◌++◌, length, fold, Option, Some, None, Ok, Err, refl, ap, sym, ◌∙◌, subst}
 use Rattle.std.specs.Ordering.{nat_cmp}
 use Rattle.std.specs.Cmp.{nat_cmp_total}
 use Rattle.std.specs.Map.{lookup}
@@ -8,10 +8,8 @@ use Rattle.std.specs.FinMap as tree
 use Rattle.std.specs.Result.{result_unwrap_or}
 use Rattle.object_id.specs.Oid.{vid_of}
 use Rattle.object_store.specs.declared.key.Key.{Key}
-use Rattle.object_store.specs.declared.row.Row.{Row}
-use Rattle.object_store.specs.declared.fault.StoreFault.{StoreFault}
-use Rattle.object_store.specs.declared.fault.StoreFault.TheVariants.{NoObj, OutOfObject}
-use Rattle.object_store.specs.Rows.{is_open, is_open_at, open_at, closed, closed_all, is_replaced, ended, created, changed, is_kept, advanced_row, advanced, purged, ended_before, without_disk, IsOrderly}
+use Rattle.object_store.specs.declared.fault.StoreFault.TheVariants.{OutOfObject}
+use Rattle.object_store.specs.Rows.{is_open, is_open_at, open_at, closed, closed_all, ended, changed, is_kept, advanced, purged, ended_before, without_disk, IsOrderly}
 use Rattle.object_store.specs.Store.{SeenRow, AllRows, rows_of, open_row, on_open, create_in, write_in, with_rows, each_entry, each}
 use Rattle.object_store.specs.Calls.{Call, Create, Write, Advance, CloseAll, PurgeBelow, DropVid, step, after}
 use Rattle.object_store.proofs.RowLemmas.{closed_all-closed, orderly_closed, orderly_created, orderly_filter}

@@ -1,5 +1,5 @@
 -- The objects that a plain store keeps, as the finite map as which they are seen.
-use Rattle.std.proofs.Common.{◌≡◌, ◌≢◌, ℕ, ◌+◌, ◌≤◌, Bool, true, false, cond, T, List, [], ◌∷◌, map, Option, Some, None, Result, Ok, Err, unwrap_or, IfSome, refl, ap, sym, ◌∙◌, subst, length, nat_le}
+use Rattle.std.proofs.Common.{◌≡◌, ℕ, ◌+◌, Bool, true, false, cond, List, [], ◌∷◌, map, Option, Some, None, unwrap_or, refl, ap, sym, ◌∙◌, subst}
 use Rattle.std.specs.Option.{option_map}
 use Rattle.std.specs.Ordering.{is_eq, nat_cmp}
 use Rattle.std.specs.Cmp.{nat_cmp_total}
@@ -7,17 +7,16 @@ use Rattle.std.specs.List.Sorted.{IsStrictlySortedBy}
 use Rattle.std.specs.Map.{lookup, keys_of}
 use Rattle.std.specs.BTreeMap.{is_at}
 use Rattle.std.specs.FinMap as tree
-use Rattle.std.specs.FinMap.Entries.{find, is_sorted, below_all}
+use Rattle.std.specs.FinMap.Entries.{find}
 use Rattle.object_store.specs.declared.key.Key.{Key}
 use Rattle.object_store.specs.declared.row.Row.{Row}
-use Rattle.object_store.specs.declared.fault.StoreFault.{StoreFault}
 use Rattle.object_store.specs.Bytes.{Kept}
 use Rattle.object_store.specs.Rows.{open_at}
-use Rattle.object_store.specs.Store.{SeenRow, AllRows, rows_of, open_row, with_rows, each_entry, each}
+use Rattle.object_store.specs.Store.{SeenRow, rows_of, open_row, with_rows, each_entry, each}
 use Rattle.object_store.specs.Answers.{KeepsRoom, KeepsOtherRoom}
 use Rattle.object_store.specs.Kept.{seen, RoomIn, KeepsRowRoom}
 use Rattle.object_store.specs.Plain.{Objects, seen_entry, all_seen, kept_of, HasRoomIn, IsPut}
-use Rattle.object_store.proofs.MapLemmas.{same_key, own_key, other_key, turned_key, find-lookup, sorted_from, entries-from_entries, rows_at, rows_at-each_entry}
+use Rattle.object_store.proofs.MapLemmas.{same_key, own_key, other_key, turned_key, sorted_from, entries-from_entries, rows_at-each_entry}
 use Rattle.object_store.proofs.SeenLemmas.{seen-open_at}
 
 find-seen : (q : ℕ) (es : Objects) → find nat_cmp q (map seen_entry es) ≡ option_map (map seen) (lookup (is_at (nat_cmp q)) es)

@@ -1,12 +1,12 @@
 -- What closing, purging and dropping rows, and laying a piece over one, leave of the open row of an index.
-use Rattle.std.proofs.Common.{◌≡◌, ℕ, ◌-◌, Bool, true, false, not, cond, ◌&&◌, nat_eq, List, [], ◌∷◌, ◌++◌, map, filter, Option, Some, None, is_some, refl, ap, sym, ◌∙◌, subst, arith}
+use Rattle.std.proofs.Common.{◌≡◌, ℕ, ◌-◌, Bool, true, false, not, cond, ◌&&◌, nat_eq, List, [], ◌∷◌, Option, Some, None, is_some, refl, ap, sym, ◌∙◌, subst, arith}
 use Rattle.std.proofs.lemmas.Bool.Decides.{nat_tests}
 use Rattle.object_id.specs.Oid.{vid_of}
 use Rattle.object_id.specs.declared.node.Epoch.{Epoch}
 use Rattle.object_store.specs.declared.key.Key.{Key}
 use Rattle.object_store.specs.declared.row.Row.{Row}
 use Rattle.object_store.specs.Bytes.{Kept}
-use Rattle.object_store.specs.Rows.{is_open, is_open_at, open_at, closed, closed_all, changed, is_kept, advanced_row, advanced, purged, ended_before, without_disk}
+use Rattle.object_store.specs.Rows.{is_open, is_open_at, open_at, closed, closed_all, is_kept, advanced, purged, ended_before, without_disk}
 use Rattle.object_store.specs.Kept.{RoomIn, KeepsRowRoom, lay, written}
 use Rattle.object_store.proofs.RowLemmas.{AllClosed, closed_all-closed}
 

@@ -1,5 +1,5 @@
 -- Rows as they are seen: each change of kept rows is the same change of the rows seen.
-use Rattle.std.proofs.Common.{◌≡◌, ℕ, ◌-◌, Bool, true, false, not, cond, ◌&&◌, nat_eq, List, [], ◌∷◌, ◌++◌, map, filter, fold, Option, Some, None, refl, ap, sym, ◌∙◌}
+use Rattle.std.proofs.Common.{◌≡◌, ℕ, ◌-◌, Bool, true, false, not, cond, ◌&&◌, nat_eq, List, [], ◌∷◌, ◌++◌, map, filter, fold, Option, Some, None, refl, ap, ◌∙◌}
 use Rattle.std.specs.List.{find}
 use Rattle.std.specs.Option.{option_map}
 use Rattle.std.proofs.lemmas.List.{map-append}
@@ -8,7 +8,7 @@ use Rattle.object_store.specs.declared.row.Row.{Row}
 use Rattle.object_id.specs.Piece.{laid_over}
 use Rattle.object_id.specs.Oid.{vid_of}
 use Rattle.object_store.specs.Bytes.{Kept}
-use Rattle.object_store.specs.Rows.{is_open, is_open_at, open_at, closed, closed_all, is_replaced, ended, created, changed, is_kept, advanced_row, advanced, purged, ended_before, without_disk, holds, is_no_later, better, row_holding}
+use Rattle.object_store.specs.Rows.{is_open, is_open_at, open_at, closed, closed_all, is_replaced, created, changed, is_kept, advanced_row, advanced, purged, ended_before, without_disk, holds, is_no_later, better, row_holding}
 use Rattle.object_store.specs.Store.{SeenRow}
 use Rattle.object_store.specs.Kept.{seen, lay, written}
 

@@ -1,8 +1,7 @@
 -- What each call leaves of an object's rows, for callers of any store.
-use Rattle.std.proofs.Common.{◌≡◌, ◌≢◌, ℕ, ◌+◌, ◌-◌, ◌<◌, ◌≤◌, Bool, true, false, not, cond, ◌&&◌, T, nat_eq, nat_le, List, [], ◌∷◌, ◌++◌, length, map, filter, Option, Some, None, Result, Ok, Err, unwrap_or, refl, ap, sym, ◌∙◌, subst, arith}
-use Rattle.std.specs.Ordering.{is_eq, nat_cmp}
+use Rattle.std.proofs.Common.{◌≡◌, ◌≢◌, ℕ, ◌+◌, ◌-◌, ◌<◌, ◌≤◌, Bool, true, false, not, cond, nat_eq, nat_le, List, [], ◌∷◌, ◌++◌, length, filter, Option, Some, None, Result, Ok, Err, unwrap_or, refl, ap, sym, ◌∙◌, subst, arith}
+use Rattle.std.specs.Ordering.{nat_cmp}
 use Rattle.std.specs.Cmp.{nat_cmp_total}
-use Rattle.std.specs.Map.{lookup}
 use Rattle.std.specs.BTreeMap.{is_at}
 use Rattle.std.specs.FinMap as tree
 use Rattle.object_id.specs.Oid.{vid_of}
@@ -10,12 +9,12 @@ use Rattle.object_store.specs.declared.key.Key.{Key}
 use Rattle.object_store.specs.declared.row.Row.{Row}
 use Rattle.object_store.specs.declared.fault.StoreFault.{StoreFault}
 use Rattle.object_store.specs.declared.fault.StoreFault.TheVariants.{NoObj, OutOfObject, NoMemory}
-use Rattle.object_store.specs.Rows.{is_open, is_open_at, closed, closed_all, is_replaced, ended, created, changed, is_kept, advanced_row, advanced, purged, ended_before, without_disk, OpenFrom}
-use Rattle.object_store.specs.Store.{SeenRow, AllRows, rows_of, open_row, on_open, create_at, create_in, write_at, write_in, each_entry, each, OpenUpTo, OpenBelow}
+use Rattle.object_store.specs.Rows.{is_open, is_open_at, closed, closed_all, is_replaced, ended, created, changed, is_kept, advanced, purged, ended_before, without_disk, OpenFrom}
+use Rattle.object_store.specs.Store.{SeenRow, AllRows, rows_of, open_row, on_open, create_at, write_at, each_entry, each, OpenUpTo, OpenBelow}
 use Rattle.object_store.specs.Answers.{Makes, MakesSurely}
 use Rattle.object_store.proofs.RowLemmas.{AllClosed, closed_all-closed}
 use Rattle.object_store.proofs.RoomLemmas.{without_disk-none}
-use Rattle.object_store.proofs.MapLemmas.{same_key, own_key, other_key, find-lookup, rows_at, rows_at-each_entry}
+use Rattle.object_store.proofs.MapLemmas.{own_key, other_key, find-lookup, rows_at-each_entry}
 
 -- ---- the rows of one object after a change of one, or of each
 

@@ -1,5 +1,5 @@
 -- The bytes of a row: a list of the row's length.
-use Rattle.std.specs.Prelude.{ℕ, ◌+◌, Bool, ◌&&◌, List, [], ◌∷◌, length, take, drop, replicate, nat_eq, if◌then◌else◌}
+use Rattle.std.specs.Prelude.{ℕ, ◌&&◌, List, [], ◌∷◌, length, take, drop, replicate, nat_eq, if◌then◌else◌}
 
 -- what was never written
 abbrev pub zeros : ℕ → List ℕ

@@ -1,4 +1,4 @@
-use Rattle.std.proofs.Common.{◌≡◌, ◌∙◌, sym, rules, arith}
+use Rattle.std.proofs.Common.{◌∙◌, sym, arith}
 use Rattle.std.proofs.lemmas.Bool.Decides.{nat_tests}
 use Rattle.object_store.proofs.ByteLemmas.{trimmed-take_zero, trimmed-take_other}
 use Rattle.object_store.proofs.content.trimmed_len.Goals as goal

@@ -1,6 +1,6 @@
-use Rattle.std.proofs.Common.{◌≡◌, ◌∙◌, ◌+◌, ◌-◌, ap, sym, length, slice_set, arith}
+use Rattle.std.proofs.Common.{◌≡◌, ◌∙◌, ◌-◌, ap, sym, slice_set, arith}
 use Rattle.std.proofs.lemmas.List.{get_or_default}
-use Rattle.object_store.specs.Rows.{closed, ended, is_replaced}
+use Rattle.object_store.specs.Rows.{closed, is_replaced}
 use Rattle.object_store.proofs.RowLemmas.{ended_gone, ended_closed}
 use Rattle.object_store.proofs.object_rows.end_open.Goals as goal
 

@@ -1,4 +1,4 @@
-use Rattle.std.proofs.Common.{◌≡◌, ◌∙◌, sym, ◌+◌, ◌++◌, ap, length, rules, arith}
+use Rattle.std.proofs.Common.{◌≡◌, ◌++◌, arith}
 use Rattle.std.proofs.lemmas.Grind.{common_steps}
 use Rattle.std.proofs.lemmas.List.{length-append, length-replicate}
 use Rattle.object_store.specs.Bytes.{zeros}

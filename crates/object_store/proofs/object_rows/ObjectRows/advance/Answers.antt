@@ -1,4 +1,4 @@
-use Rattle.std.proofs.Common.{◌≡◌, ◌∙◌, ◌+◌, ◌-◌, ap, length, slice_set, arith}
+use Rattle.std.proofs.Common.{◌∙◌, ◌-◌, ap, slice_set, arith}
 use Rattle.object_store.specs.Rows.{advanced_row, advanced}
 use Rattle.object_store.proofs.RowLemmas.{map_last_at, advanced-same, orderly_set}
 use Rattle.object_store.proofs.object_rows.ObjectRows.advance.Goals as goal

@@ -1,4 +1,4 @@
-use Rattle.std.proofs.Common.{◌≡◌, ◌∙◌, ◌+◌, ◌-◌, ap, sym, length, cond, Some, None, arith}
+use Rattle.std.proofs.Common.{◌∙◌, ◌-◌, ap, sym, cond, Some, None, arith}
 use Rattle.object_store.specs.Rows.{open_at}
 use Rattle.object_store.proofs.RowLemmas.{open_last_at}
 use Rattle.object_store.proofs.object_rows.ObjectRows.open_row.Goals as goal

@@ -1,4 +1,4 @@
-use Rattle.std.proofs.Common.{◌≡◌, ◌∙◌, ap, sym, subst, not, rules}
+use Rattle.std.proofs.Common.{◌∙◌, ap, sym, subst, not, rules}
 use Rattle.std.proofs.lemmas.Fn.{filter_same}
 use Rattle.object_store.specs.Rows.{ended_before, purged, IsOrderly}
 use Rattle.object_store.proofs.RowLemmas.{orderly_filter}

@@ -1,4 +1,4 @@
-use Rattle.std.proofs.Common.{◌≡◌, ◌∙◌, ◌+◌, ◌-◌, ◌≤◌, ap, sym, subst, length, map, cond, Some, None, true, IfSome, arith}
+use Rattle.std.proofs.Common.{◌≡◌, ◌∙◌, ◌-◌, ◌≤◌, ap, sym, subst, length, map, cond, Some, None, true, IfSome, arith}
 use Rattle.std.proofs.lemmas.Result.{IfOk-weaker}
 use Rattle.object_store.specs.Rows.{is_open_at, open_at}
 use Rattle.object_store.specs.Kept.{seen, RoomIn}

@@ -1,4 +1,4 @@
-use Rattle.std.proofs.Common.{◌≡◌, ◌∙◌, ◌+◌, ◌-◌, ap, sym, subst, length, slice_set, cond, Some, None, arith}
+use Rattle.std.proofs.Common.{◌∙◌, ◌+◌, ◌-◌, ap, sym, subst, length, slice_set, cond, Some, None, arith}
 use Rattle.object_store.specs.Rows.{open_at}
 use Rattle.object_store.specs.Kept.{written, lay, RoomIn}
 use Rattle.object_store.proofs.RowLemmas.{changed_last_at, open_last_at, orderly_set}

@@ -1,4 +1,4 @@
-use Rattle.std.proofs.Common.{refl, ◌≡◌, ◌∙◌, ◌≤◌, ℕ, [], Some, None, IsSome, IfSome, cond, length, unwrap_or, ap, sym, subst}
+use Rattle.std.proofs.Common.{refl, ◌≡◌, ◌∙◌, ◌≤◌, [], Some, IsSome, IfSome, cond, length, unwrap_or, ap, sym, subst}
 use Rattle.std.specs.Option.{option_copied_mut}
 use Rattle.std.specs.Map.{lookup}
 use Rattle.std.specs.BTreeMap.{is_at}
@@ -6,7 +6,7 @@ use Rattle.std.specs.Ordering.{nat_cmp}
 use Rattle.std.proofs.lemmas.Result.{IfOk-weaker}
 use Rattle.object_store.specs.Rows.{open_at}
 use Rattle.object_store.specs.Kept.{RoomIn, KeepsRowRoom}
-use Rattle.object_store.specs.Plain.{kept_of, IsPut}
+use Rattle.object_store.specs.Plain.{kept_of}
 use Rattle.object_store.proofs.PlainLemmas.{put_unseen, KeepsRoom-put, HasRoomIn-put}
 use Rattle.object_store.proofs.plain.PlainStore.keep.Goals as goal
 

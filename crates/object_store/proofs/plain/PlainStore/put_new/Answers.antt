@@ -1,4 +1,4 @@
-use Rattle.std.proofs.Common.{◌≡◌, ◌∙◌, ℕ, [], Some, None, cond, unwrap_or, ap, sym}
+use Rattle.std.proofs.Common.{◌≡◌, ◌∙◌, [], Some, cond, unwrap_or, ap, sym}
 use Rattle.std.specs.Map.{lookup}
 use Rattle.std.specs.BTreeMap.{is_at}
 use Rattle.std.specs.Ordering.{nat_cmp}

@@ -1,4 +1,4 @@
-use Rattle.std.proofs.Common.{◌≡◌, ◌∙◌, ap, sym, subst, refl, rules}
+use Rattle.std.proofs.Common.{◌≡◌, ◌∙◌, ap, sym, subst, rules}
 use Rattle.object_store.specs.Rows.{without_disk}
 use Rattle.object_store.specs.Store.{each_entry, each}
 use Rattle.object_store.specs.Answers.{KeepsRoom}

@@ -1,5 +1,5 @@
-use Rattle.std.proofs.Common.{length, sym, subst, arith}
-use Rattle.object_store.specs.Store.{OpenUpTo, OpenBelow, create_at}
+use Rattle.std.proofs.Common.{arith}
+use Rattle.object_store.specs.Store.{OpenUpTo, create_at}
 use Rattle.object_store.proofs.StoreLaws.{OpenUpTo-create, OpenUpTo-later, Makes-keeps}
 use Rattle.object_store.proofs.tests.Tried.create.Goals as goal
 

@@ -1,4 +1,4 @@
-use Rattle.std.proofs.Common.{length, sym, subst}
+use Rattle.std.proofs.Common.{sym, subst}
 use Rattle.object_store.specs.Store.{OpenUpTo, write_at}
 use Rattle.object_store.proofs.StoreLaws.{OpenUpTo-write, MakesSurely-keeps}
 use Rattle.object_store.proofs.tests.Tried.write.Goals as goal
