@@ -1,0 +1,11 @@
+use Rattle.std.proofs.Common.{◌≡◌, ◌≤◌, [], length, take, drop}
+use Rattle.hash_ring.specs.Walk.{walk, first_nodes}
+use Rattle.hash_ring.proofs.walk.fill.Given as goal
+
+abbrev pub invariant-loop-turn : goal.invariant-loop-turn
+invariant-loop-turn l = record {
+  filled : take l.count l.out ≡ first_nodes [] (take l.turn (walk l.start l.points));
+  found : l.count ≡ length (first_nodes [] (take l.turn (walk l.start l.points)));
+  room : l.count ≤ l.n;
+  rest : drop l.count l.out ≡ drop l.count l.fn.out;
+}
