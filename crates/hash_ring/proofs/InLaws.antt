@@ -45,7 +45,7 @@ in_map f (y ∷ xs) x (inr h) = inr (in_map f xs x h)
 pub from_map : {X Y : Type 0} (f : X → Y) (xs : List X) (y : Y) → In y (map f xs) → (x : X) × In x xs × (f x ≡ y)
 from_map f [] y h = absurd h
 from_map f (x ∷ xs) y (inl e) = (x, inl refl, e)
-from_map f (x ∷ xs) y (inr h) = go (from_map f xs y h)
+from_map {X} {Y} f (x ∷ xs) y (inr h) = go (from_map f xs y h)
   where
     go : (z : X) × In z xs × (f z ≡ y) → (z : X) × In z (x ∷ xs) × (f z ≡ y)
     go r = (r.0, inr r.1, r.2)
@@ -58,7 +58,7 @@ in_flat_map f (z ∷ xs) x y (inr h) k = in_append_right (f z) (flat_map f xs) y
 
 pub from_flat_map : {X Y : Type 0} (f : X → List Y) (xs : List X) (y : Y) → In y (flat_map f xs) → (x : X) × In x xs × In y (f x)
 from_flat_map f [] y h = absurd h
-from_flat_map f (z ∷ xs) y h = go (in_append (f z) (flat_map f xs) y h) (λ k. from_flat_map f xs y k)
+from_flat_map {X} {Y} f (z ∷ xs) y h = go (in_append (f z) (flat_map f xs) y h) (λ k. from_flat_map f xs y k)
   where
     go : In y (f z) ⊎ In y (flat_map f xs) → (In y (flat_map f xs) → (x : X) × In x xs × In y (f x))
         → (x : X) × In x (z ∷ xs) × In y (f x)

@@ -6,3 +6,4 @@ pub mod PlacedLaws
 pub mod WalkLaws
 pub mod CountLaws
 pub mod TargetLaws
+pub mod PointLaws

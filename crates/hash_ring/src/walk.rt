@@ -15,11 +15,11 @@ pub fn first_from(points: &[Point], hash: u64) -> usize
     ensures behind { All (λ (p : Point). hash ≤ p.hash) (drop result points.now) }
     ensures fits { All (λ (p : Point). p.hash < 2 ^ 64) points.now }
 {
-    let Some(last) = points.last() else {
+    if points.is_empty() {
         return 0;
-    };
+    }
     // Contracts know that a hash fits its type once it is read; of the last it says so of all.
-    let _greatest = last.hash;
+    let _greatest = points[points.len() - 1].hash;
     points.partition_point(|point| point.hash < hash)
 }
 
