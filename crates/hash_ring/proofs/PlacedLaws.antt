@@ -12,7 +12,7 @@ use Rattle.hash_ring.specs.Circle.{hash_of_virtual, distance}
 use Rattle.hash_ring.specs.Placement.{Place, ComesFirst, least, virtual_hashes, member_place, placed, targets_of, AreWeighted}
 use Rattle.hash_ring.specs.Points.{points_of_member, points_of, hashes_of, node_place, targets_among, NodesHaveOneZone}
 use Rattle.hash_ring.proofs.InLaws.{In, in_from_contains, contains_from_in, in_map, from_map, in_filter, from_filter, in_flat_map, from_flat_map}
-use Rattle.hash_ring.proofs.OrderLaws.{same_parts}
+use Rattle.hash_ring.proofs.OrderLaws.{comes_first_itself, same_parts}
 use Rattle.hash_ring.proofs.KeptLaws.{NodesKeepZones, HasTheNearest, same_placed}
 use Rattle.hash_ring.proofs.LeastLaws.{least_is_one, least_le}
 
@@ -38,7 +38,7 @@ points_keep_zones object points one p q i j e =
     let b = from_map (point_place object) points q j in
     let n : a.0.node.0 ≡ b.0.node.0 = ap (λ (r : Place). r.node.0) a.2 ∙ e ∙ sym (ap (λ (r : Place). r.node.0) b.2) in
     sym (ap (λ (r : Place). r.zone) a.2)
-    ∙ one a.0 b.0 (contains_from_in points a.0 a.1) (contains_from_in points b.0 b.1) n
+    ∙ one.alike a.0 b.0 (contains_from_in points a.0 a.1) (contains_from_in points b.0 b.1) n
     ∙ ap (λ (r : Place). r.zone) b.2
 
 -- a node's least distance is that of one of its points, and none of them is nearer
@@ -59,7 +59,7 @@ nodes_are_nearest object points one = (to, from)
         let f = from_map (λ (q : Point). q.hash) (filter (λ (q : Point). q.node.0 == point.node.0) points) d.0 d.1 in
         let g = from_filter (λ (q : Point). q.node.0 == point.node.0) points f.0 f.1 in
         let n : f.0.node.0 ≡ point.node.0 = test_equal f.0.node.0 point.node.0 g.1 in
-        let z : f.0.zone ≡ point.zone = one f.0 point (contains_from_in points f.0 g.0) (contains_from_in points point i) n in
+        let z : f.0.zone ≡ point.zone = one.alike f.0 point (contains_from_in points f.0 g.0) (contains_from_in points point i) n in
         let same : point_place object f.0 ≡ node_place points object point
         = same_parts (point_place object f.0) (node_place points object point) (ap (distance object) f.2 ∙ d.2) n z in
         let P : Place → Type 0 = λ r. In r (point_places object points) in
@@ -86,6 +86,37 @@ unfolding targets_among
 targets_among_points points one object wanted =
     sym (same_placed (point_places object points) (map (node_place points object) points)
     (points_keep_zones object points one) (nodes_are_nearest object points one) wanted)
+
+pub one_zone-moved : (points moved : List Point) → NodesHaveOneZone points → IsPermutation points moved → NodesHaveOneZone moved
+one_zone-moved points moved one permuted =
+    let back = IsPermutation-sym points moved permuted in
+    record {
+      alike = λ p q i j e. one.alike p q (Contains-permutation moved points p back i) (Contains-permutation moved points q back j) e;
+    }
+
+-- and their order changes nothing
+pub targets_among-moved : (points moved : List Point) → NodesHaveOneZone points → IsPermutation points moved → (object wanted : ℕ)
+    → targets_among moved object wanted ≡ targets_among points object wanted
+targets_among-moved points moved one permuted object wanted =
+    targets_among_points moved one_moved object wanted
+    ∙ same_placed (point_places object moved) (point_places object points) (points_keep_zones object moved one_moved)
+    ((λ p i. across points moved permuted p i), (λ p i. (p, across moved points back p i, refl, comes_first_itself p)))
+    wanted
+    ∙ sym (targets_among_points points one object wanted)
+  where
+    back : IsPermutation moved points
+    back = IsPermutation-sym points moved permuted
+
+    one_moved : NodesHaveOneZone moved
+    one_moved = one_zone-moved points moved one permuted
+
+    across : (xs ys : List Point) → IsPermutation xs ys → (p : Place) → In p (point_places object xs) → In p (point_places object ys)
+    across xs ys same p i =
+        let a = from_map (point_place object) xs p i in
+        let P : Place → Type 0 = λ r. In r (point_places object ys) in
+        subst P a.2
+        (in_map (point_place object) ys a.0
+            (in_from_contains ys a.0 (Contains-permutation xs ys a.0 same (contains_from_in xs a.0 a.1))))
 
 in_some_order : (a b : ℕ) → (a < b) ⊎ ((b < a) ⊎ (a ≡ b))
 in_some_order a b = grind arith
@@ -130,12 +161,15 @@ in_points_of members points moved m hash i k =
 
 pub points_of_one_zone : (members : List Member) (points : List Point) → AreWeighted members
     → IsPermutation (points_of members) points → NodesHaveOneZone points
-points_of_one_zone members points are moved p q i j e =
-    let a = from_points_of members points moved p (in_from_contains points p i) in
-    let b = from_points_of members points moved q (in_from_contains points q j) in
-    let same : a.0 ≡ b.0 = same_member members are.different a.0 b.0 (contains_from_in members a.0 a.1)
-    (contains_from_in members b.0 b.1) (a.3 ∙ e ∙ sym b.3) in
-    sym a.4 ∙ ap (λ (m : Member). m.zone) same ∙ b.4
+points_of_one_zone members points are moved = record { alike = alike }
+  where
+    alike : (p q : Point) → Contains points p → Contains points q → p.node.0 ≡ q.node.0 → p.zone ≡ q.zone
+    alike p q i j e =
+        let a = from_points_of members points moved p (in_from_contains points p i) in
+        let b = from_points_of members points moved q (in_from_contains points q j) in
+        let same : a.0 ≡ b.0 = same_member members are.different a.0 b.0 (contains_from_in members a.0 a.1)
+        (contains_from_in members b.0 b.1) (a.3 ∙ e ∙ sym b.3) in
+        sym a.4 ∙ ap (λ (m : Member). m.zone) same ∙ b.4
 
 first_of_range : (f : ℕ → ℕ) (n : ℕ) → 1 ≤ n → In (f 0) (map f (range_with_len 0 n))
 first_of_range f zero h = absurd (omega arith)

@@ -23,11 +23,13 @@ abbrev pub HasOneZone : List Point → Point → Type 0
 HasOneZone points of = All (λ (p : Point). p.node.0 ≡ of.node.0 → p.zone ≡ of.zone) points
 
 pub one_zone_from_all : (points : List Point) → All (HasOneZone points) points → NodesHaveOneZone points
-one_zone_from_all points h p q i j e =
-    All-contains (λ (r : Point). r.node.0 ≡ q.node.0 → r.zone ≡ q.zone) points p (All-contains (HasOneZone points) points q h j) i e
+one_zone_from_all points h = record {
+  alike = λ p q i j e.
+    All-contains (λ (r : Point). r.node.0 ≡ q.node.0 → r.zone ≡ q.zone) points p (All-contains (HasOneZone points) points q h j) i e;
+}
 
 pub all_from_one_zone : (points : List Point) → NodesHaveOneZone points → (of : Point) → Contains points of → HasOneZone points of
-all_from_one_zone points one of i k d lt e = one (get_or points k d) of (Contains-get_or points k d lt) i e
+all_from_one_zone points one of i k d lt e = one.alike (get_or points k d) of (Contains-get_or points k d lt) i e
 
 abbrev pub HasWeight : Member → Type 0
 HasWeight member = (1 ≤ member.vnodes) × (member.vnodes ≤ 256)

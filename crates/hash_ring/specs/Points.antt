@@ -32,8 +32,8 @@ unfoldable pub targets_among : List Point → ℕ → ℕ → List NodeId
 targets_among points object wanted = placed (map (node_place points object) points) wanted
 
 -- the points of one node have one zone
-abbrev pub NodesHaveOneZone : List Point → Type 0
-NodesHaveOneZone points = (p q : Point) → Contains points p → Contains points q → p.node.0 ≡ q.node.0 → p.zone ≡ q.zone
+pub record NodesHaveOneZone (points : List Point) : Type 0 where
+  pub alike : (p q : Point) → Contains points p → Contains points q → p.node.0 ≡ q.node.0 → p.zone ≡ q.zone
 
 -- by hash, then by the node's number
 abbrev pub StandsBefore : Point → Point → Type 0

@@ -45,7 +45,10 @@ impl Ring {
     /// The ring of these points, which may have equal hashes. Takes no memory.
     pub fn from_points(points: Vec<Point>) -> Ring
         requires { NodesHaveOneZone points.items }
-        ensures { IsPermutation points.items result }
+        ensures points { IsPermutation points.items result }
+        // Its targets are those of the points.
+        ensures placement { (object wanted : ℕ)
+            → targets_among result object wanted ≡ targets_among points.items object wanted }
     {
         let mut points = points;
         points.sort_unstable();

@@ -39,8 +39,10 @@ fn finds_the_worked_targets(rt: HostRuntime) -> Result<(), Fail> {
         (&[], 7, 2, &[]),
     ];
     for (points, hash, n, wanted) in cases {
-        assert!(rt; n <= 4 && nodes_have_one_zone(points));
-        let ring = Ring::from_points(Vec::from_slice(rt.alloc(), points)?);
+        let points = Vec::from_slice(rt.alloc(), points)?;
+        assert!(rt; nodes_have_one_zone(points.as_slice()));
+        let ring = Ring::from_points(points);
+        assert!(rt; n <= 4);
         let mut out = [NodeId(99); 4];
         let count = ring.targets(hash, n, &mut out);
         assert_eq!(rt; count, wanted.len(), "at {hash} and {n}");

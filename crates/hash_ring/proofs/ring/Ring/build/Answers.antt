@@ -19,4 +19,4 @@ returns-clause-placement c = λ object wanted.
     let members = c.args.members.now in
     let P : List Point → Type 0 = λ points. IsPermutation points c.from_points.result in
     let all = c.loop-member.invariant ∙ ap points_of (take_all c.loop-member.member-index members c.loop-member-test.false) in
-    targets_among-points_of members c.from_points.result object wanted c.requires (subst P all c.from_points.ensures)
+    targets_among-points_of members c.from_points.result object wanted c.requires (subst P all c.from_points.ensures.points)
