@@ -26,14 +26,17 @@ kept_is seen (x ∷ xs) p up h = go (is_among x.zone seen) refl h (λ k. kept_is
     near : ((p.zone ≡ x.zone) → ⊥) → IsNearest p xs → IsNearest p (x ∷ xs)
     near other ih q (inl e) z = absurd (other (sym (ap (λ (r : Place). r.zone) e ∙ z)))
     near other ih q (inr k) z = ih q k z
+
     later : In p xs × (is_among p.zone (x.zone ∷ seen) ≡ false) × IsNearest p xs
         → In p (x ∷ xs) × (is_among p.zone seen ≡ false) × IsNearest p (x ∷ xs)
     later r =
         let o = other_zone x.zone p.zone (is_among p.zone seen) r.1 in
         (inr r.0, o.0, near o.1 r.2)
+
     first : x ≡ p → IsNearest p (x ∷ xs)
     first same q (inl e) z = let P : Place → Type 0 = λ r. ComesFirst r q in subst P same (let Q : Place → Type 0 = λ r. ComesFirst x r in subst Q e (comes_first_itself x))
     first same q (inr k) z = let P : Place → Type 0 = λ r. ComesFirst r q in subst P same (up.0 q k)
+
     go : (b : Bool) → is_among x.zone seen ≡ b
         → In p (cond b (one_a_zone (x.zone ∷ seen) xs) (x ∷ one_a_zone (x.zone ∷ seen) xs))
         → (In p (one_a_zone (x.zone ∷ seen) xs) → In p xs × (is_among p.zone (x.zone ∷ seen) ≡ false) × IsNearest p xs)
@@ -58,15 +61,19 @@ is_kept seen (x ∷ xs) p up h new near =
         → In p (cond b (one_a_zone (x.zone ∷ seen) xs) (x ∷ one_a_zone (x.zone ∷ seen) xs))
     here true e f same = absurd (cc (e, f))
     here false e f same = inl same
+
     there : (b : Bool) → In p (one_a_zone (x.zone ∷ seen) xs)
         → In p (cond b (one_a_zone (x.zone ∷ seen) xs) (x ∷ one_a_zone (x.zone ∷ seen) xs))
     there true k = k
     there false k = inr k
+
     front : (y : Place) → (y ≡ p) ⊎ In p xs → x ≡ y → ComesFirst x p
     front y (inl e) f = let Q : Place → Type 0 = λ r. ComesFirst x r in subst Q (f ∙ e) (comes_first_itself x)
     front y (inr k) f = up.0 p k
+
     is_first : (x ≡ p) ⊎ In p xs → x.zone ≡ p.zone → x ≡ p
     is_first k z = same_place x p (front x k refl) (near x (inl refl) z) z
+
     go : (b : Bool) → (x.zone == p.zone) ≡ b → (x ≡ p) ⊎ In p xs
         → (In p xs → is_among p.zone (x.zone ∷ seen) ≡ false → In p (one_a_zone (x.zone ∷ seen) xs))
         → In p (cond (is_among x.zone seen) (one_a_zone (x.zone ∷ seen) xs) (x ∷ one_a_zone (x.zone ∷ seen) xs))
@@ -101,6 +108,7 @@ kept_rises seen (x ∷ xs) up zones =
         let r = kept_is (x.zone ∷ seen) xs q up.1 k in
         let o = other_zone x.zone q.zone (is_among q.zone seen) r.1 in
         strictly x.distance q.distance x.node.0 q.node.0 (up.0 q r.0) (λ e. o.1 (sym (zones x q (inl refl) (inr r.0) e)))
+
     go : (b : Bool) → IsRising (one_a_zone (x.zone ∷ seen) xs)
         → IsRising (cond b (one_a_zone (x.zone ∷ seen) xs) (x ∷ one_a_zone (x.zone ∷ seen) xs))
     go true r = r
@@ -126,16 +134,21 @@ rising_same (x ∷ xs) (y ∷ ys) r s to from =
     heads (inl e) k = sym e
     heads (inr h) (inl e) = e
     heads (inr h) (inr k) = absurd (not_both x.distance y.distance x.node.0 y.node.0 (r.0 y k) (s.0 x h))
+
     itself : (a p : Place) → a ≡ p → ComesStrictly a p → ⊥
     itself a p e h = not_itself a.distance a.node.0 (let P : Place → Type 0 = λ b. ComesStrictly a b in subst P (sym e) h)
+
     behind : (p : Place) → x ≡ y → In p xs → (y ≡ p) ⊎ In p ys → In p ys
     behind p e h (inl f) = absurd (itself x p (e ∙ f) (r.0 p h))
     behind p e h (inr k) = k
+
     before : (p : Place) → x ≡ y → In p ys → (x ≡ p) ⊎ In p xs → In p xs
     before p e h (inl f) = absurd (itself y p (sym e ∙ f) (s.0 p h))
     before p e h (inr k) = k
+
     tail_to : x ≡ y → (p : Place) → In p xs → In p ys
     tail_to e p h = behind p e h (to p (inr h))
+
     tail_from : x ≡ y → (p : Place) → In p ys → In p xs
     tail_from e p h = before p e h (from p (inr h))
 
@@ -154,15 +167,18 @@ same_kept xs ys up vp zones h =
     one : (p q : Place) → In q ys → q.zone ≡ p.zone → ComesFirst q p → IsNearest p xs → In p ys
     one p q i z c near =
         let e : q ≡ p = same_place q p c (near q (h.0 q i) z) z in let P : Place → Type 0 = λ r. In r ys in subst P e i
+
     to : (p : Place) → In p (one_a_zone [] xs) → In p (one_a_zone [] ys)
     to p k =
         let r = kept_is [] xs p up k in
         let n = h.1 p r.0 in
         is_kept [] ys p vp (one p n.0 n.1 n.2 n.3 r.2) refl (λ q i z. r.2 q (h.0 q i) z)
+
     nearest : (p : Place) → IsNearest p ys → IsNearest p xs
     nearest p near q i z =
         let n = h.1 q i in
         comes_first_then p n.0 q (near n.0 n.1 (n.2 ∙ z)) n.3
+
     from : (p : Place) → In p (one_a_zone [] ys) → In p (one_a_zone [] xs)
     from p k =
         let r = kept_is [] ys p vp k in
@@ -174,6 +190,7 @@ pub same_placed : (xs ys : List Place) → NodesKeepZones xs → HasTheNearest x
 same_placed xs ys zones h wanted =
     ap (λ kept. take wanted (map (λ (place : Place). place.node) kept))
     (same_kept (in_order xs) (in_order ys) (in_order_ordered xs) (in_order_ordered ys)
-        (λ p q i j e. zones p q (from_in_order xs p i) (from_in_order xs q j) e)
-        ((λ p k. into_in_order xs p (h.0 p (from_in_order ys p k)))
-            , (λ p k. let n = h.1 p (from_in_order xs p k) in (n.0, into_in_order ys n.0 n.1, n.2, n.3))))
+    (λ p q i j e. zones p q (from_in_order xs p i) (from_in_order xs q j) e) (
+      (λ p k. into_in_order xs p (h.0 p (from_in_order ys p k))),
+      (λ p k. let n = h.1 p (from_in_order xs p k) in (n.0, into_in_order ys n.0 n.1, n.2, n.3)),
+    ))

@@ -116,7 +116,7 @@ targets_among-moved points moved one permuted object wanted =
         let P : Place → Type 0 = λ r. In r (point_places object ys) in
         subst P a.2
         (in_map (point_place object) ys a.0
-            (in_from_contains ys a.0 (Contains-permutation xs ys a.0 same (contains_from_in xs a.0 a.1))))
+        (in_from_contains ys a.0 (Contains-permutation xs ys a.0 same (contains_from_in xs a.0 a.1))))
 
 in_some_order : (a b : ℕ) → (a < b) ⊎ ((b < a) ⊎ (a ≡ b))
 in_some_order a b = grind arith

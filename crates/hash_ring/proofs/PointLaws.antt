@@ -25,7 +25,7 @@ HasOneZone points of = All (λ (p : Point). p.node.0 ≡ of.node.0 → p.zone �
 pub one_zone_from_all : (points : List Point) → All (HasOneZone points) points → NodesHaveOneZone points
 one_zone_from_all points h = record {
   alike = λ p q i j e.
-    All-contains (λ (r : Point). r.node.0 ≡ q.node.0 → r.zone ≡ q.zone) points p (All-contains (HasOneZone points) points q h j) i e;
+      All-contains (λ (r : Point). r.node.0 ≡ q.node.0 → r.zone ≡ q.zone) points p (All-contains (HasOneZone points) points q h j) i e;
 }
 
 pub all_from_one_zone : (points : List Point) → NodesHaveOneZone points → (of : Point) → Contains points of → HasOneZone points of
@@ -51,7 +51,7 @@ weighted_more members k d lt are weight none =
     let P : List Member → Type 0 = λ ms. AreWeighted ms in
     subst P (sym (take_more members k d lt)) (record {
       different = all_pairs_push (λ (m n : Member). m.node.0 ≢ n.node.0) (take k members) (get_or members k d) are.different
-        (apart_from_none (take k members) (get_or members k d) none);
+          (apart_from_none (take k members) (get_or members k d) none);
       weights = All-push (λ (m : Member). HasWeight m) (take k members) (get_or members k d) are.weights weight;
     })
 
@@ -83,7 +83,7 @@ precedes p q = is_lt (ordering_then (nat_cmp p.hash q.hash) (ordering_then (nat_
 precedes_ranks : IsStrictWeakOrder precedes
 precedes_ranks =
     ranks_by (then_total (on_total (λ (p : Point). p.hash) nat_cmp_total)
-        (then_total (on_total (λ (p : Point). p.node.0) nat_cmp_total) (on_total (λ (p : Point). p.zone) nat_cmp_total))) (λ (p : Point). p)
+    (then_total (on_total (λ (p : Point). p.node.0) nat_cmp_total) (on_total (λ (p : Point). p.zone) nat_cmp_total))) (λ (p : Point). p)
 
 -- sorted points ascend
 pub sorted_ascends : (points : List Point) → IsSortedBy precedes points → AllPairs StandsBefore points
@@ -108,4 +108,4 @@ points_more before items after node zone number hash have is push =
     ∙ append_assoc before so_far next
     ∙ ap (λ (points : List Point). before ++ points)
     (sym (map-append (point_of node zone) (map (hash_of_virtual node.0) (range_with_len 0 number)) (hash_of_virtual node.0 number ∷ []))
-        ∙ sym (ap (map (point_of node zone)) (map-range_with_len_more (hash_of_virtual node.0) 0 number number (omega arith))))
+    ∙ sym (ap (map (point_of node zone)) (map-range_with_len_more (hash_of_virtual node.0) 0 number number (omega arith))))

@@ -70,6 +70,7 @@ kept_apart seen (p ∷ ps) up = go (is_among p.zone seen) (kept_apart (p.zone �
   where
     head : (q : Place) → In q (one_a_zone (p.zone ∷ seen) ps) → p.zone ≢ q.zone
     head q i e = (other_zone p.zone q.zone (is_among q.zone seen) (kept_is (p.zone ∷ seen) ps q up.1 i).1).1 (sym e)
+
     go : (b : Bool) → EachLater (λ (p q : Place). p.zone ≢ q.zone) (one_a_zone (p.zone ∷ seen) ps)
         → EachLater (λ (p q : Place). p.zone ≢ q.zone) (cond b (one_a_zone (p.zone ∷ seen) ps) (p ∷ one_a_zone (p.zone ∷ seen) ps))
     go true h = h
@@ -92,7 +93,7 @@ pub target_is_member : (members : List Member) (object wanted : ℕ) (node : Nod
 unfolding targets_of kept
 target_is_member members object wanted node i =
     let a = from_map (λ (p : Place). p.node) (kept members object) node
-        (from_take wanted (map (λ (p : Place). p.node) (kept members object)) node i) in
+    (from_take wanted (map (λ (p : Place). p.node) (kept members object)) node i) in
     let b = member_of members object a.0 a.1 in
     (b.0, b.1, ap (λ (p : Place). p.node) b.2 ∙ a.2)
 
@@ -119,8 +120,9 @@ nodes_apart members object are (p ∷ ps) known h =
     zone_of q i m c e =
         let b = known q i in
         ap (λ (k : Member). k.zone) (same_member members are.different m b.0 c (contains_from_in members b.0 b.1)
-            (ap (λ (k : NodeId). k.0) (e ∙ sym (ap (λ (r : Place). r.node) b.2))))
+        (ap (λ (k : NodeId). k.0) (e ∙ sym (ap (λ (r : Place). r.node) b.2))))
         ∙ ap (λ (r : Place). r.zone) b.2
+
     head : (b : NodeId) → In b (map (λ (p : Place). p.node) ps) → StandApart members p.node b
     head b i m n cm cn em en z =
         let q = from_map (λ (p : Place). p.node) ps b i in
@@ -133,7 +135,7 @@ targets_apart members object wanted are =
     let places : List Place = map (member_place object) members in
     later_take (StandApart members) wanted (map (λ (p : Place). p.node) (kept members object))
     (nodes_apart members object are (kept members object) (member_of members object)
-        (kept_apart [] (in_order places) (in_order_ordered places)))
+    (kept_apart [] (in_order places) (in_order_ordered places)))
 
 pub targets_zones : (members : List Member) (object wanted : ℕ) → AreWeighted members
     → AllPairs (StandApart members) (targets_of members object wanted)
@@ -158,7 +160,7 @@ pub targets_different : (members : List Member) (object wanted : ℕ) → AreWei
 targets_different members object wanted are =
     all_pairs_from_later (λ (a b : NodeId). a ≢ b) (targets_of members object wanted)
     (different_from_apart members (targets_of members object wanted) (target_is_member members object wanted)
-        (targets_apart members object wanted are))
+    (targets_apart members object wanted are))
 
 pub length-targets_of : (members : List Member) (object wanted : ℕ)
     → length (targets_of members object wanted) ≡ min wanted (zone_count members)
@@ -168,10 +170,10 @@ length-targets_of members object wanted =
     length-take wanted (map (λ (p : Place). p.node) (kept members object))
     ∙ ap (min wanted)
     (length-map (kept members object) (λ (p : Place). p.node)
-        ∙ length-one_a_zone [] (in_order places)
-        ∙ fresh-in_order [] places
-        ∙ ap (fresh []) (zones-member_places object members)
-        ∙ fresh-members members)
+    ∙ length-one_a_zone [] (in_order places)
+    ∙ fresh-in_order [] places
+    ∙ ap (fresh []) (zones-member_places object members)
+    ∙ fresh-members members)
 
 pub targets_of-prefix : (members : List Member) (object fewer wanted : ℕ) → fewer ≤ wanted
     → targets_of members object fewer ≡ take fewer (targets_of members object wanted)

@@ -1,8 +1,8 @@
-ghost use Rattle.std.specs.Prelude.{◌≡◌, ◌+◌, ◌^◌, ◌<◌, ◌≤◌, ◌++◌, [], ◌∷◌, length, take, drop, map, not, All, slice_index_or, if◌then◌else◌};
+ghost use Rattle.std.specs.Prelude.{◌≡◌, ℕ, ◌+◌, ◌^◌, ◌<◌, ◌≤◌, ◌==◌, ◌||◌, ◌++◌, false, [], ◌∷◌, length, take, drop, not, All, slice_index_or, if◌then◌else◌};
 ghost use Rattle.object_id.specs.declared.node.NodeId.{NodeId};
 ghost use Rattle.hash_ring.specs.Placement.{is_among};
 ghost use Rattle.hash_ring.specs.Points.{IsRing};
-ghost use Rattle.hash_ring.specs.Walk.{walk, first_nodes};
+ghost use Rattle.hash_ring.specs.Walk.{walk, zones_before, AreMarked, first_nodes};
 
 use crate::point::Point;
 use object_id::NodeId;
@@ -38,10 +38,10 @@ fn at(points: &[Point], start: usize, turn: usize) -> Point
 }
 
 /// Whether no point before this turn of the walk has the zone.
-fn is_new(points: &[Point], start: usize, turn: usize, zone: u32) -> bool
+fn none_before(points: &[Point], start: usize, turn: usize, zone: u32) -> bool
     requires start { start ≤ length points.now }
     requires turn { turn < length points.now }
-    ensures { result ≡ not (is_among zone (map (λ (p : Point). p.zone) (take turn (walk start points.now)))) }
+    ensures { result ≡ not (is_among zone (zones_before turn start points.now)) }
 {
     for earlier in 0..turn {
         if at(points, start, earlier).zone == zone {
@@ -49,6 +49,30 @@ fn is_new(points: &[Point], start: usize, turn: usize, zone: u32) -> bool
         }
     }
     true
+}
+
+/// The same where the zones below 64 that were met are marked: only greater ones are looked for.
+fn is_new(points: &[Point], start: usize, turn: usize, zone: u32, met: &[bool; 64]) -> bool
+    requires start { start ≤ length points.now }
+    requires turn { turn < length points.now }
+    requires met { AreMarked met.now (zones_before turn start points.now) }
+    ensures { result ≡ not (is_among zone (zones_before turn start points.now)) }
+{
+    if zone < 64 {
+        !met[zone as usize]
+    } else {
+        none_before(points, start, turn, zone)
+    }
+}
+
+/// Marks a zone if it is below 64.
+fn mark(met: &mut [bool; 64], zone: u32)
+    ensures { (z : ℕ) → z < 64
+        → slice_index_or met.new z false ≡ (slice_index_or met.old z false || zone == z) }
+{
+    if zone < 64 {
+        met[zone as usize] = true;
+    }
 }
 
 /// Writes a node behind the first `count` if it is wanted, and answers how many there are then.
@@ -74,17 +98,15 @@ pub fn fill(points: &[Point], start: usize, n: usize, out: &mut [NodeId]) -> usi
     ensures rest { drop result out.new ≡ drop result out.old }
 {
     let mut count = 0;
+    let mut met = [false; 64];
     for turn in 0..points.len() {
         if count == n {
             return count;
         }
         let point = at(points, start, turn);
-        count = keep(
-            out,
-            count,
-            point.node,
-            is_new(points, start, turn, point.zone),
-        );
+        let is_wanted = is_new(points, start, turn, point.zone, &met);
+        count = keep(out, count, point.node, is_wanted);
+        mark(&mut met, point.zone);
     }
     count
 }

@@ -21,8 +21,8 @@ returns-clause-count c =
     c.fill.ensures.count
     ∙ ap (λ (nodes : List NodeId). length nodes)
     (targets_among-seen c.args.hash c.first_from.result c.as_slice-points.result.now c.self.inside.points.items c.args.self.now c.args.n
-        c.as_slice-points.ensures.value c.self.view_is c.self.invariant c.first_from.ensures.before c.first_from.ensures.behind
-        c.first_from.ensures.fits c.ranges.hash.fits)
+    c.as_slice-points.ensures.value c.self.view_is c.self.invariant c.first_from.ensures.before c.first_from.ensures.behind
+    c.first_from.ensures.fits c.ranges.hash.fits)
 
 pub returns-clause-filled : goal.returns-clause-filled
 returns-clause-filled c =

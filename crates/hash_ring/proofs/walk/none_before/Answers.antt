@@ -5,7 +5,7 @@ use Rattle.hash_ring.specs.declared.point.Point.{Point}
 use Rattle.hash_ring.specs.Placement.{is_among}
 use Rattle.hash_ring.specs.Walk.{walk}
 use Rattle.hash_ring.proofs.WalkLaws.{length-walk}
-use Rattle.hash_ring.proofs.walk.is_new.Goals as goal
+use Rattle.hash_ring.proofs.walk.none_before.Goals as goal
 
 equal : (a b : ℕ) → a ≡ b → (a == b) ≡ true
 equal a b e = grind arith
