@@ -1,6 +1,5 @@
 -- Membership in a list by recursion, which proofs by cases find easier than places.
-use Rattle.std.proofs.Common.{◌≡◌, ◌⊎◌, ℕ, zero, suc, ◌+◌, ◌<◌, ◌≤◌, Bool, true, false, cond, List, [], ◌∷◌, ◌++◌, length, get_or, map, filter, flat_map, take, drop, Contains, refl, sym, ap, ◌∙◌, subst, inl, inr, arith, add-one}
-use Rattle.std.proofs.lemmas.List.Elements.{Contains-get_or}
+use Rattle.std.proofs.Common.{◌≡◌, ◌⊎◌, ℕ, zero, suc, ◌<◌, Bool, true, false, cond, List, [], ◌∷◌, ◌++◌, length, get_or, map, filter, flat_map, Contains, refl, sym, ap, ◌∙◌, subst, inl, inr, arith}
 
 abbrev pub In : {X : Type 0} → X → List X → Type 0
 In x [] = ⊥

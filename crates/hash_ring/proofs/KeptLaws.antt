@@ -1,8 +1,6 @@
 -- What is kept of places in order, one a zone: the nearest place of each zone, whatever else there is.
-use Rattle.std.proofs.Common.{◌≡◌, ◌⊎◌, ℕ, ◌+◌, ◌<◌, ◌≤◌, Bool, true, false, cond, List, [], ◌∷◌, ◌++◌, length, map, take, refl, sym, ap, ap₂, ◌∙◌, subst, inl, inr, arith}
+use Rattle.std.proofs.Common.{◌≡◌, ◌⊎◌, ℕ, ◌<◌, ◌≤◌, Bool, true, false, cond, List, [], ◌∷◌, map, take, refl, sym, ap, ap₂, ◌∙◌, subst, inl, inr, arith}
 use Rattle.std.specs.Prelude.{◌==◌, ◌||◌}
-use Rattle.std.specs.List.{list_any}
-use Rattle.object_id.specs.declared.node.NodeId.{NodeId}
 use Rattle.hash_ring.specs.Placement.{Place, ComesFirst, in_order, is_among, one_a_zone, placed}
 use Rattle.hash_ring.proofs.InLaws.{In}
 use Rattle.hash_ring.proofs.OrderLaws.{comes_first_itself, comes_first_then, same_place, IsInOrder, in_order_ordered, from_in_order, into_in_order}

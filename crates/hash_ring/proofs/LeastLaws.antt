@@ -1,5 +1,5 @@
 -- The least of some numbers is one of them, and none is less.
-use Rattle.std.proofs.Common.{◌≡◌, ◌⊎◌, ℕ, ◌+◌, ◌<◌, ◌≤◌, min, List, [], ◌∷◌, length, fold, refl, sym, ap, ◌∙◌, subst, inl, inr, arith}
+use Rattle.std.proofs.Common.{◌≡◌, ◌⊎◌, ℕ, ◌≤◌, min, List, [], ◌∷◌, fold, refl, sym, ◌∙◌, inl, inr, arith}
 use Rattle.hash_ring.specs.Placement.{least}
 use Rattle.hash_ring.proofs.InLaws.{In}
 

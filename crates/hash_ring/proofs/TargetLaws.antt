@@ -1,18 +1,17 @@
 -- Target lists: different members, no two of one zone, as many as wanted or as there are zones.
-use Rattle.std.proofs.Common.{◌≡◌, ◌≢◌, ◌⊎◌, ℕ, zero, suc, ◌+◌, ◌<◌, ◌≤◌, min, Bool, true, false, cond, List, [], ◌∷◌, ◌++◌, length, get_or, map, take, Any, AllPairs, Contains, IsPermutation, refl, sym, ap, ap₂, ◌∙◌, subst, inl, inr, arith}
-use Rattle.std.specs.Prelude.{◌==◌, ◌||◌}
+use Rattle.std.proofs.Common.{◌≡◌, ◌≢◌, ℕ, zero, suc, ◌≤◌, min, Bool, true, false, cond, List, [], ◌∷◌, length, get_or, map, take, Any, AllPairs, Contains, IsPermutation, refl, sym, ap, ◌∙◌, inl, inr, arith}
 use Rattle.std.proofs.lemmas.List.{length-take, length-map, take-take}
-use Rattle.std.proofs.lemmas.List.Sorted.{IsPermutation-refl, IsPermutation-sym, IsPermutation-cons, IsPermutation-trans, IsPermutation-swap}
+use Rattle.std.proofs.lemmas.List.Sorted.{IsPermutation-refl, IsPermutation-cons, IsPermutation-trans, IsPermutation-swap}
 use Rattle.object_id.specs.declared.node.NodeId.{NodeId}
 use Rattle.object_id.specs.declared.entry.Member.{Member}
 use Rattle.hash_ring.specs.declared.point.Point.{Point}
-use Rattle.hash_ring.specs.Placement.{Place, ComesFirst, comes_first, put_in, in_order, is_among, one_a_zone, member_place, placed, targets_of, AreWeighted, zone_count}
+use Rattle.hash_ring.specs.Placement.{Place, ComesFirst, comes_first, put_in, in_order, is_among, one_a_zone, member_place, targets_of, AreWeighted, zone_count}
 use Rattle.hash_ring.specs.Points.{targets_among}
 use Rattle.hash_ring.proofs.InLaws.{In, in_at, in_from_contains, contains_from_in, from_map}
 use Rattle.hash_ring.proofs.OrderLaws.{IsInOrder, in_order_ordered, from_in_order}
 use Rattle.hash_ring.proofs.KeptLaws.{kept_is, other_zone}
 use Rattle.hash_ring.proofs.PlacedLaws.{same_member}
-use Rattle.hash_ring.proofs.CountLaws.{fresh, zones_of, length-one_a_zone, fresh-in_order, fresh-members, zones-member_places}
+use Rattle.hash_ring.proofs.CountLaws.{fresh, length-one_a_zone, fresh-in_order, fresh-members, zones-member_places}
 
 -- each element, and those after it
 abbrev pub EachLater : {X : Type 0} → (X → X → Type 0) → List X → Type 0

@@ -1,16 +1,15 @@
 -- The walk of a ring from the object's hash on meets its points in order, so its first nodes are the targets.
-use Rattle.std.proofs.Common.{◌≡◌, ◌⊎◌, ℕ, zero, suc, ◌+◌, ◌-◌, ◌%◌, ◌^◌, ◌<◌, ◌≤◌, Bool, true, false, cond, not, List, [], ◌∷◌, ◌++◌, length, get_or, map, take, drop, All, AllPairs, Contains, refl, sym, ap, ap₂, ◌∙◌, subst, inl, inr, arith, take-append-drop}
+use Rattle.std.proofs.Common.{◌≡◌, ◌⊎◌, ℕ, suc, ◌+◌, ◌-◌, ◌^◌, ◌<◌, ◌≤◌, Bool, true, false, cond, not, List, [], ◌∷◌, ◌++◌, length, get_or, map, take, drop, All, AllPairs, refl, sym, ap, ◌∙◌, subst, inl, inr, arith, take-append-drop}
 use Rattle.std.specs.Prelude.{◌==◌, ◌||◌}
-use Rattle.std.specs.List.{list_any}
 use Rattle.std.proofs.lemmas.List.{take_more, take_at, get_or_append_left, get_or-append_right, get_or-drop, get_or-take, length-drop, length-append, length-take-le}
 use Rattle.std.proofs.lemmas.List.Elements.{All-contains, All-drop}
 use Rattle.object_id.specs.declared.node.NodeId.{NodeId}
 use Rattle.hash_ring.specs.declared.point.Point.{Point}
 use Rattle.hash_ring.specs.Circle.{distance}
-use Rattle.hash_ring.specs.Placement.{Place, ComesFirst, in_order, is_among, one_a_zone, placed}
+use Rattle.hash_ring.specs.Placement.{Place, ComesFirst, in_order, is_among, one_a_zone}
 use Rattle.hash_ring.specs.Points.{StandsBefore, IsRing, targets_among}
 use Rattle.hash_ring.specs.Walk.{walk, first_nodes}
-use Rattle.hash_ring.proofs.InLaws.{In, in_at, contains_from_in, in_append, in_append_left, in_append_right, in_map, from_map}
+use Rattle.hash_ring.proofs.InLaws.{In, contains_from_in, in_append, in_append_left, in_append_right, in_map, from_map}
 use Rattle.hash_ring.proofs.OrderLaws.{comes_first_itself, IsInOrder, in_order_ordered, from_in_order, into_in_order}
 use Rattle.hash_ring.proofs.KeptLaws.{same_kept}
 use Rattle.hash_ring.proofs.PlacedLaws.{point_place, point_places, points_keep_zones, targets_among_points}

@@ -1,4 +1,4 @@
-use Rattle.std.proofs.Common.{◌≡◌, sym, ◌∙◌, true≢false}
+use Rattle.std.proofs.Common.{sym, ◌∙◌, true≢false}
 use Rattle.hash_ring.proofs.PointLaws.{weighted_more, not_below_1, not_above_256, none_before}
 use Rattle.hash_ring.proofs.point.are_weighted.Goals.{then-member-lt1-via-then-member-lt1, then-member-lt1-via-else-member-lt1+then-member-gt256, then-member-lt1-via-else-member-lt1+else-member-gt256+then-stands_before}
 use Rattle.hash_ring.proofs.point.are_weighted.Goals as goal

@@ -1,4 +1,4 @@
-use Rattle.std.proofs.Common.{◌≡◌, List, All, refl, sym, ◌∙◌, subst, true≢false}
+use Rattle.std.proofs.Common.{List, All, refl, sym, ◌∙◌, subst, true≢false}
 use Rattle.std.proofs.lemmas.List.{take_all}
 use Rattle.std.proofs.lemmas.List.Elements.{All-more, Contains-get_or}
 use Rattle.hash_ring.specs.declared.point.Point.{Point}

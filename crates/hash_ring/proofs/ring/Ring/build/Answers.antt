@@ -1,7 +1,6 @@
-use Rattle.std.proofs.Common.{◌≡◌, ◌≤◌, List, length, take, IsPermutation, ap, ◌∙◌, subst, sym}
+use Rattle.std.proofs.Common.{List, IsPermutation, ap, ◌∙◌, subst, sym}
 use Rattle.std.proofs.lemmas.List.{take_all}
 use Rattle.std.proofs.lemmas.List.Sorted.{IsPermutation-refl}
-use Rattle.object_id.specs.declared.entry.Member.{Member}
 use Rattle.hash_ring.specs.declared.point.Point.{Point}
 use Rattle.hash_ring.specs.Points.{points_of}
 use Rattle.hash_ring.proofs.PlacedLaws.{points_of_one_zone, targets_among-points_of}

@@ -1,4 +1,4 @@
-use Rattle.std.proofs.Common.{◌≡◌, reverse, sym, ap, ◌∙◌}
+use Rattle.std.proofs.Common.{reverse, ap, ◌∙◌}
 use Rattle.vnode_table.proofs.TermLaws.{is_some-found}
 use Rattle.vnode_table.proofs.placement.Placement.has_entered.Goals as goal
 

@@ -1,4 +1,4 @@
-use Rattle.std.proofs.Common.{◌≡◌, List, length, reverse, option_copied, sym, ap, ◌∙◌}
+use Rattle.std.proofs.Common.{List, length, reverse, option_copied, sym, ap, ◌∙◌}
 use Rattle.object_id.specs.declared.node.NodeId.{NodeId}
 use Rattle.object_id.specs.Policy.{wanted_of}
 use Rattle.vnode_table.proofs.TermLaws.{is_some-found, members_at-found, targets_in-parts}
@@ -17,7 +17,7 @@ returns-clause-count c =
     c.targets.ensures.count
     ∙ ap (λ (nodes : List NodeId). length nodes)
     (targets_in-parts c.args.self.now c.args.epoch.0 c.args.oid c.args.policy c.unwrap-term.result.now.members c.object_hash.result
-        c.from-wanted.result members c.object_hash.ensures (c.from-wanted.ensures ∙ c.wanted.ensures ∙ ap (wanted_of c.args.policy) c.kind.ensures))
+    c.from-wanted.result members c.object_hash.ensures (c.from-wanted.ensures ∙ c.wanted.ensures ∙ ap (wanted_of c.args.policy) c.kind.ensures))
 
 pub returns-clause-filled : goal.returns-clause-filled
 returns-clause-filled c =
