@@ -1,5 +1,5 @@
 -- Target lists: different members, no two of one zone, as many as wanted or as there are zones.
-use Rattle.std.proofs.Common.{◌≡◌, ◌≢◌, ℕ, zero, suc, ◌≤◌, min, Bool, true, false, cond, List, [], ◌∷◌, length, get_or, map, take, Any, AllPairs, Contains, IsPermutation, refl, sym, ap, ◌∙◌, inl, inr, arith}
+use Rattle.std.proofs.Common.{◌≡◌, ◌≢◌, ◌↔◌, ℕ, zero, suc, ◌≤◌, min, Bool, true, false, cond, List, [], ◌∷◌, length, get_or, map, take, Any, AllPairs, Contains, IsPermutation, refl, sym, ap, ◌∙◌, inl, inr, arith}
 use Rattle.std.proofs.lemmas.List.{length-take, length-map, take-take}
 use Rattle.std.proofs.lemmas.List.Sorted.{IsPermutation-refl, IsPermutation-cons, IsPermutation-trans, IsPermutation-swap}
 use Rattle.object_id.specs.declared.node.NodeId.{NodeId}
@@ -8,8 +8,8 @@ use Rattle.hash_ring.specs.declared.point.Point.{Point}
 use Rattle.hash_ring.specs.Placement.{Place, ComesFirst, comes_first, put_in, in_order, is_among, one_a_zone, member_place, targets_of, AreWeighted, zone_count}
 use Rattle.hash_ring.specs.Points.{targets_among}
 use Rattle.hash_ring.proofs.InLaws.{In, in_at, in_from_contains, contains_from_in, from_map}
-use Rattle.hash_ring.proofs.OrderLaws.{IsInOrder, in_order_ordered, from_in_order}
-use Rattle.hash_ring.proofs.KeptLaws.{kept_is, other_zone}
+use Rattle.hash_ring.proofs.OrderLaws.{IsInOrder, in_order_ordered, from_in_order, into_in_order}
+use Rattle.hash_ring.proofs.KeptLaws.{kept_is, is_kept, other_zone}
 use Rattle.hash_ring.proofs.PlacedLaws.{same_member}
 use Rattle.hash_ring.proofs.CountLaws.{fresh, length-one_a_zone, fresh-in_order, fresh-members, zones-member_places}
 
@@ -74,6 +74,48 @@ kept_apart seen (p ∷ ps) up = go (is_among p.zone seen) (kept_apart (p.zone �
         → EachLater (λ (p q : Place). p.zone ≢ q.zone) (cond b (one_a_zone (p.zone ∷ seen) ps) (p ∷ one_a_zone (p.zone ∷ seen) ps))
     go true h = h
     go false h = (head, h)
+
+pub kept_zones : (places : List Place) → AllPairs (λ (p q : Place). p.zone ≢ q.zone) (one_a_zone [] (in_order places))
+kept_zones places =
+    all_pairs_from_later (λ (p q : Place). p.zone ≢ q.zone) (one_a_zone [] (in_order places))
+    (kept_apart [] (in_order places) (in_order_ordered places))
+
+kept_ascends : (seen : List ℕ) (ps : List Place) → IsInOrder ps → EachLater ComesFirst (one_a_zone seen ps)
+kept_ascends seen [] up = tt
+kept_ascends seen (p ∷ ps) up = go (is_among p.zone seen) (kept_ascends (p.zone ∷ seen) ps up.1)
+  where
+    head : (q : Place) → In q (one_a_zone (p.zone ∷ seen) ps) → ComesFirst p q
+    head q i = up.0 q (kept_is (p.zone ∷ seen) ps q up.1 i).0
+
+    go : (b : Bool) → EachLater ComesFirst (one_a_zone (p.zone ∷ seen) ps)
+        → EachLater ComesFirst (cond b (one_a_zone (p.zone ∷ seen) ps) (p ∷ one_a_zone (p.zone ∷ seen) ps))
+    go true h = h
+    go false h = (head, h)
+
+pub kept_in_order : (places : List Place) → AllPairs ComesFirst (one_a_zone [] (in_order places))
+kept_in_order places =
+    all_pairs_from_later ComesFirst (one_a_zone [] (in_order places)) (kept_ascends [] (in_order places) (in_order_ordered places))
+
+-- a place is kept exactly where it comes first of its zone
+pub kept_exactly : (places : List Place) (place : Place)
+    → Contains (one_a_zone [] (in_order places)) place
+    ↔ (Contains places place × ((other : Place) → Contains places other → other.zone ≡ place.zone → ComesFirst place other))
+kept_exactly places place = (to, from)
+  where
+    to : Contains (one_a_zone [] (in_order places)) place
+        → Contains places place × ((other : Place) → Contains places other → other.zone ≡ place.zone → ComesFirst place other)
+    to c =
+        let r = kept_is [] (in_order places) place (in_order_ordered places) (in_from_contains (one_a_zone [] (in_order places)) place c) in (
+          contains_from_in places place (from_in_order places place r.0),
+          λ q d z. r.2 q (into_in_order places q (in_from_contains places q d)) z,
+        )
+
+    from : Contains places place × ((other : Place) → Contains places other → other.zone ≡ place.zone → ComesFirst place other)
+        → Contains (one_a_zone [] (in_order places)) place
+    from h =
+        contains_from_in (one_a_zone [] (in_order places)) place
+        (is_kept [] (in_order places) place (in_order_ordered places) (into_in_order places place (in_from_contains places place h.0)) refl
+        (λ q i z. h.1 q (contains_from_in places q (from_in_order places q i)) z))
 
 kept : List Member → ℕ → List Place
 kept members object = one_a_zone [] (in_order (map (member_place object) members))

@@ -16,6 +16,8 @@ mod tests;
 mod walk;
 
 pub use hash::object_hash;
-pub use laws::{fewer_targets, order_of_places, points_of_members, targets_stand_apart};
+pub use laws::{
+    fewer_targets, first_of_each_zone, order_of_places, points_of_members, targets_stand_apart,
+};
 pub use point::{Point, are_weighted, nodes_have_one_zone};
 pub use ring::Ring;
