@@ -1,0 +1,4 @@
+pub mod Circle
+pub mod Placement
+pub mod Points
+pub mod Walk

@@ -1,0 +1,25 @@
+-- How a ring is walked: what its private functions say of one another.
+use Rattle.std.specs.Prelude.{◌≡◌, ℕ, ◌<◌, Bool, false, List, [], ◌∷◌, ◌++◌, take, drop, map, slice_index_or, if◌then◌else◌}
+use Rattle.object_id.specs.declared.node.NodeId.{NodeId}
+use Rattle.hash_ring.specs.declared.point.Point.{Point}
+use Rattle.hash_ring.specs.Placement.{is_among}
+
+-- once round, from the point at a place on
+abbrev pub walk : ℕ → List Point → List Point
+walk start points = drop start points ++ take start points
+
+-- the zones of the points before a turn of the walk
+abbrev pub zones_before : ℕ → ℕ → List Point → List ℕ
+zones_before turn start points = map (λ (point : Point). point.zone) (take turn (walk start points))
+
+-- each zone below 64 is marked exactly where it is among these
+abbrev pub AreMarked : List Bool → List ℕ → Type 0
+AreMarked marks zones = (zone : ℕ) → zone < 64 → slice_index_or marks zone false ≡ is_among zone zones
+
+-- the nodes of points whose zone no earlier one has
+abbrev pub first_nodes : List ℕ → List Point → List NodeId
+first_nodes earlier [] = []
+first_nodes earlier (point ∷ later) =
+    if is_among point.zone earlier
+    then first_nodes (point.zone ∷ earlier) later
+    else point.node ∷ first_nodes (point.zone ∷ earlier) later

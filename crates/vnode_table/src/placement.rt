@@ -1,0 +1,84 @@
+ghost use Rattle.std.specs.Prelude.{◌≡◌, ◌==◌, false, [], ◌∷◌, length, take, drop, reverse, find, option_copied, OnOk, OnErr, IsTrue};
+ghost use Rattle.object_id.specs.Policy.{IsPolicy};
+ghost use Rattle.hash_ring.specs.Placement.{AreWeighted};
+ghost use Rattle.vnode_table.specs.Epochs.{Entered, is_entered};
+ghost use Rattle.vnode_table.specs.Targets.{targets_in};
+
+use crate::term::Term;
+use hash_ring::object_hash;
+use object_id::{Epoch, Member, NoMemory, NodeId, Oid, Policy};
+use std::alloc::Global;
+use std::marker::Model;
+
+/// The epochs that were entered, each with its members. Contracts see them in a list, the last entered first.
+#[derive(Drop)]
+pub struct Placement {
+    terms: Vec<Term>,
+}
+
+impl Model for Placement {
+    ghost use Rattle.std.specs.Prelude.{List, reverse};
+    ghost use Rattle.vnode_table.specs.Epochs.{Entered};
+
+    ghost Value = { List Entered };
+
+    ghost view = { λ placement. reverse placement.terms.items };
+}
+
+/// An epoch's term, sought from the last entered on, since most look-ups are of late epochs.
+fn term_of(terms: &[Term], epoch: Epoch) -> Option<&Term>
+    ensures { option_copied result ≡ find (λ (term : Entered). term.epoch == epoch.0) (reverse terms.now) }
+{
+    terms.iter().rev().find(|term| term.is_of(epoch))
+}
+
+impl Placement {
+    /// No epoch was entered. Takes no memory.
+    pub fn new(alloc: Global) -> Self
+        ensures { result ≡ [] }
+    {
+        Placement {
+            terms: Vec::new(alloc),
+        }
+    }
+
+    /// Whether the epoch was entered.
+    pub fn has_entered(&self, epoch: Epoch) -> bool
+        ensures { result ≡ is_entered self.now epoch.0 }
+    {
+        term_of(self.terms.as_slice(), epoch).is_some()
+    }
+
+    /// Enters an epoch with its members, which may be none. Without memory it isn't entered, and nothing changes.
+    pub fn enter(&mut self, epoch: Epoch, members: &[Member]) -> Result<(), NoMemory>
+        requires new { is_entered self.old epoch.0 ≡ false }
+        requires members { AreWeighted members.now }
+        ensures ok { OnOk result (self.new ≡ record { epoch = epoch.0; members = members.now } ∷ self.old) }
+        ensures err { OnErr result (self.new ≡ self.old) }
+    {
+        let alloc = *self.terms.allocator();
+        self.terms.push(Term::new(alloc, epoch, members)?)?;
+        Ok(())
+    }
+
+    /// Fills in the targets of an object in an epoch that was entered, and answers how many they are: as many as
+    /// the policy wants for the object's kind, or fewer where the epoch's members have fewer zones. The rest of
+    /// `out` stays. Takes no memory.
+    pub fn targets_at(
+        &self,
+        epoch: Epoch,
+        oid: Oid,
+        policy: Policy,
+        out: &mut [NodeId; 31],
+    ) -> usize
+        requires entered { IsTrue (is_entered self.now epoch.0) }
+        requires policy { IsPolicy policy }
+        ensures count { result ≡ length (targets_in self.now epoch.0 oid policy) }
+        ensures filled { take result out.new ≡ targets_in self.now epoch.0 oid policy }
+        ensures rest { drop result out.new ≡ drop result out.old }
+    {
+        let wanted = usize::from(policy.wanted(oid.kind()));
+        let term = term_of(self.terms.as_slice(), epoch).unwrap();
+        term.targets(object_hash(oid), wanted, out)
+    }
+}
