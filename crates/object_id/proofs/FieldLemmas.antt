@@ -60,15 +60,16 @@ pub record IsWide (w : Width) (limit : ℕ) : Type 0 where
   pub long : (n : ℕ) → length (to_le_bytes w n) ≡ byte_len w
   pub back : (bytes : List ℕ) (n : ℕ) → length bytes ≡ byte_len w → ((i : ℕ) → get_or bytes i 0 < 256) → n ≡ from_le_bytes w bytes → to_le_bytes w n ≡ bytes
   pub again : (n : ℕ) → n < limit → from_le_bytes w (to_le_bytes w n) ≡ n
+  pub below : (bytes : List ℕ) → ((i : ℕ) → get_or bytes i 0 < 256) → from_le_bytes w bytes < limit
 
 pub wide16 : IsWide w16 (2 ^ 16)
-wide16 = record { long = λ n. refl; back = le_bytes_2; again = from_le_bytes-to_le_bytes_2 }
+wide16 = record { long = λ n. refl; back = le_bytes_2; again = from_le_bytes-to_le_bytes_2; below = λ bytes fits. omega (arith, fits 0, fits 1) }
 
 pub wide32 : IsWide w32 (2 ^ 32)
-wide32 = record { long = λ n. refl; back = le_bytes_4; again = from_le_bytes-to_le_bytes_4 }
+wide32 = record { long = λ n. refl; back = le_bytes_4; again = from_le_bytes-to_le_bytes_4; below = λ bytes fits. omega (arith, fits 0, fits 1, fits 2, fits 3) }
 
 pub wide64 : IsWide w64 (2 ^ 64)
-wide64 = record { long = λ n. refl; back = le_bytes_8; again = from_le_bytes-to_le_bytes_8 }
+wide64 = record { long = λ n. refl; back = le_bytes_8; again = from_le_bytes-to_le_bytes_8; below = λ bytes fits. omega (arith, fits 0, fits 1, fits 2, fits 3, fits 4, fits 5, fits 6, fits 7) }
 
 -- ---- the number that is read, spelled again, is what stands there
 
@@ -84,6 +85,19 @@ part-length bytes from count within = length-take-le count (drop from bytes) (om
 
 range-is : (bytes : List ℕ) (from count : ℕ) → take (from + count - from) (drop from bytes) ≡ take count (drop from bytes)
 range-is bytes from count = let same : from + count - from ≡ count = omega arith in ap (λ (n : ℕ). take n (drop from bytes)) same
+
+-- what is read fits its width
+pub number-below : (w : Width) (limit : ℕ) → IsWide w limit → (bytes : List ℕ) (at : ℕ) → AreBytes bytes → number_at w at bytes < limit
+number-below w limit wide bytes at fits = wide.below (take (at + byte_len w - at) (drop at bytes)) (part-bytes bytes at (at + byte_len w - at) fits)
+
+pub u16-below : (bytes : List ℕ) (at : ℕ) → AreBytes bytes → u16_at at bytes < 2 ^ 16
+u16-below = number-below w16 (2 ^ 16) wide16
+
+pub u32-below : (bytes : List ℕ) (at : ℕ) → AreBytes bytes → u32_at at bytes < 2 ^ 32
+u32-below = number-below w32 (2 ^ 32) wide32
+
+pub u64-below : (bytes : List ℕ) (at : ℕ) → AreBytes bytes → u64_at at bytes < 2 ^ 64
+u64-below = number-below w64 (2 ^ 64) wide64
 
 pub stands-u8 : (bytes : List ℕ) (at : ℕ) → at < length bytes → Stands bytes at (at + 1) (u8_bytes (u8_at at bytes))
 stands-u8 bytes at within = record { parts = drop_more bytes at 0 within }

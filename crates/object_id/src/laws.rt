@@ -50,6 +50,13 @@ pub fn read_numbers_stand()
         → Stands bytes at (at + 8 * count) (numbers_bytes w64 (numbers_at w64 count at bytes)) }
 {}
 
+/// A number that is read fits its width.
+pub fn read_numbers_fit()
+    ensures two { (bytes : List ℕ) (at : ℕ) → AreBytes bytes → u16_at at bytes < 2 ^ 16 }
+    ensures four { (bytes : List ℕ) (at : ℕ) → AreBytes bytes → u32_at at bytes < 2 ^ 32 }
+    ensures eight { (bytes : List ℕ) (at : ℕ) → AreBytes bytes → u64_at at bytes < 2 ^ 64 }
+{}
+
 /// Where a number is spelled, it is read.
 pub fn spelled_numbers_are_read()
     ensures one { (bytes : List ℕ) (at to number : ℕ) → Stands bytes at to (u8_bytes number) → u8_at at bytes ≡ number }

@@ -27,7 +27,9 @@ pub use entry::{
 pub use fields::{u16_at, u32_at, u64_at};
 pub use hash::fnv1a;
 pub use items::{Duplicate, Items};
-pub use laws::{laid_over_laws, read_numbers_stand, spelled_numbers_are_read, target_counts};
+pub use laws::{
+    laid_over_laws, read_numbers_fit, read_numbers_stand, spelled_numbers_are_read, target_counts,
+};
 pub use memory::NoMemory;
 pub use node::{Epoch, NodeId};
 pub use oid::{Kind, Oid, OidFault, Vid};
