@@ -80,10 +80,11 @@ part-bytes bytes from count fits i =
       | inr le ↦ rw (get_or_past (take count (drop from bytes)) i 0 (omega (arith, length-take count (drop from bytes)))) (omega arith)
     ]
 
-part-length : (bytes : List ℕ) (from count : ℕ) → from + count ≤ length bytes → length (take count (drop from bytes)) ≡ count
+-- how long a part is, and what a range is
+pub part-length : (bytes : List ℕ) (from count : ℕ) → from + count ≤ length bytes → length (take count (drop from bytes)) ≡ count
 part-length bytes from count within = length-take-le count (drop from bytes) (omega (arith, length-drop from bytes))
 
-range-is : (bytes : List ℕ) (from count : ℕ) → take (from + count - from) (drop from bytes) ≡ take count (drop from bytes)
+pub range-is : (bytes : List ℕ) (from count : ℕ) → take (from + count - from) (drop from bytes) ≡ take count (drop from bytes)
 range-is bytes from count = let same : from + count - from ≡ count = omega arith in ap (λ (n : ℕ). take n (drop from bytes)) same
 
 -- what is read fits its width
@@ -169,6 +170,10 @@ numbers-read w limit wide bytes (n ∷ ns) at to fits stands =
     let head : number_at w at bytes ≡ n = number-read w limit wide bytes at (at + byte_len w) n fits.0 first in
     let tail : numbers_at w (length ns) (at + byte_len w) bytes ≡ ns = numbers-read w limit wide bytes ns (at + byte_len w) to fits.1 later in
     ap (λ (m : ℕ). m ∷ numbers_at w (length ns) (at + byte_len w) bytes) head ∙ ap (λ (ms : List ℕ). n ∷ ms) tail
+
+pub length-numbers_at : (w : Width) (count at : ℕ) (bytes : List ℕ) → length (numbers_at w count at bytes) ≡ count
+length-numbers_at w zero at bytes = refl
+length-numbers_at w (suc count) at bytes = ap suc (length-numbers_at w count (at + byte_len w) bytes)
 
 -- one number more
 pub numbers-more : (w : Width) (count at : ℕ) (bytes : List ℕ)
