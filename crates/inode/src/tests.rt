@@ -152,7 +152,7 @@ fn reads_drawn_inodes(rt: HostRuntime) -> Result<(), Fail> {
         let (words, _) = cut(row, sign);
         let bytes = bytes_of(alloc, words)?;
         let answer = answer_of(alloc, bytes.as_slice())?;
-        assert_eq!(rt; answer.as_bytes(), row[words.len()..]);
+        assert_eq!(rt; answer.as_bytes(), &row[words.len()..]);
     }
     Ok(())
 }

@@ -18,6 +18,8 @@ mod node;
 mod oid;
 mod piece;
 mod policy;
+#[cfg(test)]
+mod tests;
 
 pub use bytes::Bytes;
 pub use cause::Cause;
