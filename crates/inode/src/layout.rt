@@ -1,0 +1,8 @@
+/// How long the field of a name or a tag is, with the 0 that ends it.
+pub const TEXT_BYTES: usize = 256;
+/// How long the table of children is, which is written as zeros and not read.
+pub const CHILDREN_BYTES: usize = 4_096;
+/// How many bytes stand before the table.
+pub const INODE_HEADER_BYTES: usize = 4_664;
+/// What every entry of a table is below.
+pub const ENTRY_END: u32 = 1 << 24;
