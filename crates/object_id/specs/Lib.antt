@@ -3,3 +3,4 @@ pub mod Oid
 pub mod Policy
 pub mod Spec
 pub mod Piece
+pub mod Fields

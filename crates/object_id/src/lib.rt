@@ -9,6 +9,7 @@
 mod bytes;
 mod cause;
 mod entry;
+mod fields;
 mod hash;
 mod items;
 mod laws;
@@ -23,9 +24,12 @@ pub use cause::Cause;
 pub use entry::{
     Entry, Member, MemberList, NAME_BYTES_MAX, NodeList, Origin, SHIFT_MAX, SHIFT_MIN, VdiSpec,
 };
+pub use fields::{u16_at, u32_at, u64_at};
 pub use hash::fnv1a;
 pub use items::{Duplicate, Items};
-pub use laws::{laid_over_laws, target_counts};
+pub use laws::{
+    laid_over_laws, read_numbers_fit, read_numbers_stand, spelled_numbers_are_read, target_counts,
+};
 pub use memory::NoMemory;
 pub use node::{Epoch, NodeId};
 pub use oid::{Kind, Oid, OidFault, Vid};
