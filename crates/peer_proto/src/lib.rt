@@ -20,6 +20,8 @@ mod say;
 mod say_codec;
 mod say_head;
 mod sends;
+#[cfg(test)]
+mod tests;
 mod work;
 
 pub use ask::{PeerAsk, PeerReq};
