@@ -1,0 +1,5 @@
+pub mod Opcode
+pub mod Header
+pub mod Ids
+pub mod Ask
+pub mod Say

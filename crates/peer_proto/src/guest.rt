@@ -1,0 +1,118 @@
+ghost use Rattle.std.specs.Prelude.{◌≡◌, IfOk};
+
+use object_id::{Bytes, Cause, NoMemory, VdiSpec, Vid};
+use std::alloc::Global;
+
+/// What a guest asks of its open disk.
+#[derive(Debug, Drop)]
+pub enum DiskAsk {
+    Read { offset: u64, length: u32 },
+    Write { offset: u64, bytes: Bytes },
+}
+
+impl DiskAsk {
+    pub fn copy(&self, alloc: Global) -> Result<Self, NoMemory>
+        ensures { IfOk result (λ copy. copy ≡ self.now) }
+    {
+        Ok(match self {
+            DiskAsk::Read { offset, length } => DiskAsk::Read {
+                offset: *offset,
+                length: *length,
+            },
+            DiskAsk::Write { offset, bytes } => DiskAsk::Write {
+                offset: *offset,
+                bytes: bytes.copy(alloc)?,
+            },
+        })
+    }
+}
+
+/// A command on disks.
+#[derive(Debug, Drop)]
+pub enum VdiAsk {
+    Create {
+        name: Bytes,
+        spec: VdiSpec,
+    },
+    /// Open a disk, or with a tag a snapshot.
+    Attach {
+        name: Bytes,
+        tag: Option<Bytes>,
+    },
+    Close,
+    Snapshot {
+        tag: Bytes,
+    },
+    Clone {
+        base: Bytes,
+        tag: Bytes,
+        name: Bytes,
+    },
+    Delete {
+        name: Bytes,
+        tag: Option<Bytes>,
+    },
+}
+
+fn copy_tag(alloc: Global, tag: &Option<Bytes>) -> Result<Option<Bytes>, NoMemory>
+    ensures { IfOk result (λ copy. copy ≡ tag.now) }
+{
+    match tag {
+        Some(tag) => Ok(Some(tag.copy(alloc)?)),
+        None => Ok(None),
+    }
+}
+
+impl VdiAsk {
+    pub fn copy(&self, alloc: Global) -> Result<Self, NoMemory>
+        ensures { IfOk result (λ copy. copy ≡ self.now) }
+    {
+        Ok(match self {
+            VdiAsk::Create { name, spec } => VdiAsk::Create {
+                name: name.copy(alloc)?,
+                spec: *spec,
+            },
+            VdiAsk::Attach { name, tag } => VdiAsk::Attach {
+                name: name.copy(alloc)?,
+                tag: copy_tag(alloc, tag)?,
+            },
+            VdiAsk::Close => VdiAsk::Close,
+            VdiAsk::Snapshot { tag } => VdiAsk::Snapshot {
+                tag: tag.copy(alloc)?,
+            },
+            VdiAsk::Clone { base, tag, name } => VdiAsk::Clone {
+                base: base.copy(alloc)?,
+                tag: tag.copy(alloc)?,
+                name: name.copy(alloc)?,
+            },
+            VdiAsk::Delete { name, tag } => VdiAsk::Delete {
+                name: name.copy(alloc)?,
+                tag: copy_tag(alloc, tag)?,
+            },
+        })
+    }
+}
+
+/// The reply to a guest.
+#[derive(Debug, Drop)]
+pub enum GuestRsp {
+    Done,
+    /// What a read gives.
+    Piece(Bytes),
+    Refused(Cause),
+    /// The disk that a lock was granted on.
+    Granted { vid: Vid },
+}
+
+impl GuestRsp {
+    pub fn copy(&self, alloc: Global) -> Result<Self, NoMemory>
+        ensures { IfOk result (λ copy. copy ≡ self.now) }
+    {
+        Ok(match self {
+            GuestRsp::Done => GuestRsp::Done,
+            GuestRsp::Piece(bytes) => GuestRsp::Piece(bytes.copy(alloc)?),
+            GuestRsp::Refused(cause) => GuestRsp::Refused(*cause),
+            GuestRsp::Granted { vid } => GuestRsp::Granted { vid: *vid },
+        })
+    }
+}

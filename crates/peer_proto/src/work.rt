@@ -1,0 +1,92 @@
+ghost use Rattle.std.specs.Prelude.{◌≡◌, IfOk};
+
+use object_id::{Bytes, NoMemory, Oid, Policy};
+use std::alloc::Global;
+
+/// One work on one object, which a gateway does by attempts.
+#[derive(Debug, Drop)]
+pub enum ObjWork {
+    /// Make the object: `length` bytes, the piece from `offset` on and else zeros.
+    Create {
+        oid: Oid,
+        policy: Policy,
+        length: u32,
+        offset: u32,
+        bytes: Bytes,
+    },
+    /// Lay the piece over the object.
+    Write {
+        oid: Oid,
+        policy: Policy,
+        offset: u32,
+        bytes: Bytes,
+    },
+    Read {
+        oid: Oid,
+        policy: Policy,
+        offset: u32,
+        length: u32,
+    },
+}
+
+impl ObjWork {
+    pub fn copy(&self, alloc: Global) -> Result<Self, NoMemory>
+        ensures { IfOk result (λ copy. copy ≡ self.now) }
+    {
+        Ok(match self {
+            ObjWork::Create {
+                oid,
+                policy,
+                length,
+                offset,
+                bytes,
+            } => ObjWork::Create {
+                oid: *oid,
+                policy: *policy,
+                length: *length,
+                offset: *offset,
+                bytes: bytes.copy(alloc)?,
+            },
+            ObjWork::Write {
+                oid,
+                policy,
+                offset,
+                bytes,
+            } => ObjWork::Write {
+                oid: *oid,
+                policy: *policy,
+                offset: *offset,
+                bytes: bytes.copy(alloc)?,
+            },
+            ObjWork::Read {
+                oid,
+                policy,
+                offset,
+                length,
+            } => ObjWork::Read {
+                oid: *oid,
+                policy: *policy,
+                offset: *offset,
+                length: *length,
+            },
+        })
+    }
+}
+
+/// A request's work that is done, with the bytes of a read; of any other work they are empty.
+#[derive(Debug, Drop)]
+pub struct WorkDone {
+    pub req: u32,
+    pub bytes: Bytes,
+}
+
+impl WorkDone {
+    pub fn copy(&self, alloc: Global) -> Result<Self, NoMemory>
+        ensures { IfOk result (λ copy. copy ≡ self.now) }
+    {
+        Ok(WorkDone {
+            req: self.req,
+            bytes: self.bytes.copy(alloc)?,
+        })
+    }
+}
