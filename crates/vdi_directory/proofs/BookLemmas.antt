@@ -42,27 +42,27 @@ or-false : (b : Bool) → (b || false) ≡ b
 or-false true = refl
 or-false false = refl
 
-is_used-push : (before : List Effect) (effect : Effect) (vid : ℕ) → is_used (before ++ effect ∷ []) vid ≡ (is_used before vid || grants vid effect)
+pub is_used-push : (before : List Effect) (effect : Effect) (vid : ℕ) → is_used (before ++ effect ∷ []) vid ≡ (is_used before vid || grants vid effect)
 unfolding is_used
 is_used-push before effect vid = list_any-append (grants vid) before (effect ∷ []) ∙ ap (λ b. is_used before vid || b) (or-false (grants vid effect))
 
-header_of-push : (before : List Effect) (effect : Effect) (vid : ℕ) → header_of (before ++ effect ∷ []) vid ≡ header_after vid (header_of before vid) effect
+pub header_of-push : (before : List Effect) (effect : Effect) (vid : ℕ) → header_of (before ++ effect ∷ []) vid ≡ header_after vid (header_of before vid) effect
 unfolding header_of
 header_of-push before effect vid = fold-append (header_after vid) None before (effect ∷ [])
 
-name_of-push : (before : List Effect) (effect : Effect) (name : List ℕ) → name_of (before ++ effect ∷ []) name ≡ name_after name (name_of before name) effect
+pub name_of-push : (before : List Effect) (effect : Effect) (name : List ℕ) → name_of (before ++ effect ∷ []) name ≡ name_after name (name_of before name) effect
 unfolding name_of
 name_of-push before effect name = fold-append (name_after name) no_disk before (effect ∷ [])
 
-claims_of-push : (before : List Effect) (effect : Effect) → claims_of (before ++ effect ∷ []) ≡ claims_after (claims_of before) effect
+pub claims_of-push : (before : List Effect) (effect : Effect) → claims_of (before ++ effect ∷ []) ≡ claims_after (claims_of before) effect
 unfolding claims_of
 claims_of-push before effect = fold-append claims_after [] before (effect ∷ [])
 
-live_of-push : (before : List Effect) (effect : Effect) → live_of (before ++ effect ∷ []) ≡ live_after (live_of before) effect
+pub live_of-push : (before : List Effect) (effect : Effect) → live_of (before ++ effect ∷ []) ≡ live_after (live_of before) effect
 unfolding live_of
 live_of-push before effect = fold-append live_after [] before (effect ∷ [])
 
-holder_of-push : (before : List Effect) (effect : Effect) (vid : ℕ) → holder_of (before ++ effect ∷ []) vid ≡ holder_after vid (holder_of before vid) effect
+pub holder_of-push : (before : List Effect) (effect : Effect) (vid : ℕ) → holder_of (before ++ effect ∷ []) vid ≡ holder_after vid (holder_of before vid) effect
 unfolding holder_of
 holder_of-push before effect vid = fold-append (holder_after vid) None before (effect ∷ [])
 

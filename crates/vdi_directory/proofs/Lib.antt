@@ -4,3 +4,7 @@ pub mod LiveLemmas
 pub mod LockLemmas
 pub mod UsedLemmas
 pub mod BookLemmas
+pub mod SoundLemmas
+pub mod LawfulLemmas
+pub mod LawLemmas
+pub mod DeadLemmas

@@ -5,3 +5,6 @@ pub mod Sources
 pub mod Effects
 pub mod Decisions
 pub mod Books
+pub mod States
+pub mod Sound
+pub mod Dead

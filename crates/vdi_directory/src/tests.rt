@@ -1,12 +1,17 @@
 //! Decisions that come from outside, and what no clause says.
+ghost use Rattle.std.specs.Prelude.{OnOk};
+ghost use Rattle.vdi_directory.specs.Decisions.{happened};
+ghost use Rattle.vdi_directory.specs.Books.{AreLocks};
 
 use crate::decision::Decision;
 use crate::directory::Directory;
 use crate::laws::nobody_holds_at_first;
 use crate::vid_range::{FullVdi, VidRange, free_vid};
 use disk_lock::Locks;
-use epoch_log::{Cause, Entry, Epoch, Log, Member, NodeId, Origin, VdiSpec};
-use object_id::{Bytes, NoMemory, Policy, Vid};
+use epoch_log::Log;
+use object_id::{
+    Bytes, Cause, Entry, Epoch, Member, NoMemory, NodeId, Origin, Policy, VdiSpec, Vid,
+};
 use std::alloc::Global;
 use std::test::Fail;
 
@@ -325,7 +330,30 @@ fn push_live(text: &mut Vec<u8>, directory: &Directory, locks: &Locks) -> Result
     Ok(())
 }
 
-/// Reads the entries, and answers the decisions, each after a blank; `None` where an entry may not stand there.
+/// Reads an entry that a word spells, and adds the decision on it; `false` where it may not stand there.
+fn read_next(
+    alloc: Global,
+    log: &mut Log,
+    directory: &mut Directory,
+    locks: &mut Locks,
+    word: &[u8],
+    text: &mut Vec<u8>,
+) -> Result<bool, NoMemory>
+    requires { AreLocks (happened directory.old) locks.old }
+    ensures { OnOk result (AreLocks (happened directory.new) locks.new) }
+{
+    let entry = entry_of(alloc, word)?;
+    if !log.may_append(&entry) {
+        return Ok(false);
+    }
+    let decision = directory.read_entry(&entry, locks)?;
+    text.push(b' ')?;
+    push_decision(text, decision)?;
+    log.append(entry)?;
+    Ok(true)
+}
+
+/// Reads the entries, and adds the decisions, each after a blank; `None` where an entry may not stand there.
 fn read_words(
     alloc: Global,
     words: &[u8],
@@ -340,14 +368,9 @@ fn read_words(
     let mut directory = Directory::new(alloc);
     let mut locks = Locks::new(alloc);
     for word in words.split(|byte| *byte == b' ') {
-        let entry = entry_of(alloc, word)?;
-        if !log.may_append(&entry) {
+        if !read_next(alloc, &mut log, &mut directory, &mut locks, word, text)? {
             return Ok(None);
         }
-        let decision = directory.read_entry(&entry, &mut locks)?;
-        text.push(b' ')?;
-        push_decision(text, decision)?;
-        log.append(entry)?;
     }
     Ok(Some((directory, locks)))
 }
@@ -449,15 +472,39 @@ fn put(
     directory: &mut Directory,
     locks: &mut Locks,
     entry: &Entry,
-) -> Result<Decision, NoMemory> {
-    if log.may_append(entry) {
-        directory.read_entry(entry, locks)
-    } else {
-        Ok(Decision::None)
+) -> Result<Option<Vid>, NoMemory>
+    requires { AreLocks (happened directory.old) locks.old }
+    ensures { OnOk result (AreLocks (happened directory.new) locks.new) }
+{
+    if !log.may_append(entry) {
+        return Ok(None);
+    }
+    match directory.read_entry(entry, locks)? {
+        Decision::Granted { vid } => Ok(Some(vid)),
+        _ => Ok(None),
     }
 }
 
-// Each disk is reserved, published and found by its name. How many are left to find doesn't change what a look-up costs.
+/// Reserves and publishes disk `k`.
+fn publish(
+    alloc: Global,
+    log: &Log,
+    directory: &mut Directory,
+    locks: &mut Locks,
+    k: u32,
+) -> Result<(), NoMemory>
+    requires { AreLocks (happened directory.old) locks.old }
+    ensures { OnOk result (AreLocks (happened directory.new) locks.new) }
+{
+    let by = NodeId(0);
+    let reserve = reserve_of(alloc, b'F', by, 1, &name_of(k))?;
+    if let Some(vid) = put(log, directory, locks, &reserve)? {
+        put(log, directory, locks, &Entry::Publish { by, vid })?;
+    }
+    Ok(())
+}
+
+// Each disk is reserved, published and found by its name. How many are there doesn't change what a look-up costs.
 #[test]
 fn keeps_10_000_disks(rt: HostRuntime) -> Result<(), Fail> {
     let alloc = rt.alloc();
@@ -469,17 +516,8 @@ fn keeps_10_000_disks(rt: HostRuntime) -> Result<(), Fail> {
     let log = Log::new(alloc, &opening)?;
     let mut directory = Directory::new(alloc);
     let mut locks = Locks::new(alloc);
-    let by = NodeId(0);
-    for k in 0..10_000 {
-        let reserve = reserve_of(alloc, b'F', by, 1, &name_of(k))?;
-        if let Decision::Granted { vid } = put(&log, &mut directory, &mut locks, &reserve)? {
-            put(
-                &log,
-                &mut directory,
-                &mut locks,
-                &Entry::Publish { by, vid },
-            )?;
-        }
+    for disk in 0..10_000 {
+        publish(alloc, &log, &mut directory, &mut locks, disk)?;
     }
     let mut found = 0_u32;
     for k in 0..10_000 {

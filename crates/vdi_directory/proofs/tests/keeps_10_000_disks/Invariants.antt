@@ -2,5 +2,5 @@ use Rattle.vdi_directory.specs.Decisions.{happened}
 use Rattle.vdi_directory.specs.Books.{AreLocks}
 use Rattle.vdi_directory.proofs.tests.keeps_10_000_disks.Given as goal
 
-abbrev pub invariant-loop-k : goal.invariant-loop-k
-invariant-loop-k l = AreLocks (happened l.directory) l.locks
+abbrev pub invariant-loop-disk : goal.invariant-loop-disk
+invariant-loop-disk l = AreLocks (happened l.directory) l.locks
