@@ -117,3 +117,128 @@ dead-stays entries later vid dead =
     kept-later (λ before. IsDead before vid)
     (λ es entry is. dead-push (happened es) (sound-happened es) (outcome (happened es) entry).effect (lawful-outcome (happened es) (sound-happened es) entry) vid is)
     later entries dead
+
+-- both ids of a chain are used
+live-used : (before : List Effect) → IsSound before → (vid : ℕ) → is_live_state (state_of before vid) ≡ true → is_used before vid ≡ true
+live-used before sound vid live = by_test (is_used before vid) refl
+  where
+    by_test : (b : Bool) → is_used before vid ≡ b → is_used before vid ≡ true
+    by_test true is = is
+    by_test false out = absurd (both_ways (is_live_state (state_of before vid)) (ap is_live_state (sound.unused vid out)) live)
+
+ChainsAreUsed : List Effect → Type 0
+ChainsAreUsed before = (elder vid : ℕ) → is_above before elder vid ≡ true → (is_used before elder ≡ true) × (is_used before vid ≡ true)
+
+ChainsGoOn : List Effect → Type 0
+ChainsGoOn before = (a b c : ℕ) → is_above before a b ≡ true → is_above before b c ≡ true → is_above before a c ≡ true
+
+or-left : (a b : Bool) → a ≡ true → (a || b) ≡ true
+or-left a b is = ap (λ t. t || b) is
+
+or-right : (a b : Bool) → b ≡ true → (a || b) ≡ true
+or-right true b is = refl
+or-right false b is = is
+
+module _ (before : List Effect) (sound : IsSound before) (effect : Effect) (lawful : IsLawful before effect) (used : ChainsAreUsed before) where
+  used-after : (vid : ℕ) → is_used before vid ≡ true → is_used (before ++ effect ∷ []) vid ≡ true
+  used-after vid is = is_used-push before effect vid ∙ or-left (is_used before vid) (grants vid effect) is
+
+  new-unused : (grant : Grant) (vid : ℕ) → effect ≡ effects.Reserved grant → is_used before vid ≡ true → (grant.claim.vid.0 == vid) ≡ true → ⊥
+  new-unused grant vid is there same =
+      let granted : IsLawful before (effects.Reserved grant) = subst (IsLawful before) is lawful in
+      both_ways (is_used before grant.claim.vid.0) granted.1 (ap (is_used before) (eqb-true grant.claim.vid.0 vid same) ∙ there)
+
+  parent-used : (grant : Grant) (p : Vid) → effect ≡ effects.Reserved grant → grant.header.parent ≡ Some p → is_used before p.0 ≡ true
+  parent-used grant p is parent = live-used before sound p.0 (parent-live before effect grant p lawful is parent)
+
+  used-push : ChainsAreUsed (before ++ effect ∷ [])
+  unfolding ChainsAreUsed
+  used-push elder vid is = by_case (above-cases before effect elder vid (sym (is_above-push before effect elder vid) ∙ is))
+    where
+      by_case : (is_above before elder vid ≡ true)
+          ⊎ ((grant : Grant) × (effect ≡ effects.Reserved grant) × ((grant.claim.vid.0 == vid) ≡ true) × (is_parent_or_above (is_above before) elder grant.header.parent ≡ true))
+          → (is_used (before ++ effect ∷ []) elder ≡ true) × (is_used (before ++ effect ∷ []) vid ≡ true)
+      by_case (inl old) = (used-after elder ((used elder vid old).0), used-after vid ((used elder vid old).1))
+      by_case (inr new) =
+          let parent = parent-cases before elder (new.0).header.parent new.3 in (
+            used-after elder (by_parent parent.0 (parent-used new.0 parent.0 new.1 parent.1) parent.2),
+            is_used-push before effect vid ∙ or-right (is_used before vid) (grants vid effect) (ap (grants vid) new.1 ∙ new.2),
+          )
+        where
+          by_parent : (p : Vid) → is_used before p.0 ≡ true → (p.0 ≡ elder) ⊎ (is_above before elder p.0 ≡ true) → is_used before elder ≡ true
+          by_parent p there (inl same) = ap (is_used before) (sym same) ∙ there
+          by_parent p there (inr far) = (used elder p.0 far).0
+
+  above-after-known : (elder vid : ℕ) → is_above before elder vid ≡ true → is_above (before ++ effect ∷ []) elder vid ≡ true
+  unfolding ChainsAreUsed
+  above-after-known elder vid is = is_above-push before effect elder vid ∙ by_effect effect refl
+    where
+      by_effect : (e : Effect) → effect ≡ e → above_after (is_above before) e elder vid ≡ true
+      by_effect effects.Nothing e = is
+      by_effect (effects.Reserved grant) e = by_test (grant.claim.vid.0 == vid) refl
+        where
+          by_test : (b : Bool) → (grant.claim.vid.0 == vid) ≡ b → cond b (is_parent_or_above (is_above before) elder grant.header.parent) (is_above before elder vid) ≡ true
+          by_test true same = absurd (new-unused grant vid e ((used elder vid is).1) same)
+          by_test false apart = is
+      by_effect (effects.Published of name) e = is
+      by_effect (effects.Snapped snap) e = is
+      by_effect (effects.Deleted of name) e = is
+      by_effect (effects.Held of holder) e = is
+      by_effect (effects.Freed of) e = is
+      by_effect (effects.Withdrawn of) e = is
+      by_effect (effects.Left node) e = is
+
+  -- an id above one that was used before was above it before
+  above-before : (elder vid : ℕ) → is_used before vid ≡ true → is_above (before ++ effect ∷ []) elder vid ≡ true → is_above before elder vid ≡ true
+  above-before elder vid there is = by_case (above-cases before effect elder vid (sym (is_above-push before effect elder vid) ∙ is))
+    where
+      by_case : (is_above before elder vid ≡ true)
+          ⊎ ((grant : Grant) × (effect ≡ effects.Reserved grant) × ((grant.claim.vid.0 == vid) ≡ true) × (is_parent_or_above (is_above before) elder grant.header.parent ≡ true))
+          → is_above before elder vid ≡ true
+      by_case (inl old) = old
+      by_case (inr new) = absurd (new-unused new.0 vid new.1 there new.2)
+
+  go-on-push : ChainsGoOn before → ChainsGoOn (before ++ effect ∷ [])
+  unfolding ChainsAreUsed ChainsGoOn
+  go-on-push go a b c first second = by_case (above-cases before effect b c (sym (is_above-push before effect b c) ∙ second))
+    where
+      by_case : (is_above before b c ≡ true)
+          ⊎ ((grant : Grant) × (effect ≡ effects.Reserved grant) × ((grant.claim.vid.0 == c) ≡ true) × (is_parent_or_above (is_above before) b grant.header.parent ≡ true))
+          → is_above (before ++ effect ∷ []) a c ≡ true
+      by_case (inl old) = above-after-known a c (go a b c (above-before a b ((used b c old).0) first) old)
+      by_case (inr new) =
+          let parent = parent-cases before b (new.0).header.parent new.3 in
+          let reaches : is_above before a parent.0.0 ≡ true = by_parent parent.0 (parent-used new.0 parent.0 new.1 parent.1) parent.2 in
+          is_above-push before effect a c ∙ ap (λ e. above_after (is_above before) e a c) new.1
+          ∙ ap (λ t. cond t (is_parent_or_above (is_above before) a (new.0).header.parent) (is_above before a c)) new.2
+          ∙ ap (is_parent_or_above (is_above before) a) parent.1
+          ∙ or-right (parent.0.0 == a) (is_above before a parent.0.0) reaches
+        where
+          by_parent : (p : Vid) → is_used before p.0 ≡ true → (p.0 ≡ b) ⊎ (is_above before b p.0 ≡ true) → is_above before a p.0 ≡ true
+          by_parent p there (inl same) =
+              above-before a p.0 there (ap (is_above (before ++ effect ∷ []) a) same ∙ first)
+          by_parent p there (inr far) = go a b p.0 (above-before a b ((used b p.0 far).0) first) far
+
+record IsChained (before : List Effect) : Type 0 where
+  used : ChainsAreUsed before
+  goes : ChainsGoOn before
+
+chained-none : IsChained []
+unfolding ChainsAreUsed ChainsGoOn is_above
+chained-none = record { used = λ elder vid is. cc; goes = λ a b c first second. cc }
+
+chained : (entries : List Entry) → IsChained (happened entries)
+chained entries =
+    kept-later IsChained
+    (λ es entry is. record {
+      used = used-push (happened es) (sound-happened es) (outcome (happened es) entry).effect (lawful-outcome (happened es) (sound-happened es) entry) is.used;
+      goes = go-on-push (happened es) (sound-happened es) (outcome (happened es) entry).effect (lawful-outcome (happened es) (sound-happened es) entry) is.used is.goes;
+    })
+    entries [] (subst IsChained (sym happened-none) chained-none)
+
+pub dead-heirs : (entries : List Entry) (vid other : ℕ) → IsDead (happened entries) vid → is_above (happened entries) vid other ≡ true → IsDead (happened entries) other
+unfolding ChainsGoOn
+dead-heirs entries vid other dead above = record {
+  gone = dead.heirs other above;
+  heirs = λ last is. dead.heirs last ((chained entries).goes vid other last above is);
+}

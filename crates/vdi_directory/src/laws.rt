@@ -20,7 +20,7 @@ ghost use Rattle.vdi_directory.specs.Effects.{is_used, name_of, claims_of, claim
 ghost use Rattle.vdi_directory.specs.Decisions.{outcome, happened, nothing};
 ghost use Rattle.vdi_directory.specs.States.{Working, rank, state_of, owner_of, is_live_state, may_take};
 ghost use Rattle.vdi_directory.specs.Sound.{In, IsWorking, IsTaken};
-ghost use Rattle.vdi_directory.specs.Dead.{IsDead};
+ghost use Rattle.vdi_directory.specs.Dead.{is_above, IsDead};
 ghost use Rattle.vdi_directory.specs.Books.{AreLocks};
 
 /// Before any entry was read nobody holds a disk: a new directory and new locks fit each other.
@@ -97,7 +97,9 @@ pub fn only_reservations_are_published()
         → outcome (happened entries) (the_entries.Snapshot by old vid) ≡ nothing }
 {}
 
-/// What is dead stays dead.
+/// What is dead stays dead, and takes along every id whose parent chain has it.
 pub fn the_dead_stay_dead()
-    ensures { (entries later : List Entry) (vid : ℕ) → IsDead (happened entries) vid → IsDead (happened (entries ++ later)) vid }
+    ensures heirs { (entries : List Entry) (vid other : ℕ) → IsDead (happened entries) vid → is_above (happened entries) vid other ≡ true
+        → IsDead (happened entries) other }
+    ensures stays { (entries later : List Entry) (vid : ℕ) → IsDead (happened entries) vid → IsDead (happened (entries ++ later)) vid }
 {}

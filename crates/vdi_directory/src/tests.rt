@@ -253,7 +253,9 @@ fn push_vid(text: &mut Vec<u8>, vid: Vid) -> Result<(), NoMemory> {
     Ok(())
 }
 
+/// Adds a decision, after a blank.
 fn push_decision(text: &mut Vec<u8>, decision: Decision) -> Result<(), NoMemory> {
+    text.push(b' ')?;
     let letter = match decision {
         Decision::None => {
             text.push(b'-')?;
@@ -346,9 +348,10 @@ fn read_next(
     if !log.may_append(&entry) {
         return Ok(false);
     }
-    let decision = directory.read_entry(&entry, locks)?;
-    text.push(b' ')?;
-    push_decision(text, decision)?;
+    match directory.read_entry(&entry, locks) {
+        Ok(decision) => push_decision(text, decision)?,
+        Err(error) => return Err(error),
+    }
     log.append(entry)?;
     Ok(true)
 }
@@ -467,6 +470,13 @@ fn name_of(k: u32) -> [u8; 4] {
     [k >> 12, k >> 8, k >> 4, k].map(digit_of)
 }
 
+fn granted(decision: Decision) -> Option<Vid> {
+    match decision {
+        Decision::Granted { vid } => Some(vid),
+        _ => None,
+    }
+}
+
 fn put(
     log: &Log,
     directory: &mut Directory,
@@ -479,9 +489,9 @@ fn put(
     if !log.may_append(entry) {
         return Ok(None);
     }
-    match directory.read_entry(entry, locks)? {
-        Decision::Granted { vid } => Ok(Some(vid)),
-        _ => Ok(None),
+    match directory.read_entry(entry, locks) {
+        Ok(decision) => Ok(granted(decision)),
+        Err(error) => Err(error),
     }
 }
 
