@@ -18,12 +18,12 @@ use std::test::Fail;
 // A row: what it shows; the entries; the decision on each; the live disks then, in order.
 // An entry is a word: a letter, the node, the session, and names as NAME, NAME:TAG or NAME:BASE:TAG, or ids.
 // F S K: Reserve of origin Fresh, SnapshotOf, CloneOf; P C: Publish, Clone; N: Snapshot old:new; D: Delete; O: Lock;
-// U: Unlock; X: Leave; J: Join; W: Reweight; R: Recovered. The opening members are nodes 0 to 3.
+// U: Unlock; X: Leave; J: Join; w: Reweight; r: Recovered. The opening members are nodes 0 to 3.
 // A decision is - for none, the id, or ! with a letter: E VdiExist, N VdiNotLocked, B NoBaseVdi, T NoTag, V NoVdi, and
 // L with the session, VdiLocked. A live disk is its id, name, tag, snap_id, parent, and the node and session of its holder.
 // The rows were made up, or drawn where they say so, and answered by a program in Python that was written apart from this
 // one, by the rules alone.
-const ROWS: &[u8] = b"epochs decide nothing|J5 W1 R1 X1| - - - -;\n\
+const ROWS: &[u8] = b"epochs decide nothing|J5 w1 r1 X1| - - - -;\n\
 a name gets its own id|F01a| 01ec8c;\n\
 a disk is published|F01a P0001ec8c| 01ec8c 01ec8c; 01ec8c/a//1/000000/-\n\
 another name|F01b P0001f1a5| 01f1a5 01f1a5; 01f1a5/b//1/000000/-\n\
@@ -238,7 +238,7 @@ fn entry_of(alloc: Global, word: &[u8]) -> Result<Entry, NoMemory> {
             zone: node.0,
             vnodes: 4,
         },
-        b'W' => Entry::Reweight { node, vnodes: 7 },
+        b'w' => Entry::Reweight { node, vnodes: 7 },
         _ => Entry::Recovered {
             node,
             epoch: Epoch(2),
