@@ -1,0 +1,244 @@
+-- What is dead stays dead, and its descendants are dead with it.
+use Rattle.std.proofs.Common.{◌≡◌, ◌⊎◌, inl, inr, ℕ, ◌≤◌, ◌==◌, ◌||◌, Bool, true, false, cond, List, [], ◌∷◌, ◌++◌, fold, Option, Some, None, refl, ap, sym, ◌∙◌, subst, arith}
+use Rattle.std.proofs.lemmas.Bool.{eqb-true, ne_eqb, both_ways}
+use Rattle.std.proofs.lemmas.List.Sums.{fold-append}
+use Rattle.object_id.specs.declared.oid.Vid.{Vid}
+use Rattle.object_id.specs.declared.entry.Entry.{Entry}
+use Rattle.vdi_directory.specs.declared.effect.Grant.{Grant}
+use Rattle.vdi_directory.specs.declared.effect.Effect.{Effect}
+use Rattle.vdi_directory.specs.declared.effect.Effect.TheVariants as effects
+use Rattle.vdi_directory.specs.Effects.{grants, is_used}
+use Rattle.vdi_directory.specs.Decisions.{outcome, happens, happened}
+use Rattle.vdi_directory.specs.States.{State, Unused, Claimed, Working, Shot, Deleted, Freed, state_after, state_of, rank, is_live_state}
+use Rattle.vdi_directory.specs.Sound.{IsParent, IsSound, IsLawful}
+use Rattle.vdi_directory.specs.Dead.{is_parent_or_above, above_after, is_above, is_gone, IsDead}
+use Rattle.vdi_directory.proofs.BookLemmas.{happened-none, is_used-push}
+use Rattle.vdi_directory.proofs.SoundLemmas.{state_of-push}
+use Rattle.vdi_directory.proofs.LawfulLemmas.{lawful-outcome, sound-happened}
+use Rattle.vdi_directory.proofs.LawLemmas.{kept-later, rank-grows}
+
+is_above-push : (before : List Effect) (effect : Effect) (elder vid : ℕ)
+    → is_above (before ++ effect ∷ []) elder vid ≡ above_after (is_above before) effect elder vid
+unfolding is_above
+is_above-push before effect elder vid = ap (λ above. above elder vid) (fold-append above_after (λ e v. false) before (effect ∷ []))
+
+gone-rank : (state : State) → is_gone state ≡ true → rank state ≡ 4
+gone-rank Unused is = cc
+gone-rank (Claimed by) is = cc
+gone-rank Working is = cc
+gone-rank (Shot tag) is = cc
+gone-rank Deleted is = refl
+gone-rank Freed is = refl
+
+rank-gone : (state : State) → 4 ≤ rank state → is_gone state ≡ true
+rank-gone Unused above = absurd (omega arith)
+rank-gone (Claimed by) above = absurd (omega arith)
+rank-gone Working above = absurd (omega arith)
+rank-gone (Shot tag) above = absurd (omega arith)
+rank-gone Deleted above = refl
+rank-gone Freed above = refl
+
+live-not-gone : (state : State) → is_live_state state ≡ true → is_gone state ≡ true → ⊥
+live-not-gone Unused live gone = cc
+live-not-gone (Claimed by) live gone = cc
+live-not-gone Working live gone = cc
+live-not-gone (Shot tag) live gone = cc
+live-not-gone Deleted live gone = cc
+live-not-gone Freed live gone = cc
+
+or-cases : (a b : Bool) → (a || b) ≡ true → (a ≡ true) ⊎ (b ≡ true)
+or-cases true b is = inl refl
+or-cases false b is = inr is
+
+-- what an id that is above another came from: an earlier effect, or the grant of the other
+above-cases : (before : List Effect) (effect : Effect) (elder vid : ℕ) → above_after (is_above before) effect elder vid ≡ true
+    → (is_above before elder vid ≡ true)
+    ⊎ ((grant : Grant) × (effect ≡ effects.Reserved grant) × ((grant.claim.vid.0 == vid) ≡ true) × (is_parent_or_above (is_above before) elder grant.header.parent ≡ true))
+above-cases before effects.Nothing elder vid is = inl is
+above-cases before (effects.Reserved grant) elder vid is = by_test (grant.claim.vid.0 == vid) refl is
+  where
+    by_test : (b : Bool) → (grant.claim.vid.0 == vid) ≡ b → cond b (is_parent_or_above (is_above before) elder grant.header.parent) (is_above before elder vid) ≡ true
+        → (is_above before elder vid ≡ true)
+        ⊎ ((g : Grant) × (effects.Reserved grant ≡ effects.Reserved g) × ((g.claim.vid.0 == vid) ≡ true) × (is_parent_or_above (is_above before) elder g.header.parent ≡ true))
+    by_test true here is = inr (grant, refl, here, is)
+    by_test false there is = inl is
+above-cases before (effects.Published of name) elder vid is = inl is
+above-cases before (effects.Snapped snap) elder vid is = inl is
+above-cases before (effects.Deleted of name) elder vid is = inl is
+above-cases before (effects.Held of holder) elder vid is = inl is
+above-cases before (effects.Freed of) elder vid is = inl is
+above-cases before (effects.Withdrawn of) elder vid is = inl is
+above-cases before (effects.Left node) elder vid is = inl is
+
+-- the parent's own chain, or the parent
+parent-cases : (before : List Effect) (elder : ℕ) (parent : Option Vid) → is_parent_or_above (is_above before) elder parent ≡ true
+    → (p : Vid) × (parent ≡ Some p) × ((p.0 ≡ elder) ⊎ (is_above before elder p.0 ≡ true))
+parent-cases before elder None is = cc
+parent-cases before elder (Some p) is = elim (or-cases (p.0 == elder) (is_above before elder p.0) is) as (λ _. (q : Vid) × (Some p ≡ Some q) × ((q.0 ≡ elder) ⊎ (is_above before elder q.0 ≡ true))) [
+  | inl same ↦ (p, refl, inl (eqb-true p.0 elder same))
+  | inr far ↦ (p, refl, inr far)
+]
+
+parent-live : (before : List Effect) (effect : Effect) (grant : Grant) (p : Vid) → IsLawful before effect → effect ≡ effects.Reserved grant → grant.header.parent ≡ Some p
+    → is_live_state (state_of before p.0) ≡ true
+parent-live before effect grant p lawful is parent =
+    let granted : IsLawful before (effects.Reserved grant) = subst (IsLawful before) is lawful in
+    subst (IsParent before) parent granted.4
+
+-- one entry more
+module _ (before : List Effect) (sound : IsSound before) (effect : Effect) (lawful : IsLawful before effect) where
+  gone-stays : (vid : ℕ) → is_gone (state_of before vid) ≡ true → is_gone (state_of (before ++ effect ∷ []) vid) ≡ true
+  gone-stays vid gone =
+      let grows = rank-grows before sound effect lawful vid in
+      let four = gone-rank (state_of before vid) gone in
+      ap is_gone (state_of-push before effect vid) ∙ rank-gone (state_after vid (state_of before vid) effect) (omega (arith, grows, four))
+
+  dead-push : (vid : ℕ) → IsDead before vid → IsDead (before ++ effect ∷ []) vid
+  dead-push vid dead = record {
+    gone = gone-stays vid dead.gone;
+    heirs = λ other is. by_case other (above-cases before effect vid other (sym (is_above-push before effect vid other) ∙ is));
+  }
+    where
+      by_case : (other : ℕ) → (is_above before vid other ≡ true)
+          ⊎ ((grant : Grant) × (effect ≡ effects.Reserved grant) × ((grant.claim.vid.0 == other) ≡ true) × (is_parent_or_above (is_above before) vid grant.header.parent ≡ true))
+          → is_gone (state_of (before ++ effect ∷ []) other) ≡ true
+      by_case other (inl old) = gone-stays other (dead.heirs other old)
+      by_case other (inr new) =
+          let parent = parent-cases before vid (new.0).header.parent new.3 in
+          let live = parent-live before effect new.0 parent.0 lawful new.1 parent.1 in
+          absurd (live-not-gone (state_of before parent.0.0) live (by_parent parent.0 parent.2))
+        where
+          by_parent : (p : Vid) → (p.0 ≡ vid) ⊎ (is_above before vid p.0 ≡ true) → is_gone (state_of before p.0) ≡ true
+          by_parent p (inl same) = ap (λ v. is_gone (state_of before v)) same ∙ dead.gone
+          by_parent p (inr far) = dead.heirs p.0 far
+
+pub dead-stays : (entries later : List Entry) (vid : ℕ) → IsDead (happened entries) vid → IsDead (happened (entries ++ later)) vid
+dead-stays entries later vid dead =
+    kept-later (λ before. IsDead before vid)
+    (λ es entry is. dead-push (happened es) (sound-happened es) (outcome (happened es) entry).effect (lawful-outcome (happened es) (sound-happened es) entry) vid is)
+    later entries dead
+
+-- both ids of a chain are used
+live-used : (before : List Effect) → IsSound before → (vid : ℕ) → is_live_state (state_of before vid) ≡ true → is_used before vid ≡ true
+live-used before sound vid live = by_test (is_used before vid) refl
+  where
+    by_test : (b : Bool) → is_used before vid ≡ b → is_used before vid ≡ true
+    by_test true is = is
+    by_test false out = absurd (both_ways (is_live_state (state_of before vid)) (ap is_live_state (sound.unused vid out)) live)
+
+ChainsAreUsed : List Effect → Type 0
+ChainsAreUsed before = (elder vid : ℕ) → is_above before elder vid ≡ true → (is_used before elder ≡ true) × (is_used before vid ≡ true)
+
+ChainsGoOn : List Effect → Type 0
+ChainsGoOn before = (a b c : ℕ) → is_above before a b ≡ true → is_above before b c ≡ true → is_above before a c ≡ true
+
+or-left : (a b : Bool) → a ≡ true → (a || b) ≡ true
+or-left a b is = ap (λ t. t || b) is
+
+or-right : (a b : Bool) → b ≡ true → (a || b) ≡ true
+or-right true b is = refl
+or-right false b is = is
+
+module _ (before : List Effect) (sound : IsSound before) (effect : Effect) (lawful : IsLawful before effect) (used : ChainsAreUsed before) where
+  used-after : (vid : ℕ) → is_used before vid ≡ true → is_used (before ++ effect ∷ []) vid ≡ true
+  used-after vid is = is_used-push before effect vid ∙ or-left (is_used before vid) (grants vid effect) is
+
+  new-unused : (grant : Grant) (vid : ℕ) → effect ≡ effects.Reserved grant → is_used before vid ≡ true → (grant.claim.vid.0 == vid) ≡ true → ⊥
+  new-unused grant vid is there same =
+      let granted : IsLawful before (effects.Reserved grant) = subst (IsLawful before) is lawful in
+      both_ways (is_used before grant.claim.vid.0) granted.1 (ap (is_used before) (eqb-true grant.claim.vid.0 vid same) ∙ there)
+
+  parent-used : (grant : Grant) (p : Vid) → effect ≡ effects.Reserved grant → grant.header.parent ≡ Some p → is_used before p.0 ≡ true
+  parent-used grant p is parent = live-used before sound p.0 (parent-live before effect grant p lawful is parent)
+
+  used-push : ChainsAreUsed (before ++ effect ∷ [])
+  unfolding ChainsAreUsed
+  used-push elder vid is = by_case (above-cases before effect elder vid (sym (is_above-push before effect elder vid) ∙ is))
+    where
+      by_case : (is_above before elder vid ≡ true)
+          ⊎ ((grant : Grant) × (effect ≡ effects.Reserved grant) × ((grant.claim.vid.0 == vid) ≡ true) × (is_parent_or_above (is_above before) elder grant.header.parent ≡ true))
+          → (is_used (before ++ effect ∷ []) elder ≡ true) × (is_used (before ++ effect ∷ []) vid ≡ true)
+      by_case (inl old) = (used-after elder ((used elder vid old).0), used-after vid ((used elder vid old).1))
+      by_case (inr new) =
+          let parent = parent-cases before elder (new.0).header.parent new.3 in (
+            used-after elder (by_parent parent.0 (parent-used new.0 parent.0 new.1 parent.1) parent.2),
+            is_used-push before effect vid ∙ or-right (is_used before vid) (grants vid effect) (ap (grants vid) new.1 ∙ new.2),
+          )
+        where
+          by_parent : (p : Vid) → is_used before p.0 ≡ true → (p.0 ≡ elder) ⊎ (is_above before elder p.0 ≡ true) → is_used before elder ≡ true
+          by_parent p there (inl same) = ap (is_used before) (sym same) ∙ there
+          by_parent p there (inr far) = (used elder p.0 far).0
+
+  above-after-known : (elder vid : ℕ) → is_above before elder vid ≡ true → is_above (before ++ effect ∷ []) elder vid ≡ true
+  unfolding ChainsAreUsed
+  above-after-known elder vid is = is_above-push before effect elder vid ∙ by_effect effect refl
+    where
+      by_effect : (e : Effect) → effect ≡ e → above_after (is_above before) e elder vid ≡ true
+      by_effect effects.Nothing e = is
+      by_effect (effects.Reserved grant) e = by_test (grant.claim.vid.0 == vid) refl
+        where
+          by_test : (b : Bool) → (grant.claim.vid.0 == vid) ≡ b → cond b (is_parent_or_above (is_above before) elder grant.header.parent) (is_above before elder vid) ≡ true
+          by_test true same = absurd (new-unused grant vid e ((used elder vid is).1) same)
+          by_test false apart = is
+      by_effect (effects.Published of name) e = is
+      by_effect (effects.Snapped snap) e = is
+      by_effect (effects.Deleted of name) e = is
+      by_effect (effects.Held of holder) e = is
+      by_effect (effects.Freed of) e = is
+      by_effect (effects.Withdrawn of) e = is
+      by_effect (effects.Left node) e = is
+
+  -- an id above one that was used before was above it before
+  above-before : (elder vid : ℕ) → is_used before vid ≡ true → is_above (before ++ effect ∷ []) elder vid ≡ true → is_above before elder vid ≡ true
+  above-before elder vid there is = by_case (above-cases before effect elder vid (sym (is_above-push before effect elder vid) ∙ is))
+    where
+      by_case : (is_above before elder vid ≡ true)
+          ⊎ ((grant : Grant) × (effect ≡ effects.Reserved grant) × ((grant.claim.vid.0 == vid) ≡ true) × (is_parent_or_above (is_above before) elder grant.header.parent ≡ true))
+          → is_above before elder vid ≡ true
+      by_case (inl old) = old
+      by_case (inr new) = absurd (new-unused new.0 vid new.1 there new.2)
+
+  go-on-push : ChainsGoOn before → ChainsGoOn (before ++ effect ∷ [])
+  unfolding ChainsAreUsed ChainsGoOn
+  go-on-push go a b c first second = by_case (above-cases before effect b c (sym (is_above-push before effect b c) ∙ second))
+    where
+      by_case : (is_above before b c ≡ true)
+          ⊎ ((grant : Grant) × (effect ≡ effects.Reserved grant) × ((grant.claim.vid.0 == c) ≡ true) × (is_parent_or_above (is_above before) b grant.header.parent ≡ true))
+          → is_above (before ++ effect ∷ []) a c ≡ true
+      by_case (inl old) = above-after-known a c (go a b c (above-before a b ((used b c old).0) first) old)
+      by_case (inr new) =
+          let parent = parent-cases before b (new.0).header.parent new.3 in
+          let reaches : is_above before a parent.0.0 ≡ true = by_parent parent.0 (parent-used new.0 parent.0 new.1 parent.1) parent.2 in
+          is_above-push before effect a c ∙ ap (λ e. above_after (is_above before) e a c) new.1
+          ∙ ap (λ t. cond t (is_parent_or_above (is_above before) a (new.0).header.parent) (is_above before a c)) new.2
+          ∙ ap (is_parent_or_above (is_above before) a) parent.1
+          ∙ or-right (parent.0.0 == a) (is_above before a parent.0.0) reaches
+        where
+          by_parent : (p : Vid) → is_used before p.0 ≡ true → (p.0 ≡ b) ⊎ (is_above before b p.0 ≡ true) → is_above before a p.0 ≡ true
+          by_parent p there (inl same) =
+              above-before a p.0 there (ap (is_above (before ++ effect ∷ []) a) same ∙ first)
+          by_parent p there (inr far) = go a b p.0 (above-before a b ((used b p.0 far).0) first) far
+
+record IsChained (before : List Effect) : Type 0 where
+  used : ChainsAreUsed before
+  goes : ChainsGoOn before
+
+chained-none : IsChained []
+unfolding ChainsAreUsed ChainsGoOn is_above
+chained-none = record { used = λ elder vid is. cc; goes = λ a b c first second. cc }
+
+chained : (entries : List Entry) → IsChained (happened entries)
+chained entries =
+    kept-later IsChained
+    (λ es entry is. record {
+      used = used-push (happened es) (sound-happened es) (outcome (happened es) entry).effect (lawful-outcome (happened es) (sound-happened es) entry) is.used;
+      goes = go-on-push (happened es) (sound-happened es) (outcome (happened es) entry).effect (lawful-outcome (happened es) (sound-happened es) entry) is.used is.goes;
+    })
+    entries [] (subst IsChained (sym happened-none) chained-none)
+
+pub dead-heirs : (entries : List Entry) (vid other : ℕ) → IsDead (happened entries) vid → is_above (happened entries) vid other ≡ true → IsDead (happened entries) other
+unfolding ChainsGoOn
+dead-heirs entries vid other dead above = record {
+  gone = dead.heirs other above;
+  heirs = λ last is. dead.heirs last ((chained entries).goes vid other last above is);
+}

@@ -1,0 +1,10 @@
+pub mod VidLemmas
+pub mod NameLemmas
+pub mod LiveLemmas
+pub mod LockLemmas
+pub mod UsedLemmas
+pub mod BookLemmas
+pub mod SoundLemmas
+pub mod LawfulLemmas
+pub mod LawLemmas
+pub mod DeadLemmas

@@ -1,0 +1,18 @@
+use Rattle.std.proofs.Common.{[], ap, sym, subst}
+use Rattle.std.specs.Ordering.{nat_cmp}
+use Rattle.std.specs.Map.{lookup}
+use Rattle.std.specs.BTreeMap.{is_at}
+use Rattle.vdi_directory.specs.Vids.{is_in, AreRangesFrom}
+use Rattle.vdi_directory.specs.Effects.{is_used, header_of, name_of, claims_of, live_of}
+use Rattle.vdi_directory.proofs.books.Books.new.Goals as goal
+
+pub returns : goal.returns
+unfolding is_used header_of name_of claims_of live_of
+returns c = record {
+  headers = λ vid. ap (lookup (is_at (nat_cmp vid))) c.new.ensures.empty;
+  names = λ name. c.new-2.ensures name;
+  claims = c.new-3.ensures.items;
+  live = c.new-4.ensures.items;
+  ranges = subst (AreRangesFrom 1) (sym c.new-5.ensures.items) tt;
+  used = λ vid. ap (λ ranges. is_in ranges vid) c.new-5.ensures.items;
+}

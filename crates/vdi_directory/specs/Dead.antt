@@ -1,0 +1,41 @@
+-- Parent chains, and which ids are dead.
+use Rattle.std.specs.Prelude.{◌≡◌, ℕ, ◌==◌, ◌||◌, Bool, true, false, List, [], ◌∷◌, fold, Option, Some, None, if◌then◌else◌}
+use Rattle.object_id.specs.declared.oid.Vid.{Vid}
+use Rattle.vdi_directory.specs.declared.effect.Effect.{Effect}
+use Rattle.vdi_directory.specs.declared.effect.Effect.TheVariants as effects
+use Rattle.vdi_directory.specs.States.{State, Unused, Claimed, Working, Shot, Deleted, Freed, state_of}
+
+-- whether an id is the parent, or stands in the parent's own chain
+abbrev pub is_parent_or_above : (ℕ → ℕ → Bool) → ℕ → Option Vid → Bool
+is_parent_or_above above elder None = false
+is_parent_or_above above elder (Some parent) = parent.0 == elder || above elder parent.0
+
+abbrev pub above_after : (ℕ → ℕ → Bool) → Effect → ℕ → ℕ → Bool
+above_after above effects.Nothing elder vid = above elder vid
+above_after above (effects.Reserved grant) elder vid =
+    if grant.claim.vid.0 == vid then is_parent_or_above above elder grant.header.parent else above elder vid
+above_after above (effects.Published of name) elder vid = above elder vid
+above_after above (effects.Snapped snap) elder vid = above elder vid
+above_after above (effects.Deleted of name) elder vid = above elder vid
+above_after above (effects.Held of holder) elder vid = above elder vid
+above_after above (effects.Freed of) elder vid = above elder vid
+above_after above (effects.Withdrawn of) elder vid = above elder vid
+above_after above (effects.Left node) elder vid = above elder vid
+
+-- whether the parent chain of an id has another one; the parent of a reserved id is its base
+unfoldable pub is_above : List Effect → ℕ → ℕ → Bool
+is_above effects = fold above_after (λ elder vid. false) effects
+
+-- deleted, or a reservation that was freed
+abbrev pub is_gone : State → Bool
+is_gone Unused = false
+is_gone (Claimed by) = false
+is_gone Working = false
+is_gone (Shot tag) = false
+is_gone Deleted = true
+is_gone Freed = true
+
+-- an id is dead where it is gone, and so is every id whose parent chain has it
+pub record IsDead (before : List Effect) (vid : ℕ) : Type 0 where
+  pub gone : is_gone (state_of before vid) ≡ true
+  pub heirs : (other : ℕ) → is_above before vid other ≡ true → is_gone (state_of before other) ≡ true

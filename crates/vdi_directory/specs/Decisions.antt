@@ -1,0 +1,185 @@
+-- The decision on an entry of the log, and what it changes, as a function of what the entries before it did.
+use Rattle.std.specs.Prelude.{ℕ, ◌+◌, ◌==◌, ◌&&◌, ◌||◌, not, Bool, true, false, List, [], ◌∷◌, ◌++◌, fold, Option, None, Some, Result, Ok, Err, is_some, if◌then◌else◌}
+use Rattle.std.specs.List.{list_any}
+use Rattle.object_id.specs.declared.oid.Vid.{Vid}
+use Rattle.object_id.specs.declared.node.NodeId.{NodeId}
+use Rattle.object_id.specs.declared.cause.Cause.{Cause}
+use Rattle.object_id.specs.declared.cause.Cause.TheVariants as causes
+use Rattle.object_id.specs.declared.entry.VdiSpec.{VdiSpec}
+use Rattle.object_id.specs.declared.entry.Origin.{Origin}
+use Rattle.object_id.specs.declared.entry.Origin.TheVariants.{Fresh, SnapshotOf, CloneOf}
+use Rattle.object_id.specs.declared.entry.Entry.{Entry}
+use Rattle.object_id.specs.declared.entry.Entry.TheVariants.{Format, Join, Leave, Reweight, Recovered, Reserve, Publish, Clone, Snapshot, Delete, Lock, Unlock}
+use Rattle.disk_lock.specs.declared.holder.Holder.{Holder}
+use Rattle.vdi_directory.specs.declared.header.Header.{Header}
+use Rattle.vdi_directory.specs.declared.effect.Source.{Source}
+use Rattle.vdi_directory.specs.declared.effect.Source.TheVariants as sources
+use Rattle.vdi_directory.specs.declared.effect.Claim.{Claim}
+use Rattle.vdi_directory.specs.declared.effect.Effect.{Effect}
+use Rattle.vdi_directory.specs.declared.effect.Effect.TheVariants as effects
+use Rattle.vdi_directory.specs.declared.decision.Decision.{Decision}
+use Rattle.vdi_directory.specs.declared.decision.Decision.TheVariants as decisions
+use Rattle.vdi_directory.specs.declared.decision.Outcome.{Outcome}
+use Rattle.vdi_directory.specs.Vids.{free_id}
+use Rattle.vdi_directory.specs.Names.{is_same, risen, tagged, is_live}
+use Rattle.vdi_directory.specs.Sources.{is_for, tag_for}
+use Rattle.vdi_directory.specs.Effects.{is_used, header_of, name_of, claims_of, claim_on, holder_of}
+
+-- the four kinds of outcome
+abbrev pub nothing : Outcome
+nothing = record { decision = decisions.None; effect = effects.Nothing }
+
+abbrev pub silent : Effect → Outcome
+silent effect = record { decision = decisions.None; effect = effect }
+
+abbrev pub granted : Vid → Effect → Outcome
+granted vid effect = record { decision = decisions.Granted vid; effect = effect }
+
+abbrev pub refused : Cause → Outcome
+refused cause = record { decision = decisions.Refused cause; effect = effects.Nothing }
+
+-- who asks
+abbrev pub is_held_by : NodeId → ℕ → Option Holder → Bool
+is_held_by node session None = false
+is_held_by node session (Some holder) = holder.node.0 == node.0 && holder.session == session
+
+abbrev pub is_claimed_by : NodeId → ℕ → Option Claim → Bool
+is_claimed_by node session None = false
+is_claimed_by node session (Some claim) = claim.by.0 == node.0 && claim.session == session
+
+abbrev pub names_claim : List ℕ → Claim → Bool
+names_claim name claim = is_same claim.name name
+
+-- whether a new disk can't have the name: it has a published working disk, or a standing reservation
+abbrev pub is_taken : List Effect → List ℕ → Bool
+is_taken before name = is_some (name_of before name).working || list_any (names_claim name) (claims_of before)
+
+-- a free id is reserved
+abbrev pub grant_of : List Effect → NodeId → ℕ → List ℕ → Source → Option Vid → VdiSpec → ℕ → Outcome
+grant_of before by session name source parent spec vid = granted (record { 0 = vid }) (effects.Reserved (record {
+  claim = record { vid = record { 0 = vid }; by = by; session = session; name = name; source = source };
+  header = record { name = name; tag = []; snap_id = risen (name_of before name).taken; parent = parent; spec = spec };
+}))
+
+abbrev pub or_full : Option ℕ → (ℕ → Outcome) → Outcome
+or_full None make = refused causes.FullVdi
+or_full (Some vid) make = make vid
+
+abbrev pub reserved : List Effect → NodeId → ℕ → List ℕ → Source → Option Vid → VdiSpec → Outcome
+reserved before by session name source parent spec =
+    or_full (free_id name (is_used before)) (grant_of before by session name source parent spec)
+
+-- a disk that is there has a header
+abbrev pub with_spec : Option Header → (VdiSpec → Outcome) → Outcome
+with_spec None make = nothing
+with_spec (Some header) make = make header.spec
+
+-- the working disk of the name, where the session holds it
+abbrev pub held_disk : List Effect → NodeId → ℕ → Option Vid → Option Vid
+held_disk before by session None = None
+held_disk before by session (Some vid) = if is_held_by by session (holder_of before vid.0) then Some vid else None
+
+abbrev pub reserved_snapshot : List Effect → NodeId → ℕ → List ℕ → List ℕ → Option Vid → Outcome
+reserved_snapshot before by session name tag None = refused causes.VdiNotLocked
+reserved_snapshot before by session name tag (Some old) =
+    if is_some (tagged tag (name_of before name)) then refused causes.VdiExist
+    else with_spec (header_of before old.0) (reserved before by session name (sources.Snapshot old tag) (Some old))
+
+abbrev pub reserved_clone : List Effect → NodeId → ℕ → List ℕ → Option Vid → Outcome
+reserved_clone before by session name None = refused causes.NoTag
+reserved_clone before by session name (Some base) =
+    if is_taken before name then refused causes.VdiExist
+    else with_spec (header_of before base.0) (reserved before by session name sources.Clone (Some base))
+
+abbrev pub reservation : List Effect → NodeId → ℕ → List ℕ → Origin → Outcome
+reservation before by session name (Fresh spec) =
+    if is_taken before name then refused causes.VdiExist else reserved before by session name sources.Fresh None spec
+reservation before by session name (SnapshotOf tag) =
+    reserved_snapshot before by session name tag (held_disk before by session (name_of before name).working)
+reservation before by session name (CloneOf base tag) =
+    if is_live (name_of before base) then reserved_clone before by session name (tagged tag (name_of before base))
+    else refused causes.NoBaseVdi
+
+-- a reserved id becomes the working disk of its name, where the reservation is the node's and of the right origin
+abbrev pub publication : NodeId → (Source → Bool) → Option Claim → Outcome
+publication by is_right None = nothing
+publication by is_right (Some claim) =
+    if claim.by.0 == by.0 && is_right claim.source then granted claim.vid (effects.Published claim.vid claim.name) else nothing
+
+-- a disk that is held becomes a snapshot, and the reserved id takes its place
+abbrev pub replacement : Claim → Vid → Option (List ℕ) → Option Holder → Outcome
+replacement claim old None holder = nothing
+replacement claim old (Some tag) None = nothing
+replacement claim old (Some tag) (Some holder) =
+    granted claim.vid (effects.Snapped (record { old = old; vid = claim.vid; name = claim.name; tag = tag; holder = holder }))
+
+abbrev pub snapshot : List Effect → NodeId → Vid → Option Claim → Outcome
+snapshot before by old None = nothing
+snapshot before by old (Some claim) =
+    if claim.by.0 == by.0 then replacement claim old (tag_for old claim.source) (holder_of before old.0) else nothing
+
+-- the working disk, where nobody holds it
+abbrev pub unheld : Vid → Option Holder → Result Vid Cause
+unheld vid None = Ok vid
+unheld vid (Some holder) = Err (causes.VdiLocked holder.session)
+
+abbrev pub free_disk : List Effect → Option Vid → Result Vid Cause
+free_disk before None = Err causes.NoVdi
+free_disk before (Some vid) = unheld vid (holder_of before vid.0)
+
+abbrev pub or_no_tag : Option Vid → Result Vid Cause
+or_no_tag None = Err causes.NoTag
+or_no_tag (Some vid) = Ok vid
+
+-- which disk or snapshot is meant by a name and a tag
+abbrev pub target : List Effect → List ℕ → Option (List ℕ) → Result Vid Cause
+target before name None = free_disk before (name_of before name).working
+target before name (Some tag) =
+    if is_live (name_of before name) then or_no_tag (tagged tag (name_of before name)) else Err causes.NoVdi
+
+abbrev pub deletion : List ℕ → Result Vid Cause → Outcome
+deletion name (Err cause) = refused cause
+deletion name (Ok vid) = granted vid (effects.Deleted vid name)
+
+-- a snapshot is opened by everybody, and held by nobody
+abbrev pub lock : Holder → Bool → Result Vid Cause → Outcome
+lock holder is_snapshot (Err cause) = refused cause
+lock holder is_snapshot (Ok vid) = if is_snapshot then granted vid effects.Nothing else granted vid (effects.Held vid holder)
+
+-- the lock or the reservation, whichever the session has
+abbrev pub release : List Effect → NodeId → ℕ → Vid → Outcome
+release before by session vid =
+    if is_held_by by session (holder_of before vid.0) then silent (effects.Freed vid)
+    else (if is_claimed_by by session (claim_on vid (claims_of before)) then silent (effects.Withdrawn vid) else nothing)
+
+-- the table: what is decided on an entry, and what it changes
+abbrev pub outcome : List Effect → Entry → Outcome
+outcome before (Format members) = nothing
+outcome before (Join node zone vnodes) = nothing
+outcome before (Leave node) = silent (effects.Left node)
+outcome before (Reweight node vnodes) = nothing
+outcome before (Recovered node epoch) = nothing
+outcome before (Reserve by session name origin) = reservation before by session name origin
+outcome before (Publish by vid) = publication by (is_for false) (claim_on vid (claims_of before))
+outcome before (Clone by vid) = publication by (is_for true) (claim_on vid (claims_of before))
+outcome before (Snapshot by old vid) = snapshot before by old (claim_on vid (claims_of before))
+outcome before (Delete by session name tag) = deletion name (target before name tag)
+outcome before (Lock by session name tag) = lock (record { node = by; session = session }) (is_some tag) (target before name tag)
+outcome before (Unlock by session vid) = release before by session vid
+
+-- one entry more
+abbrev pub happens : List Effect → Entry → List Effect
+happens before entry = before ++ (outcome before entry).effect ∷ []
+
+-- what the entries did, one after another
+unfoldable pub happened : List Entry → List Effect
+happened entries = fold happens [] entries
+
+-- the decision on an entry that follows on these
+abbrev pub decision_after : List Entry → Entry → Decision
+decision_after entries entry = (outcome (happened entries) entry).decision
+
+-- which live published disk or snapshot a name and a tag find
+abbrev pub found : List Entry → List ℕ → Option (List ℕ) → Option Vid
+found entries name None = (name_of (happened entries) name).working
+found entries name (Some tag) = tagged tag (name_of (happened entries) name)

@@ -1,0 +1,10 @@
+pub mod Vids
+pub mod Names
+pub mod NameRows
+pub mod Sources
+pub mod Effects
+pub mod Decisions
+pub mod Books
+pub mod States
+pub mod Sound
+pub mod Dead

@@ -1,0 +1,88 @@
+-- What an id is, by the last effect that moved it, and which entries leave a lock alone.
+use Rattle.std.specs.Prelude.{ℕ, ◌==◌, ◌&&◌, ◌||◌, not, Bool, true, false, List, [], ◌∷◌, fold, Option, Some, None, if◌then◌else◌}
+use Rattle.std.specs.List.{list_any, list_all}
+use Rattle.std.specs.Option.{option_map}
+use Rattle.object_id.specs.declared.node.NodeId.{NodeId}
+use Rattle.object_id.specs.declared.entry.Entry.{Entry}
+use Rattle.object_id.specs.declared.entry.Entry.TheVariants.{Format, Join, Leave, Reweight, Recovered, Reserve, Publish, Clone, Snapshot, Delete, Lock, Unlock}
+use Rattle.vdi_directory.specs.declared.header.Header.{Header}
+use Rattle.vdi_directory.specs.declared.effect.Effect.{Effect}
+use Rattle.vdi_directory.specs.declared.effect.Effect.TheVariants as effects
+use Rattle.vdi_directory.specs.Effects.{header_of}
+
+-- reserved by a node, the working disk of its name, a snapshot with its tag, deleted, or a reservation that was freed
+pub data State : Type 0 where
+  Unused : State
+  Claimed : NodeId → State
+  Working : State
+  Shot : List ℕ → State
+  Deleted : State
+  Freed : State
+
+abbrev pub freed : State → State
+freed Unused = Unused
+freed (Claimed by) = Freed
+freed Working = Working
+freed (Shot tag) = Shot tag
+freed Deleted = Deleted
+freed Freed = Freed
+
+abbrev pub left : ℕ → State → State
+left node Unused = Unused
+left node (Claimed by) = if by.0 == node then Freed else Claimed by
+left node Working = Working
+left node (Shot tag) = Shot tag
+left node Deleted = Deleted
+left node Freed = Freed
+
+abbrev pub state_after : ℕ → State → Effect → State
+state_after vid state effects.Nothing = state
+state_after vid state (effects.Reserved grant) = if grant.claim.vid.0 == vid then Claimed grant.claim.by else state
+state_after vid state (effects.Published of name) = if of.0 == vid then Working else state
+state_after vid state (effects.Snapped snap) =
+    if snap.old.0 == vid then Shot snap.tag else (if snap.vid.0 == vid then Working else state)
+state_after vid state (effects.Deleted of name) = if of.0 == vid then Deleted else state
+state_after vid state (effects.Held of holder) = state
+state_after vid state (effects.Freed of) = state
+state_after vid state (effects.Withdrawn of) = if of.0 == vid then freed state else state
+state_after vid state (effects.Left node) = left node.0 state
+
+unfoldable pub state_of : List Effect → ℕ → State
+state_of effects vid = fold (state_after vid) Unused effects
+
+-- states in the order in which an id may come to them
+abbrev pub rank : State → ℕ
+rank Unused = 0
+rank (Claimed by) = 1
+rank Working = 2
+rank (Shot tag) = 3
+rank Deleted = 4
+rank Freed = 4
+
+abbrev pub is_live_state : State → Bool
+is_live_state Unused = false
+is_live_state (Claimed by) = false
+is_live_state Working = true
+is_live_state (Shot tag) = true
+is_live_state Deleted = false
+is_live_state Freed = false
+
+-- the name that an id was reserved for
+abbrev pub owner_of : List Effect → ℕ → Option (List ℕ)
+owner_of before vid = option_map (λ (header : Header). header.name) (header_of before vid)
+
+-- whether an entry may take a disk from a session of the node: the node's leave, an entry of the node itself, and the
+-- snapshot of the disk, with which the lock goes over to the disk in its place
+abbrev pub may_take : ℕ → ℕ → Entry → Bool
+may_take node vid (Format members) = false
+may_take node vid (Join other zone vnodes) = false
+may_take node vid (Leave other) = other.0 == node
+may_take node vid (Reweight other vnodes) = false
+may_take node vid (Recovered other epoch) = false
+may_take node vid (Reserve by session name origin) = by.0 == node
+may_take node vid (Publish by of) = by.0 == node
+may_take node vid (Clone by of) = by.0 == node
+may_take node vid (Snapshot by old of) = by.0 == node || old.0 == vid
+may_take node vid (Delete by session name tag) = by.0 == node
+may_take node vid (Lock by session name tag) = by.0 == node
+may_take node vid (Unlock by session of) = by.0 == node

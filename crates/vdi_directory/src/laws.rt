@@ -1,0 +1,105 @@
+//! Laws of the definitions, for the proofs of the layers above: each is the contract of a function that does nothing.
+ghost use Rattle.std.specs.Prelude.{◌≡◌, ◌≢◌, ℕ, ◌≤◌, ◌==◌, ◌&&◌, Bool, true, false, List, [], ◌∷◌, ◌++◌, Option, Some, None, IsTrue};
+ghost use Rattle.std.specs.List.{list_any};
+ghost use Rattle.std.specs.FinMap as tree;
+ghost use Rattle.std.specs.List.Sorted.{IsNonDecreasing};
+ghost use Rattle.object_id.specs.Oid.{IsVid};
+ghost use Rattle.object_id.specs.declared.oid.Vid.{Vid};
+ghost use Rattle.object_id.specs.declared.node.NodeId.{NodeId};
+ghost use Rattle.object_id.specs.declared.entry.Entry.{Entry};
+ghost use Rattle.object_id.specs.declared.entry.Entry.TheVariants as the_entries;
+ghost use Rattle.disk_lock.specs.declared.holder.Holder.{Holder};
+ghost use Rattle.vdi_directory.specs.declared.shot.Shot.{Shot as TheShot};
+ghost use Rattle.vdi_directory.specs.declared.effect.Claim.{Claim};
+ghost use Rattle.vdi_directory.specs.declared.effect.Grant.{Grant};
+ghost use Rattle.vdi_directory.specs.declared.effect.Effect.{Effect};
+ghost use Rattle.vdi_directory.specs.declared.effect.Effect.TheVariants as effects;
+ghost use Rattle.vdi_directory.specs.Names.{is_live};
+ghost use Rattle.vdi_directory.specs.Sources.{is_for, tag_for};
+ghost use Rattle.vdi_directory.specs.Effects.{is_used, name_of, claims_of, claim_on, live_of, holder_of};
+ghost use Rattle.vdi_directory.specs.Decisions.{outcome, happened, nothing};
+ghost use Rattle.vdi_directory.specs.States.{Working, rank, state_of, owner_of, is_live_state, may_take};
+ghost use Rattle.vdi_directory.specs.Sound.{In, IsWorking, IsTaken};
+ghost use Rattle.vdi_directory.specs.Dead.{is_above, IsDead};
+ghost use Rattle.vdi_directory.specs.Books.{AreLocks};
+
+/// Before any entry was read nobody holds a disk: a new directory and new locks fit each other.
+pub fn nobody_holds_at_first()
+    ensures { AreLocks (happened []) tree.empty }
+{}
+
+/// An id that is granted is one that was never granted before, and it is used for ever after.
+pub fn an_id_is_granted_once()
+    ensures unused { (entries : List Entry) (entry : Entry) (grant : Grant) → (outcome (happened entries) entry).effect ≡ effects.Reserved grant
+        → IsVid grant.claim.vid.0 × (is_used (happened entries) grant.claim.vid.0 ≡ false) }
+    ensures used { (entries : List Entry) (entry : Entry) (grant : Grant) → (outcome (happened entries) entry).effect ≡ effects.Reserved grant
+        → is_used (happened (entries ++ entry ∷ [])) grant.claim.vid.0 ≡ true }
+    ensures stays { (entries later : List Entry) (vid : ℕ) → is_used (happened entries) vid ≡ true
+        → is_used (happened (entries ++ later)) vid ≡ true }
+{}
+
+/// An id is reserved, then published, then a snapshot, then deleted; it may leave steps out, and never goes back.
+pub fn states_move_forward()
+    ensures { (entries later : List Entry) (vid : ℕ) → rank (state_of (happened entries) vid) ≤ rank (state_of (happened (entries ++ later)) vid) }
+{}
+
+/// What a name finds is in that state, and was reserved for that name.
+pub fn names_find_their_disks()
+    ensures working { (entries : List Entry) (name : List ℕ) (vid : Vid) → (name_of (happened entries) name).working ≡ Some vid
+        → IsWorking (happened entries) name vid.0 }
+    ensures shots { (entries : List Entry) (name : List ℕ) (shot : TheShot) → In shot (name_of (happened entries) name).shots
+        → IsTaken (happened entries) name shot.vid.0 }
+{}
+
+/// The live ids are the working disks and the snapshots, ascending.
+pub fn live_ids_are_published()
+    ensures each { (entries : List Entry) (vid : ℕ) → list_any (λ other. other == vid) (live_of (happened entries)) ≡ is_live_state (state_of (happened entries) vid) }
+    ensures ascending { (entries : List Entry) → IsNonDecreasing (live_of (happened entries)) }
+{}
+
+/// A lock is granted where nobody holds the disk, and only working disks are held.
+pub fn one_holds_a_disk()
+    ensures free { (entries : List Entry) (entry : Entry) (vid : Vid) (holder : Holder) → (outcome (happened entries) entry).effect ≡ effects.Held vid holder
+        → (state_of (happened entries) vid.0 ≡ Working) × (holder_of (happened entries) vid.0 ≡ None) }
+    ensures works { (entries : List Entry) (vid : ℕ) (holder : Holder) → holder_of (happened entries) vid ≡ Some holder
+        → state_of (happened entries) vid ≡ Working }
+{}
+
+/// After its leave a node holds nothing, and no reservation of it stands.
+pub fn a_node_that_left_has_nothing()
+    ensures locks { (entries : List Entry) (node : NodeId) (vid : ℕ) (holder : Holder)
+        → holder_of (happened (entries ++ the_entries.Leave node ∷ [])) vid ≡ Some holder → (holder.node.0 == node.0) ≡ false }
+    ensures claims { (entries : List Entry) (node : NodeId) (claim : Claim)
+        → In claim (claims_of (happened (entries ++ the_entries.Leave node ∷ []))) → (claim.by.0 == node.0) ≡ false }
+{}
+
+/// A disk stays with its holder as long as the holder's node puts no entry and doesn't leave, and the disk doesn't become
+/// a snapshot: so the next grant of a lost node's disk stands after the node's leave.
+pub fn a_disk_stays_with_its_holder()
+    ensures { (later entries : List Entry) (vid : ℕ) (holder : Holder) → holder_of (happened entries) vid ≡ Some holder
+        → list_any (may_take holder.node.0 vid) later ≡ false → holder_of (happened (entries ++ later)) vid ≡ Some holder }
+{}
+
+/// An entry that publishes an id without a reservation of its node and of its origin decides nothing and changes nothing.
+pub fn only_reservations_are_published()
+    ensures unclaimed { (entries : List Entry) (by : NodeId) (vid : Vid) → claim_on vid (claims_of (happened entries)) ≡ None
+        → (outcome (happened entries) (the_entries.Publish by vid) ≡ nothing) × (outcome (happened entries) (the_entries.Clone by vid) ≡ nothing)
+        × ((old : Vid) → outcome (happened entries) (the_entries.Snapshot by old vid) ≡ nothing) }
+    ensures publish { (entries : List Entry) (by : NodeId) (vid : Vid) (claim : Claim) → claim_on vid (claims_of (happened entries)) ≡ Some claim
+        → (claim.by.0 == by.0 && is_for false claim.source) ≡ false → outcome (happened entries) (the_entries.Publish by vid) ≡ nothing }
+    ensures clone { (entries : List Entry) (by : NodeId) (vid : Vid) (claim : Claim) → claim_on vid (claims_of (happened entries)) ≡ Some claim
+        → (claim.by.0 == by.0 && is_for true claim.source) ≡ false → outcome (happened entries) (the_entries.Clone by vid) ≡ nothing }
+    ensures snapshot { (entries : List Entry) (by : NodeId) (old vid : Vid) (claim : Claim) → claim_on vid (claims_of (happened entries)) ≡ Some claim
+        → (claim.by.0 == by.0) ≡ false → outcome (happened entries) (the_entries.Snapshot by old vid) ≡ nothing }
+    ensures base { (entries : List Entry) (by : NodeId) (old vid : Vid) (claim : Claim) → claim_on vid (claims_of (happened entries)) ≡ Some claim
+        → tag_for old claim.source ≡ None → outcome (happened entries) (the_entries.Snapshot by old vid) ≡ nothing }
+    ensures unheld { (entries : List Entry) (by : NodeId) (old vid : Vid) → holder_of (happened entries) old.0 ≡ None
+        → outcome (happened entries) (the_entries.Snapshot by old vid) ≡ nothing }
+{}
+
+/// What is dead stays dead, and takes along every id whose parent chain has it.
+pub fn the_dead_stay_dead()
+    ensures heirs { (entries : List Entry) (vid other : ℕ) → IsDead (happened entries) vid → is_above (happened entries) vid other ≡ true
+        → IsDead (happened entries) other }
+    ensures stays { (entries later : List Entry) (vid : ℕ) → IsDead (happened entries) vid → IsDead (happened (entries ++ later)) vid }
+{}

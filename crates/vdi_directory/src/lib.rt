@@ -1,0 +1,41 @@
+//! The directory of disks: which names, ids, snapshots and clones there are, by the entries of the membership log.
+//!
+//! Each decision is a function of the entries before its place. `specs/Decisions.antt` has them as one table: what is
+//! decided on an entry, and what it changes; `specs/Effects.antt` says, effect by effect, what is then true of an id or a
+//! name. A [`Directory`] is seen as the list of the entries that it has read, and every answer is a function of that list.
+//! Locks stand beside it, since the layers above ask for them alone: [`Directory::read_entry`] asks that they are those
+//! of its entries, and keeps them so.
+//!
+//! No question scans the entries: names and headers stand in trees, the live ids in order, the used ids as sorted ranges,
+//! and the reservations that stand in a list, since a session has one command at a time (`specs/Books.antt`).
+//! The crate stands on `object_id`, `disk_lock` and `epoch_log`, whose entry types it hands on.
+#![tactic(auto)]
+
+mod books;
+mod claims;
+mod decision;
+mod directory;
+mod effect;
+mod header;
+mod headers;
+mod judging;
+mod laws;
+mod live_ids;
+mod named;
+mod names;
+mod shot;
+#[cfg(test)]
+mod tests;
+mod used_ids;
+mod vid_range;
+
+pub use decision::Decision;
+pub use directory::Directory;
+pub use epoch_log::{Cause, Entry, Epoch, Member, MemberList, NodeId, NodeList, Origin, VdiSpec};
+pub use header::Header;
+pub use laws::{
+    a_disk_stays_with_its_holder, a_node_that_left_has_nothing, an_id_is_granted_once,
+    live_ids_are_published, names_find_their_disks, nobody_holds_at_first, one_holds_a_disk,
+    only_reservations_are_published, states_move_forward, the_dead_stay_dead,
+};
+pub use vid_range::{FullVdi, VidRange, free_vid};
