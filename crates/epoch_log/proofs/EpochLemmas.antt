@@ -1,16 +1,15 @@
 -- Epochs, members and settled epochs of a list of entries that grows.
-use Rattle.std.proofs.Common.{◌≡◌, ◌≢◌, ◌⊎◌, inl, inr, ℕ, zero, suc, ◌+◌, ◌-◌, ◌<◌, ◌≤◌, ◌==◌, ◌&&◌, ◌||◌, not, Bool, true, false, cond, List, [], ◌∷◌, ◌++◌, length, take, drop, filter, fold, All, length-append, refl, ap, sym, subst, ◌∙◌, arith}
-use Rattle.std.specs.List.{list_any}
+use Rattle.std.proofs.Common.{◌≡◌, ℕ, zero, suc, ◌+◌, ◌-◌, ◌≤◌, ◌==◌, ◌&&◌, ◌||◌, not, Bool, true, false, cond, List, [], ◌∷◌, ◌++◌, length, take, drop, filter, fold, length-append, refl, ap, sym, subst, ◌∙◌, arith}
 use Rattle.std.proofs.lemmas.List.{take-append-le, take_all, take-append-drop, length_push, take-take}
-use Rattle.std.proofs.lemmas.Bool.{eqb-true, and_parts, or_cases, cases_Bool, not-false, true_from_ne_false}
-use Rattle.std.proofs.lemmas.List.Elements.{filter-append, All-head, All-tail}
+use Rattle.std.proofs.lemmas.Bool.{eqb-true}
+use Rattle.std.proofs.lemmas.List.Elements.{filter-append}
 use Rattle.std.proofs.lemmas.List.Folds.{list_any-append}
 use Rattle.std.proofs.lemmas.Grind.{fold-append}
 use Rattle.object_id.specs.declared.entry.Member.{Member}
 use Rattle.object_id.specs.declared.entry.Entry.{Entry}
-use Rattle.epoch_log.specs.Members.{moved, is_node, without}
-use Rattle.epoch_log.specs.Epochs.{begins, epoch_of, opening, members_in, recovers, has_recovered, missing_in, is_settled, greatest, settled_of, epoch_at, settled_at}
-use Rattle.epoch_log.proofs.GreatestLemmas.{greatest-same, greatest-one, greatest-most, greatest-bound, greatest-passes, greatest-grows}
+use Rattle.epoch_log.specs.Members.{moved}
+use Rattle.epoch_log.specs.Epochs.{begins, epoch_of, opening, members_in, recovers, has_recovered, missing_in, is_settled, settled_of, epoch_at, settled_at}
+use Rattle.epoch_log.proofs.GreatestLemmas.{greatest-most, greatest-bound, greatest-grows}
 
 pub opening-append : (entries later : List Entry) → 1 ≤ length entries → opening (entries ++ later) ≡ opening entries
 opening-append [] later some = absurd (omega arith)

@@ -1,14 +1,13 @@
 -- The members of an epoch ascend and are below 64, whatever entries made them.
-use Rattle.std.proofs.Common.{◌≡◌, ◌≢◌, ◌⊎◌, inl, inr, ℕ, zero, suc, ◌+◌, ◌<◌, ◌≤◌, ◌==◌, ◌||◌, nat_lt, not, Bool, true, false, cond, List, [], ◌∷◌, ◌++◌, length, get_or, slice_index, ◌-◌, take, map, filter, fold, All, refl, ap, sym, ◌∙◌, subst, arith}
-use Rattle.std.specs.List.{list_any}
+use Rattle.std.proofs.Common.{◌≡◌, ◌⊎◌, inl, inr, ℕ, zero, suc, ◌+◌, ◌<◌, ◌≤◌, nat_lt, not, Bool, true, false, cond, List, [], ◌∷◌, ◌++◌, length, get_or, slice_index, ◌-◌, filter, fold, All, refl, ap, sym, ◌∙◌, subst, arith}
 use Rattle.std.specs.List.Sorted.{IsStrictlyIncreasing}
-use Rattle.std.proofs.lemmas.Bool.{ltb-true, ltb-false, eqb-false, eqb-true, or_parts, cases_eq, cases_lt}
-use Rattle.std.proofs.lemmas.List.Elements.{All-head, All-tail, All-cons, All-nil}
+use Rattle.std.proofs.lemmas.Bool.{ltb-true, ltb-false, eqb-false, or_parts, cases_lt}
+use Rattle.std.proofs.lemmas.List.Elements.{All-head, All-tail, All-cons, All-nil, All-filter}
 use Rattle.std.proofs.lemmas.List.{append_assoc, append-nil, length_push, take_all}
 use Rattle.object_id.specs.declared.entry.Member.{Member}
 use Rattle.object_id.specs.declared.entry.Entry.{Entry}
 use Rattle.object_id.specs.declared.entry.Entry.TheVariants.{Format, Join, Leave, Reweight, Recovered, Reserve, Publish, Clone, Snapshot, Delete, Lock, Unlock}
-use Rattle.epoch_log.specs.Members.{is_node, is_member, joined, without, reweighted, moved, numbers_of, AreMembers}
+use Rattle.epoch_log.specs.Members.{is_node, is_member, joined, reweighted, moved, numbers_of, IsWeight, HaveWeights, AreMembers}
 use Rattle.epoch_log.specs.Epochs.{begins, epoch_of, members_in}
 use Rattle.epoch_log.specs.Appending.{FitsMembers, MayAppend, MayOpen, AreAppended, IsLog}
 use Rattle.epoch_log.proofs.EpochLemmas.{members_in-append, members_in-begun, epoch_of-append}
@@ -82,7 +81,7 @@ Ascend-reweighted node vnodes least (member ∷ members) up = by_test (is_node n
 Ascend-moved : (members : List Member) (entry : Entry) → FitsMembers members entry → Ascend 0 members → Ascend 0 (moved members entry)
 unfolding Ascend
 Ascend-moved members (Format opening) fits up = up
-Ascend-moved members (Join node zone vnodes) fits up = Ascend-joined 0 (record { node = node; zone = zone; vnodes = vnodes }) members (omega arith) fits.0 fits.1 up
+Ascend-moved members (Join node zone vnodes) fits up = Ascend-joined 0 (record { node = node; zone = zone; vnodes = vnodes }) members (omega arith) fits.0 fits.2 up
 Ascend-moved members (Leave node) fits up = Ascend-filter (λ member. not (is_node node.0 member)) 0 members up
 Ascend-moved members (Reweight node vnodes) fits up = Ascend-reweighted node.0 vnodes 0 members up
 Ascend-moved members (Recovered node epoch) fits up = up
@@ -136,45 +135,46 @@ Ascend-from least (member ∷ members) first up small = (
     next [] up d some = absurd (omega arith)
     next (other ∷ rest) up d some = let less : member.node.0 < other.node.0 = up 0 (omega arith) in omega arith
 
--- one entry more keeps that every epoch's members ascend
-Ascend-push : (entries : List Entry) (entry : Entry) → 1 ≤ length entries → ((epoch : ℕ) → epoch ≤ epoch_of entries → Ascend 0 (members_in entries epoch))
-    → MayAppend entries entry → (epoch : ℕ) → epoch ≤ epoch_of (entries ++ entry ∷ []) → Ascend 0 (members_in (entries ++ entry ∷ []) epoch)
-Ascend-push entries entry some up may epoch begun = by_place (cases_lt (epoch_of entries) epoch)
-  where
-    by_test : (b : Bool) → begins entry ≡ b → epoch_of entries < epoch → epoch ≡ epoch_of entries + 1
-    by_test true begins_one above =
-        let grown : epoch_of (entries ++ entry ∷ []) ≡ epoch_of entries + length (filter begins (entry ∷ [])) = epoch_of-append entries (entry ∷ []) in
-        let one : length (filter begins (entry ∷ [])) ≡ 1 = ap (λ b. length (cond b (entry ∷ []) [])) begins_one in
-        omega arith
-    by_test false begins_none above =
-        let grown : epoch_of (entries ++ entry ∷ []) ≡ epoch_of entries + length (filter begins (entry ∷ [])) = epoch_of-append entries (entry ∷ []) in
-        let none : length (filter begins (entry ∷ [])) ≡ 0 = ap (λ b. length (cond b (entry ∷ []) [])) begins_none in
-        absurd (omega arith)
+-- what each entry that fits keeps is true of the members of every epoch
+module _ (P : List Member → Type 0) (kept : (members : List Member) (entry : Entry) → FitsMembers members entry → P members → P (moved members entry)) where
+  holds-push : (entries : List Entry) (entry : Entry) → 1 ≤ length entries → ((epoch : ℕ) → epoch ≤ epoch_of entries → P (members_in entries epoch))
+      → MayAppend entries entry → (epoch : ℕ) → epoch ≤ epoch_of (entries ++ entry ∷ []) → P (members_in (entries ++ entry ∷ []) epoch)
+  holds-push entries entry some up may epoch begun = by_place (cases_lt (epoch_of entries) epoch)
+    where
+      by_test : (b : Bool) → begins entry ≡ b → epoch_of entries < epoch → epoch ≡ epoch_of entries + 1
+      by_test true begins_one above =
+          let grown : epoch_of (entries ++ entry ∷ []) ≡ epoch_of entries + length (filter begins (entry ∷ [])) = epoch_of-append entries (entry ∷ []) in
+          let one : length (filter begins (entry ∷ [])) ≡ 1 = ap (λ b. length (cond b (entry ∷ []) [])) begins_one in
+          omega arith
+      by_test false begins_none above =
+          let grown : epoch_of (entries ++ entry ∷ []) ≡ epoch_of entries + length (filter begins (entry ∷ [])) = epoch_of-append entries (entry ∷ []) in
+          let none : length (filter begins (entry ∷ [])) ≡ 0 = ap (λ b. length (cond b (entry ∷ []) [])) begins_none in
+          absurd (omega arith)
 
-    must_begin : (b : Bool) → begins entry ≡ b → epoch_of entries < epoch → begins entry ≡ true
-    must_begin true begins_one above = begins_one
-    must_begin false begins_none above =
-        let grown : epoch_of (entries ++ entry ∷ []) ≡ epoch_of entries + length (filter begins (entry ∷ [])) = epoch_of-append entries (entry ∷ []) in
-        let none : length (filter begins (entry ∷ [])) ≡ 0 = ap (λ b. length (cond b (entry ∷ []) [])) begins_none in
-        absurd (omega arith)
+      must_begin : (b : Bool) → begins entry ≡ b → epoch_of entries < epoch → begins entry ≡ true
+      must_begin true begins_one above = begins_one
+      must_begin false begins_none above =
+          let grown : epoch_of (entries ++ entry ∷ []) ≡ epoch_of entries + length (filter begins (entry ∷ [])) = epoch_of-append entries (entry ∷ []) in
+          let none : length (filter begins (entry ∷ [])) ≡ 0 = ap (λ b. length (cond b (entry ∷ []) [])) begins_none in
+          absurd (omega arith)
 
-    by_place : (epoch_of entries < epoch) ⊎ (epoch ≤ epoch_of entries) → Ascend 0 (members_in (entries ++ entry ∷ []) epoch)
-    by_place (inl above) =
-        let is_one : epoch ≡ epoch_of entries + 1 = by_test (begins entry) refl above in
-        let made : members_in (entries ++ entry ∷ []) (epoch_of entries + 1) ≡ moved (members_in entries (epoch_of entries)) entry
-        = members_in-begun entries entry some (must_begin (begins entry) refl above) in
-        subst (Ascend 0) (sym (ap (members_in (entries ++ entry ∷ [])) is_one ∙ made))
-        (Ascend-moved (members_in entries (epoch_of entries)) entry may.fits (up (epoch_of entries) (omega arith)))
-    by_place (inr within) = subst (Ascend 0) (sym (members_in-append entries (entry ∷ []) epoch some within)) (up epoch within)
+      by_place : (epoch_of entries < epoch) ⊎ (epoch ≤ epoch_of entries) → P (members_in (entries ++ entry ∷ []) epoch)
+      by_place (inl above) =
+          let is_one : epoch ≡ epoch_of entries + 1 = by_test (begins entry) refl above in
+          let made : members_in (entries ++ entry ∷ []) (epoch_of entries + 1) ≡ moved (members_in entries (epoch_of entries)) entry
+          = members_in-begun entries entry some (must_begin (begins entry) refl above) in
+          subst P (sym (ap (members_in (entries ++ entry ∷ [])) is_one ∙ made))
+          (kept (members_in entries (epoch_of entries)) entry may.fits (up (epoch_of entries) (omega arith)))
+      by_place (inr within) = subst P (sym (members_in-append entries (entry ∷ []) epoch some within)) (up epoch within)
 
-Ascend-along : (before later : List Entry) → 1 ≤ length before → ((epoch : ℕ) → epoch ≤ epoch_of before → Ascend 0 (members_in before epoch))
-    → AreAppended before later → (epoch : ℕ) → epoch ≤ epoch_of (before ++ later) → Ascend 0 (members_in (before ++ later) epoch)
-Ascend-along before [] some up may =
-    subst (λ (entries : List Entry). (epoch : ℕ) → epoch ≤ epoch_of entries → Ascend 0 (members_in entries epoch)) (sym (append-nil before)) up
-Ascend-along before (entry ∷ later) some up may =
-    let long : length (before ++ entry ∷ []) ≡ length before + 1 = length_push before entry in
-    subst (λ (entries : List Entry). (epoch : ℕ) → epoch ≤ epoch_of entries → Ascend 0 (members_in entries epoch)) (append_assoc before (entry ∷ []) later)
-    (Ascend-along (before ++ entry ∷ []) later (omega arith) (Ascend-push before entry some up may.0) may.1)
+  holds-along : (before later : List Entry) → 1 ≤ length before → ((epoch : ℕ) → epoch ≤ epoch_of before → P (members_in before epoch))
+      → AreAppended before later → (epoch : ℕ) → epoch ≤ epoch_of (before ++ later) → P (members_in (before ++ later) epoch)
+  holds-along before [] some up may =
+      subst (λ (entries : List Entry). (epoch : ℕ) → epoch ≤ epoch_of entries → P (members_in entries epoch)) (sym (append-nil before)) up
+  holds-along before (entry ∷ later) some up may =
+      let long : length (before ++ entry ∷ []) ≡ length before + 1 = length_push before entry in
+      subst (λ (entries : List Entry). (epoch : ℕ) → epoch ≤ epoch_of entries → P (members_in entries epoch)) (append_assoc before (entry ∷ []) later)
+      (holds-along (before ++ entry ∷ []) later (omega arith) (holds-push before entry some up may.0) may.1)
 
 -- how a log begins
 IsLog-opens : (entries : List Entry) → IsLog entries
@@ -199,13 +199,58 @@ IsLog-some entries log =
     let long : length entries ≡ length (Format opens.0 ∷ opens.1) = ap length opens.2 in
     omega arith
 
-IsLog-ascends : (entries : List Entry) → IsLog entries → (epoch : ℕ) → epoch ≤ epoch_of entries → Ascend 0 (members_in entries epoch)
-IsLog-ascends entries log =
+-- so it is true of every epoch of a log, where it is of those that may open one
+IsLog-holds : (P : List Member → Type 0) → ((members : List Member) (entry : Entry) → FitsMembers members entry → P members → P (moved members entry))
+    → ((members : List Member) → MayOpen members → P members)
+    → (entries : List Entry) → IsLog entries → (epoch : ℕ) → epoch ≤ epoch_of entries → P (members_in entries epoch)
+IsLog-holds P kept opening entries log =
     let opens = IsLog-opens entries log in
-    let first : Ascend 0 opens.0 = Ascend-from 0 opens.0 (λ d _. omega arith) opens.3.ordered.ascending opens.3.ordered.below_64 in
-    subst (λ (all : List Entry). (epoch : ℕ) → epoch ≤ epoch_of all → Ascend 0 (members_in all epoch)) (sym opens.2)
-    (Ascend-along (Format opens.0 ∷ []) opens.1 (omega arith)
-    (λ epoch _. subst (λ (changes : List Entry). Ascend 0 (fold moved opens.0 changes)) (sym (take_all (epoch - 1) [] (omega arith))) first) opens.4)
+    let first : P opens.0 = opening opens.0 opens.3 in
+    subst (λ (all : List Entry). (epoch : ℕ) → epoch ≤ epoch_of all → P (members_in all epoch)) (sym opens.2)
+    (holds-along P kept (Format opens.0 ∷ []) opens.1 (omega arith)
+    (λ epoch _. subst (λ (changes : List Entry). P (fold moved opens.0 changes)) (sym (take_all (epoch - 1) [] (omega arith))) first) opens.4)
+
+IsLog-ascends : (entries : List Entry) → IsLog entries → (epoch : ℕ) → epoch ≤ epoch_of entries → Ascend 0 (members_in entries epoch)
+IsLog-ascends = IsLog-holds (Ascend 0) Ascend-moved (λ members opens. Ascend-from 0 members (λ d _. omega arith) opens.ordered.ascending opens.ordered.below_64)
+
+weights-joined : (member : Member) (members : List Member) → IsWeight member.vnodes → HaveWeights members → HaveWeights (joined member members)
+weights-joined member [] weight had = All-cons (λ (m : Member). IsWeight m.vnodes) member [] weight had
+weights-joined member (other ∷ members) weight had =
+    by_order (nat_lt member.node.0 other.node.0)
+    (weights-joined member members weight (All-tail (λ (m : Member). IsWeight m.vnodes) other members had))
+  where
+    by_order : (b : Bool) → HaveWeights (joined member members) → HaveWeights (cond b (member ∷ other ∷ members) (other ∷ joined member members))
+    by_order true rest = All-cons (λ (m : Member). IsWeight m.vnodes) member (other ∷ members) weight had
+    by_order false rest =
+        All-cons (λ (m : Member). IsWeight m.vnodes) other (joined member members) (All-head (λ (m : Member). IsWeight m.vnodes) other members had) rest
+
+weights-reweighted : (node vnodes : ℕ) (members : List Member) → IsWeight vnodes → HaveWeights members → HaveWeights (reweighted node vnodes members)
+weights-reweighted node vnodes [] weight had = had
+weights-reweighted node vnodes (member ∷ members) weight had =
+    by_test (is_node node member) (weights-reweighted node vnodes members weight (All-tail (λ (m : Member). IsWeight m.vnodes) member members had))
+  where
+    by_test : (b : Bool) → HaveWeights (reweighted node vnodes members)
+        → HaveWeights (cond b (record member { vnodes = vnodes }) member ∷ reweighted node vnodes members)
+    by_test true rest = All-cons (λ (m : Member). IsWeight m.vnodes) (record member { vnodes = vnodes }) (reweighted node vnodes members) weight rest
+    by_test false rest =
+        All-cons (λ (m : Member). IsWeight m.vnodes) member (reweighted node vnodes members) (All-head (λ (m : Member). IsWeight m.vnodes) member members had) rest
+
+weights-moved : (members : List Member) (entry : Entry) → FitsMembers members entry → HaveWeights members → HaveWeights (moved members entry)
+weights-moved members (Format opening) fits had = had
+weights-moved members (Join node zone vnodes) fits had = weights-joined (record { node = node; zone = zone; vnodes = vnodes }) members fits.1 had
+weights-moved members (Leave node) fits had = All-filter (λ member. not (is_node node.0 member)) (λ (m : Member). IsWeight m.vnodes) members had
+weights-moved members (Reweight node vnodes) fits had = weights-reweighted node.0 vnodes members fits.0 had
+weights-moved members (Recovered node epoch) fits had = had
+weights-moved members (Reserve by session name origin) fits had = had
+weights-moved members (Publish by vid) fits had = had
+weights-moved members (Clone by vid) fits had = had
+weights-moved members (Snapshot by old vid) fits had = had
+weights-moved members (Delete by session name tag) fits had = had
+weights-moved members (Lock by session name tag) fits had = had
+weights-moved members (Unlock by session vid) fits had = had
+
+pub IsLog-weights : (entries : List Entry) (epoch : ℕ) → IsLog entries → epoch ≤ epoch_of entries → HaveWeights (members_in entries epoch)
+IsLog-weights entries epoch log begun = IsLog-holds HaveWeights weights-moved (λ members opens. opens.weights) entries log epoch begun
 
 pub IsLog-members : (entries : List Entry) (epoch : ℕ) → IsLog entries → epoch ≤ epoch_of entries
     → AreMembers (members_in entries epoch) × (length (members_in entries epoch) ≤ 64)

@@ -1,12 +1,12 @@
 -- Which entry may stand after which, and which lists are logs.
-use Rattle.std.specs.Prelude.{◌≡◌, ℕ, ◌+◌, ◌-◌, ◌^◌, ◌<◌, ◌≤◌, Bool, true, false, IsTrue, List, [], ◌∷◌, ◌++◌, length}
+use Rattle.std.specs.Prelude.{◌≡◌, ◌-◌, ◌^◌, ◌<◌, ◌≤◌, Bool, true, false, IsTrue, List, [], ◌∷◌, ◌++◌, length}
 use Rattle.object_id.specs.declared.entry.Member.{Member}
 use Rattle.object_id.specs.declared.entry.Origin.{Origin}
 use Rattle.object_id.specs.declared.entry.Origin.TheVariants.{Fresh, SnapshotOf, CloneOf}
 use Rattle.object_id.specs.declared.entry.Entry.{Entry}
-use Rattle.object_id.specs.declared.entry.Entry.TheVariants.{Format, Join, Leave, Reweight, Recovered, Reserve, Publish, Clone, Snapshot, Delete, Lock, Unlock}
+use Rattle.object_id.specs.declared.entry.Entry.TheVariants.{Format, Join, Leave, Reweight, Reserve}
 use Rattle.object_id.specs.Spec.{IsSpec, IsName}
-use Rattle.epoch_log.specs.Members.{is_member, AreMembers}
+use Rattle.epoch_log.specs.Members.{is_member, IsWeight, HaveWeights, AreMembers}
 use Rattle.epoch_log.specs.Epochs.{epoch_of, members_in}
 
 abbrev pub is_format : Entry → Bool
@@ -24,11 +24,11 @@ abbrev pub IsReservable : Entry → Type 0
 IsReservable (Reserve by session name origin) = IsName name × IsOrigin origin
 IsReservable _ = Unit {0}
 
--- a node that joins is below 64 and no member; one that leaves, or gets another weight, is a member
+-- a node that joins is below 64 and no member; one that leaves, or gets another weight, is a member; weights are 1 to 256
 abbrev pub FitsMembers : List Member → Entry → Type 0
-FitsMembers members (Join node zone vnodes) = (node.0 < 64) × (is_member node.0 members ≡ false)
+FitsMembers members (Join node zone vnodes) = (node.0 < 64) × IsWeight vnodes × (is_member node.0 members ≡ false)
 FitsMembers members (Leave node) = IsTrue (is_member node.0 members)
-FitsMembers members (Reweight node vnodes) = IsTrue (is_member node.0 members)
+FitsMembers members (Reweight node vnodes) = IsWeight vnodes × IsTrue (is_member node.0 members)
 FitsMembers members _ = Unit {0}
 
 -- what an entry must meet to stand after these
@@ -47,6 +47,7 @@ AreAppended before (entry ∷ later) = MayAppend before entry × AreAppended (be
 pub record MayOpen (members : List Member) : Type 0 where
   pub some : 1 ≤ length members
   pub ordered : AreMembers members
+  pub weights : HaveWeights members
 
 -- a log: the opening members, then entries each of which may stand there
 abbrev pub IsLog : List Entry → Type 0

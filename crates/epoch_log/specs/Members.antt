@@ -1,8 +1,7 @@
 -- The members of an epoch, ascending by number, and what an entry of the log makes of them.
-use Rattle.std.specs.Prelude.{◌≡◌, ℕ, ◌+◌, ◌<◌, ◌≤◌, ◌==◌, nat_lt, Bool, true, false, not, List, [], ◌∷◌, length, map, filter, All, if◌then◌else◌}
+use Rattle.std.specs.Prelude.{ℕ, ◌<◌, ◌≤◌, ◌==◌, nat_lt, Bool, not, List, [], ◌∷◌, map, filter, All, if◌then◌else◌}
 use Rattle.std.specs.List.{list_any}
 use Rattle.std.specs.List.Sorted.{IsStrictlyIncreasing}
-use Rattle.object_id.specs.declared.node.NodeId.{NodeId}
 use Rattle.object_id.specs.declared.entry.Member.{Member}
 use Rattle.object_id.specs.declared.entry.Entry.{Entry}
 use Rattle.object_id.specs.declared.entry.Entry.TheVariants.{Format, Join, Leave, Reweight, Recovered, Reserve, Publish, Clone, Snapshot, Delete, Lock, Unlock}
@@ -48,6 +47,13 @@ moved members (Unlock by session vid) = members
 -- the nodes of members, by number
 abbrev pub numbers_of : List Member → List ℕ
 numbers_of members = map (λ (member : Member). member.node.0) members
+
+-- how many virtual nodes a member may have
+abbrev pub IsWeight : ℕ → Type 0
+IsWeight vnodes = (1 ≤ vnodes) × (vnodes ≤ 256)
+
+abbrev pub HaveWeights : List Member → Type 0
+HaveWeights members = All (λ (member : Member). IsWeight member.vnodes) members
 
 -- ascending, so all different, and below 64
 pub record AreMembers (members : List Member) : Type 0 where

@@ -2,7 +2,7 @@
 ghost use Rattle.std.specs.Prelude.{◌≡◌, ◌≢◌, ◌↔◌, ◌<◌, ◌≤◌, false, length, slice_index, All, IsTrue};
 ghost use Rattle.object_id.specs.Policy.{IsPolicy};
 ghost use Rattle.object_id.specs.Spec.{IsName, IsSpec};
-ghost use Rattle.epoch_log.specs.Members.{is_member as has_node, numbers_of, AreMembers};
+ghost use Rattle.epoch_log.specs.Members.{is_member as has_node, numbers_of, IsWeight, HaveWeights, AreMembers};
 ghost use Rattle.epoch_log.specs.Appending.{is_format, IsOrigin, IsReservable, FitsMembers, MayOpen};
 
 use object_id::{
@@ -66,6 +66,12 @@ fn is_member(members: &[Member], node: NodeId) -> bool
     false
 }
 
+fn is_weight(vnodes: u16) -> bool
+    ensures { IsTrue result ↔ IsWeight vnodes }
+{
+    1 <= vnodes && vnodes <= 256
+}
+
 /// Whether an entry may follow, where these are the members.
 pub fn may_follow(members: &[Member], entry: &Entry) -> bool
     ensures { IsTrue result
@@ -73,9 +79,11 @@ pub fn may_follow(members: &[Member], entry: &Entry) -> bool
 {
     match entry {
         Entry::Format { members: _ } => false,
-        Entry::Join { node, .. } => node.0 < 64 && !is_member(members, *node),
+        Entry::Join { node, vnodes, .. } => {
+            node.0 < 64 && is_weight(*vnodes) && !is_member(members, *node)
+        }
         Entry::Leave { node } => is_member(members, *node),
-        Entry::Reweight { node, .. } => is_member(members, *node),
+        Entry::Reweight { node, vnodes } => is_weight(*vnodes) && is_member(members, *node),
         Entry::Reserve { name, origin, .. } => is_name(name) && is_origin(origin),
         _ => true,
     }
@@ -103,9 +111,15 @@ fn are_members(members: &[Member]) -> bool
     true
 }
 
+fn have_weights(members: &[Member]) -> bool
+    ensures { IsTrue result ↔ HaveWeights members.now }
+{
+    members.iter().all(|member| is_weight(member.vnodes))
+}
+
 /// Whether these members may open a log.
 pub fn may_open(members: &[Member]) -> bool
     ensures { IsTrue result ↔ MayOpen members.now }
 {
-    !members.is_empty() && are_members(members)
+    !members.is_empty() && are_members(members) && have_weights(members)
 }

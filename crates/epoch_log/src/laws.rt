@@ -3,7 +3,7 @@ ghost use Rattle.std.specs.Prelude.{◌≡◌, ◌⊎◌, ℕ, suc, ◌+◌, ◌
 ghost use Rattle.object_id.specs.declared.node.NodeId.{NodeId};
 ghost use Rattle.object_id.specs.declared.entry.Member.{Member};
 ghost use Rattle.object_id.specs.declared.entry.Entry.{Entry};
-ghost use Rattle.epoch_log.specs.Members.{AreMembers};
+ghost use Rattle.epoch_log.specs.Members.{AreMembers, HaveWeights};
 ghost use Rattle.epoch_log.specs.Epochs.{begins, epoch_of, epoch_at, settled_of, settled_at, is_settled, members_in};
 ghost use Rattle.epoch_log.specs.Appending.{MayAppend, AreAppended, IsLog};
 
@@ -56,6 +56,9 @@ pub fn log_epochs()
     // The members of each epoch ascend and are below 64, so they are 64 at most.
     ensures members { (entries : List Entry) (epoch : ℕ) → IsLog entries → epoch ≤ epoch_of entries
         → AreMembers (members_in entries epoch) × (length (members_in entries epoch) ≤ 64) }
+    // Each has 1 to 256 virtual nodes.
+    ensures weights { (entries : List Entry) (epoch : ℕ) → IsLog entries → epoch ≤ epoch_of entries
+        → HaveWeights (members_in entries epoch) }
     // A log goes on with each entry that may stand there.
     ensures push { (entries : List Entry) (entry : Entry) → IsLog entries → MayAppend entries entry → IsLog (entries ++ entry ∷ []) }
     // So it does with several, each of which may stand there in its turn; and what a log begins with is a log.

@@ -1,6 +1,6 @@
 ghost use Rattle.std.specs.Prelude.{◌≡◌, ◌↔◌, ℕ, ◌+◌, ◌≤◌, ◌<◌, List, [], ◌∷◌, ◌++◌, length, take, drop, slice_get, IfOk, OnOk, OnErr, IsTrue};
 ghost use Rattle.std.specs.Option.{option_copied};
-ghost use Rattle.epoch_log.specs.Members.{AreMembers};
+ghost use Rattle.epoch_log.specs.Members.{AreMembers, HaveWeights};
 ghost use Rattle.epoch_log.specs.Epochs.{epoch_of, epoch_at, settled_at, members_in};
 ghost use Rattle.epoch_log.specs.Appending.{MayOpen, MayAppend, IsLog};
 
@@ -146,6 +146,7 @@ impl Log {
         ensures filled { take result out.new ≡ members_in self.now epoch.0 }
         ensures rest { drop result out.new ≡ drop result out.old }
         ensures members { AreMembers (members_in self.now epoch.0) }
+        ensures weights { HaveWeights (members_in self.now epoch.0) }
     {
         fill(
             self.tally.terms[epoch.0 as usize - 1].members.as_slice(),

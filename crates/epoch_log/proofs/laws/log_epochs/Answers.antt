@@ -1,8 +1,11 @@
-use Rattle.epoch_log.proofs.MembersLemmas.{IsLog-members, IsLog-push, IsLog-append, IsLog-prefix}
+use Rattle.epoch_log.proofs.MembersLemmas.{IsLog-members, IsLog-weights, IsLog-push, IsLog-append, IsLog-prefix}
 use Rattle.epoch_log.proofs.laws.log_epochs.Goals as goal
 
 pub returns-clause-members : goal.returns-clause-members
 returns-clause-members c = IsLog-members
+
+pub returns-clause-weights : goal.returns-clause-weights
+returns-clause-weights c = IsLog-weights
 
 pub returns-clause-push : goal.returns-clause-push
 returns-clause-push c = IsLog-push

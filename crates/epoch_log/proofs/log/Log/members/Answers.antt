@@ -4,7 +4,7 @@ use Rattle.epoch_log.specs.declared.term.Term.{Term}
 use Rattle.epoch_log.specs.Epochs.{epoch_of, members_in}
 use Rattle.epoch_log.specs.Appending.{IsLog}
 use Rattle.epoch_log.specs.Tally.{IsTally, term_in}
-use Rattle.epoch_log.proofs.MembersLemmas.{IsLog-members}
+use Rattle.epoch_log.proofs.MembersLemmas.{IsLog-members, IsLog-weights}
 use Rattle.epoch_log.proofs.log.Log.members.Goals as goal
 
 pub fill-requires : goal.fill-requires
@@ -23,3 +23,6 @@ fill-requires c =
 
 pub returns-clause-members : goal.returns-clause-members
 returns-clause-members c = (IsLog-members c.args.self.now c.args.epoch.0 (subst IsLog c.self.view_is c.self.invariant.0) c.requires.1).0
+
+pub returns-clause-weights : goal.returns-clause-weights
+returns-clause-weights c = IsLog-weights c.args.self.now c.args.epoch.0 (subst IsLog c.self.view_is c.self.invariant.0) c.requires.1
