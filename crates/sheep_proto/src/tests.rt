@@ -187,7 +187,10 @@ fn spells_drawn_headers(rt: HostRuntime) -> Result<(), Fail> {
     for row in SPELLED.split(|letter| *letter == b'\n') {
         let bytes = bytes_of(alloc, row)?;
         let spelled = decode_request(bytes.as_slice()).map(|req| encode_request(&req));
-        assert_eq!(rt; spelled.map(|header| header.as_slice() == bytes.as_slice()), Ok(true));
+        assert_eq!(rt;
+            spelled.map(|header| header.as_slice() == bytes.as_slice()),
+            Ok(true)
+        );
     }
     Ok(())
 }
