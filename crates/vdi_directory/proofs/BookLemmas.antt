@@ -93,7 +93,7 @@ locks-push before effect old new are made =
     λ vid. made vid ∙ ap (λ holder. holder_after vid holder effect) (are vid) ∙ sym (holder_of-push before effect vid)
 
 -- a granted id is one, and was not used
-own_vid-is : (name : List ℕ) → (1 ≤ own_vid name) × (own_vid name ≤ VID_MAX)
+pub own_vid-is : (name : List ℕ) → (1 ≤ own_vid name) × (own_vid name ≤ VID_MAX)
 own_vid-is name = by_test (fnv1a_of name % 2 ^ 24 == 0) refl
   where
     by_test : (b : Bool) → (fnv1a_of name % 2 ^ 24 == 0) ≡ b

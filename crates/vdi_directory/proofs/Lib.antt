@@ -8,3 +8,4 @@ pub mod SoundLemmas
 pub mod LawfulLemmas
 pub mod LawLemmas
 pub mod DeadLemmas
+pub mod FreeLemmas

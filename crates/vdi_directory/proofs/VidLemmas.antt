@@ -21,7 +21,7 @@ module _ (used : ℕ → Bool) where
   used-here : (count vid : ℕ) → used vid ≡ true → first_unused used vid (suc count) ≡ first_unused used (next_vid vid) count
   used-here count vid taken = ap (λ b. cond b (first_unused used (next_vid vid) count) (Some vid)) taken
 
-  next-within : (vid : ℕ) → vid < VID_MAX → next_vid vid ≡ vid + 1
+  pub next-within : (vid : ℕ) → vid < VID_MAX → next_vid vid ≡ vid + 1
   next-within vid below = ap (λ b. cond b 1 (vid + 1)) (ne_eqb vid VID_MAX (λ same. (omega arith)))
 
   next-last : next_vid VID_MAX ≡ 1

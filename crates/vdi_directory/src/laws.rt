@@ -1,5 +1,5 @@
 //! Laws of the definitions, for the proofs of the layers above: each is the contract of a function that does nothing.
-ghost use Rattle.std.specs.Prelude.{◌≡◌, ◌≢◌, ℕ, ◌≤◌, ◌==◌, ◌&&◌, Bool, true, false, List, [], ◌∷◌, ◌++◌, Option, Some, None, IsTrue};
+ghost use Rattle.std.specs.Prelude.{◌≡◌, ◌⊎◌, ℕ, ◌<◌, ◌≤◌, ◌==◌, ◌&&◌, Bool, true, false, List, [], ◌∷◌, ◌++◌, Option, Some, None, IsTrue};
 ghost use Rattle.std.specs.List.{list_any};
 ghost use Rattle.std.specs.FinMap as tree;
 ghost use Rattle.std.specs.List.Sorted.{IsNonDecreasing};
@@ -14,7 +14,8 @@ ghost use Rattle.vdi_directory.specs.declared.effect.Claim.{Claim};
 ghost use Rattle.vdi_directory.specs.declared.effect.Grant.{Grant};
 ghost use Rattle.vdi_directory.specs.declared.effect.Effect.{Effect};
 ghost use Rattle.vdi_directory.specs.declared.effect.Effect.TheVariants as effects;
-ghost use Rattle.vdi_directory.specs.Names.{is_live};
+ghost use Rattle.vdi_directory.specs.declared.vid_range.TheConstants.{VID_MAX};
+ghost use Rattle.vdi_directory.specs.Vids.{own_vid, free_id};
 ghost use Rattle.vdi_directory.specs.Sources.{is_for, tag_for};
 ghost use Rattle.vdi_directory.specs.Effects.{is_used, name_of, claims_of, claim_on, live_of, holder_of};
 ghost use Rattle.vdi_directory.specs.Decisions.{outcome, happened, nothing};
@@ -102,4 +103,15 @@ pub fn the_dead_stay_dead()
     ensures heirs { (entries : List Entry) (vid other : ℕ) → IsDead (happened entries) vid → is_above (happened entries) vid other ≡ true
         → IsDead (happened entries) other }
     ensures stays { (entries later : List Entry) (vid : ℕ) → IsDead (happened entries) vid → IsDead (happened (entries ++ later)) vid }
+{}
+
+/// The free id of a name is the first that is not used, from the name's own id on, where the first id follows on the last.
+/// There is none exactly where every id is used.
+pub fn a_free_id_is_the_first()
+    ensures unused { (name : List ℕ) (used : ℕ → Bool) (vid : ℕ) → free_id name used ≡ Some vid → IsVid vid × (used vid ≡ false) }
+    ensures none { (name : List ℕ) (used : ℕ → Bool) → free_id name used ≡ None → (vid : ℕ) → IsVid vid → used vid ≡ true }
+    ensures ahead { (name : List ℕ) (used : ℕ → Bool) (vid : ℕ) → free_id name used ≡ Some vid
+        → own_vid name ≤ vid → (other : ℕ) → own_vid name ≤ other → other < vid → used other ≡ true }
+    ensures round { (name : List ℕ) (used : ℕ → Bool) (vid : ℕ) → free_id name used ≡ Some vid
+        → vid < own_vid name → (other : ℕ) → ((1 ≤ other) × (other < vid)) ⊎ ((own_vid name ≤ other) × (other ≤ VID_MAX)) → used other ≡ true }
 {}

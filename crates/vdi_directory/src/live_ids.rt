@@ -20,6 +20,7 @@ pub fn add_id(live: &mut Vec<u32>, vid: Vid)
     ensures { live.new.items ≡ inserted vid.0 live.old.items }
 {
     let place = place_of(live.as_slice(), vid.0);
+    // There is room, so this can't fail.
     let _ = live.insert(place, vid.0);
 }
 

@@ -514,7 +514,7 @@ fn publish(
     Ok(())
 }
 
-// Each disk is reserved, published and found by its name. How many are there doesn't change what a look-up costs.
+// Each disk is reserved, published and found by its name.
 #[test]
 fn keeps_10_000_disks(rt: HostRuntime) -> Result<(), Fail> {
     let alloc = rt.alloc();

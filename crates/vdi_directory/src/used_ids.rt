@@ -36,6 +36,7 @@ fn insert(used: &mut Vec<VidRange>, place: usize, vid: u32)
             first: vid,
             last: vid,
         };
+        // There is room, so this can't fail.
         let _ = used.insert(place, range);
     }
 }
