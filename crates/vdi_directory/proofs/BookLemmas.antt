@@ -1,7 +1,6 @@
 -- One entry more, and what the books hold then.
-use Rattle.std.proofs.Common.{◌≡◌, ◌⊎◌, inl, inr, ℕ, zero, suc, ◌+◌, ◌%◌, ◌^◌, ◌<◌, ◌≤◌, ◌==◌, ◌&&◌, ◌||◌, Bool, true, false, cond, List, [], ◌∷◌, ◌++◌, fold, Option, Some, None, is_some, Result, Ok, Err, refl, ap, sym, ◌∙◌, subst, arith}
-use Rattle.std.specs.FinMap as tree
-use Rattle.std.proofs.lemmas.Bool.{cases_eq, eqb-true, eqb-false}
+use Rattle.std.proofs.Common.{◌≡◌, ℕ, ◌%◌, ◌^◌, ◌≤◌, ◌==◌, ◌&&◌, ◌||◌, Bool, true, false, cond, List, [], ◌∷◌, ◌++◌, Option, Some, None, is_some, Result, Ok, Err, refl, ap, sym, ◌∙◌, arith}
+use Rattle.std.proofs.lemmas.Bool.{eqb-false}
 use Rattle.std.proofs.lemmas.List.Sums.{fold-append}
 use Rattle.std.proofs.lemmas.List.Folds.{list_any-append}
 use Rattle.object_id.specs.Hash.{fnv1a_of}
@@ -25,12 +24,13 @@ use Rattle.vdi_directory.specs.declared.effect.Effect.{Effect}
 use Rattle.vdi_directory.specs.declared.effect.Effect.TheVariants as effects
 use Rattle.vdi_directory.specs.declared.decision.Outcome.{Outcome}
 use Rattle.vdi_directory.specs.declared.books.Books.{Books}
-use Rattle.vdi_directory.specs.Vids.{own_vid, first_unused, VID_COUNT, free_id, is_in}
+use Rattle.vdi_directory.specs.Vids.{own_vid, VID_COUNT, free_id}
 use Rattle.vdi_directory.specs.Names.{no_disk}
 use Rattle.vdi_directory.specs.Effects.{grants, is_used, header_after, header_of, name_after, name_of, claims_after, claims_of, claim_on, live_after, live_of, holder_after, holder_of}
-use Rattle.vdi_directory.specs.Decisions.{nothing, silent, granted, refused, outcome, happens, happened, or_full, grant_of, with_spec, reserved, reserved_snapshot, reserved_clone, reservation, publication, replacement, snapshot, deletion, lock, release, target, held_disk, is_held_by, is_claimed_by, is_taken}
+use Rattle.vdi_directory.specs.Decisions.{nothing, silent, granted, refused, outcome, happens, happened, or_full, grant_of, with_spec, reserved, reserved_snapshot, reserved_clone, reservation, publication, replacement, snapshot, deletion, lock, target, held_disk, is_held_by, is_claimed_by, is_taken}
 use Rattle.vdi_directory.specs.Names.{is_live, tagged}
 use Rattle.vdi_directory.specs.Sources.{is_for, tag_for}
+use Rattle.vdi_directory.specs.Bearers.{parent_of, own_of, count_in, AreBearers}
 use Rattle.vdi_directory.specs.Books.{IsBooks, AreMade, AreLocksMade, AreLocks, IsFresh}
 use Rattle.vdi_directory.proofs.VidLemmas.{found-unused}
 
@@ -38,7 +38,7 @@ pub happened-push : (entries : List Entry) (entry : Entry) → happened (entries
 unfolding happened
 happened-push entries entry = fold-append happens [] entries (entry ∷ [])
 
-or-false : (b : Bool) → (b || false) ≡ b
+pub or-false : (b : Bool) → (b || false) ≡ b
 or-false true = refl
 or-false false = refl
 
@@ -67,24 +67,16 @@ unfolding holder_of
 holder_of-push before effect vid = fold-append (holder_after vid) None before (effect ∷ [])
 
 pub books-push : (before : List Effect) (effect : Effect) (old new : Books) → IsBooks before old → AreMade effect old new
+    → AreBearers (parent_of (before ++ effect ∷ [])) (own_of (before ++ effect ∷ [])) (count_in new.bearers)
     → IsBooks (before ++ effect ∷ []) new
-books-push before effect old new is made = record {
+books-push before effect old new is made bearers = record {
   headers = λ vid. made.headers vid ∙ ap (λ header. header_after vid header effect) (is.headers vid) ∙ sym (header_of-push before effect vid);
   names = λ name. made.names name ∙ ap (λ now. name_after name now effect) (is.names name) ∙ sym (name_of-push before effect name);
   claims = made.claims ∙ ap (λ claims. claims_after claims effect) is.claims ∙ sym (claims_of-push before effect);
   live = made.live ∙ ap (λ live. live_after live effect) is.live ∙ sym (live_of-push before effect);
   ranges = made.ranges;
   used = λ vid. made.used vid ∙ ap (λ b. b || grants vid effect) (is.used vid) ∙ sym (is_used-push before effect vid);
-}
-
-pub books-same : (before : List Effect) (old new : Books) → IsBooks before old → AreMade effects.Nothing old new → IsBooks before new
-books-same before old new is made = record {
-  headers = λ vid. made.headers vid ∙ is.headers vid;
-  names = λ name. made.names name ∙ is.names name;
-  claims = made.claims ∙ is.claims;
-  live = made.live ∙ is.live;
-  ranges = made.ranges;
-  used = λ vid. made.used vid ∙ or-false (is_in old.used.items vid) ∙ is.used vid;
+  bearers = bearers;
 }
 
 pub locks-push : (before : List Effect) (effect : Effect) (old new : Holders) → AreLocks before old → AreLocksMade effect old new

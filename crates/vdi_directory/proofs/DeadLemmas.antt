@@ -1,6 +1,6 @@
 -- What is dead stays dead, and its descendants are dead with it.
-use Rattle.std.proofs.Common.{◌≡◌, ◌⊎◌, inl, inr, ℕ, ◌≤◌, ◌==◌, ◌||◌, Bool, true, false, cond, List, [], ◌∷◌, ◌++◌, fold, Option, Some, None, refl, ap, sym, ◌∙◌, subst, arith}
-use Rattle.std.proofs.lemmas.Bool.{eqb-true, ne_eqb, both_ways}
+use Rattle.std.proofs.Common.{◌≡◌, ◌⊎◌, inl, inr, ℕ, ◌≤◌, ◌==◌, ◌||◌, Bool, true, false, cond, List, [], ◌∷◌, ◌++◌, Option, Some, None, refl, ap, sym, ◌∙◌, subst, arith}
+use Rattle.std.proofs.lemmas.Bool.{eqb-true, both_ways}
 use Rattle.std.proofs.lemmas.List.Sums.{fold-append}
 use Rattle.object_id.specs.declared.oid.Vid.{Vid}
 use Rattle.object_id.specs.declared.entry.Entry.{Entry}
@@ -8,7 +8,7 @@ use Rattle.vdi_directory.specs.declared.effect.Grant.{Grant}
 use Rattle.vdi_directory.specs.declared.effect.Effect.{Effect}
 use Rattle.vdi_directory.specs.declared.effect.Effect.TheVariants as effects
 use Rattle.vdi_directory.specs.Effects.{grants, is_used}
-use Rattle.vdi_directory.specs.Decisions.{outcome, happens, happened}
+use Rattle.vdi_directory.specs.Decisions.{outcome, happened}
 use Rattle.vdi_directory.specs.States.{State, Unused, Claimed, Working, Shot, Deleted, Freed, state_after, state_of, rank, is_live_state}
 use Rattle.vdi_directory.specs.Sound.{IsParent, IsSound, IsLawful}
 use Rattle.vdi_directory.specs.Dead.{is_parent_or_above, above_after, is_above, is_gone, IsDead}
@@ -17,7 +17,7 @@ use Rattle.vdi_directory.proofs.SoundLemmas.{state_of-push}
 use Rattle.vdi_directory.proofs.LawfulLemmas.{lawful-outcome, sound-happened}
 use Rattle.vdi_directory.proofs.LawLemmas.{kept-later, rank-grows}
 
-is_above-push : (before : List Effect) (effect : Effect) (elder vid : ℕ)
+pub is_above-push : (before : List Effect) (effect : Effect) (elder vid : ℕ)
     → is_above (before ++ effect ∷ []) elder vid ≡ above_after (is_above before) effect elder vid
 unfolding is_above
 is_above-push before effect elder vid = ap (λ above. above elder vid) (fold-append above_after (λ e v. false) before (effect ∷ []))
@@ -38,7 +38,7 @@ rank-gone (Shot tag) above = absurd (omega arith)
 rank-gone Deleted above = refl
 rank-gone Freed above = refl
 
-live-not-gone : (state : State) → is_live_state state ≡ true → is_gone state ≡ true → ⊥
+pub live-not-gone : (state : State) → is_live_state state ≡ true → is_gone state ≡ true → ⊥
 live-not-gone Unused live gone = cc
 live-not-gone (Claimed by) live gone = cc
 live-not-gone Working live gone = cc
@@ -46,12 +46,12 @@ live-not-gone (Shot tag) live gone = cc
 live-not-gone Deleted live gone = cc
 live-not-gone Freed live gone = cc
 
-or-cases : (a b : Bool) → (a || b) ≡ true → (a ≡ true) ⊎ (b ≡ true)
+pub or-cases : (a b : Bool) → (a || b) ≡ true → (a ≡ true) ⊎ (b ≡ true)
 or-cases true b is = inl refl
 or-cases false b is = inr is
 
 -- what an id that is above another came from: an earlier effect, or the grant of the other
-above-cases : (before : List Effect) (effect : Effect) (elder vid : ℕ) → above_after (is_above before) effect elder vid ≡ true
+pub above-cases : (before : List Effect) (effect : Effect) (elder vid : ℕ) → above_after (is_above before) effect elder vid ≡ true
     → (is_above before elder vid ≡ true)
     ⊎ ((grant : Grant) × (effect ≡ effects.Reserved grant) × ((grant.claim.vid.0 == vid) ≡ true) × (is_parent_or_above (is_above before) elder grant.header.parent ≡ true))
 above-cases before effects.Nothing elder vid is = inl is
@@ -71,7 +71,7 @@ above-cases before (effects.Withdrawn of) elder vid is = inl is
 above-cases before (effects.Left node) elder vid is = inl is
 
 -- the parent's own chain, or the parent
-parent-cases : (before : List Effect) (elder : ℕ) (parent : Option Vid) → is_parent_or_above (is_above before) elder parent ≡ true
+pub parent-cases : (before : List Effect) (elder : ℕ) (parent : Option Vid) → is_parent_or_above (is_above before) elder parent ≡ true
     → (p : Vid) × (parent ≡ Some p) × ((p.0 ≡ elder) ⊎ (is_above before elder p.0 ≡ true))
 parent-cases before elder None is = cc
 parent-cases before elder (Some p) is = elim (or-cases (p.0 == elder) (is_above before elder p.0) is) as (λ _. (q : Vid) × (Some p ≡ Some q) × ((q.0 ≡ elder) ⊎ (is_above before elder q.0 ≡ true))) [
@@ -79,7 +79,7 @@ parent-cases before elder (Some p) is = elim (or-cases (p.0 == elder) (is_above 
   | inr far ↦ (p, refl, inr far)
 ]
 
-parent-live : (before : List Effect) (effect : Effect) (grant : Grant) (p : Vid) → IsLawful before effect → effect ≡ effects.Reserved grant → grant.header.parent ≡ Some p
+pub parent-live : (before : List Effect) (effect : Effect) (grant : Grant) (p : Vid) → IsLawful before effect → effect ≡ effects.Reserved grant → grant.header.parent ≡ Some p
     → is_live_state (state_of before p.0) ≡ true
 parent-live before effect grant p lawful is parent =
     let granted : IsLawful before (effects.Reserved grant) = subst (IsLawful before) is lawful in
@@ -119,7 +119,7 @@ dead-stays entries later vid dead =
     later entries dead
 
 -- both ids of a chain are used
-live-used : (before : List Effect) → IsSound before → (vid : ℕ) → is_live_state (state_of before vid) ≡ true → is_used before vid ≡ true
+pub live-used : (before : List Effect) → IsSound before → (vid : ℕ) → is_live_state (state_of before vid) ≡ true → is_used before vid ≡ true
 live-used before sound vid live = by_test (is_used before vid) refl
   where
     by_test : (b : Bool) → is_used before vid ≡ b → is_used before vid ≡ true
@@ -132,10 +132,10 @@ ChainsAreUsed before = (elder vid : ℕ) → is_above before elder vid ≡ true 
 ChainsGoOn : List Effect → Type 0
 ChainsGoOn before = (a b c : ℕ) → is_above before a b ≡ true → is_above before b c ≡ true → is_above before a c ≡ true
 
-or-left : (a b : Bool) → a ≡ true → (a || b) ≡ true
+pub or-left : (a b : Bool) → a ≡ true → (a || b) ≡ true
 or-left a b is = ap (λ t. t || b) is
 
-or-right : (a b : Bool) → b ≡ true → (a || b) ≡ true
+pub or-right : (a b : Bool) → b ≡ true → (a || b) ≡ true
 or-right true b is = refl
 or-right false b is = is
 
@@ -219,7 +219,7 @@ module _ (before : List Effect) (sound : IsSound before) (effect : Effect) (lawf
               above-before a p.0 there (ap (is_above (before ++ effect ∷ []) a) same ∙ first)
           by_parent p there (inr far) = go a b p.0 (above-before a b ((used b p.0 far).0) first) far
 
-record IsChained (before : List Effect) : Type 0 where
+pub record IsChained (before : List Effect) : Type 0 where
   used : ChainsAreUsed before
   goes : ChainsGoOn before
 
@@ -227,7 +227,7 @@ chained-none : IsChained []
 unfolding ChainsAreUsed ChainsGoOn is_above
 chained-none = record { used = λ elder vid is. cc; goes = λ a b c first second. cc }
 
-chained : (entries : List Entry) → IsChained (happened entries)
+pub chained : (entries : List Entry) → IsChained (happened entries)
 chained entries =
     kept-later IsChained
     (λ es entry is. record {
@@ -236,9 +236,17 @@ chained entries =
     })
     entries [] (subst IsChained (sym happened-none) chained-none)
 
-pub dead-heirs : (entries : List Entry) (vid other : ℕ) → IsDead (happened entries) vid → is_above (happened entries) vid other ≡ true → IsDead (happened entries) other
+pub chain-used : (before : List Effect) → IsChained before → (elder vid : ℕ) → is_above before elder vid ≡ true
+    → (is_used before elder ≡ true) × (is_used before vid ≡ true)
+unfolding ChainsAreUsed
+chain-used before chained = chained.used
+
+pub heir-dead : (before : List Effect) → IsChained before → (vid heir : ℕ) → IsDead before vid → is_above before vid heir ≡ true → IsDead before heir
 unfolding ChainsGoOn
-dead-heirs entries vid other dead above = record {
-  gone = dead.heirs other above;
-  heirs = λ last is. dead.heirs last ((chained entries).goes vid other last above is);
+heir-dead before chained vid heir dead above = record {
+  gone = dead.heirs heir above;
+  heirs = λ last is. dead.heirs last (chained.goes vid heir last above is);
 }
+
+pub dead-heirs : (entries : List Entry) (vid other : ℕ) → IsDead (happened entries) vid → is_above (happened entries) vid other ≡ true → IsDead (happened entries) other
+dead-heirs entries = heir-dead (happened entries) (chained entries)

@@ -1,6 +1,6 @@
 -- The free id is the first one that is not used, and there is none exactly where every id is used.
-use Rattle.std.proofs.Common.{◌≡◌, ◌≢◌, ◌⊎◌, inl, inr, ℕ, zero, suc, ◌+◌, ◌-◌, ◌<◌, ◌≤◌, ◌==◌, Bool, true, false, cond, List, Option, Some, None, refl, ap, sym, ◌∙◌, subst, arith}
-use Rattle.std.proofs.lemmas.Bool.{ne_eqb, cases_eq, cases_lt}
+use Rattle.std.proofs.Common.{◌≡◌, ◌≢◌, ◌⊎◌, inl, inr, ℕ, zero, suc, ◌+◌, ◌-◌, ◌<◌, ◌≤◌, Bool, true, false, cond, List, Some, None, refl, ap, sym, ◌∙◌, arith}
+use Rattle.std.proofs.lemmas.Bool.{cases_eq, cases_lt}
 use Rattle.vdi_directory.specs.declared.vid_range.TheConstants.{VID_MAX}
 use Rattle.vdi_directory.specs.Vids.{own_vid, next_vid, first_unused, VID_COUNT, free_id}
 use Rattle.vdi_directory.proofs.VidLemmas.{VID_COUNT-is, next-within, wrapped}

@@ -1,6 +1,6 @@
 -- The laws of decisions, from what is true of whatever entries did.
-use Rattle.std.proofs.Common.{◌≡◌, ◌⊎◌, inl, inr, ℕ, ◌+◌, ◌<◌, ◌≤◌, ◌==◌, ◌&&◌, ◌||◌, not, nat_lt, Bool, true, false, cond, List, [], ◌∷◌, ◌++◌, filter, fold, Option, Some, None, is_some, Result, Ok, Err, refl, ap, sym, ◌∙◌, subst, arith, append_assoc}
-use Rattle.std.specs.List.{find, list_any, list_all}
+use Rattle.std.proofs.Common.{◌≡◌, ℕ, ◌≤◌, ◌==◌, ◌&&◌, ◌||◌, not, nat_lt, Bool, true, false, cond, List, [], ◌∷◌, ◌++◌, filter, fold, Option, Some, None, is_some, Result, Ok, Err, refl, ap, sym, ◌∙◌, subst, arith, append_assoc}
+use Rattle.std.specs.List.{list_any}
 use Rattle.std.proofs.lemmas.Bool.{eqb-true, eq-eqb, ne_eqb, both_ways, and_parts}
 use Rattle.std.proofs.lemmas.List.{append-nil}
 use Rattle.std.proofs.lemmas.List.Sums.{fold-append}
@@ -27,8 +27,8 @@ use Rattle.vdi_directory.specs.declared.decision.Outcome.{Outcome}
 use Rattle.vdi_directory.specs.Vids.{free_id}
 use Rattle.vdi_directory.specs.Names.{is_live, tagged}
 use Rattle.vdi_directory.specs.Sources.{is_for, tag_for}
-use Rattle.vdi_directory.specs.Effects.{grants, is_used, header_of, name_of, claims_after, claims_of, claim_on, inserted, live_after, live_of, holder_after, holder_of}
-use Rattle.vdi_directory.specs.Decisions.{nothing, silent, granted, refused, outcome, happens, happened, or_full, grant_of, with_spec, reserved, reserved_snapshot, reserved_clone, reservation, publication, replacement, snapshot, deletion, lock, unheld, free_disk, or_no_tag, target, held_disk, is_held_by, is_claimed_by, is_taken}
+use Rattle.vdi_directory.specs.Effects.{grants, is_used, header_of, name_of, claims_of, claim_on, inserted, live_after, live_of, holder_after, holder_of}
+use Rattle.vdi_directory.specs.Decisions.{nothing, silent, granted, refused, outcome, happens, happened, or_full, grant_of, with_spec, reserved, reserved_snapshot, reserved_clone, reservation, publication, replacement, snapshot, deletion, lock, target, held_disk, is_held_by, is_claimed_by, is_taken}
 use Rattle.vdi_directory.specs.States.{State, Unused, Claimed, Working, Shot, Deleted, Freed, freed, left, state_after, state_of, rank, is_live_state, may_take}
 use Rattle.vdi_directory.specs.Sound.{In, IsSound, IsLawful}
 use Rattle.vdi_directory.proofs.BookLemmas.{happened-none, happened-push, is_used-push, claims_of-push, live_of-push, holder_of-push}

@@ -4,8 +4,15 @@ pub mod LiveLemmas
 pub mod LockLemmas
 pub mod UsedLemmas
 pub mod BookLemmas
+pub mod BearerLemmas
 pub mod SoundLemmas
 pub mod LawfulLemmas
 pub mod LawLemmas
+pub mod AscentLemmas
+pub mod ShotLemmas
+pub mod WorkingLemmas
 pub mod DeadLemmas
+pub mod LineLemmas
+pub mod StandLemmas
+pub mod UnborneLemmas
 pub mod FreeLemmas

@@ -1,5 +1,5 @@
 -- What is true of whatever entries did stays true with one effect more.
-use Rattle.std.proofs.Common.{◌≡◌, ◌⊎◌, inl, inr, ℕ, ◌==◌, ◌&&◌, ◌||◌, not, Bool, true, false, cond, List, [], ◌∷◌, ◌++◌, filter, fold, Option, Some, None, refl, ap, sym, ◌∙◌, subst, arith}
+use Rattle.std.proofs.Common.{◌≡◌, ◌⊎◌, inl, inr, ℕ, ◌==◌, ◌||◌, not, Bool, true, false, cond, List, [], ◌∷◌, ◌++◌, filter, Option, Some, None, refl, ap, sym, ◌∙◌, subst}
 use Rattle.std.specs.Option.{option_map}
 use Rattle.std.proofs.lemmas.Bool.{eqb-true, eq-eqb, ne_eqb, both_ways}
 use Rattle.std.proofs.lemmas.List.Sums.{fold-append}
@@ -17,7 +17,7 @@ use Rattle.vdi_directory.specs.declared.effect.Snap.{Snap}
 use Rattle.vdi_directory.specs.declared.effect.Effect.{Effect}
 use Rattle.vdi_directory.specs.declared.effect.Effect.TheVariants as effects
 use Rattle.vdi_directory.specs.Names.{Name, is_same, published, snapped, unless, without}
-use Rattle.vdi_directory.specs.Effects.{grants, is_used, header_after, header_of, name_after, name_of, claims_but, claims_after, claims_of, holder_after, holder_of}
+use Rattle.vdi_directory.specs.Effects.{grants, is_used, header_after, header_of, name_after, name_of, claims_after, claims_of, holder_after, holder_of}
 use Rattle.vdi_directory.specs.States.{State, Unused, Claimed, Working, Shot, Deleted, Freed, freed, left, state_after, state_of, owner_of}
 use Rattle.vdi_directory.specs.Sound.{In, IsShot, OwnsBase, IsClaim, IsWorking, IsTaken, IsSound, IsLawful}
 use Rattle.vdi_directory.proofs.NameLemmas.{same-is, is-same}
@@ -74,7 +74,7 @@ owner-after vid header (effects.Freed of) other = refl
 owner-after vid header (effects.Withdrawn of) other = refl
 owner-after vid header (effects.Left node) other = refl
 
-owner-kept : (before : List Effect) (effect : Effect) (vid : ℕ) → grants vid effect ≡ false → owner_of (before ++ effect ∷ []) vid ≡ owner_of before vid
+pub owner-kept : (before : List Effect) (effect : Effect) (vid : ℕ) → grants vid effect ≡ false → owner_of (before ++ effect ∷ []) vid ≡ owner_of before vid
 owner-kept before effect vid other =
     ap (option_map (λ (h : Header). h.name)) (header_of-push before effect vid) ∙ owner-after vid (header_of before vid) effect other
 
@@ -405,15 +405,15 @@ module _ (before : List Effect) (sound : IsSound before) where
       by_test w holder false is = sound.held w holder is
 
   -- only a claim can be freed
-  sound-Withdrawn : (vid : Vid) → IsSound (before ++ effects.Withdrawn vid ∷ [])
-  sound-Withdrawn vid = after before sound effect tt
+  sound-Withdrawn : (vid : Vid) → IsLawful before (effects.Withdrawn vid) → IsSound (before ++ effects.Withdrawn vid ∷ [])
+  sound-Withdrawn vid lawful = after before sound effect lawful
       (λ w is other. kept w Unused is refl ∙ is)
       (λ claim there. let parts = in-filter (λ (c : Claim). not (c.vid.0 == vid.0)) claim (claims_of before) there in
-      claim-stays before sound effect tt claim (sound.claims claim parts.0)
+      claim-stays before sound effect lawful claim (sound.claims claim parts.0)
       (when-false (vid.0 == claim.vid.0) (freed (state_of before claim.vid.0)) (state_of before claim.vid.0) (apart-ids claim.vid.0 vid.0 parts.1)))
-      (λ n w is. let was = sound.working n w is in works before sound effect tt n w.0 was.owner (kept w.0 Working was.state refl ∙ was.state))
+      (λ n w is. let was = sound.working n w is in works before sound effect lawful n w.0 was.owner (kept w.0 Working was.state refl ∙ was.state))
       (λ n shot there. let was = sound.shots n shot there in
-      takes before sound effect tt n shot.vid.0 was.owner ((was.state).0, kept shot.vid.0 (Shot ((was.state).0)) ((was.state).1) refl ∙ (was.state).1))
+      takes before sound effect lawful n shot.vid.0 was.owner ((was.state).0, kept shot.vid.0 (Shot ((was.state).0)) ((was.state).1) refl ∙ (was.state).1))
       (λ w holder is. let was = sound.held w holder is in kept w Working was refl ∙ was)
     where
       effect : Effect
@@ -452,5 +452,5 @@ module _ (before : List Effect) (sound : IsSound before) where
   sound-push (effects.Deleted vid name) lawful = sound-Deleted vid name lawful
   sound-push (effects.Held vid holder) lawful = sound-Held vid holder lawful
   sound-push (effects.Freed vid) lawful = sound-Freed vid
-  sound-push (effects.Withdrawn vid) lawful = sound-Withdrawn vid
+  sound-push (effects.Withdrawn vid) lawful = sound-Withdrawn vid lawful
   sound-push (effects.Left node) lawful = sound-Left node

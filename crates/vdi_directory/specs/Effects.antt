@@ -1,5 +1,5 @@
 -- What holds after a list of effects: each word says what one effect more changes, and then goes through the list.
-use Rattle.std.specs.Prelude.{ℕ, ◌+◌, ◌==◌, ◌&&◌, ◌||◌, not, nat_lt, Bool, true, false, List, [], ◌∷◌, ◌++◌, filter, fold, Option, None, Some, if◌then◌else◌}
+use Rattle.std.specs.Prelude.{ℕ, ◌==◌, not, nat_lt, Bool, false, List, [], ◌∷◌, ◌++◌, filter, fold, Option, None, Some, if◌then◌else◌}
 use Rattle.std.specs.List.{list_any, find}
 use Rattle.std.specs.Option.{option_map}
 use Rattle.object_id.specs.declared.oid.Vid.{Vid}
@@ -8,7 +8,7 @@ use Rattle.disk_lock.specs.Locks.{without_node}
 use Rattle.vdi_directory.specs.declared.header.Header.{Header}
 use Rattle.vdi_directory.specs.declared.effect.Claim.{Claim}
 use Rattle.vdi_directory.specs.declared.effect.Effect.{Effect}
-use Rattle.vdi_directory.specs.declared.effect.Effect.TheVariants.{Nothing, Reserved, Published, Snapped, Deleted, Held, Freed, Withdrawn, Left}
+use Rattle.vdi_directory.specs.declared.effect.Effect.TheVariants.{Reserved, Published, Snapped, Deleted, Held, Freed, Withdrawn, Left}
 use Rattle.vdi_directory.specs.Names.{Name, no_disk, is_same, published, snapped, without}
 
 -- whether the effect grants the id

@@ -4,6 +4,7 @@ pub mod NameRows
 pub mod Sources
 pub mod Effects
 pub mod Decisions
+pub mod Bearers
 pub mod Books
 pub mod States
 pub mod Sound

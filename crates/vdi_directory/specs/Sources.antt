@@ -1,5 +1,5 @@
 -- What a reserved id is to become, as tests.
-use Rattle.std.specs.Prelude.{ℕ, ◌==◌, not, Bool, true, false, List, Option, None, Some, if◌then◌else◌}
+use Rattle.std.specs.Prelude.{ℕ, ◌==◌, not, Bool, false, List, Option, None, Some, if◌then◌else◌}
 use Rattle.object_id.specs.declared.oid.Vid.{Vid}
 use Rattle.vdi_directory.specs.declared.effect.Source.{Source}
 use Rattle.vdi_directory.specs.declared.effect.Source.TheVariants.{Fresh, Snapshot, Clone}

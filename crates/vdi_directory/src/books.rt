@@ -2,8 +2,9 @@ ghost use Rattle.std.specs.Prelude.{◌≡◌, ◌≤◌, ◌<◌, ℕ, ◌==◌
 ghost use Rattle.std.specs.List.Sorted.{IsNonDecreasing};
 ghost use Rattle.vdi_directory.specs.declared.effect.Effect.TheVariants as effects;
 ghost use Rattle.vdi_directory.specs.Vids.{AreRanges};
-ghost use Rattle.vdi_directory.specs.Books.{IsBooks, AreMade, AreLocksMade, IsFresh};
+ghost use Rattle.vdi_directory.specs.Books.{IsBooks, AreMade, AreLocksMade, IsFresh, CanMake};
 
+use crate::bearers::{add_child, add_place, drop_bearer, drop_bearers_of};
 use crate::claims::{drop_claim, drop_claims_of};
 use crate::effect::{Claim, Effect, Grant, Snap};
 use crate::header::Header;
@@ -13,7 +14,7 @@ use crate::names::Names;
 use crate::used_ids::add_used;
 use crate::vid_range::VidRange;
 use disk_lock::Locks;
-use object_id::{Bytes, NoMemory, Vid};
+use object_id::{Bytes, NoMemory, NodeId, Vid};
 use std::alloc::Global;
 use std::collections::BTreeMap;
 
@@ -27,6 +28,8 @@ pub struct Books {
     /// The live ids, ascending.
     pub live: Vec<u32>,
     pub used: Vec<VidRange>,
+    /// How many bear each id.
+    pub bearers: BTreeMap<u32, usize>,
 }
 
 impl Books {
@@ -40,12 +43,14 @@ impl Books {
             claims: Vec::new(alloc),
             live: Vec::new(alloc),
             used: Vec::new(alloc),
+            bearers: BTreeMap::new(alloc),
         }
     }
 
     /// Reserves an id. Without memory nothing changes.
     fn reserve(&mut self, grant: Grant) -> Result<(), NoMemory>
         requires fresh { IsFresh (effects.Reserved grant) self.old }
+        requires bearers { CanMake (effects.Reserved grant) self.old }
         requires ranges { AreRanges self.old.used.items }
         ensures ok { OnOk result (AreMade (effects.Reserved grant) self.old self.new) }
         ensures err { OnErr result (AreMade effects.Nothing self.old self.new) }
@@ -53,7 +58,10 @@ impl Books {
         self.claims.reserve(1)?;
         self.used.reserve(1)?;
         let vid = grant.claim.vid;
+        let parent = grant.header.parent;
+        add_place(&mut self.bearers, vid)?;
         self.headers.insert(vid.0, grant.header)?;
+        add_child(&mut self.bearers, vid, parent);
         add_used(&mut self.used, vid);
         self.claims.push_reserved(grant.claim);
         Ok(())
@@ -93,16 +101,42 @@ impl Books {
     }
 
     fn delete(&mut self, vid: Vid, name: &Bytes)
-        requires { AreRanges self.old.used.items }
+        requires bearers { CanMake (effects.Deleted vid name.now) self.old }
+        requires ranges { AreRanges self.old.used.items }
         ensures { AreMade (effects.Deleted vid name.now) self.old self.new }
     {
         self.names.delete(name.as_slice(), vid);
         drop_id(&mut self.live, vid);
+        drop_bearer(&self.headers, &mut self.bearers, vid);
+    }
+
+    fn withdraw(&mut self, vid: Vid)
+        requires bearers { CanMake (effects.Withdrawn vid) self.old }
+        requires ranges { AreRanges self.old.used.items }
+        ensures { AreMade (effects.Withdrawn vid) self.old self.new }
+    {
+        drop_claim(&mut self.claims, vid);
+        drop_bearer(&self.headers, &mut self.bearers, vid);
+    }
+
+    fn leave(&mut self, node: NodeId)
+        requires bearers { CanMake (effects.Left node) self.old }
+        requires ranges { AreRanges self.old.used.items }
+        ensures { AreMade (effects.Left node) self.old self.new }
+    {
+        drop_bearers_of(
+            &self.headers,
+            &mut self.bearers,
+            self.claims.as_slice(),
+            node,
+        );
+        drop_claims_of(&mut self.claims, node);
     }
 
     /// Makes an effect. Without memory nothing changes.
     pub fn make(&mut self, alloc: Global, effect: Effect, locks: &mut Locks) -> Result<(), NoMemory>
         requires fresh { IsFresh effect self.old }
+        requires bearers { CanMake effect self.old }
         requires sorted { IsNonDecreasing self.old.live.items }
         requires ranges { AreRanges self.old.used.items }
         ensures ok { OnOk result (AreMade effect self.old self.new) }
@@ -125,12 +159,12 @@ impl Books {
                 Ok(())
             }
             Effect::Withdrawn { vid } => {
-                drop_claim(&mut self.claims, vid);
+                self.withdraw(vid);
                 Ok(())
             }
             Effect::Left { node } => {
                 locks.free_node(node);
-                drop_claims_of(&mut self.claims, node);
+                self.leave(node);
                 Ok(())
             }
         }

@@ -1,11 +1,13 @@
-ghost use Rattle.std.specs.Prelude.{◌≡◌, ℕ, ◌∷◌, ◌++◌, List, [], IfOk, OnOk, OnErr, slice_get};
+ghost use Rattle.std.specs.Prelude.{◌≡◌, ◌↔◌, ℕ, ◌∷◌, ◌++◌, List, [], IfOk, IsTrue, OnOk, OnErr, slice_get};
 ghost use Rattle.std.specs.Option.{option_copied, option_map};
 ghost use Rattle.epoch_log.specs.Appending.{IsReservable};
 ghost use Rattle.vdi_directory.specs.declared.header.Header.{Header as TheHeader};
 ghost use Rattle.vdi_directory.specs.Effects.{header_of, live_of};
 ghost use Rattle.vdi_directory.specs.Decisions.{happened, decision_after, found};
+ghost use Rattle.vdi_directory.specs.Dead.{IsDead};
 ghost use Rattle.vdi_directory.specs.Books.{AreLocks};
 
+use crate::bearers::count_of;
 use crate::books::Books;
 use crate::decision::Decision;
 use crate::header::Header;
@@ -92,6 +94,14 @@ impl Directory {
             Some(header) => Some(header.spec),
             None => None,
         }
+    }
+
+    /// Whether an id is dead: deleted, or a reservation that was freed, and all its descendants with it. An id that was
+    /// never granted isn't.
+    pub fn dead(&self, vid: Vid) -> bool
+        ensures { IsTrue result ↔ IsDead (happened self.now) vid.0 }
+    {
+        self.books.headers.contains_key(&vid.0) && count_of(&self.books.bearers, vid) == 0
     }
 
     /// A disk's header as it is now; `None` exactly where no granted reservation has the id.

@@ -2,7 +2,7 @@
 ghost use Rattle.std.specs.Prelude.{◌≡◌, ◌⊎◌, ℕ, ◌<◌, ◌≤◌, ◌==◌, ◌&&◌, Bool, true, false, List, [], ◌∷◌, ◌++◌, Option, Some, None, IsTrue};
 ghost use Rattle.std.specs.List.{list_any};
 ghost use Rattle.std.specs.FinMap as tree;
-ghost use Rattle.std.specs.List.Sorted.{IsNonDecreasing};
+ghost use Rattle.std.specs.List.Sorted.{IsStrictlyIncreasing};
 ghost use Rattle.object_id.specs.Oid.{IsVid};
 ghost use Rattle.object_id.specs.declared.oid.Vid.{Vid};
 ghost use Rattle.object_id.specs.declared.node.NodeId.{NodeId};
@@ -19,7 +19,7 @@ ghost use Rattle.vdi_directory.specs.Vids.{own_vid, free_id};
 ghost use Rattle.vdi_directory.specs.Sources.{is_for, tag_for};
 ghost use Rattle.vdi_directory.specs.Effects.{is_used, name_of, claims_of, claim_on, live_of, holder_of};
 ghost use Rattle.vdi_directory.specs.Decisions.{outcome, happened, nothing};
-ghost use Rattle.vdi_directory.specs.States.{Working, rank, state_of, owner_of, is_live_state, may_take};
+ghost use Rattle.vdi_directory.specs.States.{Working, Shot, rank, state_of, owner_of, is_live_state, may_take};
 ghost use Rattle.vdi_directory.specs.Sound.{In, IsWorking, IsTaken};
 ghost use Rattle.vdi_directory.specs.Dead.{is_above, IsDead};
 ghost use Rattle.vdi_directory.specs.Books.{AreLocks};
@@ -44,18 +44,23 @@ pub fn states_move_forward()
     ensures { (entries later : List Entry) (vid : ℕ) → rank (state_of (happened entries) vid) ≤ rank (state_of (happened (entries ++ later)) vid) }
 {}
 
-/// What a name finds is in that state, and was reserved for that name.
+/// What a name finds is in that state, and was reserved for that name. Every working disk and
+/// every snapshot is found by the name that it was reserved for.
 pub fn names_find_their_disks()
     ensures working { (entries : List Entry) (name : List ℕ) (vid : Vid) → (name_of (happened entries) name).working ≡ Some vid
         → IsWorking (happened entries) name vid.0 }
     ensures shots { (entries : List Entry) (name : List ℕ) (shot : TheShot) → In shot (name_of (happened entries) name).shots
         → IsTaken (happened entries) name shot.vid.0 }
+    ensures found { (entries : List Entry) (name : List ℕ) (vid : Vid) → IsWorking (happened entries) name vid.0
+        → (name_of (happened entries) name).working ≡ Some vid }
+    ensures listed { (entries : List Entry) (name tag : List ℕ) (vid : Vid) → state_of (happened entries) vid.0 ≡ Shot tag
+        → owner_of (happened entries) vid.0 ≡ Some name → In (record { vid = vid; tag = tag }) (name_of (happened entries) name).shots }
 {}
 
-/// The live ids are the working disks and the snapshots, ascending.
+/// The live ids are the working disks and the snapshots, each once, ascending.
 pub fn live_ids_are_published()
     ensures each { (entries : List Entry) (vid : ℕ) → list_any (λ other. other == vid) (live_of (happened entries)) ≡ is_live_state (state_of (happened entries) vid) }
-    ensures ascending { (entries : List Entry) → IsNonDecreasing (live_of (happened entries)) }
+    ensures ascending { (entries : List Entry) → IsStrictlyIncreasing (live_of (happened entries)) }
 {}
 
 /// A lock is granted where nobody holds the disk, and only working disks are held.

@@ -7,10 +7,13 @@
 //! of its entries, and keeps them so.
 //!
 //! No question scans the entries: names and headers stand in trees, the live ids in order, the used ids as sorted ranges,
-//! and the reservations that stand in a list, since a session has one command at a time (`specs/Books.antt`).
+//! and the reservations that stand in a list, since a session has one command at a time (`specs/Books.antt`). Beside each
+//! id stands how many bear it, by which the dead are told (`specs/Bearers.antt`): an entry changes these counts along the
+//! parent chains of what it frees, and no further than they change.
 //! The crate stands on `object_id`, `disk_lock` and `epoch_log`, whose entry types it hands on.
 #![tactic(auto)]
 
+mod bearers;
 mod books;
 mod claims;
 mod decision;

@@ -127,6 +127,38 @@ drawn 22|C00abcdef S02b:u N00abcdef:abcdef K13a:a:u F02b N0001f1a5:01f1a5 S13b:t
 drawn 23|N00abcdef:abcdef F01b S01a:u C0001f1a5 N0001f1a5:01f1a5 N0001f1a5:01f1a5 U1301f1a5 K01a:a:t C0001f1a5 P0001f1a5 F02a D02a F01a S02a:t C0001ec8c X0 U0201ec8c K01a:a:t O13b C0001f1a5 P1001ec8c N0001f1a5:01ec8c O02a:u| - 01f1a5 !N - - - - !B - 01f1a5 01ec8c !V !E !N - - - !B 01f1a5 - - - !V; 01f1a5/b//1/000000/13\n\
 drawn 24|F13a N1001ec8c:01ec8c U1301ec8c O01b F02a C0001ec8d U0201ec8d O02b O13b:t K02c:b:t N0001ec8c:01ec8d D02a F13a P0001ec8e D13b O02b S01b:u N1001ec8c:01ec8e O01b F02a D02a:u N1001ec8e:01ec8e F02b| 01ec8c - - !V 01ec8d - - !V !V !B - !V 01ec8e - !V !V !N - !V !E !V - 01f1a5;";
 
+// A row: what it shows; the entries; each id that was asked for, + where it is dead then and - where it isn't.
+// The rows were made up, or drawn where they say so and picked for having freed or deleted ids of both kinds. They were
+// answered by a program in Python that was written apart from this one, by the rules alone.
+const DEAD_ROWS: &[u8] = b"an id that was never granted|F01a| 01ec8c- abcdef-\n\
+a reservation that is freed|F01a U0101ec8c| 01ec8c+\n\
+a published disk|F01a P0001ec8c| 01ec8c-\n\
+a deleted disk|F01a P0001ec8c D01a| 01ec8c+\n\
+a snapshot and its working disk|F01a P0001ec8c O01a S01a:t N0001ec8c:01ec8d| 01ec8c- 01ec8d-\n\
+a deleted snapshot has an heir|F01a P0001ec8c O01a S01a:t N0001ec8c:01ec8d D12a:t| 01ec8c- 01ec8d-\n\
+a deleted working disk has none|F01a P0001ec8c O01a S01a:t N0001ec8c:01ec8d U0101ec8d D12a| 01ec8c- 01ec8d+\n\
+both are deleted|F01a P0001ec8c O01a S01a:t N0001ec8c:01ec8d D12a:t U0101ec8d D12a| 01ec8c+ 01ec8d+\n\
+a standing reservation with a base is an heir|F01a P0001ec8c O01a S01a:t N0001ec8c:01ec8d K12b:a:t D12a:t U0101ec8d D12a| 01ec8c- 01ec8d+ 01f1a5-\n\
+until it is freed|F01a P0001ec8c O01a S01a:t N0001ec8c:01ec8d K12b:a:t D12a:t U0101ec8d D12a U1201f1a5| 01ec8c+ 01ec8d+ 01f1a5+\n\
+or its node leaves|F01a P0001ec8c O01a S01a:t N0001ec8c:01ec8d K12b:a:t D02a:t U0101ec8d D02a X1| 01ec8c+ 01ec8d+ 01f1a5+\n\
+a reservation for a snapshot too|F01a P0001ec8c O01a S01a:t U0101ec8c D12a| 01ec8c- 01ec8d-\n\
+a clone is an heir|F01a P0001ec8c O01a S01a:t N0001ec8c:01ec8d K12b:a:t C1001f1a5 D12a:t U0101ec8d D12a| 01ec8c- 01ec8d+ 01f1a5-\n\
+an heir of an heir|F01a P0001ec8c O01a S01a:t N0001ec8c:01ec8d K12b:a:t C1001f1a5 O12b S12b:u N1001f1a5:01f1a6 D12a:t U0101ec8d D12a D03b:u| 01ec8c- 01ec8d+ 01f1a5- 01f1a6-\n\
+the whole chain goes with the last|F01a P0001ec8c O01a S01a:t N0001ec8c:01ec8d K12b:a:t C1001f1a5 O12b S12b:u N1001f1a5:01f1a6 D12a:t U0101ec8d D12a D03b:u U1201f1a6 D03b| 01ec8c+ 01ec8d+ 01f1a5+ 01f1a6+\n\
+the last may go first|F01a P0001ec8c O01a S01a:t N0001ec8c:01ec8d K12b:a:t C1001f1a5 D03b U0101ec8d D12a D12a:t| 01ec8c+ 01ec8d+ 01f1a5+\n\
+a leave frees two reservations of one base|F01a P0001ec8c O01a S01a:t N0001ec8c:01ec8d K12b:a:t K13c:a:t D02a:t U0101ec8d D02a X1| 01ec8c+ 01ec8d+ 01eff2+ 01f1a5+\n\
+a leave frees no published disk|F01a P0001ec8c O01a S01a:t N0001ec8c:01ec8d K12b:a:t C1001f1a5 X1| 01ec8c- 01ec8d- 01f1a5-\n\
+drawn 1|F12c P1001eff2 O01c S01c:u S01c:u S01c:t N0001eff2:01eff3 U0101eff4 N0001eff2:01eff5 U0101eff3 N0001eff2:01eff5 O23c U2301eff3 N0001eff2:01eff5 O12c D23c:u X3 N0001eff2:01eff5 S12c:t N1001eff3:01eff6 K23d:c:t N0001eff2:01eff5 U0101eff5 S12c:t D01c:t S12c:u| 01e773- 01eff2- 01eff3- 01eff4+ 01eff5+ 01eff6- 01eff7-\n\
+drawn 2|F12b F34b P1001f1a5 O12b F23d P2001e773 S12b:t N1001f1a5:01f1a6 D23d S12b:u S12b:t N1001f1a6:01f1a7 D23b:u S12b:t D34b:t S12b:u S12b:u N1001f1a7:01f1a8 K01a:b:u U1201f1a9 C0001ec8c D12b:u S12b:t D01a U1201f1aa U1201f1a8| 01e773+ 01ec8c+ 01f1a5- 01f1a6- 01f1a7- 01f1a8- 01f1a9+ 01f1aa+\n\
+drawn 3|F01b U0101f1a5 F01a P0001ec8c F34c P3001eff2 D12c D01a F12c P1001eff3 O23c S23c:t N2001eff3:01eff4 K01a:c:t U0101ec8d D34c:t S23c:u S23c:u N2001eff4:01eff5 D34c:u U2301eff5 O01c S01c:u N2001eff4:01eff6 N0001eff5:01eff7 S01c:t| 01ec8c+ 01ec8d+ 01eff2+ 01eff3- 01eff4- 01eff5- 01eff6- 01eff7- 01eff8- 01f1a5+\n\
+drawn 4|F12c P1001eff2 D34c F23b P2001f1a5 F01a P0001ec8c O01a U0101ec8c O01a S01a:u O23b S01a:u U0101ec8e U2301f1a5 S01a:u X0 O34b S34b:t S34b:u O34a N3001f1a5:01f1a7 S34a:t N3001ec8c:01ec90 D23a:t D23b:u| 01ec8c- 01ec8d+ 01ec8e+ 01ec8f+ 01ec90- 01eff2+ 01f1a5- 01f1a6- 01f1a7-\n\
+drawn 5|F01a P0001ec8c F01a O34a F01b U3401ec8c O34a P0001f1a5 S34a:t S34a:u N3001ec8c:01ec8d S34a:u N3001ec8d:01ec8f D23a:t N3001ec8c:01ec8e U3401ec8f K23b:a:u U3401ec8e D23a D12b K34d:a:u D12a:u C3001e773 X2 O12d S12d:u| 01e773- 01e774- 01ec8c- 01ec8d- 01ec8e+ 01ec8f+ 01f1a5+\n\
+drawn 6|F01c F34c F01d F34a P3001ec8c D23a P0001e773 P0001eff2 O01c S01c:t U0101eff2 U0101eff3 D23d X1 O01c S01c:t N0001eff2:01eff4 D23c:t U0101eff4 X2 O01c S01c:u U0101eff4 N0001eff4:01eff5 D01c N0001eff4:01eff5| 01e773+ 01ec8c+ 01eff2- 01eff3+ 01eff4- 01eff5-\n\
+drawn 7|F12b U1201f1a5 F34c F23d P2001e773 P3001eff2 D34c O34d U3401e773 O01d S01d:u N0001e773:01e774 K12b:d:u K12d:d:u S01d:t X2 N0001e774:01e775 U0101e775 K01b:d:u C1001f1a6 D12d:t K34d:d:u K34a:d:u D01d:u O12b C3001ec8c| 01e773- 01e774- 01e775- 01ec8c- 01eff2+ 01f1a5+ 01f1a6-\n\
+drawn 8|F34d F01d F23a P2001ec8c D23a U3401e773 F01d P0001e774 O12d S12d:u N1001e774:01e775 S12d:t D23d:u N1001e775:01e776 S12d:u U1201e776 O01d D23d:t S01d:u U0101e776 N1001e776:01e777 N0001e776:01e778 X3 U1201e777 N0001e776:01e778 X2| 01e773+ 01e774- 01e775- 01e776- 01e777+ 01e778- 01ec8c+\n\
+drawn 9|F12d P1001e773 O34d S34d:t N3001e773:01e774 D34d:t F23a S34d:u S34d:u P2001ec8c D34a U3401e775 S34d:t S34d:u N3001e774:01e776 X2 U3401e777 N3001e774:01e778 U3401e776 N3001e774:01e778 D01d K01b:d:u C0001f1a5 O01b K01d:d:u D34d:u| 01e773- 01e774- 01e775+ 01e776+ 01e777+ 01e778- 01ec8c+ 01f1a5-\n\
+drawn 10|F12d F01a P0001ec8c P1001e773 D34d D23a F12c P1001eff2 O01c S01c:t N0001eff2:01eff3 D01c:t S01c:t N0001eff3:01eff4 K01b:c:t D01c:t S01c:t S01c:u S01c:t N0001eff4:01eff6 K23b:c:u D23c:u N0001eff4:01eff5 C0001f1a5 X0 O12b| 01e773+ 01ec8c+ 01eff2- 01eff3- 01eff4- 01eff5+ 01eff6- 01eff7+ 01f1a5-";
+
 fn nibble(digit: u8) -> u32 {
     if digit < b'a' {
         u32::from(digit.wrapping_sub(b'0') % 16)
@@ -400,6 +432,39 @@ fn decides_as_the_table(rt: HostRuntime) -> Result<(), Fail> {
         rows = rows.wrapping_add(1);
     }
     assert_eq!(rt; rows, 103);
+    Ok(())
+}
+
+/// Whether the directory says of each id what its mark says.
+fn are_told(directory: &Directory, marks: &[u8]) -> bool {
+    let mut told = true;
+    for mark in marks.split(|byte| *byte == b' ').skip(1) {
+        let vid = vid_of(mark.get(..6).unwrap_or(b""));
+        let is_dead = mark.get(6) == Some(&b'+');
+        told = told && directory.dead(vid) == is_dead;
+    }
+    told
+}
+
+fn is_told(alloc: Global, row: &[u8]) -> Result<bool, NoMemory> {
+    let mut fields = row.split(|byte| *byte == b'|').skip(1);
+    let (Some(words), Some(marks)) = (fields.next(), fields.next()) else {
+        return Ok(false);
+    };
+    let Some((directory, _locks)) = read_words(alloc, words, &mut Vec::new(alloc))? else {
+        return Ok(false);
+    };
+    Ok(are_told(&directory, marks))
+}
+
+#[test]
+fn tells_the_dead(rt: HostRuntime) -> Result<(), Fail> {
+    let mut rows = 0_u32;
+    for row in DEAD_ROWS.split(|byte| *byte == b'\n') {
+        assert!(rt; is_told(rt.alloc(), row)?, "row {rows}");
+        rows = rows.wrapping_add(1);
+    }
+    assert_eq!(rt; rows, 28);
     Ok(())
 }
 

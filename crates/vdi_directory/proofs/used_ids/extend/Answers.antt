@@ -1,4 +1,4 @@
-use Rattle.std.proofs.Common.{◌≡◌, ◌+◌, ◌<◌, length, get_or, ap, sym, ◌∙◌, refl, arith}
+use Rattle.std.proofs.Common.{◌+◌, ap, ◌∙◌, refl, arith}
 use Rattle.std.proofs.lemmas.List.{get_or_default}
 use Rattle.vdi_directory.specs.declared.vid_range.VidRange.{VidRange}
 use Rattle.vdi_directory.proofs.UsedLemmas.{extended-joined, extended-only}

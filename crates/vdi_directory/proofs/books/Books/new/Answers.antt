@@ -1,13 +1,16 @@
-use Rattle.std.proofs.Common.{[], ap, sym, subst}
+use Rattle.std.proofs.Common.{[], unwrap_or, refl, ap, sym, subst}
 use Rattle.std.specs.Ordering.{nat_cmp}
 use Rattle.std.specs.Map.{lookup}
 use Rattle.std.specs.BTreeMap.{is_at}
 use Rattle.vdi_directory.specs.Vids.{is_in, AreRangesFrom}
 use Rattle.vdi_directory.specs.Effects.{is_used, header_of, name_of, claims_of, live_of}
+use Rattle.vdi_directory.specs.States.{state_of}
+use Rattle.vdi_directory.specs.Bearers.{parent_of, own_of, count_in}
+use Rattle.vdi_directory.proofs.BearerLemmas.{none-bear}
 use Rattle.vdi_directory.proofs.books.Books.new.Goals as goal
 
 pub returns : goal.returns
-unfolding is_used header_of name_of claims_of live_of
+unfolding is_used header_of name_of claims_of live_of state_of
 returns c = record {
   headers = λ vid. ap (lookup (is_at (nat_cmp vid))) c.new.ensures.empty;
   names = λ name. c.new-2.ensures name;
@@ -15,4 +18,6 @@ returns c = record {
   live = c.new-4.ensures.items;
   ranges = subst (AreRangesFrom 1) (sym c.new-5.ensures.items) tt;
   used = λ vid. ap (λ ranges. is_in ranges vid) c.new-5.ensures.items;
+  bearers = none-bear (parent_of []) (own_of []) (count_in c.new-6.result) (λ vid. refl)
+      (λ vid. ap (λ entries. unwrap_or (lookup (is_at (nat_cmp vid)) entries) 0) c.new-6.ensures.empty);
 }

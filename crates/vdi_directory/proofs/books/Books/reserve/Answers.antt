@@ -1,9 +1,10 @@
-use Rattle.std.proofs.Common.{◌≡◌, ℕ, ◌+◌, ◌<◌, ◌≤◌, ◌==◌, ◌||◌, ◌∷◌, ◌++◌, [], List, Some, cond, refl, ap, subst, sym, ◌∙◌, arith}
+use Rattle.std.proofs.Common.{◌≡◌, ℕ, ◌+◌, ◌∷◌, ◌++◌, [], List, Some, cond, refl, ap, subst, sym, ◌∙◌, arith}
 use Rattle.std.specs.Ordering.{nat_cmp}
 use Rattle.std.specs.BTreeMap.{get}
 use Rattle.vdi_directory.specs.declared.vid_range.VidRange.{VidRange}
 use Rattle.vdi_directory.specs.declared.effect.Claim.{Claim}
 use Rattle.vdi_directory.specs.Vids.{with_vid, is_in, AreRangesFrom}
+use Rattle.vdi_directory.specs.Bearers.{one, one_parent}
 use Rattle.vdi_directory.proofs.VidLemmas.{with_vid-is}
 use Rattle.vdi_directory.proofs.LockLemmas.{tree-key}
 use Rattle.vdi_directory.proofs.books.Books.reserve.Goals as goal
@@ -21,4 +22,6 @@ returns-clause-ok c =
       live = refl;
       ranges = subst (AreRangesFrom 1) (sym put) is.0;
       used = λ other. ap (λ ranges. is_in ranges other) put ∙ is.1 other;
+      bearers = λ other. c.add_child.ensures other
+          ∙ ap (λ count. count + one vid other + one_parent c.args.grant.header.parent other) (c.add_place.ensures.same other);
     }

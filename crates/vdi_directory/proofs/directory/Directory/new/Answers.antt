@@ -1,4 +1,4 @@
-use Rattle.std.proofs.Common.{[], ap, sym, subst, ◌∙◌, List}
+use Rattle.std.proofs.Common.{ap, sym, subst, ◌∙◌, List}
 use Rattle.vdi_directory.specs.declared.effect.Effect.{Effect}
 use Rattle.vdi_directory.specs.Decisions.{happened}
 use Rattle.vdi_directory.specs.Books.{IsBooks}

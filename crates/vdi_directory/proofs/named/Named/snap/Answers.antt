@@ -1,4 +1,4 @@
-use Rattle.std.proofs.Common.{◌≡◌, ◌==◌, cond, Some, None, ap, ◌∙◌}
+use Rattle.std.proofs.Common.{◌==◌, cond, None, ap, ◌∙◌}
 use Rattle.std.specs.FinMap as tree
 use Rattle.vdi_directory.proofs.LockLemmas.{get-granted, get-freed}
 use Rattle.vdi_directory.proofs.named.Named.snap.Goals as goal

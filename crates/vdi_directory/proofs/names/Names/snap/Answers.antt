@@ -1,4 +1,4 @@
-use Rattle.std.proofs.Common.{◌≡◌, ℕ, List, Some, cond, unwrap_or, ap, sym, ◌∙◌}
+use Rattle.std.proofs.Common.{◌≡◌, Some, cond, unwrap_or, ap, sym, ◌∙◌}
 use Rattle.std.specs.Option.{option_copied_mut}
 use Rattle.std.specs.Map.{lookup, set_value}
 use Rattle.std.proofs.lemmas.Map.Steps.{set_value_same}
