@@ -1,5 +1,5 @@
 -- What is spelled at the front of the bytes is read.
-use Rattle.std.proofs.Common.{◌≡◌, ℕ, ◌+◌, ◌-◌, ◌*◌, ◌^◌, ◌<◌, ◌≤◌, Bool, true, false, cond, ltb, List, [], ◌∷◌, ◌++◌, length, take, drop, replicate, Result, Ok, Err, refl, sym, ap, subst, ◌∙◌, arith, All, append_assoc, lit<}
+use Rattle.std.proofs.Common.{◌≡◌, ℕ, ◌+◌, ◌-◌, ◌*◌, ◌^◌, ◌<◌, ◌≤◌, Bool, true, false, cond, ltb, List, ◌∷◌, ◌++◌, length, Result, Ok, Err, refl, sym, ap, subst, ◌∙◌, arith, All, append_assoc, lit<}
 use Rattle.std.specs.List.{list_all}
 use Rattle.std.specs.Int.{w32}
 use Rattle.std.proofs.Math.Nat.{pow-le-pow_right, mul-le-mul_left}
@@ -9,13 +9,13 @@ use Rattle.object_id.specs.declared.entry.VdiSpec.{VdiSpec}
 use Rattle.object_id.specs.Policy.{policy_byte, strips_of}
 use Rattle.object_id.specs.Oid.{IsVid}
 use Rattle.object_id.specs.Spec.{IsSpec, objects_of}
-use Rattle.object_id.specs.Fields.{u8_bytes, u32_bytes, u64_bytes, numbers_bytes, u8_at, u32_at, u64_at, numbers_at, zeros, Stands}
+use Rattle.object_id.specs.Fields.{u8_bytes, u32_bytes, u64_bytes, numbers_bytes, u32_at, u64_at, numbers_at, zeros, Stands}
 use Rattle.object_id.proofs.FieldLemmas.{stands-first, stands-second, stands-front, wide32, u8-read, u32-read, u64-read, numbers-read, length-numbers}
 use Rattle.inode.specs.declared.layout.TheConstants.{INODE_HEADER_BYTES, TEXT_BYTES, CHILDREN_BYTES}
 use Rattle.inode.specs.declared.fault.InodeFault.{InodeFault}
 use Rattle.inode.specs.declared.fault.InodeFault.TheVariants as faults
-use Rattle.inode.specs.Layout.{Content, Unread, Fills, text_bytes, header_bytes, inode_bytes, blank, no_children, SpellsInode, IsContent, IsText, IsEntry}
-use Rattle.inode.specs.Reading.{◌>>=◌, Fails, GivesOrNoMemory, is_entry, text_at, spec_at, vid_at, table_at, content_at, inode_of}
+use Rattle.inode.specs.Layout.{Content, Unread, Fills, text_bytes, inode_bytes, blank, no_children, SpellsInode, IsContent, IsText, IsEntry}
+use Rattle.inode.specs.Reading.{GivesOrNoMemory, is_entry, text_at, spec_at, vid_at, table_at, content_at, inode_of}
 use Rattle.inode.proofs.TextLemmas.{text-is_read}
 use Rattle.inode.proofs.TableLemmas.{pass-entries, entries-fit}
 use Rattle.inode.proofs.SpecLemmas.{goes-on, spec-again, vid-again}

@@ -1,5 +1,5 @@
 -- What is read of an inode is spelled at the front of the bytes.
-use Rattle.std.proofs.Common.{◌≡◌, ℕ, ◌+◌, ◌*◌, ◌^◌, ◌<◌, ◌≤◌, Bool, true, false, cond, ltb, List, [], ◌∷◌, ◌++◌, length, take, drop, Result, Ok, Err, refl, sym, ap, subst, ◌∙◌, arith, All}
+use Rattle.std.proofs.Common.{◌≡◌, ℕ, ◌+◌, ◌*◌, ◌^◌, ◌<◌, ◌≤◌, Bool, true, false, cond, ltb, List, length, take, drop, Result, Ok, Err, refl, sym, ap, subst, ◌∙◌, arith, All}
 use Rattle.std.specs.Prelude.{IfOk}
 use Rattle.std.specs.List.{list_all}
 use Rattle.std.specs.Int.{w32}
@@ -13,8 +13,8 @@ use Rattle.object_id.proofs.FieldLemmas.{stands-then, stands-part, stands-u8, st
 use Rattle.inode.specs.declared.layout.TheConstants.{INODE_HEADER_BYTES, TEXT_BYTES, CHILDREN_BYTES}
 use Rattle.inode.specs.declared.fault.InodeFault.{InodeFault}
 use Rattle.inode.specs.declared.fault.InodeFault.TheVariants as faults
-use Rattle.inode.specs.Layout.{Content, Unread, Fills, text_bytes, header_bytes, inode_bytes, SpellsInode, IsContent, IsEntry}
-use Rattle.inode.specs.Reading.{◌>>=◌, Fails, GivesOrNoMemory, is_entry, text_at, spec_at, vid_at, table_at, content_at, inode_of}
+use Rattle.inode.specs.Layout.{Content, Unread, text_bytes, SpellsInode, IsContent, IsEntry}
+use Rattle.inode.specs.Reading.{Fails, GivesOrNoMemory, is_entry, text_at, spec_at, vid_at, table_at, content_at, inode_of}
 use Rattle.inode.proofs.TextLemmas.{text-stands}
 use Rattle.inode.proofs.TableLemmas.{entries-pass}
 use Rattle.inode.proofs.SpecLemmas.{bind-ok, spec-read, vid-read}

@@ -1,15 +1,14 @@
 -- Texts that end at a 0: what is read before it, and that a text in its field is read.
-use Rattle.std.proofs.Common.{◌≡◌, ◌≢◌, ℕ, zero, suc, ◌+◌, ◌-◌, ◌<◌, ◌≤◌, Bool, true, false, cond, eqb, ltb, not, List, [], ◌∷◌, ◌++◌, length, take, drop, get_or, Option, Some, None, Result, Ok, Err, refl, sym, ap, subst, ◌∙◌, arith, All}
+use Rattle.std.proofs.Common.{◌≡◌, ◌≢◌, ℕ, ◌+◌, ◌-◌, ◌<◌, ◌≤◌, Bool, true, false, cond, eqb, ltb, List, [], ◌∷◌, ◌++◌, length, take, drop, get_or, Option, Some, None, Result, Ok, refl, sym, ap, subst, ◌∙◌, arith, All}
 use Rattle.std.specs.List.{position, position_or_len, AllByRecursion}
 use Rattle.std.proofs.lemmas.Bool.{eqb-true, eqb-false, ne_eqb, lt-ltb}
-use Rattle.std.proofs.lemmas.List.{take-append-drop, take_at, drop_more, get_or-take, get_or_default, length-append, length-take-le, length-drop}
+use Rattle.std.proofs.lemmas.List.{take-append-drop, take_at, drop_more, get_or-take, get_or_default, length-append, length-take-le}
 use Rattle.std.proofs.lemmas.List.Quantifiers.{position-Some}
 use Rattle.std.proofs.lemmas.List.Elements.{recursion_from_All}
 use Rattle.object_id.specs.Fields.{Stands}
 use Rattle.object_id.proofs.FieldLemmas.{stands-as, range-is, part-length, range-stands}
 use Rattle.inode.specs.declared.layout.TheConstants.{TEXT_BYTES}
 use Rattle.inode.specs.declared.fault.InodeFault.{InodeFault}
-use Rattle.inode.specs.declared.fault.InodeFault.TheVariants as faults
 use Rattle.inode.specs.Layout.{text_bytes, IsText}
 use Rattle.inode.specs.Reading.{is_end, cut_at, text_of, text_at}
 

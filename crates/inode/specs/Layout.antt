@@ -1,5 +1,5 @@
 -- The layout of an inode: 4,664 bytes of header, then the table, four bytes an entry.
-use Rattle.std.specs.Prelude.{◌≡◌, ◌≢◌, ℕ, ◌+◌, ◌-◌, ◌*◌, ◌^◌, ◌<◌, ◌≤◌, List, [], ◌∷◌, ◌++◌, length, replicate, All, Option, Some, None}
+use Rattle.std.specs.Prelude.{◌≡◌, ◌≢◌, ℕ, ◌-◌, ◌^◌, ◌<◌, List, ◌∷◌, ◌++◌, length, All, Option, Some, None}
 use Rattle.std.specs.Int.{w32}
 use Rattle.object_id.specs.declared.oid.Vid.{Vid}
 use Rattle.object_id.specs.declared.entry.VdiSpec.{VdiSpec}

@@ -1,17 +1,16 @@
 -- Replies: what is read is spelled at the front of the bytes, and what is spelled there is read.
-use Rattle.std.proofs.Common.{◌≡◌, ℕ, ◌+◌, ◌^◌, ◌<◌, ◌≤◌, Bool, true, false, cond, ltb, eqb, not, ◌||◌, List, [], ◌∷◌, ◌++◌, length, take, drop, Result, Ok, Err, refl, sym, ap, subst, ◌∙◌, arith}
-use Rattle.std.specs.Prelude.{IsTrue, IfOk}
+use Rattle.std.proofs.Common.{◌≡◌, ℕ, ◌≤◌, Bool, true, false, cond, ltb, eqb, not, ◌||◌, List, ◌++◌, length, take, drop, Result, Ok, Err, refl, sym, ap, subst, ◌∙◌, arith}
+use Rattle.std.specs.Prelude.{IfOk}
 use Rattle.std.proofs.lemmas.Bool.{ltb-false, le-ltb, eqb-true}
 use Rattle.std.proofs.lemmas.List.{length-append, length-take-le, length-drop}
 use Rattle.std.proofs.lemmas.Nat.{from_le_bytes-to_le_bytes_2, from_le_bytes-to_le_bytes_4}
-use Rattle.object_id.specs.Fields.{u8_bytes, u16_bytes, u32_bytes, u8_at, u16_at, u32_at, zeros, AreBytes, Stands}
+use Rattle.object_id.specs.Fields.{u32_bytes, u8_at, u16_at, u32_at, zeros, AreBytes, Stands}
 use Rattle.object_id.proofs.FieldLemmas.{stands-then, stands-first, stands-second, stands-front, stands-part, stands-u32, u32-below, u32-read}
-use Rattle.sheep_proto.specs.declared.common.Common.{Common}
 use Rattle.sheep_proto.specs.declared.common.TheConstants.{HEADER_BYTES, VERSION}
 use Rattle.sheep_proto.specs.declared.fault.HeaderFault.{HeaderFault}
 use Rattle.sheep_proto.specs.declared.fault.HeaderFault.TheVariants.{ShortHeader, VerMismatch, UnknownOpcode}
 use Rattle.sheep_proto.specs.declared.reply.VdiRsp.{VdiRsp}
-use Rattle.sheep_proto.specs.Headers.{common_bytes, common_at, IsCommon, is_object_opcode, is_vdi_opcode}
+use Rattle.sheep_proto.specs.Headers.{common_bytes, common_at, is_object_opcode, is_vdi_opcode}
 use Rattle.sheep_proto.specs.Replies.{rsp_common, reply_bytes, rsp_at, reply_of, SpellsReply, IsReply}
 use Rattle.sheep_proto.proofs.HeaderLemmas.{passed, not-false, common-fits, common-stands}
 

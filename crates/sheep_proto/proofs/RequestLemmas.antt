@@ -1,13 +1,12 @@
 -- Requests: what is read is spelled at the front of the bytes, and what is spelled there is read.
-use Rattle.std.proofs.Common.{◌≡◌, ℕ, ◌+◌, ◌^◌, ◌<◌, ◌≤◌, Bool, true, false, cond, ltb, eqb, not, ◌||◌, List, [], ◌∷◌, ◌++◌, length, take, drop, Result, Ok, Err, refl, sym, ap, subst, ◌∙◌, arith, inl, inr}
-use Rattle.std.specs.Prelude.{IsTrue, IfOk}
+use Rattle.std.proofs.Common.{◌≡◌, ℕ, ◌≤◌, Bool, true, false, cond, ltb, eqb, not, List, ◌++◌, length, take, drop, Result, Ok, Err, refl, sym, ap, subst, ◌∙◌, arith, inl, inr}
+use Rattle.std.specs.Prelude.{IfOk}
 use Rattle.std.proofs.lemmas.Bool.{ltb-false, le-ltb, eqb-true}
 use Rattle.std.proofs.lemmas.Bool.Decides.{eqb_tells}
 use Rattle.std.proofs.lemmas.List.{length-append, length-take-le, length-drop}
 use Rattle.std.proofs.lemmas.Nat.{from_le_bytes-to_le_bytes_2, from_le_bytes-to_le_bytes_4, from_le_bytes-to_le_bytes_8}
-use Rattle.object_id.specs.Fields.{u8_bytes, u16_bytes, u32_bytes, u64_bytes, u8_at, u16_at, u32_at, u64_at, zeros, AreBytes, Stands}
+use Rattle.object_id.specs.Fields.{u8_bytes, u32_bytes, u64_bytes, u8_at, u16_at, u32_at, u64_at, zeros, AreBytes, Stands}
 use Rattle.object_id.proofs.FieldLemmas.{stands-then, stands-second, stands-front, stands-part, stands-u8, stands-u32, stands-u64, u32-below, u64-below, u64-read}
-use Rattle.sheep_proto.specs.declared.common.Common.{Common}
 use Rattle.sheep_proto.specs.declared.common.TheConstants.{HEADER_BYTES, VERSION}
 use Rattle.sheep_proto.specs.declared.fault.HeaderFault.{HeaderFault}
 use Rattle.sheep_proto.specs.declared.fault.HeaderFault.TheVariants.{ShortHeader, VerMismatch, UnknownOpcode}
@@ -15,8 +14,8 @@ use Rattle.sheep_proto.specs.declared.request.ObjReq.{ObjReq}
 use Rattle.sheep_proto.specs.declared.request.VdiReq.{VdiReq}
 use Rattle.sheep_proto.specs.declared.request.Request.{Request}
 use Rattle.sheep_proto.specs.declared.request.Request.TheVariants.{Obj, Vdi}
-use Rattle.sheep_proto.specs.Headers.{common_bytes, common_at, IsCommon, is_object_opcode, is_vdi_opcode}
-use Rattle.sheep_proto.specs.Requests.{obj_common, vdi_common, obj_bytes, vdi_bytes, request_bytes, reserved_of, obj_at, vdi_at, request_of, SpellsRequest, IsObjReq, IsVdiReq, IsRequest}
+use Rattle.sheep_proto.specs.Headers.{common_bytes, common_at, is_object_opcode, is_vdi_opcode}
+use Rattle.sheep_proto.specs.Requests.{obj_common, obj_bytes, vdi_bytes, request_bytes, reserved_of, obj_at, vdi_at, request_of, SpellsRequest, IsObjReq, IsVdiReq, IsRequest}
 use Rattle.sheep_proto.proofs.HeaderLemmas.{passed, not-false, common-fits, common-stands}
 
 -- ---- what is read is spelled

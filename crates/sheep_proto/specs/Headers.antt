@@ -1,5 +1,5 @@
 -- Headers: 48 bytes, of which the first 16 have one layout, and what is wrong with bytes that are none.
-use Rattle.std.specs.Prelude.{◌≡◌, ℕ, ◌^◌, ◌<◌, ◌==◌, ◌||◌, nat_lt, Bool, not, List, ◌++◌, length, Result, Ok, Err, if◌then◌else◌}
+use Rattle.std.specs.Prelude.{ℕ, ◌^◌, ◌<◌, ◌==◌, ◌||◌, nat_lt, Bool, not, List, ◌++◌, length, Result, Ok, Err, if◌then◌else◌}
 use Rattle.object_id.specs.Fields.{u8_bytes, u16_bytes, u32_bytes, u8_at, u16_at, u32_at}
 use Rattle.sheep_proto.specs.declared.common.Common.{Common}
 use Rattle.sheep_proto.specs.declared.common.TheConstants.{HEADER_BYTES, VERSION}

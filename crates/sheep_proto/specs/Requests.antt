@@ -1,6 +1,6 @@
 -- The spelling of a request: its fields in the order of the table.
 use Rattle.std.specs.Prelude.{◌≡◌, ℕ, ◌^◌, ◌<◌, ◌==◌, nat_lt, not, IsTrue, List, ◌++◌, length, Result, Ok, Err, if◌then◌else◌}
-use Rattle.object_id.specs.Fields.{u8_bytes, u16_bytes, u32_bytes, u64_bytes, u8_at, u16_at, u32_at, u64_at}
+use Rattle.object_id.specs.Fields.{u8_bytes, u32_bytes, u64_bytes, u8_at, u16_at, u32_at, u64_at}
 use Rattle.sheep_proto.specs.declared.common.Common.{Common}
 use Rattle.sheep_proto.specs.declared.request.ObjReq.{ObjReq}
 use Rattle.sheep_proto.specs.declared.request.VdiReq.{VdiReq}

@@ -1,4 +1,4 @@
-use Rattle.std.proofs.Common.{◌∙◌, sym}
+use Rattle.std.proofs.Common.{sym}
 use Rattle.inode.proofs.TextLemmas.{cut-ends}
 use Rattle.inode.proofs.reading.text_of.Goals as goal
 
