@@ -1,0 +1,103 @@
+-- Cases that are worked out by computing.
+use Rattle.std.proofs.Common.{◌≡◌, ℕ, ◌+◌, ◌^◌, true, false, List, [], ◌∷◌, Some, cond, refl, ap}
+use Rattle.std.specs.Ordering.{nat_cmp}
+use Rattle.std.specs.FinSet.{contains-empty}
+use Rattle.object_id.specs.declared.cause.Cause.TheVariants as causes
+use Rattle.object_id.specs.declared.entry.Member.{Member}
+use Rattle.object_id.specs.declared.node.Epoch.{Epoch}
+use Rattle.object_id.specs.declared.node.NodeId.{NodeId}
+use Rattle.object_id.specs.declared.policy.Policy.TheVariants.{Copies, Coded}
+use Rattle.hash_ring.specs.Placement.{zone_count}
+use Rattle.vnode_table.specs.Epochs.{Entered, members_at}
+use Rattle.peer_proto.specs.declared.say.Refusal.TheVariants as refusals
+use Rattle.peer_proto.specs.declared.work.ObjWork.{ObjWork}
+use Rattle.peer_proto.specs.declared.work.ObjWork.TheVariants.{Create, Write, Read}
+use Rattle.gateway.specs.declared.act.Act.TheVariants as acts
+use Rattle.gateway.specs.declared.message.Message.{Message}
+use Rattle.gateway.specs.declared.message.Status.{Status}
+use Rattle.gateway.specs.declared.message.Status.TheVariants.{Unanswered, Succeeded, Refused, Lost}
+use Rattle.gateway.specs.Work.{asked}
+use Rattle.gateway.specs.Attempt.{is_over, is_done, first_failure}
+use Rattle.gateway.specs.State.{Ended, Short, Work, opening}
+use Rattle.gateway.specs.Step.{tried, refused, waiting, with_work}
+
+abbrev node : ℕ → NodeId
+node n = record { 0 = n }
+
+abbrev epoch : ℕ → Epoch
+epoch n = record { 0 = n }
+
+abbrev three : List NodeId
+three = node 4 ∷ node 7 ∷ node 2 ∷ []
+
+-- object 0 of disk 1, and its inode
+abbrev object : ℕ
+object = 2 ^ 32
+
+abbrev inode : ℕ
+inode = 2 ^ 63 + 2 ^ 32
+
+abbrev message : ℕ → Status → Message
+message number status = record { number = number; node = node number; index = 0; status = status }
+
+abbrev write : ObjWork
+write = Write object (Copies 3) 0 []
+
+-- whole reads ask the targets in turn: the first attempt the first one, the fifth of three the second
+whole_reads_go_round : asked (Read object (Copies 3) 0 512) 0 three ≡ (0, node 4) ∷ []
+whole_reads_go_round = refl
+
+and_round : asked (Read object (Copies 3) 0 512) 4 three ≡ (1, node 7) ∷ []
+and_round = refl
+
+-- the inode of a coded disk is kept whole, its data in strips
+inodes_are_whole : asked (Read inode (Coded 2 2) 0 512) 1 three ≡ (1, node 7) ∷ []
+inodes_are_whole = refl
+
+strips_are_read_everywhere : asked (Read object (Coded 2 1) 0 512) 1 three ≡ (0, node 4) ∷ (1, node 7) ∷ (2, node 2) ∷ []
+strips_are_read_everywhere = refl
+
+writes_go_everywhere : asked write 1 three ≡ (0, node 4) ∷ (1, node 7) ∷ (2, node 2) ∷ []
+writes_go_everywhere = refl
+
+-- an attempt isn't over while a message is unanswered
+not_over : is_over (message 1 (Succeeded []) ∷ message 2 Unanswered ∷ message 3 Lost ∷ []) ≡ false
+not_over = refl
+
+-- all but one is not enough for a write, and for a read of strips d are
+one_short : is_done write (message 1 (Succeeded []) ∷ message 2 Lost ∷ message 3 (Succeeded []) ∷ []) ≡ false
+one_short = refl
+
+two_strips : is_done (Read object (Coded 2 1) 0 512) (message 1 Lost ∷ message 2 (Succeeded []) ∷ message 3 (Succeeded []) ∷ []) ≡ true
+two_strips = refl
+
+-- the cause is that of the first message that didn't succeed
+first_of_three : first_failure write (epoch 5)
+    (message 1 (Succeeded []) ∷ message 2 (Refused (refusals.NewEpoch (epoch 4))) ∷ message 3 Lost ∷ [])
+    ≡ Some (causes.NewEpoch (node 2) (epoch 5) (epoch 4))
+first_of_three = refl
+
+a_lost_link : first_failure write (epoch 5) (message 1 Lost ∷ message 2 (Refused refusals.NoObj) ∷ []) ≡ Some (causes.Link (node 1))
+a_lost_link = refl
+
+-- four nodes, of which three stand in one zone, are too few for three copies, and enough for two
+abbrev member : ℕ → ℕ → Member
+member n zone = record { node = node n; zone = zone; vnodes = 64 }
+
+abbrev four : List Entered
+four = record { epoch = 1; members = member 0 9 ∷ member 1 9 ∷ member 2 9 ∷ member 3 3 ∷ [] } ∷ []
+
+two_zones : zone_count (members_at four 1) ≡ 2
+unfolding zone_count
+two_zones = refl
+
+abbrev create : ℕ → Work
+create copies = record { work = Create inode (Copies copies) 4198968 0 []; ended = 0; stage = Ended }
+
+too_few_zones : (tried four (opening (node 0) 4) 1 (create 3) 0 (epoch 1)).act ≡ acts.Refused 1 (causes.Halt 2 3)
+unfolding tried zone_count
+too_few_zones =
+    ap (λ touched. (cond touched
+    (waiting (with_work 1 (record (create 3) { stage = Short (epoch 1) }) (opening (node 0) 4)))
+    (refused (opening (node 0) 4) 1 (causes.Halt 2 3))).act)
+    (contains-empty nat_cmp 1)

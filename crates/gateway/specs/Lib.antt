@@ -1,0 +1,5 @@
+pub mod Work
+pub mod Attempt
+pub mod State
+pub mod Step
+pub mod Told

@@ -1,0 +1,102 @@
+-- A work on one object: which targets an attempt asks, and for which part of the bytes.
+use Rattle.std.specs.Prelude.{ℕ, ◌+◌, ◌%◌, ◌^◌, ◌≤◌, ◌==◌, Bool, true, false, List, length, take, drop, if◌then◌else◌}
+use Rattle.std.specs.List.{enumerate_from}
+use Rattle.object_id.specs.declared.node.NodeId.{NodeId}
+use Rattle.object_id.specs.declared.oid.Kind.{Kind}
+use Rattle.object_id.specs.declared.oid.Kind.TheVariants.{Block, Inode}
+use Rattle.object_id.specs.declared.policy.Policy.{Policy}
+use Rattle.object_id.specs.declared.policy.Policy.TheVariants.{Copies, Coded}
+use Rattle.object_id.specs.Oid.{kind_of}
+use Rattle.object_id.specs.Policy.{IsPolicy, wanted_of, need_of}
+use Rattle.strip_coding.specs.Part.{IsAligned, part, part_size}
+use Rattle.peer_proto.specs.declared.work.ObjWork.{ObjWork}
+use Rattle.peer_proto.specs.declared.work.ObjWork.TheVariants.{Create, Write, Read}
+use Rattle.peer_proto.specs.declared.ask.PeerAsk.{PeerAsk}
+use Rattle.peer_proto.specs.declared.ask.PeerAsk.TheVariants as asks
+
+abbrev pub oid_of : ObjWork → ℕ
+oid_of (Create oid policy size offset bytes) = oid
+oid_of (Write oid policy offset bytes) = oid
+oid_of (Read oid policy offset size) = oid
+
+abbrev pub policy_of : ObjWork → Policy
+policy_of (Create oid policy size offset bytes) = policy
+policy_of (Write oid policy offset bytes) = policy
+policy_of (Read oid policy offset size) = policy
+
+-- whether a work makes something: a create or a write
+abbrev pub is_making : ObjWork → Bool
+is_making (Create oid policy size offset bytes) = true
+is_making (Write oid policy offset bytes) = true
+is_making (Read oid policy offset size) = false
+
+-- in how many zones an attempt has to begin: as many as are wanted, for a read as many as are needed
+abbrev pub zones_for : ObjWork → ℕ
+zones_for (Create oid policy size offset bytes) = wanted_of policy (kind_of oid)
+zones_for (Write oid policy offset bytes) = wanted_of policy (kind_of oid)
+zones_for (Read oid policy offset size) = need_of policy (kind_of oid)
+
+-- whether the targets keep strips, and not whole copies
+abbrev pub is_in_strips : Policy → Kind → Bool
+is_in_strips (Copies copies) kind = false
+is_in_strips (Coded d p) Block = true
+is_in_strips (Coded d p) Inode = false
+
+-- the index under which a target keeps its part: of strips its place in the target list, of whole copies 0
+abbrev pub index_at : Policy → Kind → ℕ → ℕ
+index_at policy kind place = if is_in_strips policy kind then place else 0
+
+-- of places the one at the attempt's number modulo their count; attempts are numbered from 0
+abbrev pub in_turn : ℕ → List (ℕ × NodeId) → List (ℕ × NodeId)
+in_turn attempt places = take 1 (drop (attempt % length places) places)
+
+-- a read asks every target for its strip, or one target after another for the bytes
+abbrev pub read_from : Bool → ℕ → List (ℕ × NodeId) → List (ℕ × NodeId)
+read_from true attempt places = places
+read_from false attempt places = in_turn attempt places
+
+-- the targets that an attempt asks, each with its place: a create or write asks all of them
+abbrev pub asked : ObjWork → ℕ → List NodeId → List (ℕ × NodeId)
+asked (Create oid policy size offset bytes) attempt targets = enumerate_from 0 targets
+asked (Write oid policy offset bytes) attempt targets = enumerate_from 0 targets
+asked (Read oid policy offset size) attempt targets =
+    read_from (is_in_strips policy (kind_of oid)) attempt (enumerate_from 0 targets)
+
+-- what the target that keeps the part of this index is asked: the work, on that part
+abbrev pub ask_for : ObjWork → ℕ → PeerAsk
+ask_for (Create oid policy size offset bytes) index =
+    asks.Create
+    (record { oid = oid; index = index })
+    (part_size policy (kind_of oid) size)
+    (part_size policy (kind_of oid) offset)
+    (part policy (kind_of oid) index bytes)
+ask_for (Write oid policy offset bytes) index =
+    asks.Write
+    (record { oid = oid; index = index })
+    (part_size policy (kind_of oid) offset)
+    (part policy (kind_of oid) index bytes)
+ask_for (Read oid policy offset size) index =
+    asks.Read
+    (record { oid = oid; index = index })
+    (part_size policy (kind_of oid) offset)
+    (part_size policy (kind_of oid) size)
+
+-- whether a piece is as long as a read asks for
+abbrev pub is_piece : ObjWork → ℕ → Bool
+is_piece (Create oid policy size offset bytes) n = false
+is_piece (Write oid policy offset bytes) n = false
+is_piece (Read oid policy offset size) n = n == part_size policy (kind_of oid) size
+
+-- whether an offset and a length go by whole parts: those of strips by whole blocks
+abbrev pub AreAligned : Policy → Kind → ℕ → ℕ → Type 0
+AreAligned policy kind offset long = IsAligned policy kind offset × IsAligned policy kind long
+
+-- what a work must meet: a create's piece ends inside the object, any other work inside the longest object, 2^24 bytes
+abbrev pub IsWork : ObjWork → Type 0
+IsWork (Create oid policy size offset bytes) =
+    IsPolicy policy × (offset + length bytes ≤ size) × AreAligned policy (kind_of oid) offset (length bytes)
+    × IsAligned policy (kind_of oid) size
+IsWork (Write oid policy offset bytes) =
+    IsPolicy policy × (offset + length bytes ≤ 2 ^ 24) × AreAligned policy (kind_of oid) offset (length bytes)
+IsWork (Read oid policy offset size) =
+    IsPolicy policy × (offset + size ≤ 2 ^ 24) × AreAligned policy (kind_of oid) offset size

@@ -1,0 +1,103 @@
+//! Laws of the definitions, for the proofs of the layers above: each is the contract of a function that does nothing.
+ghost use Rattle.std.specs.Prelude.{◌≡◌, ◌≢◌, ◌⊎◌, ℕ, ◌≤◌, true, false, List, length, map, Some, None};
+ghost use Rattle.std.specs.List.{list_any, range_with_len};
+ghost use Rattle.std.specs.FinMap.{get};
+ghost use Rattle.object_id.specs.declared.node.Epoch.{Epoch};
+ghost use Rattle.object_id.specs.declared.node.NodeId.{NodeId};
+ghost use Rattle.object_id.specs.declared.oid.Kind.{Kind};
+ghost use Rattle.object_id.specs.declared.policy.Policy.{Policy};
+ghost use Rattle.object_id.specs.Oid.{kind_of};
+ghost use Rattle.object_id.specs.Policy.{IsPolicy, need_of};
+ghost use Rattle.gf256.specs.Polynomial.{AreBytes, ArePoints};
+ghost use Rattle.strip_coding.specs.Part.{IsAligned, part};
+ghost use Rattle.hash_ring.specs.Placement.{zone_count};
+ghost use Rattle.vnode_table.specs.Epochs.{Entered, members_at};
+ghost use Rattle.peer_proto.specs.declared.work.ObjWork.{ObjWork};
+ghost use Rattle.gateway.specs.declared.message.Message.{Message};
+ghost use Rattle.gateway.specs.declared.message.Status.{Status};
+ghost use Rattle.gateway.specs.Work.{oid_of, policy_of, is_making, is_in_strips, index_at};
+ghost use Rattle.gateway.specs.Attempt.{Attempt, is_unanswered, is_awaited, may_be_made, marked, messages_of, bytes_in, bytes_through};
+ghost use Rattle.gateway.specs.State.{Open, Work, Gateway, is_touched, has_work, asker, next_try};
+ghost use Rattle.gateway.specs.Step.{with_work, without_work, forgotten, waiting, known, went_on, touched_by, refusal_at, answered, tried};
+ghost use Rattle.gateway.specs.Told.{HasFailed, AsksEnough, Tells, Begins};
+
+/// What is told when it is known what a message came to: a work is done only where its attempt has enough, and a
+/// request is refused only while it is untouched, with the first cause of its work's last attempt.
+pub fn what_an_answer_tells()
+    ensures tells { (gateway : Gateway) (req : ℕ) (work : Work) (attempt : Attempt)
+        → Tells gateway req work attempt (went_on gateway req work attempt).act }
+    // An answer goes to the attempt that its message belongs to; one of no message changes nothing.
+    ensures attempt { (gateway : Gateway) (req : ℕ) (work : Work) (number : ℕ) (status : Status) (attempt : Attempt)
+        → asker number gateway ≡ Some (req, work) → work.stage ≡ Open attempt
+        → answered gateway number status
+        ≡ went_on (touched_by req work.work status gateway) req work (known number status attempt) }
+    ensures none { (gateway : Gateway) (number : ℕ) (status : Status) → asker number gateway ≡ None
+        → answered gateway number status ≡ waiting gateway }
+    // What is known is waited for no more.
+    ensures known { (number : ℕ) (status : Status) (messages : List Message) → is_unanswered status ≡ false
+        → list_any (is_awaited number) (marked number status messages) ≡ false }
+{}
+
+/// A request that is still untouched when `tries` attempts of its work have failed is refused.
+pub fn an_untouched_request_is_refused()
+    ensures { (gateway : Gateway) (req : ℕ) (work : ObjWork) (number : ℕ) (attempt : Attempt)
+        → HasFailed work attempt.messages → AsksEnough work attempt.messages
+        → is_touched req gateway ≡ false → gateway.tries ≤ number → refusal_at gateway req work number attempt ≢ None }
+{}
+
+/// What is told when an attempt is to begin: it is sent with numbers from `first` upwards, or for want of zones its
+/// request is refused while it is untouched, and else waits.
+pub fn what_a_beginning_tells()
+    ensures { (epochs : List Entered) (gateway : Gateway) (req : ℕ) (work : Work) (first : ℕ) (epoch : Epoch)
+        → Begins gateway req work first (zone_count (members_at epochs epoch.0)) (tried epochs gateway req work first epoch).act }
+{}
+
+/// A create, a write and a read of strips ask every target, in order: of strips each for that of its place.
+pub fn every_target_is_asked()
+    ensures nodes { (work : ObjWork) (attempt first : ℕ) (targets : List NodeId)
+        → (is_making work ≡ true) ⊎ (is_in_strips (policy_of work) (kind_of (oid_of work)) ≡ true)
+        → map (λ (message : Message). message.node) (messages_of work attempt first targets) ≡ targets }
+    ensures indexes { (work : ObjWork) (attempt first : ℕ) (targets : List NodeId)
+        → (is_making work ≡ true) ⊎ (is_in_strips (policy_of work) (kind_of (oid_of work)) ≡ true)
+        → map (λ (message : Message). message.index) (messages_of work attempt first targets)
+        ≡ map (index_at (policy_of work) (kind_of (oid_of work))) (range_with_len 0 (length targets)) }
+{}
+
+/// No attempt of a work begins while another one is open.
+pub fn an_open_attempt_is_waited_for()
+    ensures { (epoch : Epoch) (gateway : Gateway) (req : ℕ) (work : Work) (attempt : Attempt)
+        → next_try epoch gateway ≡ Some (req, work) → work.stage ≢ Open attempt }
+{}
+
+/// Where messages of different indexes, as many as a read needs, gave the parts of the same bytes, the read gives these
+/// bytes back.
+pub fn enough_messages_give_the_bytes()
+    ensures { (policy : Policy) (kind : Kind) (messages : List Message) (bytes : List ℕ) → IsPolicy policy
+        → ArePoints (map (λ (message : Message). message.index) messages) → length messages ≡ need_of policy kind
+        → map (λ (message : Message). bytes_in message.status) messages
+        ≡ map (λ (message : Message). part policy kind message.index bytes) messages
+        → AreBytes bytes → IsAligned policy kind (length bytes)
+        → bytes_through policy kind messages ≡ bytes }
+{}
+
+/// A create or write message that succeeded or was lost touches its request, and touched it stays until it has ended.
+/// So with what an answer tells, no request is refused of which something may have been made.
+pub fn what_may_be_made_touches()
+    ensures made { (req : ℕ) (work : ObjWork) (status : Status) (gateway : Gateway) → is_making work ≡ true
+        → may_be_made status ≡ true → is_touched req (touched_by req work status gateway) ≡ true }
+    ensures stays { (other req : ℕ) (work : ObjWork) (status : Status) (gateway : Gateway) → is_touched other gateway ≡ true
+        → is_touched other (touched_by req work status gateway) ≡ true }
+    ensures forgotten { (req : ℕ) (gateway : Gateway) → is_touched req (forgotten req gateway) ≡ false }
+    ensures others { (other req : ℕ) (gateway : Gateway) → other ≢ req
+        → is_touched other (forgotten req gateway) ≡ is_touched other gateway }
+{}
+
+/// A step changes the work of its request alone.
+pub fn works_stand_by_their_requests()
+    ensures stands { (req : ℕ) (work : Work) (gateway : Gateway) → get (with_work req work gateway).works req ≡ Some work }
+    ensures others { (other req : ℕ) (work : Work) (gateway : Gateway) → other ≢ req
+        → get (with_work req work gateway).works other ≡ get gateway.works other }
+    ensures ended { (req : ℕ) (gateway : Gateway) → has_work req (without_work req gateway) ≡ false }
+    ensures left { (other req : ℕ) (gateway : Gateway) → other ≢ req
+        → get (without_work req gateway).works other ≡ get gateway.works other }
+{}

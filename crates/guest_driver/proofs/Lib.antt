@@ -1,0 +1,6 @@
+mod CourseLemmas
+mod PieceLemmas
+mod LineLemmas
+mod WriteLemmas
+mod ReadLemmas
+mod WorkedRequests

@@ -1,0 +1,106 @@
+-- The course of a request: what a driver's last act was, what becomes of the session's table, and all acts in their order.
+use Rattle.std.specs.Prelude.{◌≡◌, ℕ, ◌==◌, not, Bool, List, [], ◌∷◌, Option, Some, None, if◌then◌else◌}
+use Rattle.object_id.specs.Oid.{object_number}
+use Rattle.object_id.specs.Fields.{zeros}
+use Rattle.inode.specs.Layout.{Content}
+use Rattle.peer_proto.specs.declared.guest.GuestRsp.{GuestRsp}
+use Rattle.peer_proto.specs.declared.work.ObjWork.TheVariants.{Create}
+use Rattle.guest_driver.specs.declared.act.DriverAct.{DriverAct}
+use Rattle.guest_driver.specs.declared.act.DriverAct.TheVariants.{Work, Reply}
+use Rattle.guest_driver.specs.Pieces.{Piece}
+use Rattle.guest_driver.specs.Works.{Backing, Hole, Own, Inherited, entry_of, backing_of, object_bytes, read_piece, write_piece, create_piece, read_object, create_copy, write_entry, entered}
+use Rattle.guest_driver.specs.Driver.{Stage, InPlace, Fetching, Creating, Entering, Driver, Reads, Writes, Answered, Step, on_done}
+
+-- the disk's own object of a piece is created, with some bytes in it
+abbrev pub Creates : Content → Piece → DriverAct → Type 0
+Creates inode piece act = (offset : ℕ) × (bytes : List ℕ)
+    × (act ≡ Work (Create (object_number inode.vid piece.index) inode.spec.policy (object_bytes inode) offset bytes))
+
+-- the act is a reply
+abbrev pub IsReply : DriverAct → Type 0
+IsReply act = (reply : GuestRsp) × (act ≡ Reply reply)
+
+-- the act is the work that a write waits for
+abbrev pub IsAwaitedAt : Content → List ℕ → Piece → DriverAct → Stage → Type 0
+IsAwaitedAt inode payload piece act InPlace = act ≡ Work (write_piece inode payload piece)
+IsAwaitedAt inode payload piece act Fetching = act ≡ Work (read_object inode piece (entry_of inode piece))
+IsAwaitedAt inode payload piece act Creating = Creates inode piece act
+IsAwaitedAt inode payload piece act Entering = act ≡ Work (write_entry inode piece)
+
+-- the act is the work that the driver waits for, or the reply of a request that waits for none
+abbrev pub IsAwaited : Content → Driver → DriverAct → Type 0
+IsAwaited inode (Reads told piece rest) act = act ≡ Work (read_piece inode piece (entry_of inode piece))
+IsAwaited inode (Writes payload stage piece rest) act = IsAwaitedAt inode payload piece act stage
+IsAwaited inode Answered act = IsReply act
+
+-- an entry is written only after the creation of its object
+abbrev pub EntersAfter : Driver → List ℕ → Piece → List Piece → Stage → Type 0
+EntersAfter before payload piece rest InPlace = Unit {0}
+EntersAfter before payload piece rest Fetching = Unit {0}
+EntersAfter before payload piece rest Creating = Unit {0}
+EntersAfter before payload piece rest Entering = before ≡ Writes payload Creating piece rest
+
+-- the same of every driver
+abbrev pub EntersWhatIsMade : Driver → Driver → Type 0
+EntersWhatIsMade before (Reads told piece rest) = Unit {0}
+EntersWhatIsMade before (Writes payload stage piece rest) = EntersAfter before payload piece rest stage
+EntersWhatIsMade before Answered = Unit {0}
+
+-- the session's inode once a work is done: its table changes when an entry was written, and only then
+abbrev pub inode_at : Content → Piece → Stage → Content
+inode_at inode piece InPlace = inode
+inode_at inode piece Fetching = inode
+inode_at inode piece Creating = inode
+inode_at inode piece Entering = entered inode piece
+
+-- the same of every driver
+abbrev pub inode_after : Content → Driver → Content
+inode_after inode (Reads told piece rest) = inode
+inode_after inode (Writes payload stage piece rest) = inode_at inode piece stage
+inode_after inode Answered = inode
+
+-- a step of a driver: its act is what is waited for, what it enters was made, and this is the inode that it leaves
+pub record Goes (before : Driver) (inode : Content) (step : Step) : Type 0 where
+  pub told : IsAwaited step.inode step.driver step.act
+  pub made : EntersWhatIsMade before step.driver
+  pub table : step.inode ≡ inode
+
+-- the acts of a request from a step on, where its works give these bytes, one after the other
+unfoldable pub acts : Option Step → List (List ℕ) → List DriverAct
+acts None answers = []
+acts (Some step) [] = step.act ∷ []
+acts (Some step) (bytes ∷ later) = step.act ∷ acts (on_done step.inode bytes step.driver) later
+
+-- whether there is an object behind a piece
+abbrev pub is_there : Content → Piece → Bool
+is_there inode piece = not (entry_of inode piece == 0)
+
+-- the act that reads it
+abbrev pub read_act : Content → Piece → DriverAct
+read_act inode piece = Work (read_piece inode piece (entry_of inode piece))
+
+-- what a read is told of a piece: zeros of a hole, else what its work gave
+abbrev pub told_of : Content → (Piece → List ℕ) → Piece → List ℕ
+told_of inode given piece = if entry_of inode piece == 0 then zeros piece.size else given piece
+
+-- the acts that write a piece, by what stands behind it: a hole is created, then entered; the disk's own object is written;
+-- another disk's is read, created with the piece laid over it, then entered
+abbrev pub write_acts_by : Content → List ℕ → Piece → List ℕ → Backing → List DriverAct
+write_acts_by inode payload piece old Hole = Work (create_piece inode payload piece) ∷ Work (write_entry inode piece) ∷ []
+write_acts_by inode payload piece old Own = Work (write_piece inode payload piece) ∷ []
+write_acts_by inode payload piece old (Inherited vid) =
+    Work (read_object inode piece vid) ∷ Work (create_copy inode payload piece old) ∷ Work (write_entry inode piece) ∷ []
+
+-- what these works give; old is another disk's object
+abbrev pub answers_by : List ℕ → Backing → List (List ℕ)
+answers_by old Hole = [] ∷ [] ∷ []
+answers_by old Own = [] ∷ []
+answers_by old (Inherited vid) = old ∷ [] ∷ [] ∷ []
+
+-- the acts that write a piece
+abbrev pub write_acts : Content → List ℕ → (Piece → List ℕ) → Piece → List DriverAct
+write_acts inode payload given piece = write_acts_by inode payload piece (given piece) (backing_of inode piece)
+
+-- what its works give
+abbrev pub answers : Content → (Piece → List ℕ) → Piece → List (List ℕ)
+answers inode given piece = answers_by (given piece) (backing_of inode piece)

@@ -1,0 +1,70 @@
+//! Laws of the definitions, for the proofs of the layers above: each is the contract of a function that does nothing.
+ghost use Rattle.std.specs.Prelude.{◌≡◌, ℕ, ◌+◌, ◌%◌, ◌<◌, ◌≤◌, List, [], ◌∷◌, ◌++◌, length, map, filter, flat_map, All, Some, None, IfSome, IsTrue, is_some};
+ghost use Rattle.object_id.specs.declared.entry.VdiSpec.{VdiSpec};
+ghost use Rattle.object_id.specs.Spec.{objects_of};
+ghost use Rattle.inode.specs.Layout.{Content};
+ghost use Rattle.peer_proto.specs.declared.guest.DiskAsk.{DiskAsk};
+ghost use Rattle.peer_proto.specs.declared.work.ObjWork.{ObjWork};
+ghost use Rattle.peer_proto.specs.declared.guest.GuestRsp.TheVariants.{Done, Piece as Told};
+ghost use Rattle.guest_driver.specs.declared.act.DriverAct.TheVariants.{Reply};
+ghost use Rattle.guest_driver.specs.declared.disk.Disk.{Disk as TheDisk};
+ghost use Rattle.guest_driver.specs.Pieces.{Piece, indexes, pieces, bytes_of, IsPiece, AreBlocks};
+ghost use Rattle.guest_driver.specs.Driver.{Driver, read_on, write_on, begin, on_done, bytes_wanted};
+ghost use Rattle.guest_driver.specs.Course.{Goes, inode_after, acts, is_there, read_act, told_of, write_acts, answers};
+ghost use Rattle.guest_driver.specs.InodeLine.{Line, is_on_inode, requests_in, may_begin, queued, finished, next_taken};
+
+/// The pieces of a request are the request, cut at the borders of objects.
+pub fn pieces_are_the_request()
+    // Joined in their order they are its bytes.
+    ensures joined { (shift offset : ℕ) (payload : List ℕ) → 1 ≤ length payload
+        → flat_map (bytes_of payload) (pieces shift offset (length payload)) ≡ payload }
+    // There is one for each object that is touched, and it lies in that object.
+    ensures indexes { (shift offset size : ℕ)
+        → map (λ (piece : Piece). piece.index) (pieces shift offset size) ≡ indexes shift offset size }
+    ensures inside { (shift offset size : ℕ) → 1 ≤ size → All (IsPiece shift) (pieces shift offset size) }
+    // A request of whole blocks is cut in whole blocks.
+    ensures blocks { (shift offset size : ℕ) → 9 ≤ shift → 1 ≤ size → offset % 512 ≡ 0 → size % 512 ≡ 0
+        → All AreBlocks (pieces shift offset size) }
+    // The objects of a request that ends inside the disk are the disk's.
+    ensures there { (spec : VdiSpec) (offset size : ℕ) → 1 ≤ size → offset + size ≤ spec.size
+        → All (λ (piece : Piece). piece.index < objects_of spec) (pieces spec.shift offset size) }
+{}
+
+/// How pieces are read: those that aren't holes one after another, and the reply is what they gave, with zeros for the holes.
+pub fn a_read_goes_by_its_pieces()
+    ensures { (inode : Content) (given : Piece → List ℕ) (rest : List Piece)
+        → acts (Some (read_on inode [] rest)) (map given (filter (is_there inode) rest))
+        ≡ map (read_act inode) (filter (is_there inode) rest) ++ Reply (Told (flat_map (told_of inode given) rest)) ∷ [] }
+{}
+
+/// How pieces are written: one after another, each by what the table said of its object when the write began.
+pub fn a_write_goes_by_its_entries()
+    ensures { (inode : Content) (payload : List ℕ) (given : Piece → List ℕ) (shift offset size : ℕ)
+        → acts (Some (write_on inode payload (pieces shift offset size))) (flat_map (answers inode given) (pieces shift offset size))
+        ≡ flat_map (write_acts inode payload given) (pieces shift offset size) ++ Reply Done ∷ [] }
+{}
+
+/// What a driver does is what it then waits for; an entry of the table is written only after its object was created, and
+/// the session's table changes when it was written, and only then.
+pub fn entries_follow_their_objects()
+    ensures begun { (before : Driver) (disk : TheDisk) (ask : DiskAsk) → Goes before disk.inode (begin disk ask) }
+    ensures done { (inode : Content) (bytes : List ℕ) (driver : Driver)
+        → IfSome (on_done inode bytes driver) (λ step. Goes driver (inode_after inode driver) step) }
+{}
+
+/// A driver goes on exactly where it waits for a work.
+pub fn a_driver_waits_for_works()
+    ensures { (inode : Content) (bytes : List ℕ) (driver : Driver)
+        → is_some (on_done inode bytes driver) ≡ is_some (bytes_wanted inode driver) }
+{}
+
+/// Works on an inode are done one at a time, in the order in which they came.
+pub fn the_line_keeps_its_order()
+    ensures one { (line : Line) (work : ObjWork) → IsTrue (is_on_inode work) → IsTrue (may_begin line work)
+        → line.current ≡ None }
+    ensures queued { (line : Line) (req : ℕ) (work : ObjWork)
+        → requests_in (queued line req work) ≡ requests_in line ++ req ∷ [] }
+    ensures next { (line : Line) → requests_in (next_taken line) ≡ requests_in line }
+    ensures ends { (line : Line) (req : ℕ) (work : ObjWork) → IsTrue (is_on_inode work) → line.current ≡ Some req
+        → requests_in line ≡ req ∷ requests_in (finished line work) }
+{}

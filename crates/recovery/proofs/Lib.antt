@@ -1,0 +1,6 @@
+pub mod StepLemmas
+pub mod PartLemmas
+pub mod ExampleLemmas
+pub mod PendingLemmas
+pub mod ListingLemmas
+pub mod TakenLemmas

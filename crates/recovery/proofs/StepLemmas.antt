@@ -1,0 +1,271 @@
+-- What a level and the end of a message come to.
+use Rattle.std.proofs.Common.{◌≡◌, ◌≢◌, ◌⊎◌, inl, inr, ℕ, ◌+◌, ◌-◌, ◌<◌, ◌≤◌, ◌==◌, nat_lt, Bool, true, false, cond, ◌||◌, List, [], ◌∷◌, length, map, Option, None, Some, unwrap_or, refl, ap, sym, ◌∙◌}
+use Rattle.std.specs.List.{list_any, range_with_len}
+use Rattle.std.proofs.lemmas.Bool.{cond-true, eqb-true, ltb-true, ltb-false}
+use Rattle.object_id.specs.declared.node.Epoch.{Epoch}
+use Rattle.object_id.specs.declared.node.NodeId.{NodeId}
+use Rattle.object_id.specs.declared.policy.Policy.{Policy}
+use Rattle.object_id.specs.Oid.{kind_of}
+use Rattle.object_id.specs.Policy.{wanted_of}
+use Rattle.object_list.specs.Gathered.{answered}
+use Rattle.object_store.specs.Store.{rows_of}
+use Rattle.object_store.proofs.StoreLaws.{rows_of-insert_other}
+use Rattle.peer_proto.specs.declared.ask.PeerAsk.{PeerAsk}
+use Rattle.peer_proto.specs.declared.ask.PeerAsk.TheVariants as asks
+use Rattle.peer_proto.specs.declared.say.PeerSay.{PeerSay}
+use Rattle.peer_proto.specs.declared.say.PeerSay.TheVariants as says
+use Rattle.object_store.specs.Store.{create_in}
+use Rattle.recovery.specs.Shown.{live_policy, is_among, with_pending}
+use Rattle.recovery.specs.State.{Message, Search, Recovery, State, search_at, is_missing, is_listed, message_of, still_on, search_on}
+use Rattle.recovery.specs.Level.{found, missed, to_ask, one_lower, not_found, own_index, own_part, rows_found, are_enough, judged_of, judged, is_of_search, searching}
+use Rattle.recovery.specs.Tick.{messages_to, lists_asked, level_asked, level_messages, asked_of, next_search, with_messages, searching_on, tick_messages, ticked}
+use Rattle.recovery.specs.Kept.{frame}
+use Rattle.recovery.specs.Steps.{to_recover, when_listed, without_message, heard, after_list, after_read, after_ask, after_message, ended}
+
+-- what holds of both holds of the one that is chosen
+pub either : {A : Type 0} (P : A → Type 0) (b : Bool) (x y : A) → P x → P y → P (cond b x y)
+either P true x y one other = one
+either P false x y one other = other
+
+-- a level comes to a found row, a missing object, or a level to ask
+pub judged_each : (P : State → Type 0) (search : Search) (state : State) → P state
+    → ((index : ℕ) (bytes : List ℕ) → P (found search.oid index bytes state)) → P (missed search.oid state)
+    → ((level : ℕ) → P (to_ask search.oid level state)) → P (judged search state)
+unfolding judged
+judged_each P search state same there gone again = of_policy (live_policy state.shown search.oid)
+  where
+    of_policy : (policy : Option Policy) → P (judged_of policy search state)
+    of_policy None = same
+    of_policy (Some policy) =
+        either P (are_enough policy (kind_of search.oid) (rows_found state policy search))
+        (found search.oid (own_index policy search state) (own_part policy search (rows_found state policy search) state) state)
+        (not_found search state)
+        (there (own_index policy search state) (own_part policy search (rows_found state policy search) state))
+        (either P search.again (to_ask search.oid search.level state) (one_lower search state)
+        (again search.level)
+        (either P (nat_lt (search.level - 1) state.shown.settled) (missed search.oid state) (to_ask search.oid (search.level - 1) state)
+        gone (again (search.level - 1))))
+
+abbrev SameFrame : State → State → Type 0
+SameFrame old new = frame new ≡ frame old
+
+pub judged_frame : (search : Search) (state : State) → SameFrame state (judged search state)
+judged_frame search state = judged_each (SameFrame state) search state refl (λ index bytes. refl) refl (λ level. refl)
+
+pub searching_frame : (search : Search) (state : State) → SameFrame state (searching search state)
+searching_frame search state =
+    either (SameFrame state)
+    (list_any (is_of_search search.oid) state.recovery.unanswered)
+    (record state { recovery = record state.recovery { search = Some search } }) (judged search state)
+    refl (judged_frame search state)
+
+-- numbers
+
+pub numbers_of_messages : (recovery : Recovery) (first wanted : ℕ) (ask : PeerAsk) (nodes : List NodeId)
+    → map (λ (message : Message). message.request.number) (messages_to recovery first wanted ask nodes)
+    ≡ range_with_len first (length (messages_to recovery first wanted ask nodes))
+numbers_of_messages recovery first wanted ask [] = refl
+numbers_of_messages recovery first wanted ask (node ∷ nodes) =
+    ap (λ (numbers : List ℕ). first ∷ numbers) (numbers_of_messages recovery (first + 1) wanted ask nodes)
+
+abbrev AreNumbered : ℕ → List Message → Type 0
+AreNumbered first messages =
+    map (λ (message : Message). message.request.number) messages ≡ range_with_len first (length messages)
+
+pub numbers_of_tick : (first : ℕ) (state : State) → AreNumbered first (tick_messages first state)
+unfolding tick_messages
+numbers_of_tick first state =
+    either (AreNumbered first) (is_listed state.recovery)
+    (level_messages first state (next_search state)) (lists_asked first state.recovery)
+    (of_search (next_search state))
+    (numbers_of_messages state.recovery first 0 asks.List state.recovery.lists.waiting)
+  where
+    of_level : (search : Search) (policy : Option Policy) → AreNumbered first (level_asked first state search policy)
+    of_level search None = refl
+    of_level search (Some policy) =
+        numbers_of_messages state.recovery first (wanted_of policy (kind_of search.oid))
+        (asks.RecoverRead search.oid (record { 0 = search.level })) (asked_of state policy search)
+
+    of_search : (search : Option Search) → AreNumbered first (level_messages first state search)
+    of_search None = refl
+    of_search (Some search) = of_level search (live_policy state.shown search.oid)
+
+pub frame_of_tick : (first : ℕ) (state : State) → frame (ticked first state) ≡ frame (with_messages (tick_messages first state) state)
+unfolding ticked
+frame_of_tick first state =
+    either (SameFrame (with_messages (tick_messages first state) state)) (is_listed state.recovery)
+    (searching_on (next_search state) (with_messages (tick_messages first state) state))
+    (with_messages (tick_messages first state) state)
+    (of_search (next_search state)) refl
+  where
+    of_search : (search : Option Search) → SameFrame (with_messages (tick_messages first state) state)
+        (searching_on search (with_messages (tick_messages first state) state))
+    of_search None = refl
+    of_search (Some search) = searching_frame search (with_messages (tick_messages first state) state)
+
+-- the end of a message
+
+listed_frame : (state : State) → SameFrame state (when_listed state)
+listed_frame state =
+    either (SameFrame state) (is_listed state.recovery)
+    (record state { shown = with_pending (to_recover state) state.shown }) state refl refl
+
+after_list_frame : (from : NodeId) (said : Option PeerSay) (state : State) → SameFrame state (after_list from said state)
+after_list_frame from None state = refl
+after_list_frame from (Some says.Success) state = refl
+after_list_frame from (Some (says.Piece bytes)) state = refl
+after_list_frame from (Some (says.Objects oids)) state =
+    listed_frame (record state { recovery = record state.recovery { lists = answered from oids state.recovery.lists } })
+after_list_frame from (Some (says.Row row)) state = refl
+after_list_frame from (Some says.NoRow) state = refl
+after_list_frame from (Some (says.Refused refusal)) state = refl
+
+after_read_frame : (oid : ℕ) (from : NodeId) (said : Option PeerSay) (search : Option Search) (state : State)
+    → SameFrame state (after_read oid from said search state)
+after_read_frame oid from said None state = refl
+after_read_frame oid from said (Some search) state =
+    either (SameFrame state) (search.oid == oid) (searching (heard from said search) state) state
+    (searching_frame (heard from said search) state) refl
+
+after_ask_frame : (ask : PeerAsk) (from : NodeId) (said : Option PeerSay) (state : State) → SameFrame state (after_ask ask from said state)
+after_ask_frame (asks.Create key size offset bytes) from said state = refl
+after_ask_frame (asks.Write key offset bytes) from said state = refl
+after_ask_frame (asks.Read key offset size) from said state = refl
+after_ask_frame asks.List from said state = after_list_frame from said state
+after_ask_frame (asks.RecoverRead oid level) from said state = after_read_frame oid from said (search_on state) state
+
+after_message_frame : (message : Option Message) (said : Option PeerSay) (state : State) → SameFrame state (after_message message said state)
+after_message_frame None said state = refl
+after_message_frame (Some message) said state = after_ask_frame message.request.ask message.to said state
+
+pub frame_of_end : (number : ℕ) (said : Option PeerSay) (state : State) → frame (ended number said state) ≡ frame (without_message number state)
+frame_of_end number said state =
+    after_message_frame (message_of number state.recovery.unanswered) said (without_message number state)
+
+-- messages of older recoveries, and of searches that have ended
+
+pub end_of_older : (number : ℕ) (said : Option PeerSay) (state : State) → message_of number state.recovery.unanswered ≡ None
+    → ended number said state ≡ without_message number state
+end_of_older number said state none = ap (λ (m : Option Message). after_message m said (without_message number state)) none
+
+-- the search of an object that isn't pending doesn't go on
+read_of_ended : (oid : ℕ) (from : NodeId) (said : Option PeerSay) (state : State) (pending : Option (List ℕ)) (search : Option Search)
+    → is_among oid pending ≡ false → after_read oid from said (still_on pending search) state ≡ state
+read_of_ended oid from said state pending None gone = refl
+read_of_ended oid from said state pending (Some search) gone = by_pending (is_among search.oid pending) refl
+  where
+    by_object : (b : Bool) → (search.oid == oid) ≡ b → is_among search.oid pending ≡ true
+        → cond b (searching (heard from said search) state) state ≡ state
+    by_object true same here =
+        let is : search.oid ≡ oid = eqb-true search.oid oid same in
+        let both : true ≡ false = sym here ∙ ap (λ (o : ℕ). is_among o pending) is ∙ gone in
+        absurd (cc (both))
+    by_object false same here = refl
+
+    by_pending : (b : Bool) → is_among search.oid pending ≡ b → after_read oid from said (cond b (Some search) None) state ≡ state
+    by_pending true here = by_object (search.oid == oid) refl here
+    by_pending false here = refl
+
+pub end_of_ended : (number : ℕ) (said : Option PeerSay) (state : State) (message : Message) (oid : ℕ) (level : Epoch)
+    → message_of number state.recovery.unanswered ≡ Some message → message.request.ask ≡ asks.RecoverRead oid level
+    → is_among oid state.shown.pending ≡ false
+    → ended number said state ≡ without_message number state
+end_of_ended number said state message oid level there ask gone =
+    ap (λ (m : Option Message). after_message m said (without_message number state)) there
+    ∙ ap (λ (a : PeerAsk). after_ask a message.to said (without_message number state)) ask
+    ∙ read_of_ended oid message.to said (without_message number state) state.shown.pending state.recovery.search gone
+
+-- a level that is over or isn't
+
+pub level_waits : (search : Search) (state : State)
+    → list_any (is_of_search search.oid) state.recovery.unanswered ≡ true
+    → searching search state ≡ record state { recovery = record state.recovery { search = Some search } }
+level_waits search state waits =
+    cond-true (list_any (is_of_search search.oid) state.recovery.unanswered)
+    (record state { recovery = record state.recovery { search = Some search } }) (judged search state) waits
+
+-- the search that a level leaves
+
+abbrev GoesOn : Search → State → Search → Type 0
+GoesOn search state next =
+    ((next ≡ search_at search.oid search.level) × (search.again ≡ true))
+    ⊎ ((next ≡ search_at search.oid (search.level - 1)) × (search.again ≡ false) × (state.shown.settled ≤ search.level - 1))
+
+pub search_after_level : (policy : Policy) (search : Search) (state : State) (next : Search)
+    → live_policy state.shown search.oid ≡ Some policy → (judged search state).recovery.search ≡ Some next → GoesOn search state next
+unfolding judged
+search_after_level policy search state next is now =
+    of_rows (own_index policy search state) (own_part policy search (rows_found state policy search) state)
+    (are_enough policy (kind_of search.oid) (rows_found state policy search))
+    (sym (ap (λ (p : Option Policy). (judged_of p search state).recovery.search) is) ∙ now)
+  where
+    -- the search that a level asks next is this one
+    this_one : (level : ℕ) → Some (search_at search.oid level) ≡ Some next → next ≡ search_at search.oid level
+    this_one level same = sym (ap (λ (o : Option Search). unwrap_or o next) same)
+
+    of_level : (b : Bool) → nat_lt (search.level - 1) state.shown.settled ≡ b → search.again ≡ false
+        → (cond b (missed search.oid state) (to_ask search.oid (search.level - 1) state)).recovery.search ≡ Some next
+        → GoesOn search state next
+    of_level true below last same = absurd (cc (same))
+    of_level false above last same =
+        inr (this_one (search.level - 1) same, last, ltb-false (search.level - 1) state.shown.settled above)
+
+    of_again : (b : Bool) → search.again ≡ b
+        → (cond b (to_ask search.oid search.level state) (one_lower search state)).recovery.search ≡ Some next
+        → GoesOn search state next
+    of_again true anew same = inl (this_one search.level same, anew)
+    of_again false last same = of_level (nat_lt (search.level - 1) state.shown.settled) refl last same
+
+    of_rows : (index : ℕ) (bytes : List ℕ) (b : Bool)
+        → (cond b (found search.oid index bytes state) (not_found search state)).recovery.search ≡ Some next
+        → GoesOn search state next
+    of_rows index bytes true same = absurd (cc (same))
+    of_rows index bytes false same = of_again search.again refl same
+
+abbrev Missed : Search → State → ℕ → Type 0
+Missed search state oid =
+    (is_missing oid state.recovery ≡ true)
+    ⊎ ((search.oid ≡ oid) × (search.again ≡ false) × (search.level - 1 < state.shown.settled))
+
+pub missing_of_level : (search : Search) (state : State) (oid : ℕ) → is_missing oid (judged search state).recovery ≡ true
+    → Missed search state oid
+unfolding judged
+missing_of_level search state oid = of_policy (live_policy state.shown search.oid)
+  where
+    of_object : (b : Bool) → (search.oid == oid) ≡ b → search.again ≡ false → nat_lt (search.level - 1) state.shown.settled ≡ true
+        → (b || is_missing oid state.recovery) ≡ true → Missed search state oid
+    of_object true same last below now =
+        inr (eqb-true search.oid oid same, last, ltb-true (search.level - 1) state.shown.settled below)
+    of_object false other last below now = inl now
+
+    of_level : (b : Bool) → nat_lt (search.level - 1) state.shown.settled ≡ b → search.again ≡ false
+        → is_missing oid (cond b (missed search.oid state) (to_ask search.oid (search.level - 1) state)).recovery ≡ true
+        → Missed search state oid
+    of_level true below last now = of_object (search.oid == oid) refl last below now
+    of_level false above last now = inl now
+
+    of_again : (b : Bool) → search.again ≡ b
+        → is_missing oid (cond b (to_ask search.oid search.level state) (one_lower search state)).recovery ≡ true
+        → Missed search state oid
+    of_again true anew now = inl now
+    of_again false last now = of_level (nat_lt (search.level - 1) state.shown.settled) refl last now
+
+    of_rows : (index : ℕ) (bytes : List ℕ) (b : Bool)
+        → is_missing oid (cond b (found search.oid index bytes state) (not_found search state)).recovery ≡ true
+        → Missed search state oid
+    of_rows index bytes true now = inl now
+    of_rows index bytes false now = of_again search.again refl now
+
+    of_policy : (policy : Option Policy) → is_missing oid (judged_of policy search state).recovery ≡ true → Missed search state oid
+    of_policy None now = inl now
+    of_policy (Some policy) now =
+        of_rows (own_index policy search state) (own_part policy search (rows_found state policy search) state)
+        (are_enough policy (kind_of search.oid) (rows_found state policy search)) now
+
+pub others_of_level : (search : Search) (state : State) (oid : ℕ) → oid ≢ search.oid
+    → rows_of (judged search state).shown.rows oid ≡ rows_of state.shown.rows oid
+others_of_level search state oid other =
+    judged_each (λ (s : State). rows_of s.shown.rows oid ≡ rows_of state.shown.rows oid) search state refl
+    (λ index bytes. rows_of-insert_other state.shown.rows search.oid
+    (create_in index state.shown.epoch (length bytes) 0 bytes (rows_of state.shown.rows search.oid)) oid other)
+    refl (λ level. refl)

@@ -1,0 +1,4 @@
+mod ChainLemmas
+mod StepLemmas
+mod TableLemmas
+mod CourseLemmas

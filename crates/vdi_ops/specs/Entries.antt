@@ -1,0 +1,81 @@
+-- The entry that each command begins with, and when a command is refused on the spot.
+use Rattle.std.specs.Prelude.{ℕ, true, false, Bool, List, Option, Some, None, option_map, is_some}
+use Rattle.object_id.specs.declared.node.NodeId.{NodeId}
+use Rattle.object_id.specs.declared.cause.Cause.{Cause}
+use Rattle.object_id.specs.declared.cause.Cause.TheVariants.{Readonly, VdiNotLocked, InvalidParms}
+use Rattle.object_id.specs.declared.entry.Origin.TheVariants.{Fresh, SnapshotOf, CloneOf}
+use Rattle.object_id.specs.declared.entry.Entry.{Entry}
+use Rattle.object_id.specs.declared.entry.Entry.TheVariants as entries
+use Rattle.object_id.specs.Spec.{IsSpec, IsName}
+use Rattle.inode.specs.Layout.{Content}
+use Rattle.peer_proto.specs.declared.guest.VdiAsk.{VdiAsk}
+use Rattle.peer_proto.specs.declared.guest.VdiAsk.TheVariants.{Create, Attach, Close, Snapshot, Clone, Delete}
+
+-- a tag, where there is one, is as a name may be
+abbrev pub IsTag : Option (List ℕ) → Type 0
+IsTag None = Unit {0}
+IsTag (Some tag) = IsName tag
+
+-- what a command may ask: its names and tags are such, and a new disk may be made so
+abbrev pub IsAsk : VdiAsk → Type 0
+IsAsk (Create name spec) = IsName name × IsSpec spec
+IsAsk (Attach name tag) = IsName name × IsTag tag
+IsAsk Close = Unit {0}
+IsAsk (Snapshot tag) = IsName tag
+IsAsk (Clone base tag name) = IsName base × IsName tag × IsName name
+IsAsk (Delete name tag) = IsName name × IsTag tag
+
+-- the open disk, here told by whether it is a snapshot, decides at once: a second disk isn't opened
+abbrev pub no_second : Option Bool → Option Cause
+no_second None = None
+no_second (Some snapshot) = Some InvalidParms
+
+-- where none is open none is closed
+abbrev pub needs_disk : Option Bool → Option Cause
+needs_disk None = Some VdiNotLocked
+needs_disk (Some snapshot) = None
+
+-- nor is a snapshot taken, and never of a snapshot
+abbrev pub needs_working_disk : Option Bool → Option Cause
+needs_working_disk None = Some VdiNotLocked
+needs_working_disk (Some true) = Some Readonly
+needs_working_disk (Some false) = None
+
+-- when a command is refused on the spot
+abbrev pub refusal : Option Bool → VdiAsk → Option Cause
+refusal disk (Create name spec) = None
+refusal disk (Attach name tag) = no_second disk
+refusal disk Close = needs_disk disk
+refusal disk (Snapshot tag) = needs_working_disk disk
+refusal disk (Clone base tag name) = None
+refusal disk (Delete name tag) = None
+
+-- whether what a command opens is a snapshot
+abbrev pub opens_snapshot : VdiAsk → Bool
+opens_snapshot (Create name spec) = false
+opens_snapshot (Attach name tag) = is_some tag
+opens_snapshot Close = false
+opens_snapshot (Snapshot tag) = false
+opens_snapshot (Clone base tag name) = false
+opens_snapshot (Delete name tag) = false
+
+-- the entry that gives a disk back, or the reservation of an id
+abbrev pub unlock_of : NodeId → ℕ → ℕ → Entry
+unlock_of by session vid = entries.Unlock by session (record { 0 = vid })
+
+-- the one that gives back the open disk
+abbrev pub unlock_disk : NodeId → ℕ → Content → Entry
+unlock_disk by session inode = unlock_of by session inode.vid
+
+-- the one that reserves the id which takes the open disk's place
+abbrev pub reserve_snapshot : NodeId → ℕ → List ℕ → Content → Entry
+reserve_snapshot by session tag inode = entries.Reserve by session inode.name (SnapshotOf tag)
+
+-- the first entry of a command; none where it is about the open disk, and there is none
+abbrev pub first_entry : NodeId → ℕ → Option Content → VdiAsk → Option Entry
+first_entry by session disk (Create name spec) = Some (entries.Reserve by session name (Fresh spec))
+first_entry by session disk (Attach name tag) = Some (entries.Lock by session name tag)
+first_entry by session disk Close = option_map (unlock_disk by session) disk
+first_entry by session disk (Snapshot tag) = option_map (reserve_snapshot by session tag) disk
+first_entry by session disk (Clone base tag name) = Some (entries.Reserve by session name (CloneOf base tag))
+first_entry by session disk (Delete name tag) = Some (entries.Delete by session name tag)

@@ -1,0 +1,119 @@
+//! Laws of the definitions, for the proofs of the layers above: each is the contract of a function that does nothing.
+ghost use Rattle.std.specs.Prelude.{◌≡◌, ◌⊎◌, ℕ, ◌+◌, ◌*◌, ◌^◌, ◌≤◌, ◌==◌, List, [], ◌∷◌, length, map, All, Option, Some, None, IfSome, IsTrue, is_some};
+ghost use Rattle.std.specs.List.{list_any};
+ghost use Rattle.object_id.specs.declared.oid.Vid.{Vid};
+ghost use Rattle.object_id.specs.declared.node.NodeId.{NodeId};
+ghost use Rattle.object_id.specs.declared.cause.Cause.{Cause};
+ghost use Rattle.object_id.specs.declared.entry.VdiSpec.{VdiSpec};
+ghost use Rattle.object_id.specs.declared.entry.Origin.TheVariants.{Fresh, SnapshotOf, CloneOf};
+ghost use Rattle.object_id.specs.declared.entry.Entry.{Entry};
+ghost use Rattle.object_id.specs.declared.entry.Entry.TheVariants as entries;
+ghost use Rattle.object_id.specs.Spec.{IsSpec, objects_of};
+ghost use Rattle.inode.specs.declared.layout.TheConstants.{INODE_HEADER_BYTES};
+ghost use Rattle.inode.specs.Layout.{Content, IsText, IsEntry, SpellsInode};
+ghost use Rattle.peer_proto.specs.declared.guest.VdiAsk.{VdiAsk};
+ghost use Rattle.peer_proto.specs.declared.guest.VdiAsk.TheVariants.{Create, Attach, Close, Snapshot, Clone, Delete};
+ghost use Rattle.peer_proto.specs.declared.guest.GuestRsp.TheVariants.{Done, Refused};
+ghost use Rattle.vdi_directory.specs.declared.header.Header.{Header as TheHeader};
+ghost use Rattle.vdi_directory.specs.declared.decision.Decision.{Decision};
+ghost use Rattle.vdi_directory.specs.declared.decision.Decision.TheVariants as decisions;
+ghost use Rattle.vdi_directory.specs.declared.effect.Effect.{Effect};
+ghost use Rattle.vdi_directory.specs.Effects.{header_of};
+ghost use Rattle.vdi_directory.specs.Dead.{is_above};
+ghost use Rattle.vdi_ops.specs.declared.act.OpAct.TheVariants.{Append, Work, Reply};
+ghost use Rattle.vdi_ops.specs.Entries.{first_entry};
+ghost use Rattle.vdi_ops.specs.Tables.{chain_of, kept, table_in, holes, inode_by};
+ghost use Rattle.vdi_ops.specs.declared.layout.TheConstants.{INODE_BYTES};
+ghost use Rattle.vdi_ops.specs.Works.{written_bytes, written_back, read_inode, create_inode, write_back, write_tag};
+ghost use Rattle.vdi_ops.specs.Op.{Op, entry_wanted, bytes_wanted, IsAwaited};
+ghost use Rattle.vdi_ops.specs.Steps.{begin, on_decision, on_done, on_refused};
+ghost use Rattle.vdi_ops.specs.Course.{Decided, Given, acts};
+
+/// How each command goes, from its first entry to its reply, where each is granted and each work is done.
+pub fn commands_go_so()
+    // An inode of holes is created, and the disk published.
+    ensures create { (before : List Effect) (by : NodeId) (session : ℕ) (name : List ℕ) (spec : VdiSpec) (disk : Option Content) (vid : Vid) (header : TheHeader) (last : Decision)
+        → header_of before vid.0 ≡ Some header
+        → acts before (begin by session (Create name spec) disk) (Decided (decisions.Granted vid) ∷ Given [] ∷ Decided last ∷ [])
+        ≡ Append (entries.Reserve by session name (Fresh spec)) ∷ Work (create_inode (inode_by header vid.0 (holes header.spec)))
+        ∷ Append (entries.Publish by vid) ∷ Reply Done ∷ [] }
+    // The disk's inode is read, and written back with the directory's header.
+    ensures attach { (before : List Effect) (by : NodeId) (session : ℕ) (name : List ℕ) (disk : Option Content) (vid : Vid) (header : TheHeader) (bytes : List ℕ)
+        → header_of before vid.0 ≡ Some header
+        → acts before (begin by session (Attach name None) disk) (Decided (decisions.Granted vid) ∷ Given bytes ∷ Given [] ∷ [])
+        ≡ Append (entries.Lock by session name None) ∷ Work (read_inode vid.0 header.spec)
+        ∷ Work (write_back (inode_by header vid.0 (table_in (vid.0 ∷ chain_of before vid.0) header.spec bytes)) bytes) ∷ Reply Done ∷ [] }
+    // A snapshot's is only read.
+    ensures attach_snapshot { (before : List Effect) (by : NodeId) (session : ℕ) (name tag : List ℕ) (disk : Option Content) (vid : Vid) (header : TheHeader) (bytes : List ℕ)
+        → header_of before vid.0 ≡ Some header
+        → acts before (begin by session (Attach name (Some tag)) disk) (Decided (decisions.Granted vid) ∷ Given bytes ∷ [])
+        ≡ Append (entries.Lock by session name (Some tag)) ∷ Work (read_inode vid.0 header.spec) ∷ Reply Done ∷ [] }
+    ensures close { (before : List Effect) (by : NodeId) (session : ℕ) (disk : Content)
+        → acts before (begin by session Close (Some disk)) (Decided decisions.None ∷ [])
+        ≡ Append (entries.Unlock by session (record { 0 = disk.vid })) ∷ Reply Done ∷ [] }
+    // The open disk's inode gets the tag, and the granted id's inode is created with the session's table.
+    ensures snapshot { (before : List Effect) (by : NodeId) (session : ℕ) (tag : List ℕ) (disk : Content) (vid : Vid) (header : TheHeader) (last : Decision)
+        → header_of before vid.0 ≡ Some header
+        → acts before (begin by session (Snapshot tag) (Some disk)) (Decided (decisions.Granted vid) ∷ Given [] ∷ Given [] ∷ Decided last ∷ [])
+        ≡ Append (entries.Reserve by session disk.name (SnapshotOf tag)) ∷ Work (write_tag disk tag)
+        ∷ Work (create_inode (inode_by header vid.0 disk.table)) ∷ Append (entries.Snapshot by (record { 0 = disk.vid }) vid) ∷ Reply Done ∷ [] }
+    // The parent's inode is read, and the granted id's created with its table.
+    ensures clone { (before : List Effect) (by : NodeId) (session : ℕ) (base tag name : List ℕ) (disk : Option Content) (vid parent : Vid) (header : TheHeader) (bytes : List ℕ) (last : Decision)
+        → header_of before vid.0 ≡ Some header → header.parent ≡ Some parent
+        → acts before (begin by session (Clone base tag name) disk) (Decided (decisions.Granted vid) ∷ Given bytes ∷ Given [] ∷ Decided last ∷ [])
+        ≡ Append (entries.Reserve by session name (CloneOf base tag)) ∷ Work (read_inode parent.0 header.spec)
+        ∷ Work (create_inode (inode_by header vid.0 (table_in (chain_of before vid.0) header.spec bytes))) ∷ Append (entries.Clone by vid) ∷ Reply Done ∷ [] }
+    ensures delete { (before : List Effect) (by : NodeId) (session : ℕ) (name : List ℕ) (tag : Option (List ℕ)) (disk : Option Content) (vid : Vid) (header : TheHeader)
+        → header_of before vid.0 ≡ Some header
+        → acts before (begin by session (Delete name tag) disk) (Decided (decisions.Granted vid) ∷ [])
+        ≡ Append (entries.Delete by session name tag) ∷ Reply Done ∷ [] }
+    // Where the first entry is refused, that is the reply.
+    ensures refused { (before : List Effect) (by : NodeId) (session : ℕ) (entry : Entry) (ask : VdiAsk) (disk : Option Content) (cause : Cause)
+        → first_entry by session disk ask ≡ Some entry
+        → acts before (begin by session ask disk) (Decided (decisions.Refused cause) ∷ []) ≡ Append entry ∷ Reply (Refused cause) ∷ [] }
+{}
+
+/// The parent chain of an id is the ids that the directory calls above it.
+pub fn the_chain_is_what_stands_above()
+    ensures { (before : List Effect) (elder vid : ℕ)
+        → is_above before elder vid ≡ list_any (λ id. id == elder) (chain_of before vid) }
+{}
+
+/// What a command does is what it then waits for: the decision on an entry, a work, or nothing, once it has its reply.
+pub fn a_command_waits_for_what_it_did()
+    ensures begun { (by : NodeId) (session : ℕ) (ask : VdiAsk) (disk : Option Content)
+        → IfSome (begin by session ask disk) IsAwaited }
+    ensures decided { (before : List Effect) (decision : Decision) (op : Op)
+        → IfSome (on_decision before decision op) IsAwaited }
+    ensures done { (bytes : List ℕ) (op : Op)
+        → IfSome (on_done bytes op) IsAwaited }
+    // An entry is decided, and a work is done or refused, only where the command waits for it.
+    ensures entries { (before : List Effect) (decision : Decision) (op : Op)
+        → IsTrue (is_some (on_decision before decision op)) → IsTrue (is_some (entry_wanted op)) }
+    ensures works { (bytes : List ℕ) (op : Op) → is_some (on_done bytes op) ≡ is_some (bytes_wanted op) }
+    ensures refused { (cause : Cause) (op : Op) → is_some (on_refused cause op) ≡ is_some (bytes_wanted op) }
+{}
+
+/// What an opening or a clone takes from an inode that it reads: the table, as far as its entries count.
+pub fn the_table_alone_is_taken()
+    // Each entry is a hole, or one of the ids that count; and one that counts stays.
+    ensures entries { (ids : List ℕ) (spec : VdiSpec) (bytes : List ℕ)
+        → All (λ entry. (entry ≡ 0) ⊎ IsTrue (list_any (λ id. id == entry) ids)) (table_in ids spec bytes) }
+    ensures stays { (ids : List ℕ) (entry : ℕ) → IsTrue (list_any (λ id. id == entry) ids) → kept ids entry ≡ entry }
+    ensures count { (ids : List ℕ) (spec : VdiSpec) (bytes : List ℕ) → length (table_in ids spec bytes) ≡ objects_of spec }
+    // Of bytes that spell an inode it is that inode's table.
+    ensures table { (ids : List ℕ) (spec : VdiSpec) (bytes : List ℕ) (read : Content) → SpellsInode bytes read
+        → All IsEntry read.table → length read.table ≡ objects_of spec → table_in ids spec bytes ≡ map (kept ids) read.table }
+{}
+
+/// What an opening writes back spells the header that the directory has, with the table as it was read.
+pub fn the_table_is_written_back()
+    ensures { (inode read : Content) (bytes : List ℕ) → IsText inode.name → IsText inode.tag → SpellsInode bytes read
+        → SpellsInode (written_back inode bytes) (record inode { table = read.table }) }
+{}
+
+/// An inode object has room for the header and the most entries that a disk may have, and what is written of it fits.
+pub fn an_inode_has_room()
+    ensures whole { INODE_BYTES ≡ INODE_HEADER_BYTES + 4 * 2 ^ 20 }
+    ensures written { (spec : VdiSpec) → IsSpec spec → written_bytes spec ≤ INODE_BYTES }
+{}
