@@ -12,7 +12,9 @@ use Rattle.vnode_table.specs.Targets.{targets_in}
 use Rattle.peer_proto.specs.declared.work.ObjWork.{ObjWork}
 use Rattle.peer_proto.specs.declared.work.ObjWork.TheVariants.{Create, Write, Read}
 use Rattle.gateway.specs.declared.message.Message.{Message}
-use Rattle.gateway.specs.Work.{oid_of, policy_of, is_making, is_in_strips, index_at, read_from, asked, zones_for}
+use Rattle.strip_coding.specs.Part.{is_in_strips, index_at}
+use Rattle.peer_proto.specs.Work.{oid_of, policy_of}
+use Rattle.gateway.specs.Work.{is_making, read_from, asked, zones_for}
 use Rattle.gateway.specs.Attempt.{message_to, messages_of, send_of}
 use Rattle.gateway.specs.State.{Short, Work, Gateway, is_touched}
 use Rattle.gateway.specs.Step.{with_work, waiting, refused, next_attempt, halted, opened, tried}

@@ -9,7 +9,7 @@ use Rattle.object_id.specs.declared.oid.Kind.{Kind}
 use Rattle.object_id.specs.declared.policy.Policy.{Policy}
 use Rattle.object_id.specs.Oid.{kind_of}
 use Rattle.object_id.specs.Policy.{need_of}
-use Rattle.strip_coding.specs.Part.{bytes_of_parts}
+use Rattle.strip_coding.specs.Part.{bytes_of_parts, index_at}
 use Rattle.peer_proto.specs.declared.work.ObjWork.{ObjWork}
 use Rattle.peer_proto.specs.declared.work.ObjWork.TheVariants.{Create, Write, Read}
 use Rattle.peer_proto.specs.declared.ask.PeerReq.{PeerReq}
@@ -20,7 +20,8 @@ use Rattle.peer_proto.specs.declared.say.Refusal.TheVariants as refusals
 use Rattle.gateway.specs.declared.message.Message.{Message}
 use Rattle.gateway.specs.declared.message.Status.{Status}
 use Rattle.gateway.specs.declared.message.Status.TheVariants.{Unanswered, Succeeded, Refused, Lost}
-use Rattle.gateway.specs.Work.{oid_of, policy_of, index_at, asked, ask_for}
+use Rattle.peer_proto.specs.Work.{oid_of, policy_of}
+use Rattle.gateway.specs.Work.{asked, ask_for}
 
 -- an attempt belongs to an epoch, and has its messages in the order of the targets
 pub record Attempt : Type 0 where

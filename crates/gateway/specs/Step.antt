@@ -15,7 +15,8 @@ use Rattle.gateway.specs.declared.act.Act.{Act}
 use Rattle.gateway.specs.declared.act.Act.TheVariants as acts
 use Rattle.gateway.specs.declared.message.Status.{Status}
 use Rattle.gateway.specs.declared.message.Status.TheVariants as statuses
-use Rattle.gateway.specs.Work.{oid_of, policy_of, is_making, zones_for}
+use Rattle.peer_proto.specs.Work.{oid_of, policy_of}
+use Rattle.gateway.specs.Work.{is_making, zones_for}
 use Rattle.gateway.specs.Attempt.{Attempt, messages_of, send_of, may_be_made, status_by, marked, is_over, is_done, bytes_given, first_failure}
 use Rattle.gateway.specs.State.{Stage, Open, Ended, Short, Work, Gateway, is_touched, asker, next_try}
 

@@ -8,21 +8,11 @@ use Rattle.object_id.specs.declared.policy.Policy.{Policy}
 use Rattle.object_id.specs.declared.policy.Policy.TheVariants.{Copies, Coded}
 use Rattle.object_id.specs.Oid.{kind_of}
 use Rattle.object_id.specs.Policy.{IsPolicy, wanted_of, need_of}
-use Rattle.strip_coding.specs.Part.{IsAligned, part, part_size}
+use Rattle.strip_coding.specs.Part.{IsAligned, part, part_size, is_in_strips}
 use Rattle.peer_proto.specs.declared.work.ObjWork.{ObjWork}
 use Rattle.peer_proto.specs.declared.work.ObjWork.TheVariants.{Create, Write, Read}
 use Rattle.peer_proto.specs.declared.ask.PeerAsk.{PeerAsk}
 use Rattle.peer_proto.specs.declared.ask.PeerAsk.TheVariants as asks
-
-abbrev pub oid_of : ObjWork → ℕ
-oid_of (Create oid policy size offset bytes) = oid
-oid_of (Write oid policy offset bytes) = oid
-oid_of (Read oid policy offset size) = oid
-
-abbrev pub policy_of : ObjWork → Policy
-policy_of (Create oid policy size offset bytes) = policy
-policy_of (Write oid policy offset bytes) = policy
-policy_of (Read oid policy offset size) = policy
 
 -- whether a work makes something: a create or a write
 abbrev pub is_making : ObjWork → Bool
@@ -35,16 +25,6 @@ abbrev pub zones_for : ObjWork → ℕ
 zones_for (Create oid policy size offset bytes) = wanted_of policy (kind_of oid)
 zones_for (Write oid policy offset bytes) = wanted_of policy (kind_of oid)
 zones_for (Read oid policy offset size) = need_of policy (kind_of oid)
-
--- whether the targets keep strips, and not whole copies
-abbrev pub is_in_strips : Policy → Kind → Bool
-is_in_strips (Copies copies) kind = false
-is_in_strips (Coded d p) Block = true
-is_in_strips (Coded d p) Inode = false
-
--- the index under which a target keeps its part: of strips its place in the target list, of whole copies 0
-abbrev pub index_at : Policy → Kind → ℕ → ℕ
-index_at policy kind place = if is_in_strips policy kind then place else 0
 
 -- of places the one at the attempt's number modulo their count; attempts are numbered from 0
 abbrev pub in_turn : ℕ → List (ℕ × NodeId) → List (ℕ × NodeId)

@@ -4,7 +4,7 @@ use Rattle.object_id.specs.declared.oid.Kind.{Kind}
 use Rattle.object_id.specs.declared.oid.Kind.TheVariants.{Block, Inode}
 use Rattle.object_id.specs.Oid.{kind_of}
 use Rattle.peer_proto.specs.declared.work.ObjWork.{ObjWork}
-use Rattle.peer_proto.specs.declared.work.ObjWork.TheVariants.{Create, Write, Read}
+use Rattle.peer_proto.specs.Work.{oid_of}
 
 -- whether an object is an inode
 abbrev pub is_inode : Kind → Bool
@@ -13,9 +13,7 @@ is_inode Inode = true
 
 -- whether a work is on an inode
 abbrev pub is_on_inode : ObjWork → Bool
-is_on_inode (Create oid policy size offset bytes) = is_inode (kind_of oid)
-is_on_inode (Write oid policy offset bytes) = is_inode (kind_of oid)
-is_on_inode (Read oid policy offset size) = is_inode (kind_of oid)
+is_on_inode work = is_inode (kind_of (oid_of work))
 
 -- a work, with the number of the request that it is of
 pub record Waiting : Type 0 where

@@ -1,5 +1,5 @@
 -- What a store holds, and what each call makes of it.
-use Rattle.std.specs.Prelude.{ℕ, ◌+◌, ◌<◌, ◌≤◌, List, [], ◌∷◌, length, Option, Some, None, Result, Ok, Err, unwrap_or, nat_le, if◌then◌else◌}
+use Rattle.std.specs.Prelude.{ℕ, ◌+◌, ◌-◌, ◌<◌, ◌≤◌, List, [], ◌∷◌, ◌++◌, length, Option, Some, None, Result, Ok, Err, unwrap_or, nat_le, if◌then◌else◌}
 use Rattle.std.specs.Option.{option_map}
 use Rattle.std.specs.Ordering.{nat_cmp}
 use Rattle.std.specs.FinMap as tree
@@ -62,6 +62,10 @@ copy_of row = record { index = row.index; from = row.from; to = row.to; length =
 -- a copy of the object's row at the level, if a row holds it
 abbrev pub copy_at : AllRows → ℕ → ℕ → Option RowCopy
 copy_at all oid level = option_map copy_of (row_holding level (rows_of all oid))
+
+-- all the bytes of a row, whose copy leaves out the last zeros
+abbrev pub bytes_of : RowCopy → List ℕ
+bytes_of row = row.bytes ++ zeros (row.length - length row.bytes)
 
 -- an object without rows isn't there
 abbrev pub with_rows : {B : Type 0} → ℕ → List B → List (ℕ × List B) → List (ℕ × List B)

@@ -3,3 +3,4 @@ pub mod Header
 pub mod Ids
 pub mod Ask
 pub mod Say
+pub mod Work

@@ -14,10 +14,10 @@ use Rattle.object_store.specs.declared.row.RowCopy.{RowCopy}
 use Rattle.object_store.specs.declared.key.Key.{Key}
 use Rattle.object_store.specs.Bytes.{zeros}
 use Rattle.object_store.specs.Rows.{created}
-use Rattle.object_store.specs.Store.{rows_of}
+use Rattle.object_store.specs.Store.{rows_of, bytes_of}
 use Rattle.object_list.specs.Union.{with_id, union}
 use Rattle.recovery.specs.Shown.{Shown, given_up, with_row}
-use Rattle.recovery.specs.Level.{put_by_index, by_index, indexes_of, bytes_of, part_by}
+use Rattle.recovery.specs.Level.{put_by_index, by_index, indexes_of, part_by}
 
 parts_of : (policy : Policy) (kind : Kind) (bytes : List ℕ) (rows : List RowCopy)
     → AllByRecursion (λ (row : RowCopy). bytes_of row ≡ part policy kind row.index bytes) rows

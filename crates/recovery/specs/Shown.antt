@@ -14,6 +14,7 @@ use Rattle.object_store.specs.declared.key.Key.{Key}
 use Rattle.object_store.specs.declared.row.RowCopy.{RowCopy}
 use Rattle.object_store.specs.Rows.{reaches}
 use Rattle.object_store.specs.Store.{AllRows, rows_of, open_row, create_in, copy_at}
+use Rattle.strip_coding.specs.Part.{index_at}
 use Rattle.object_list.specs.Gathered.{is_node}
 
 -- a node, as its recovery sees it
@@ -54,12 +55,6 @@ first_in (Some (oid ∷ rest)) = Some oid
 abbrev pub is_among : ℕ → Option (List ℕ) → Bool
 is_among oid None = false
 is_among oid (Some oids) = list_any (λ other. other == oid) oids
-
--- the index under which a target keeps its part: of coded data its place in the target list, of whole copies 0
-abbrev pub index_at : Policy → Kind → ℕ → ℕ
-index_at (Copies copies) kind place = 0
-index_at (Coded d p) Block place = place
-index_at (Coded d p) Inode place = 0
 
 -- the index of a node's part of an object in an epoch, if it is one of the targets
 abbrev pub index_in : Shown → ℕ → ℕ → Policy → NodeId → Option ℕ

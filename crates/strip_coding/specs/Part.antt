@@ -1,5 +1,5 @@
 -- The part of an object that a node keeps under an index.
-use Rattle.std.specs.Prelude.{◌≡◌, ℕ, zero, suc, ◌/◌, ◌%◌, List, [], ◌∷◌, ◌++◌, length, take, drop, map}
+use Rattle.std.specs.Prelude.{◌≡◌, ℕ, zero, suc, ◌/◌, ◌%◌, Bool, true, false, List, [], ◌∷◌, ◌++◌, length, take, drop, map, if◌then◌else◌}
 use Rattle.object_id.specs.declared.policy.Policy.{Policy}
 use Rattle.object_id.specs.declared.policy.Policy.TheVariants.{Copies, Coded}
 use Rattle.object_id.specs.declared.oid.Kind.{Kind}
@@ -48,3 +48,13 @@ bytes_of_parts (Copies copies) kind indexes parts = first_part parts
 bytes_of_parts (Coded d p) Block indexes parts =
     blocks_through d indexes (length (first_part parts) / strip_bytes d) parts
 bytes_of_parts (Coded d p) Inode indexes parts = first_part parts
+
+-- whether the targets of an object keep strips of it, and not whole copies
+abbrev pub is_in_strips : Policy → Kind → Bool
+is_in_strips (Copies copies) kind = false
+is_in_strips (Coded d p) Block = true
+is_in_strips (Coded d p) Inode = false
+
+-- the index under which a target keeps its part: of strips its place in the target list, of whole copies 0
+abbrev pub index_at : Policy → Kind → ℕ → ℕ
+index_at policy kind place = if is_in_strips policy kind then place else 0

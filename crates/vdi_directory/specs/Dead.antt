@@ -1,5 +1,6 @@
 -- Parent chains, and which ids are dead.
-use Rattle.std.specs.Prelude.{◌≡◌, ℕ, ◌==◌, ◌||◌, Bool, true, false, List, fold, Option, Some, None, if◌then◌else◌}
+use Rattle.std.specs.Prelude.{◌≡◌, ℕ, ◌==◌, ◌||◌, ◌&&◌, not, Bool, true, false, List, fold, Option, Some, None, if◌then◌else◌}
+use Rattle.std.specs.List.{filter_map, list_any}
 use Rattle.object_id.specs.declared.oid.Vid.{Vid}
 use Rattle.vdi_directory.specs.declared.effect.Effect.{Effect}
 use Rattle.vdi_directory.specs.declared.effect.Effect.TheVariants as effects
@@ -39,3 +40,20 @@ is_gone Freed = true
 pub record IsDead (before : List Effect) (vid : ℕ) : Type 0 where
   pub gone : is_gone (state_of before vid) ≡ true
   pub heirs : (other : ℕ) → is_above before vid other ≡ true → is_gone (state_of before other) ≡ true
+
+-- the id that an effect grants
+abbrev pub id_granted : Effect → Option ℕ
+id_granted (effects.Reserved grant) = Some grant.claim.vid.0
+id_granted _ = None
+
+-- the ids that were granted, in order
+abbrev pub ids_granted : List Effect → List ℕ
+ids_granted effects = filter_map id_granted effects
+
+-- whether an id whose parent chain has the other one isn't gone
+abbrev pub is_heir : List Effect → ℕ → ℕ → Bool
+is_heir before vid other = is_above before vid other && not (is_gone (state_of before other))
+
+-- the same as a test, over the ids that were granted
+unfoldable pub is_dead : List Effect → ℕ → Bool
+is_dead before vid = is_gone (state_of before vid) && not (list_any (is_heir before vid) (ids_granted before))
