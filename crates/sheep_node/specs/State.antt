@@ -1,0 +1,78 @@
+-- A node: what it is, and what it begins as.
+use Rattle.std.specs.Prelude.{ℕ, Bool, true, List, [], Option, None, unwrap_or}
+use Rattle.std.specs.Ordering.{nat_cmp}
+use Rattle.std.specs.FinMap as tree
+use Rattle.object_id.specs.declared.node.NodeId.{NodeId}
+use Rattle.object_id.specs.declared.entry.Entry.{Entry}
+use Rattle.vnode_table.specs.Epochs.{Entered}
+use Rattle.peer_proto.specs.declared.guest.DiskAsk.{DiskAsk}
+use Rattle.peer_proto.specs.declared.guest.VdiAsk.{VdiAsk}
+use Rattle.peer_service.specs.State as peers
+use Rattle.peer_service.specs.State.{Peer}
+use Rattle.gateway.specs.State as gateways
+use Rattle.gateway.specs.State.{Gateway}
+use Rattle.recovery.specs.State as recoveries
+use Rattle.recovery.specs.State.{Recovery}
+use Rattle.gateway_queue.specs.declared.queue.Queued.{Queued}
+use Rattle.guest_driver.specs.declared.disk.Disk.{Disk}
+use Rattle.guest_driver.specs.Driver.{Driver}
+use Rattle.guest_driver.specs.InodeLine.{Line, free_line}
+use Rattle.vdi_ops.specs.Op.{Op}
+
+-- where a request is that has no reply
+pub data Course : Type 0 where
+  -- a read or write that waits for its turn
+  Waiting : DiskAsk → Course
+  -- a read or write that began
+  Driving : Driver → Course
+  -- a command on disks, with what was asked
+  Commanding : VdiAsk → Op → Course
+
+-- a request that has no reply: its session, and where it is
+pub record Request : Type 0 where
+  pub session : ℕ
+  pub course : Course
+
+-- a session: the disk that it has open, the objects of its reads and writes, and the line of works on its disk's inode
+pub record Session : Type 0 where
+  pub disk : Option Disk
+  pub queue : List Queued
+  pub line : Line
+
+-- a node: the peer that others ask, the epochs that it entered with their members, its works, its recovery, and whether
+-- `Recovered` of that was put; its sessions and their requests without reply, by number; the entries that it has still to
+-- put into the log; and how many requests it has sent
+pub record Node : Type 0 where
+  pub me : NodeId
+  pub peer : Peer
+  pub epochs : List Entered
+  pub gateway : Gateway
+  pub recovery : Recovery
+  pub recovered : Bool
+  pub sessions : tree.FinMap nat_cmp Session
+  pub requests : tree.FinMap nat_cmp Request
+  pub outbox : List Entry
+  pub sends : ℕ
+
+-- a session that has asked nothing
+abbrev pub new_session : Session
+new_session = record { disk = None; queue = []; line = free_line }
+
+-- the session of a number
+abbrev pub session_at : ℕ → Node → Session
+session_at number node = unwrap_or (tree.get node.sessions number) new_session
+
+-- a node that has read nothing; the first epoch needs no recovery
+abbrev pub opening : NodeId → ℕ → Node
+opening me tries = record {
+  me = me;
+  peer = peers.opening tree.empty 1;
+  epochs = [];
+  gateway = gateways.opening me tries;
+  recovery = recoveries.opening me;
+  recovered = true;
+  sessions = tree.empty;
+  requests = tree.empty;
+  outbox = [];
+  sends = 0;
+}

@@ -1,0 +1,59 @@
+ghost use Rattle.std.specs.Prelude.{◌≡◌, IfOk};
+
+use crate::ask::Ask;
+use epoch_log::EntryList;
+use object_id::{Entry, NoMemory};
+use peer_proto::{PeerReq, PeerRsp};
+use std::alloc::Global;
+
+/// What a node steps on. Each step is one of these, taken whole.
+#[derive(Debug, Drop)]
+pub enum Input {
+    /// A session's request, by its number.
+    Guest {
+        req: u32,
+        session: u32,
+        ask: Ask,
+    },
+    /// Another node's request, or the node's own to itself.
+    Request(PeerReq),
+    Reply(PeerRsp),
+    /// The message of this number, or the reply to it, was lost.
+    Lost {
+        number: u32,
+    },
+    /// The next entry of the log.
+    LogEntry(Entry),
+    /// The first entry of the outbox goes into the log.
+    Put,
+    RecoverTick,
+    RetryTick,
+    /// A lost node comes back with its store. These are all entries of the log.
+    Back {
+        entries: EntryList,
+    },
+}
+
+impl Input {
+    pub fn copy(&self, alloc: Global) -> Result<Self, NoMemory>
+        ensures { IfOk result (λ copy. copy ≡ self.now) }
+    {
+        Ok(match self {
+            Input::Guest { req, session, ask } => Input::Guest {
+                req: *req,
+                session: *session,
+                ask: ask.copy(alloc)?,
+            },
+            Input::Request(request) => Input::Request(request.copy(alloc)?),
+            Input::Reply(reply) => Input::Reply(reply.copy(alloc)?),
+            Input::Lost { number } => Input::Lost { number: *number },
+            Input::LogEntry(entry) => Input::LogEntry(entry.copy(alloc)?),
+            Input::Put => Input::Put,
+            Input::RecoverTick => Input::RecoverTick,
+            Input::RetryTick => Input::RetryTick,
+            Input::Back { entries } => Input::Back {
+                entries: entries.copy(alloc)?,
+            },
+        })
+    }
+}
