@@ -21,13 +21,13 @@ ghost use Rattle.peer_proto.specs.declared.say.Refusal.{Refusal};
 ghost use Rattle.peer_proto.specs.declared.say.Refusal.TheVariants as refusals;
 ghost use Rattle.peer_proto.specs.declared.say.PeerSay.TheVariants as says;
 ghost use Rattle.peer_service.specs.State.{Peer, is_dead_object, row_size, is_waiting};
-ghost use Rattle.peer_service.specs.Pending.{row_put};
+ghost use Rattle.peer_service.specs.Pending.{list_started, row_put};
 ghost use Rattle.peer_service.specs.Fence.{admitted};
 ghost use Rattle.peer_service.specs.Serve.{refused, row_or_none, answered, served, MayServe, may_serve};
-ghost use Rattle.peer_service.specs.Epochs.{stays_open, row_entering, entered, AreKept, settled_to};
+ghost use Rattle.peer_service.specs.Epochs.{has_at, stays_open, row_entering, entered, AreKept, settled_to};
 ghost use Rattle.peer_service.specs.Reading.{dies, read_entry};
 ghost use Rattle.peer_service.specs.Back.{come_back};
-ghost use Rattle.peer_service.specs.Example.{key, peer, write_of};
+ghost use Rattle.peer_service.specs.Example.{node, key, peer, write_of, targets, ended_row, whole_log};
 
 /// A request of another epoch is refused by name, whatever it asks, and changes nothing.
 pub fn other_epochs_are_refused()
@@ -158,15 +158,33 @@ pub fn open_rows_are_from_epochs_so_far()
     ensures back { (entries : List Entry) (peer : Peer) → OpenUpTo (come_back entries peer).epoch (come_back entries peer).rows }
 {}
 
-/// A peer of epoch 2 with an open row is asked for a write under three epochs, and how long rows are.
+/// A peer of epoch 2 with an open row is asked for a write under three epochs, goes to epoch 3, where the row's id isn't
+/// known, and comes back from epoch 2 in epoch 4.
 pub fn a_peer_worked_out()
     ensures older { served peer (write_of 1) ≡ refused (refusals.OldEpoch (record { 0 = 2 })) peer }
     ensures newer { served peer (write_of 3) ≡ refused (refusals.NewEpoch (record { 0 = 2 })) peer }
     ensures own { (served peer (write_of 2)).say ≡ says.Success }
-    ensures row { rows_of (served peer (write_of 2)).peer.rows key.oid
+    ensures written { rows_of (served peer (write_of 2)).peer.rows key.oid
         ≡ record { index = 0; from = record { 0 = 1 }; to = None; bytes = 5 ∷ 7 ∷ 8 ∷ [] } ∷ [] }
-    // An inode has 4,198,968 bytes; a data object of shift 22 has 4 MiB, and its strips for 4 data strips a fourth of that each.
+    ensures closed { rows_of (entered (node 1) targets peer).rows key.oid ≡ ended_row 2 ∷ [] }
+    ensures back { rows_of (come_back whole_log peer).rows key.oid ≡ ended_row 2 ∷ [] }
+    // Until its list is finished again, a read waits.
+    ensures waits { answered (asks.Read key 0 1) (list_started (come_back whole_log peer))
+        ≡ refused refusals.Recovery (list_started (come_back whole_log peer)) }
+{}
+
+/// Whole copies stay open on every target at index 0, strips on each target at its place among them.
+pub fn places_worked_out()
+    ensures copy { has_at (node 2) targets 3 key.oid 0 (Some (Copies 2)) ≡ true }
+    ensures strip { has_at (node 2) targets 3 key.oid 1 (Some (Coded 2 1)) ≡ true }
+    ensures other_strip { has_at (node 2) targets 3 key.oid 0 (Some (Coded 2 1)) ≡ false }
+    ensures other_node { has_at (node 0) targets 3 key.oid 0 (Some (Copies 2)) ≡ false }
+    ensures unknown { has_at (node 2) targets 3 key.oid 0 None ≡ false }
+{}
+
+/// An inode has 4,198,968 bytes; a data object of shift 22 has 4 MiB, and of four data strips each row a fourth of that.
+pub fn row_sizes_worked_out()
     ensures inode { row_size Inode (record { size = 2 ^ 20; policy = Coded 4 2; shift = 22 }) ≡ 4198968 }
-    ensures object { row_size Block (record { size = 2 ^ 20; policy = Copies 3; shift = 22 }) ≡ 4194304 }
+    ensures whole { row_size Block (record { size = 2 ^ 20; policy = Copies 3; shift = 22 }) ≡ 4194304 }
     ensures strip { row_size Block (record { size = 2 ^ 20; policy = Coded 4 2; shift = 22 }) ≡ 1048576 }
 {}
