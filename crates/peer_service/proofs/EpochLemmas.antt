@@ -1,5 +1,5 @@
 -- What the steps of the log leave of rows.
-use Rattle.std.proofs.Common.{◌≡◌, ℕ, ◌+◌, ◌-◌, ◌≤◌, Bool, true, false, not, cond, ◌&&◌, List, [], ◌∷◌, map, filter, Option, Some, None, Result, Ok, Err, refl, ap, ap₂, sym, ◌∙◌, subst, arith}
+use Rattle.std.proofs.Common.{◌≡◌, ℕ, ◌+◌, ◌-◌, ◌≤◌, Bool, true, false, not, cond, ◌&&◌, List, [], ◌∷◌, ◌++◌, map, filter, Option, Some, None, Result, Ok, Err, refl, ap, ap₂, sym, ◌∙◌, subst, arith}
 use Rattle.std.specs.List.{AllByRecursion}
 use Rattle.std.specs.Ordering.{nat_cmp}
 use Rattle.std.specs.BTreeMap.{is_at}
@@ -8,6 +8,9 @@ use Rattle.object_id.specs.declared.entry.Entry.{Entry}
 use Rattle.object_id.specs.declared.node.NodeId.{NodeId}
 use Rattle.object_id.specs.declared.policy.Policy.{Policy}
 use Rattle.object_id.specs.Piece.{laid_over}
+use Rattle.object_id.specs.Oid.{vid_of}
+use Rattle.vdi_directory.proofs.DeadLemmas.{dead-stays}
+use Rattle.vdi_directory.proofs.DeadTests.{test-finds-dead}
 use Rattle.epoch_log.specs.Epochs.{epoch_of, settled_of}
 use Rattle.object_store.specs.declared.fault.StoreFault.{StoreFault}
 use Rattle.object_store.specs.declared.key.Key.{Key}
@@ -129,6 +132,12 @@ dead_before entry peer oid is = ap (λ b. is_dead_object (with_entry entry peer)
     never : (a : Bool) → (a && false) ≡ false
     never true = refl
     never false = refl
+
+pub dead_for_good : (entry : Entry) (peer : Peer) (oid : ℕ) → is_dead_object peer oid ≡ true → is_dead_object (read_entry entry peer) oid ≡ true
+unfolding read_entry without_objects
+dead_for_good entry peer oid is =
+    (test-finds-dead (peer.entries ++ entry ∷ []) (vid_of oid)).1
+    (dead-stays peer.entries (entry ∷ []) (vid_of oid) ((test-finds-dead peer.entries (vid_of oid)).0 is))
 
 -- ---- coming back
 

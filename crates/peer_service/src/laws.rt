@@ -132,7 +132,8 @@ pub fn rows_go_with_their_disk()
         → is_waiting (read_entry entry peer) oid ≡ false }
     ensures still_pending { (entry : Entry) (peer : Peer) (oid : ℕ) → dies entry peer oid ≡ false
         → is_waiting (read_entry entry peer) oid ≡ is_waiting peer oid }
-    // A row that was made for a dead id is like any other.
+    // An id dies once, and for good: a row that was made for a dead id is like any other.
+    ensures for_good { (entry : Entry) (peer : Peer) (oid : ℕ) → is_dead_object peer oid ≡ true → is_dead_object (read_entry entry peer) oid ≡ true }
     ensures dead_before { (entry : Entry) (peer : Peer) (oid : ℕ) → is_dead_object peer oid ≡ true → dies entry peer oid ≡ false }
 {}
 
