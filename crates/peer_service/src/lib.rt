@@ -1,7 +1,7 @@
 //! What a node answers to the requests of its peers, and what the log makes of its rows.
 //!
 //! The crate stands on `peer_proto`, `vdi_directory`, `strip_coding`, `object_store`, `epoch_log` and `object_id`, and for
-//! a word each on `object_list` and `inode`. Here stands as definitions what of a node its peers reach
+//! the size of an inode object on `inode`. Here stands as definitions what of a node its peers reach
 //! (`specs/State.antt`), the fence between epochs (`specs/Fence.antt`), the answer to a request and what it leaves
 //! (`specs/Serve.antt`), what is still to be recovered (`specs/Pending.antt`), going to the next epoch and settling one
 //! (`specs/Epochs.antt`), reading an entry of the log (`specs/Reading.antt`), and coming back (`specs/Back.antt`).
