@@ -11,6 +11,7 @@
 
 mod draft;
 mod fault;
+mod laws;
 mod limits;
 mod line;
 mod number;
@@ -20,6 +21,7 @@ mod statement;
 mod words;
 
 pub use fault::{LineCause, ScriptFault};
+pub use laws::{each_request_is_of_a_phase, each_session_is_declared, what_is_asked};
 pub use limits::TEXT_BYTES_MAX;
 pub use script::{Script, parse};
 pub use statement::{Pattern, Statement};

@@ -1,0 +1,5 @@
+use Rattle.cluster_script.proofs.SessionLaws.{session-declared}
+use Rattle.cluster_script.proofs.laws.each_session_is_declared.Goals as goal
+
+pub returns : goal.returns
+returns c = session-declared
