@@ -1,12 +1,12 @@
 //! Laws of the definitions, for the proofs of the layers above: each is the contract of a function that does nothing.
-ghost use Rattle.std.specs.Prelude.{◌≡◌, ℕ, List, length, flat_map, is_some};
-ghost use Rattle.std.specs.List.{range_with_len};
+ghost use Rattle.std.specs.Prelude.{◌≡◌, ℕ, ◌≤◌, List, length, flat_map, is_some};
+ghost use Rattle.std.specs.List.{range_with_len, AllPairs};
 ghost use Rattle.cluster_script.specs.declared.statement.Pattern.{Pattern};
 ghost use Rattle.cluster_script.specs.declared.statement.Statement.{Statement as Line};
 ghost use Rattle.cluster_script.specs.Statements.{is_request, requests_of, declared};
 ghost use Rattle.cluster_script.specs.Asked.{session_of, payload_of};
 ghost use Rattle.cluster_script.specs.Phases.{Phase, phases_of};
-ghost use Rattle.cluster_script.specs.Sessions.{session_numbered};
+ghost use Rattle.cluster_script.specs.Sessions.{Session, sessions_of, session_numbered};
 
 /// The requests of a script are what its sessions ask for, and a write has as many bytes as its length says.
 pub fn what_is_asked()
@@ -20,7 +20,8 @@ pub fn each_request_is_of_a_phase()
         ≡ range_with_len 1 (length (requests_of statements)) }
 {}
 
-/// A session of a number is there exactly where one is declared.
+/// A session of a number is there exactly where one is declared, and the sessions ascend by number.
 pub fn each_session_is_declared()
-    ensures { (statements : List Line) (number : ℕ) → is_some (session_numbered statements number) ≡ declared number statements }
+    ensures declared { (statements : List Line) (number : ℕ) → is_some (session_numbered statements number) ≡ declared number statements }
+    ensures order { (statements : List Line) → AllPairs (λ (a b : Session). a.number ≤ b.number) (sessions_of statements) }
 {}
