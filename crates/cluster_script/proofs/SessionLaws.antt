@@ -8,7 +8,7 @@ use Rattle.std.proofs.lemmas.List.Kept.{AllPairs-cons}
 use Rattle.cluster_script.specs.declared.statement.Statement.{Statement}
 use Rattle.cluster_script.specs.declared.statement.Statement.TheVariants as lines
 use Rattle.cluster_script.specs.Statements.{declared}
-use Rattle.cluster_script.specs.Sessions.{Session, session_in, with_session, sessions_from, sessions_of, is_numbered, session_numbered}
+use Rattle.cluster_script.specs.Sessions.{Session, with_session, sessions_from, sessions_of, is_numbered, session_numbered}
 
 or-swap : (a b c : Bool) → (a || (b || c)) ≡ (b || (a || c))
 or-swap true true c = refl
