@@ -3,3 +3,6 @@ pub mod Counting
 pub mod Pieces
 pub mod DigitLemmas
 pub mod LineSteps
+pub mod WorkedCases
+pub mod PhaseLaws
+pub mod SessionLaws

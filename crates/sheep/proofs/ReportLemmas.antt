@@ -1,5 +1,5 @@
 -- The lines of the statements so far.
-use Rattle.std.proofs.Common.{◌≡◌, ℕ, zero, suc, ◌+◌, ◌<◌, ◌≤◌, List, [], ◌∷◌, ◌++◌, length, take, get_or, refl, ap, sym, ◌∙◌, subst, append_assoc, codes, decimal, rules, arith, if◌then◌else◌, Bool, true, false}
+use Rattle.std.proofs.Common.{◌≡◌, ℕ, zero, suc, ◌+◌, ◌<◌, List, [], ◌∷◌, ◌++◌, length, take, get_or, refl, ap, sym, ◌∙◌, subst, append_assoc, codes, decimal, rules, arith, if◌then◌else◌, Bool, true, false}
 use Rattle.std.specs.Prelude.{count_by, flat_map, unwrap_or}
 use Rattle.std.proofs.Math.Seq.{take-suc}
 use Rattle.std.proofs.lemmas.Grind.{common_steps}
@@ -46,6 +46,7 @@ reply_is before disk s held = ap (λ size. reply_on size (bytes_at disk.blocks) 
         ap (λ bytes. if fits size offset length then codes " ok" ++ runs_text bytes else refused_text)
         (flat_map-same (bytes_at disk.blocks) (block_after (size_after before) before) (blocks_of offset length) held.blocks)
     by_kind size (Write session offset length pattern) = refl
+    by_kind size s = refl
 
 -- the disk is the one that the statements leave, and the lines are theirs
 pub record Told (before : List Statement) (disk : Disk) (lines : Lines) : Type 0 where
