@@ -11,7 +11,7 @@ use Rattle.gateway_queue.specs.Queue.{without}
 use Rattle.guest_driver.specs.declared.disk.Disk.{Disk}
 use Rattle.guest_driver.specs.InodeLine.{Line}
 use Rattle.sheep_node.specs.declared.outputs.Outputs.{Outputs}
-use Rattle.sheep_node.specs.State.{Course, Request, Session, Node, session_at}
+use Rattle.sheep_node.specs.State.{Course, Session, Node, session_at}
 
 pub record Turn : Type 0 where
   pub node : Node
