@@ -63,6 +63,7 @@ taken number req (asks.Disk ask) turn =
 taken number req (asks.Vdi ask) turn =
     command_went_on number req ask (begin turn.node.me number ask (inode_open (session_in number turn).disk)) turn
 
+-- a request is refused for a cause, if there is one
 abbrev pub taken_unless : Option Cause → ℕ → ℕ → Ask → Turn → Turn
 taken_unless None number req ask turn = taken number req ask turn
 taken_unless (Some cause) number req ask turn = replied req (Refused cause) turn

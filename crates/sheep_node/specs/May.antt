@@ -61,6 +61,7 @@ is_on_disk (Waiting ask) = true
 is_on_disk (Driving driver) = true
 is_on_disk (Commanding ask op) = false
 
+-- whether what is asked is a read or write
 abbrev pub asks_disk : Ask → Bool
 asks_disk (asks.Disk ask) = true
 asks_disk (asks.Vdi ask) = false

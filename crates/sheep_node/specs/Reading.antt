@@ -37,6 +37,7 @@ is_member node = members.is_member node.me.0 (members_now node)
 abbrev pub entered_in : List Entry → ℕ → Entered
 entered_in entries epoch = record { epoch = epoch; members = members_in entries epoch }
 
+-- the node's peer is so
 abbrev pub with_peer : Peer → Node → Node
 with_peer peer node = record node { peer = peer }
 

@@ -11,15 +11,18 @@ use Rattle.vdi_directory.specs.Names.{is_same}
 use Rattle.vdi_ops.specs.Op.{entry_wanted}
 use Rattle.sheep_node.specs.State.{Course, Waiting, Driving, Commanding}
 
+-- two policies of one kind with the same numbers
 abbrev pub is_same_policy : Policy → Policy → Bool
 is_same_policy (Copies c) (Copies other) = c == other
 is_same_policy (Copies c) (Coded d p) = false
 is_same_policy (Coded d p) (Copies c) = false
 is_same_policy (Coded d p) (Coded other parity) = d == other && p == parity
 
+-- two specs with the same in each field
 abbrev pub is_same_spec : VdiSpec → VdiSpec → Bool
 is_same_spec one other = one.size == other.size && (is_same_policy one.policy other.policy && one.shift == other.shift)
 
+-- the same tag, or none twice
 abbrev pub is_same_tag : Option (List ℕ) → Option (List ℕ) → Bool
 is_same_tag None None = true
 is_same_tag None (Some tag) = false
@@ -62,6 +65,7 @@ is_of_command (Delete by session name tag) = true
 is_of_command (Lock by session name tag) = true
 is_of_command (Unlock by session vid) = true
 
+-- whether an entry is the one that is waited for, if one is
 abbrev pub is_wanted : Entry → Option Entry → Bool
 is_wanted entry None = false
 is_wanted entry (Some wanted) = is_same_entry wanted entry

@@ -52,6 +52,7 @@ said_on inputs.RecoverTick node = None
 said_on inputs.RetryTick node = None
 said_on (inputs.Back entries) node = None
 
+-- the first entry of an outbox
 abbrev pub first_of : List Entry → Option Entry
 first_of [] = None
 first_of (entry ∷ later) = Some entry
@@ -73,6 +74,7 @@ abbrev pub AscendFrom : ℕ → List (ℕ × GuestRsp) → Type 0
 AscendFrom low [] = Unit {0}
 AscendFrom low (reply ∷ later) = (low ≤ reply.0) × AscendFrom reply.0 later
 
+-- the same of all replies
 abbrev pub Ascend : List (ℕ × GuestRsp) → Type 0
 Ascend replies = AscendFrom 0 replies
 
