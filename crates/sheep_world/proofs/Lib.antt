@@ -1,0 +1,5 @@
+pub mod ListTools
+pub mod NameTools
+pub mod EnabledLemmas
+pub mod RunLemmas
+pub mod WireLemmas
