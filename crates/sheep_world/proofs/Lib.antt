@@ -3,3 +3,4 @@ pub mod NameTools
 pub mod EnabledLemmas
 pub mod RunLemmas
 pub mod WireLemmas
+pub mod OpeningLemmas

@@ -99,7 +99,7 @@ module _ (seats : tree.FinMap nat_cmp Seat) (wire : tree.FinMap name_cmp Letter)
         (got_insert seats n (first_seat node) name.sender.0 seat there);
   }
 
-none_there : {A : Type 0} (xs : List A) → length xs ≡ 0 → xs ≡ []
+pub none_there : {A : Type 0} (xs : List A) → length xs ≡ 0 → xs ≡ []
 none_there [] is = refl
 none_there (x ∷ xs) is = absurd (omega (arith, is))
 
