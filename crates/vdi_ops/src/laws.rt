@@ -9,7 +9,7 @@ ghost use Rattle.object_id.specs.declared.entry.Origin.TheVariants.{Fresh, Snaps
 ghost use Rattle.object_id.specs.declared.entry.Entry.{Entry};
 ghost use Rattle.object_id.specs.declared.entry.Entry.TheVariants as entries;
 ghost use Rattle.object_id.specs.Spec.{IsSpec, objects_of};
-ghost use Rattle.inode.specs.declared.layout.TheConstants.{INODE_HEADER_BYTES};
+ghost use Rattle.inode.specs.declared.layout.TheConstants.{INODE_HEADER_BYTES, INODE_BYTES};
 ghost use Rattle.inode.specs.Layout.{Content, IsText, IsEntry, SpellsInode};
 ghost use Rattle.peer_proto.specs.declared.guest.VdiAsk.{VdiAsk};
 ghost use Rattle.peer_proto.specs.declared.guest.VdiAsk.TheVariants.{Create, Attach, Close, Snapshot, Clone, Delete};
@@ -23,7 +23,6 @@ ghost use Rattle.vdi_directory.specs.Dead.{is_above};
 ghost use Rattle.vdi_ops.specs.declared.act.OpAct.TheVariants.{Append, Work, Reply};
 ghost use Rattle.vdi_ops.specs.Entries.{first_entry};
 ghost use Rattle.vdi_ops.specs.Tables.{chain_of, kept, table_in, holes, inode_by};
-ghost use Rattle.vdi_ops.specs.declared.layout.TheConstants.{INODE_BYTES};
 ghost use Rattle.vdi_ops.specs.Works.{written_bytes, written_back, read_inode, create_inode, write_back, write_tag};
 ghost use Rattle.vdi_ops.specs.Op.{Op, entry_wanted, bytes_wanted, IsAwaited};
 ghost use Rattle.vdi_ops.specs.Steps.{begin, on_decision, on_done, on_refused};
@@ -112,8 +111,7 @@ pub fn the_table_is_written_back()
         → SpellsInode (written_back inode bytes) (record inode { table = read.table }) }
 {}
 
-/// An inode object has room for the header and the most entries that a disk may have, and what is written of it fits.
+/// What is written of an inode fits into its object.
 pub fn an_inode_has_room()
-    ensures whole { INODE_BYTES ≡ INODE_HEADER_BYTES + 4 * 2 ^ 20 }
-    ensures written { (spec : VdiSpec) → IsSpec spec → written_bytes spec ≤ INODE_BYTES }
+    ensures { (spec : VdiSpec) → IsSpec spec → written_bytes spec ≤ INODE_BYTES }
 {}
