@@ -7,3 +7,4 @@ pub mod OpeningLemmas
 pub mod PutLemmas
 pub mod MeetLemmas
 pub mod AskLemmas
+pub mod BackLemmas

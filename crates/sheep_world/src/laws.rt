@@ -73,6 +73,8 @@ pub fn nodes_and_wire_stay_together()
         → step statements (events.Join node) world ≡ Some made → seat_at node.0 world ≡ None → IsWired world → IsWired made.world }
     ensures lost { (statements : List Statement) (world : World) (made : Made) (node : NodeId)
         → step statements (events.Lost node) world ≡ Some made → IsWired world → IsWired made.world }
+    ensures back { (statements : List Statement) (world : World) (made : Made) (node : NodeId)
+        → step statements (events.Back node) world ≡ Some made → IsWired world → IsWired made.world }
 {}
 
 /// A node steps only on what it may. So a loss that it is told is of a message that it waits for, and so is a reply, which
