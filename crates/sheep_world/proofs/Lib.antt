@@ -8,3 +8,4 @@ pub mod PutLemmas
 pub mod MeetLemmas
 pub mod AskLemmas
 pub mod BackLemmas
+pub mod SmallWorld

@@ -67,7 +67,7 @@ put_idle me tries turn idle =
     either (λ (turn : Turn). Idle me tries turn.node) (is_due turn.node) (with_recovered turn) turn
     (record { me_so = idle.me_so; gateway_so = idle.gateway_so; recovery_so = idle.recovery_so }) idle
 
-nobody_asks : (entry : Entry) (me : NodeId) (tries : ℕ) → asker_of entry (nodes.opening me tries) ≡ None
+pub nobody_asks : (entry : Entry) (me : NodeId) (tries : ℕ) → asker_of entry (nodes.opening me tries) ≡ None
 nobody_asks entry me tries = ap
     (λ (found : List (ℕ × Request)). find (λ (one : ℕ × Request). waits_for_entry entry one.1.course) found)
     (none_there (tree.entries {R = nat_cmp} (tree.empty {X = Request})) (sym (tree.len-entries tree.empty) ∙ tree.len-empty nat_cmp Request))

@@ -1,5 +1,5 @@
 //! Laws of the definitions, for the proofs of the layers above: each is the contract of a function that does nothing.
-ghost use Rattle.std.specs.Prelude.{◌≡◌, ◌≢◌, ℕ, true, List, [], ◌++◌, Contains, Some, None, Ok, is_some};
+ghost use Rattle.std.specs.Prelude.{◌≡◌, ◌≢◌, ℕ, true, List, [], ◌∷◌, ◌++◌, Contains, Some, None, Ok, is_some};
 ghost use Rattle.object_id.specs.declared.node.NodeId.{NodeId};
 ghost use Rattle.object_id.specs.declared.entry.Entry.{Entry};
 ghost use Rattle.object_id.specs.declared.entry.Entry.TheVariants as entries;
@@ -21,7 +21,7 @@ ghost use Rattle.sheep_world.specs.Changes.{last_weight};
 ghost use Rattle.sheep_world.specs.Granted.{entry_adds};
 ghost use Rattle.sheep_world.specs.Meets.{MayStepOn};
 ghost use Rattle.sheep_world.specs.Lives.{life_in};
-ghost use Rattle.sheep_world.specs.Example.{lived};
+ghost use Rattle.sheep_world.specs.Example.{lived, small};
 ghost use Rattle.sheep_world.specs.Step.{Made, step};
 ghost use Rattle.sheep_world.specs.Run.{Moment, run_from};
 ghost use Rattle.sheep_world.specs.Enabled.{is_enabled, enabled};
@@ -110,4 +110,9 @@ pub fn lives_worked_out()
     ensures first { life_in lived 1 1 ≡ 1 }
     ensures second { life_in lived 4 1 ≡ 2 }
     ensures weight { last_weight lived 1 ≡ 32 }
+{}
+
+/// In the opening world of a small script its session's request may begin, and nothing else may happen.
+pub fn a_small_world_worked_out()
+    ensures { enabled small (opening small) ≡ events.Guest 1 ∷ [] }
 {}
