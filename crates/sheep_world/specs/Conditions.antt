@@ -14,10 +14,11 @@ use Rattle.sheep_node.specs.Reading as reading
 use Rattle.sheep_world.specs.declared.name.MessageName.{MessageName}
 use Rattle.sheep_world.specs.World.{Letter, Request, Reply, Seat, Started, Guest, World, seat_at, is_seat_up, is_up, is_up_with, is_lost, is_member, message_at, receiver_of, has_lost_end, has_end, guest_at, next_control}
 
--- whether a session's gateway is up in the life that the session belongs to, and a member by what it has read
+-- whether a seat's node is up in the life that a session belongs to, and a member by what it has read
 abbrev pub serves : Session → Seat → Bool
 serves session seat = is_seat_up seat && seat.life == session.life && reading.is_member seat.node
 
+-- whether a session's gateway is so
 abbrev pub has_gateway : Session → World → Bool
 has_gateway session world = option_map_or (serves session) (seat_at session.node world) false
 
@@ -60,6 +61,7 @@ may_deliver name world = option_map_or (λ letter. is_up (receiver_of name lette
 abbrev pub may_go : MessageName → Letter → World → Bool
 may_go name letter world = has_lost_end name letter world || nat_lt 0 world.losses
 
+-- whether a message is a request on its way
 abbrev pub is_request : Letter → Bool
 is_request (Request to bytes) = true
 is_request (Reply from bytes) = false
@@ -90,15 +92,17 @@ may_recover node world = is_up_with nodes.may_tick node world
 abbrev pub may_retry : ℕ → World → Bool
 may_retry node world = is_up_with nodes.may_retry node world
 
--- the controls that fail, join or give another weight to this node
+-- a control fails this node
 abbrev pub fails : ℕ → Statement → Bool
 fails node (lines.Fail number) = number == node
 fails node s = false
 
+-- a control lets it join
 abbrev pub joins : ℕ → Statement → Bool
 joins node (lines.Join number) = number == node
 joins node s = false
 
+-- a control gives it another weight
 abbrev pub reweights : ℕ → Statement → Bool
 reweights node (lines.Reweight number vnodes) = number == node
 reweights node s = false

@@ -39,6 +39,7 @@ abbrev pub begun_of : List Statement → Option Session → World → World
 begun_of statements None world = world
 begun_of statements (Some session) world = request_begun session (next_request statements session.number world) world
 
+-- the same by the session's number
 abbrev pub guest_begun : List Statement → ℕ → World → World
 guest_begun statements number world = begun_of statements (session_numbered statements number) world
 

@@ -47,6 +47,7 @@ request_grown statements world session None = []
 request_grown statements world session (Some req) =
     option_map_or (begins_on req (disk_at session world)) (request_at statements req) []
 
+-- the same by the session's number
 abbrev pub writes_grown : List Statement → ℕ → World → List HistEvent
 writes_grown statements number world = option_map_or
     (λ session. request_grown statements world session (next_request statements number world))
@@ -86,11 +87,13 @@ reply_adds req rsp disk (lines.Read session offset length) = blocks_read disk of
 reply_adds req rsp disk (lines.Write session offset length pattern) = write_ended req rsp ∷ []
 reply_adds req rsp disk s = []
 
+-- the same where the request began on a disk, and is one of the script
 abbrev pub added_by : ℕ → GuestRsp → Option ℕ → Option Statement → List HistEvent
 added_by req rsp None s = []
 added_by req rsp (Some disk) None = []
 added_by req rsp (Some disk) (Some s) = reply_adds req rsp disk s
 
+-- what one reply adds
 abbrev pub reply_grown : List Statement → World → ℕ × GuestRsp → List HistEvent
 reply_grown statements world reply =
     added_by reply.0 reply.1 (disk_of statements reply.0 world) (request_at statements reply.0)
@@ -122,5 +125,6 @@ writers_lost statements world node (Some seat) =
     map (λ (request : ℕ × Statement). WriterLost request.0)
     (filter (is_lost_write statements world node seat.life) (numbered statements))
 
+-- the same by the node's number
 abbrev pub loss_grown : List Statement → ℕ → World → List HistEvent
 loss_grown statements node world = writers_lost statements world node (seat_at node world)

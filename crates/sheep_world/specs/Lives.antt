@@ -89,5 +89,6 @@ counts_for epoch world ended node = option_map_or
 abbrev pub is_life_gone : Session → Seat → Bool
 is_life_gone session seat = nat_lt session.life seat.life || (session.life == seat.life && seat.is_lost)
 
+-- the same of a session, in a world
 abbrev pub is_gone : Session → World → Bool
 is_gone session world = option_map_or (is_life_gone session) (seat_at session.node world) false

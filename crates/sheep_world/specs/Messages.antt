@@ -53,6 +53,7 @@ delivered_as statements name None world = world
 delivered_as statements name (Some (Request to bytes)) world = request_delivered statements name to bytes world
 delivered_as statements name (Some (Reply from bytes)) world = reply_delivered statements name bytes world
 
+-- Deliver, by the message's name
 abbrev pub delivered : List Statement → MessageName → World → World
 delivered statements name world = delivered_as statements name (message_at name world) world
 

@@ -33,6 +33,7 @@ answered_in req None guests = guests
 answered_in req (Some session) guests =
     tree.insert guests session (without_request req (unwrap_or (tree.get guests session) new_guest))
 
+-- the same of a reply, by the session that asked
 abbrev pub answered : List Statement → tree.FinMap nat_cmp Guest → ℕ × GuestRsp → tree.FinMap nat_cmp Guest
 answered statements guests reply = answered_in reply.0 (session_asking statements reply.0) guests
 
