@@ -1,0 +1,11 @@
+pub mod ListTools
+pub mod NameTools
+pub mod EnabledLemmas
+pub mod RunLemmas
+pub mod WireLemmas
+pub mod OpeningLemmas
+pub mod PutLemmas
+pub mod MeetLemmas
+pub mod AskLemmas
+pub mod BackLemmas
+pub mod SmallWorld
