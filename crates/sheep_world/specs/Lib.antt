@@ -12,3 +12,4 @@ pub mod Step
 pub mod Run
 pub mod Enabled
 pub mod Lives
+pub mod Wired
