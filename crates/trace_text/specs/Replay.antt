@@ -1,10 +1,11 @@
 -- How a trace is replayed: the events that its lines spell, made one after another.
-use Rattle.std.specs.Prelude.{ℕ, suc, List, [], ◌∷◌, Option, Some, None, if◌then◌else◌}
+use Rattle.std.specs.Prelude.{◌≡◌, ℕ, suc, ◌+◌, false, List, [], ◌∷◌, ◌++◌, length, map, Option, Some, None, if◌then◌else◌}
 use Rattle.std.specs.List.{filter_map}
 use Rattle.std.specs.Option.{option_map, option_and_then}
 use Rattle.cluster_script.specs.declared.statement.Statement.{Statement}
 use Rattle.sheep_node.specs.declared.event.Event.{Event}
-use Rattle.sheep_world.specs.Run.{Moment, opening, next, is_whole}
+use Rattle.sheep_world.specs.Run.{Moment, opening, next, run, is_whole}
+use Rattle.trace_text.specs.Spelling.{event_text}
 use Rattle.trace_text.specs.Reading.{event_in}
 
 -- the events of lines
@@ -29,3 +30,18 @@ bad_from statements (line ∷ lines) moment = bad_after (line_made statements li
 -- the same of a script's trace
 abbrev pub bad_place : List Statement → List (List ℕ) → Option ℕ
 bad_place statements lines = bad_from statements lines (opening statements)
+
+-- where lines can't go on: the next one spells no event that is enabled, or there is none and a phase isn't ended
+abbrev pub Stops : List Statement → List (List ℕ) → Moment → Type 0
+Stops statements [] moment = is_whole statements moment.world ≡ false
+Stops statements (line ∷ lines) moment = line_made statements line moment ≡ None
+
+-- the line at a place, from 1, is bad: those before it spell a run, which it doesn't go on with
+pub record IsBadAt (statements : List Statement) (lines : List (List ℕ)) (place : ℕ) : Type 0 where
+  pub before : List Event
+  pub moment : Moment
+  pub rest : List (List ℕ)
+  pub spelled : lines ≡ map event_text before ++ rest
+  pub made : run statements before ≡ Some moment
+  pub stops : Stops statements rest moment
+  pub counted : place ≡ length before + 1

@@ -1,10 +1,13 @@
 //! Laws of the definitions, for the proofs of the layers above: each is the contract of a function that does nothing.
 ghost use Rattle.std.specs.Prelude.{◌≡◌, ◌↔◌, ℕ, List, [], ◌∷◌, ◌++◌, codes, map, Some, None};
 ghost use Rattle.std.specs.List.{AllByRecursion};
+ghost use Rattle.cluster_script.specs.declared.statement.Statement.{Statement};
 ghost use Rattle.sheep_node.specs.declared.event.Event.{Event};
 ghost use Rattle.sheep_node.specs.declared.event.Event.TheVariants as events;
+ghost use Rattle.sheep_world.specs.Run.{IsWholeRun};
 ghost use Rattle.trace_text.specs.Spelling.{event_text, trace_text_of};
 ghost use Rattle.trace_text.specs.Reading.{IsNamed, event_in};
+ghost use Rattle.trace_text.specs.Replay.{events_in, bad_place, IsBadAt};
 ghost use Rattle.trace_text.specs.Lines.{lines_in, script_lines, trace_lines};
 
 /// A line is read as an event exactly where it is the event's text, and its numbers are below 2^32.
@@ -24,6 +27,17 @@ pub fn a_trace_has_a_line_for_each_event()
         → lines_in (trace_text_of events) ≡ map event_text events }
     ensures cut { (events : List Event) (event : Event) → AllByRecursion IsNamed events → IsNamed event
         → lines_in (trace_text_of events ++ event_text event) ≡ map event_text events ++ event_text event ∷ [] }
+{}
+
+/// A replay takes the lines that spell a whole run of the script, and no others.
+pub fn a_replay_takes_whole_runs()
+    ensures taken { (statements : List Statement) (lines : List (List ℕ)) → bad_place statements lines ≡ None
+        → IsWholeRun statements (events_in lines) × (lines ≡ map event_text (events_in lines)) }
+    ensures takes { (statements : List Statement) (events : List Event) → AllByRecursion IsNamed events
+        → IsWholeRun statements events → bad_place statements (map event_text events) ≡ None }
+    // The place of a bad line is 1 and the events before it; a place behind the last line means that a phase isn't ended.
+    ensures bad { (statements : List Statement) (lines : List (List ℕ)) (place : ℕ) → bad_place statements lines ≡ Some place
+        → IsBadAt statements lines place }
 {}
 
 /// How each event is spelled.
