@@ -1,0 +1,6 @@
+pub mod Words
+pub mod Runs
+pub mod Causes
+pub mod Fates
+pub mod Lists
+pub mod Report

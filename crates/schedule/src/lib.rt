@@ -1,0 +1,6 @@
+//! The order of events.
+#![tactic(auto)]
+
+mod fault;
+
+pub use fault::RunFault;
