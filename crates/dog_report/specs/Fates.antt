@@ -1,5 +1,6 @@
 -- What became of a request, and how a report says it.
-use Rattle.std.specs.Prelude.{ℕ, List, [], ◌∷◌, codes, decimal}
+use Rattle.std.specs.Prelude.{ℕ, List, [], ◌∷◌, codes, decimal, Option, Some, None}
+use Rattle.std.specs.List.{filter_map}
 use Rattle.peer_proto.specs.declared.guest.GuestRsp.{GuestRsp}
 use Rattle.peer_proto.specs.declared.guest.GuestRsp.TheVariants.{Done, Piece, Refused, Granted}
 use Rattle.dog_report.specs.Words.{Words}
@@ -38,3 +39,12 @@ fate_words Unsent = codes "unsent" ∷ []
 abbrev pub line_words : Line → Words
 line_words (Told number fate) = decimal number ∷ fate_words fate
 line_words (Listed words) = words
+
+-- the request that a line is of
+abbrev pub told_number : Line → Option ℕ
+told_number (Told number fate) = Some number
+told_number (Listed words) = None
+
+-- the requests that lines are of, in order
+abbrev pub numbers_told : List Line → List ℕ
+numbers_told lines = filter_map told_number lines

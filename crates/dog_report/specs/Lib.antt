@@ -4,3 +4,4 @@ pub mod Causes
 pub mod Fates
 pub mod Lists
 pub mod Report
+pub mod Example
