@@ -1,0 +1,53 @@
+//! Laws of the definitions, for the proofs of the layers above: each is the contract of a function that does nothing.
+ghost use Rattle.std.specs.Prelude.{◌≡◌, ◌≢◌, ◌⊎◌, ℕ, ◌+◌, ◌<◌, ◌≤◌, true, List, [], length, Some, None, IsTrue, Contains};
+ghost use Rattle.rand_xoshiro.specs.SplitMix64.{mix_u64};
+ghost use Rattle.cluster_script.specs.declared.statement.Statement.{Statement};
+ghost use Rattle.cluster_script.specs.Settings.{limit_of};
+ghost use Rattle.sheep_node.specs.declared.event.Event.{Event};
+ghost use Rattle.sheep_node.specs.declared.event.Event.TheVariants.{Phase};
+ghost use Rattle.sheep_world.specs.Enabled.{enabled};
+ghost use Rattle.sheep_world.specs.Run.{run, IsRun, is_whole};
+ghost use Rattle.schedule.specs.Schedule.{Draft, phase_chosen, choice, event_most, scheduled};
+ghost use Rattle.schedule.specs.Stops.{stopped_at, IsStopAt};
+ghost use Rattle.schedule.specs.Merged.{Kept, Merges};
+
+/// The first two words of the generator with seed 0.
+pub fn the_first_words()
+    ensures first { (mix_u64 0).0 ≡ 0xe220a8397b1dcdaf }
+    ensures second { (mix_u64 (mix_u64 0).1).0 ≡ 0x6e789e6aa1b965f4 }
+{}
+
+/// Phase stands where nothing is enabled or the limit is reached, and nowhere else; then no word is drawn.
+pub fn phase_stands_last()
+    ensures none { (statements : List Statement) (draft : Draft) → enabled statements draft.world ≡ []
+        → choice statements draft ≡ phase_chosen draft }
+    ensures limit { (statements : List Statement) (draft : Draft) → limit_of statements ≤ draft.taken
+        → choice statements draft ≡ phase_chosen draft }
+    ensures drawn { (statements : List Statement) (draft : Draft) → enabled statements draft.world ≢ []
+        → draft.taken < limit_of statements
+        → Contains (enabled statements draft.world) (choice statements draft).event
+        × ((choice statements draft).taken ≡ draft.taken + 1) }
+{}
+
+/// A schedule is a run of its script.
+pub fn a_schedule_is_a_run()
+    ensures { (statements : List Statement) (seed : ℕ) → IsRun statements (scheduled statements seed) }
+{}
+
+/// Given events are a run where they stop nowhere, and else the ones before the stop are.
+pub fn a_stop_is_the_first()
+    ensures none { (statements : List Statement) (events : List Event) → stopped_at statements events ≡ None
+        → IsRun statements events }
+    ensures run { (statements : List Statement) (events : List Event) → IsRun statements events
+        → stopped_at statements events ≡ None }
+    ensures stop { (statements : List Statement) (events : List Event) (place : ℕ) → stopped_at statements events ≡ Some place
+        → IsStopAt statements events place }
+{}
+
+/// Steps merge to one list of events at most, and that is a run of the script.
+pub fn steps_merge_to_one_run()
+    ensures run { (statements : List Statement) (steps : List Kept) (events : List Event) → Merges statements steps events
+        → IsRun statements events }
+    ensures one { (statements : List Statement) (steps : List Kept) (events others : List Event)
+        → Merges statements steps events → Merges statements steps others → events ≡ others }
+{}
