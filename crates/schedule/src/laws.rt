@@ -1,5 +1,5 @@
 //! Laws of the definitions, for the proofs of the layers above: each is the contract of a function that does nothing.
-ghost use Rattle.std.specs.Prelude.{◌≡◌, ◌≢◌, ◌⊎◌, ℕ, ◌+◌, ◌<◌, ◌≤◌, true, List, [], length, Some, None, IsTrue, Contains};
+ghost use Rattle.std.specs.Prelude.{◌≡◌, ◌≢◌, ◌⊎◌, ℕ, ◌+◌, ◌<◌, ◌≤◌, List, [], ◌∷◌, length, take, drop, codes, Some, None, IsTrue, Contains};
 ghost use Rattle.rand_xoshiro.specs.SplitMix64.{mix_u64};
 ghost use Rattle.cluster_script.specs.declared.statement.Statement.{Statement};
 ghost use Rattle.cluster_script.specs.Settings.{limit_of};
@@ -8,6 +8,7 @@ ghost use Rattle.sheep_node.specs.declared.event.Event.TheVariants.{Phase};
 ghost use Rattle.sheep_world.specs.Enabled.{enabled};
 ghost use Rattle.sheep_world.specs.Run.{run, IsRun, is_whole};
 ghost use Rattle.schedule.specs.Schedule.{Draft, phase_chosen, choice, event_most, scheduled};
+ghost use Rattle.schedule.specs.Generated.{generated_lines};
 ghost use Rattle.schedule.specs.Stops.{stopped_at, IsStopAt};
 ghost use Rattle.schedule.specs.Merged.{Kept, Merges};
 
@@ -50,4 +51,19 @@ pub fn steps_merge_to_one_run()
         → IsRun statements events }
     ensures one { (statements : List Statement) (steps : List Kept) (events others : List Event)
         → Merges statements steps events → Merges statements steps others → events ≡ others }
+{}
+
+/// The script that the number 0 generates: where its parts stand, and some of its lines.
+pub fn a_script_generated()
+    ensures count { length (generated_lines 0) ≡ 221 }
+    ensures opening { take 10 (generated_lines 0)
+        ≡ codes "cluster 6" ∷ codes "tries 1000" ∷ codes "session 1 node 0" ∷ codes "session 2 node 1"
+        ∷ codes "session 3 node 2" ∷ codes "session 4 node 3" ∷ codes "1 vdi create -c 3 -z 20 g1 64M" ∷ codes "1 vdi open g1"
+        ∷ codes "2 vdi create -c 2:2 -z 20 g2 64M" ∷ codes "2 vdi open g2" ∷ [] }
+    ensures first_round { take 2 (drop 14 (generated_lines 0))
+        ≡ codes "settle" ∷ codes "4 vdi read 53915648 4096" ∷ [] }
+    ensures second_round { take 4 (drop 64 (generated_lines 0))
+        ≡ codes "3 vdi write 21716992 4096 fill 240" ∷ codes "settle" ∷ codes "fail 5" ∷ codes "2 vdi read 24821760 4096" ∷ [] }
+    ensures third_round { take 2 (drop 117 (generated_lines 0)) ≡ codes "settle" ∷ codes "join 6" ∷ [] }
+    ensures end { drop 219 (generated_lines 0) ≡ codes "1 vdi write 33730560 4096 fill 173" ∷ codes "settle" ∷ [] }
 {}
