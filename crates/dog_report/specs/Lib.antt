@@ -4,4 +4,5 @@ pub mod Causes
 pub mod Fates
 pub mod Lists
 pub mod Report
+pub mod Counts
 pub mod Example

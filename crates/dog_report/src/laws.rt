@@ -1,5 +1,5 @@
 //! Laws of the definitions, for the proofs of the layers above: each is the contract of a function that does nothing.
-ghost use Rattle.std.specs.Prelude.{◌≡◌, ℕ, true, List, [], ◌∷◌, ◌++◌, codes, replicate, length, map, Some, None};
+ghost use Rattle.std.specs.Prelude.{◌≡◌, ℕ, ◌+◌, true, List, [], ◌∷◌, ◌++◌, codes, replicate, length, map, Some, None};
 ghost use Rattle.std.specs.List.{range_with_len};
 ghost use Rattle.std.specs.List.Sorted.{IsPermutation};
 ghost use Rattle.object_id.specs.declared.cause.Cause.TheVariants as causes;
@@ -11,15 +11,23 @@ ghost use Rattle.sheep_node.specs.State.{opening};
 ghost use Rattle.sheep_world.specs.World.{Seat, World};
 ghost use Rattle.sheep_world.specs.Opening.{first_seat};
 ghost use Rattle.dog_report.specs.Words.{spaced};
-ghost use Rattle.dog_report.specs.Fates.{Answered, Gone, Pending, Unsent, Told, line_words, numbers_told};
+ghost use Rattle.dog_report.specs.Fates.{Answered, Gone, Pending, Unsent, Line, Told, line_words, numbers_told};
 ghost use Rattle.dog_report.specs.Lists.{seat_words, pending_word, vdis_words, cluster_info, row_words};
 ghost use Rattle.dog_report.specs.Report.{report_of};
+ghost use Rattle.dog_report.specs.Counts.{count_of, is_ok, is_refused, is_gone, is_pending, is_unsent, generated_words};
 ghost use Rattle.dog_report.specs.Example.{node, member, at_log, example_effects, row_to};
 
 /// A report has exactly one line for each request of its script.
 pub fn each_request_has_one_line()
     ensures { (statements : List Statement) (events : List Event)
         → IsPermutation (range_with_len 1 (length (requests_of statements))) (numbers_told (report_of statements events)) }
+{}
+
+/// Each line of a request tells of it in one of the five ways.
+pub fn the_counts_add_up()
+    ensures { (lines : List Line)
+        → count_of is_ok lines + count_of is_refused lines + count_of is_gone lines + count_of is_pending lines
+        + count_of is_unsent lines ≡ length (numbers_told lines) }
 {}
 
 /// How a request's line is spelled.
@@ -59,6 +67,10 @@ pub fn requests_lines_spelled_out()
     ensures gone { spaced (line_words (Told 10 Gone)) ≡ codes "10 gone" }
     ensures pending { spaced (line_words (Told 10 Pending)) ≡ codes "10 pending" }
     ensures unsent { spaced (line_words (Told 10 Unsent)) ≡ codes "10 unsent" }
+    // The line for a generated script.
+    ensures generated { spaced (generated_words 7
+        (Told 1 (Answered replies.Done) ∷ Told 2 (Answered (replies.Refused causes.NoVdi)) ∷ Told 3 Gone ∷ []))
+        ≡ codes "gen 7 requests 3 ok 1 refused 1 gone 1 pending 0 unsent 0 hash 0fbd4271dad77c63" }
 {}
 
 /// How the lines of lists are spelled, of a log of two members and a third that joins, and of a disk with a snapshot.

@@ -25,4 +25,5 @@ returns c = record {
   gone = refl;
   pending = refl;
   unsent = refl;
+  generated = refl;
 }
