@@ -1,10 +1,10 @@
 -- An event is made exactly where it may happen, and the enabled list has each such event but Phase.
-use Rattle.std.proofs.Common.{◌≡◌, ◌≢◌, ℕ, ◌==◌, Bool, true, false, not, ◌&&◌, cond, nat_lt, List, [], ◌∷◌, ◌++◌, length, map, filter, flat_map, find, Contains, All, Option, Some, None, is_some, refl, sym, ap, subst, ◌∙◌}
+use Rattle.std.proofs.Common.{◌≡◌, ◌≢◌, ℕ, Bool, true, false, not, ◌&&◌, cond, nat_lt, List, [], ◌∷◌, ◌++◌, length, map, flat_map, Contains, All, Option, Some, None, is_some, refl, sym, ap, subst, ◌∙◌}
 use Rattle.std.specs.Option.{option_map_or}
 use Rattle.std.specs.FinMap as tree
 use native.Mathlib.Omega.{arith}
 use Rattle.std.proofs.lemmas.Bool.{eqb-true, and_parts}
-use Rattle.std.proofs.lemmas.List.Elements.{All-nil, All-cons, All-append, All-map, All-filter, All-contains, Contains-append_left, Contains-append_right, filter_passes, All-contains_itself}
+use Rattle.std.proofs.lemmas.List.Elements.{All-nil, All-cons, All-append, All-filter, All-contains, Contains-append_left, Contains-append_right, filter_passes}
 use Rattle.gateway.proofs.TryLaws.{found-passes}
 use Rattle.object_id.specs.declared.node.NodeId.{NodeId}
 use Rattle.cluster_script.specs.declared.statement.Statement.{Statement}
@@ -44,7 +44,7 @@ is_some-step statements world (events.Reweight node) = made_if _ _
 is_some-step statements world (events.Back node) = made_if _ _
 is_some-step statements world events.Phase = made_if _ _
 
-some_of : {X : Type 0} (o : Option X) → is_some o ≡ true → (x : X) × (o ≡ Some x)
+pub some_of : {X : Type 0} (o : Option X) → is_some o ≡ true → (x : X) × (o ≡ Some x)
 some_of None is = absurd (cc (is))
 some_of (Some x) is = (x, refl)
 

@@ -4,3 +4,6 @@ pub mod EnabledLemmas
 pub mod RunLemmas
 pub mod WireLemmas
 pub mod OpeningLemmas
+pub mod PutLemmas
+pub mod MeetLemmas
+pub mod AskLemmas

@@ -1,10 +1,9 @@
 -- The names of messages in their order, and what a map has at a key.
-use Rattle.std.proofs.Common.{◌≡◌, ◌≢◌, ℕ, Bool, true, false, cond, List, [], ◌∷◌, map, Contains, Option, Some, None, Ordering, Less, Equal, Greater, refl, sym, ap, ◌∙◌}
-use Rattle.std.specs.Ordering.{ordering_then, nat_cmp, is_eq, eq_by_cmp}
+use Rattle.std.proofs.Common.{◌≡◌, cond, List, [], ◌∷◌, Contains, Some, Ordering, Less, Equal, Greater, refl, sym, ◌∙◌}
+use Rattle.std.specs.Ordering.{ordering_then, nat_cmp, is_eq}
 use Rattle.std.specs.Cmp.{IsTotalOrder, then_total, on_total, nat_cmp_total}
 use Rattle.std.specs.FinMap as tree
 use Rattle.std.proofs.lemmas.Option.{same_Some}
-use Rattle.object_id.specs.declared.node.NodeId.{NodeId}
 use Rattle.sheep_world.specs.declared.name.MessageName.{MessageName}
 use Rattle.sheep_world.specs.World.{name_cmp}
 use Rattle.sheep_world.proofs.ListTools.{has-here, has-later, has-map}

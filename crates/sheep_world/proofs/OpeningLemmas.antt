@@ -12,7 +12,6 @@ use Rattle.object_id.specs.declared.entry.Member.{Member}
 use Rattle.cluster_script.specs.declared.statement.Statement.{Statement}
 use Rattle.cluster_script.specs.Settings.{tries_of, opening_members}
 use Rattle.peer_proto.specs.declared.ask.PeerReq.{PeerReq}
-use Rattle.vdi_directory.specs.declared.decision.Decision.{Decision}
 use Rattle.gateway.specs.State as gateways
 use Rattle.recovery.specs.State as recoveries
 use Rattle.sheep_node.specs.declared.input.Input.TheVariants as inputs
@@ -27,10 +26,10 @@ use Rattle.epoch_log.specs.Epochs.{settled_of}
 use Rattle.sheep_node.specs.Step.{taken_in, is_due, with_recovered, recovered_put, stepped}
 use Rattle.sheep_node.proofs.SoundSteps.{stepped_own}
 use Rattle.sheep_world.specs.declared.name.MessageName.{MessageName}
-use Rattle.sheep_world.specs.World.{name_cmp, Letter, Seat, World, is_seat_up}
+use Rattle.sheep_world.specs.World.{name_cmp, Letter, Seat}
 use Rattle.sheep_world.specs.Opening as worlds
 use Rattle.sheep_world.specs.Opening.{first_entry, opening_node, first_seat, opening_seat, before_phases, with_phase}
-use Rattle.sheep_world.specs.Wired.{asked_by, asked_by_gateway, asked_by_recovery, own_name, IsOnItsWay, IsAllOnItsWay, AreWired, IsWired}
+use Rattle.sheep_world.specs.Wired.{asked_by, asked_by_gateway, asked_by_recovery, own_name, IsOnItsWay, IsAllOnItsWay, IsWired}
 use Rattle.sheep_world.proofs.WireLemmas.{none_there, asked_by-opening}
 
 -- what a node waits with

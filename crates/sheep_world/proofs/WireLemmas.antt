@@ -1,9 +1,9 @@
 -- Which events leave the nodes and the wire together.
-use Rattle.std.proofs.Common.{◌≡◌, ◌≢◌, ◌⊎◌, inl, inr, ℕ, ◌==◌, ◌<◌, zero, suc, Bool, true, false, not, ◌&&◌, cond, List, [], ◌∷◌, ◌++◌, length, map, flat_map, All, Option, Some, None, refl, sym, ap, subst, ◌∙◌, ⊎_elim}
+use Rattle.std.proofs.Common.{◌≡◌, ◌≢◌, ◌⊎◌, inl, inr, ℕ, ◌==◌, Bool, true, false, not, cond, List, [], ◌∷◌, ◌++◌, length, flat_map, All, Option, Some, None, refl, sym, ap, subst, ◌∙◌, ⊎_elim}
 use native.Mathlib.Omega.{arith}
 use Rattle.std.specs.Ordering.{nat_cmp}
 use Rattle.std.specs.Option.{option_map_or}
-use Rattle.std.specs.Cmp.{IsTotalOrder, nat_cmp_total, unsigned_tied}
+use Rattle.std.specs.Cmp.{nat_cmp_total, unsigned_tied}
 use Rattle.std.specs.FinMap as tree
 use Rattle.std.proofs.lemmas.Bool.{eqb-true, eqb-false, ne_eqb, and_parts}
 use Rattle.std.proofs.lemmas.Option.{same_Some, cond_some}
@@ -23,8 +23,8 @@ use Rattle.sheep_world.specs.Stepped.{at_rest}
 use Rattle.sheep_world.specs.Conditions.{fails, is_next, may_lose_node, may_leave, may_join, may_reweight, may_end_phase}
 use Rattle.sheep_world.specs.Changes.{failed, control_taken, seat_changed, is_reply_to, without_replies, node_lost, node_left, node_joined, reweighted, phase_ended}
 use Rattle.sheep_world.specs.Step.{Made, step, only, loss_made}
-use Rattle.sheep_world.specs.Wired.{asked_by, asked_by_gateway, unanswered_in, own_name, IsOnItsWay, IsAllOnItsWay, IsSpelled, IsGiven, AreWired, IsWired}
-use Rattle.sheep_world.proofs.NameTools.{name_cmp_total, same_name}
+use Rattle.sheep_world.specs.Wired.{asked_by, unanswered_in, own_name, IsOnItsWay, IsAllOnItsWay, IsGiven, AreWired, IsWired}
+use Rattle.sheep_world.proofs.NameTools.{same_name}
 
 -- what a map has after one insertion: the new value, or what it had at another key
 pub got_insert : {X : Type 0} (m : tree.FinMap nat_cmp X) (key : ℕ) (value : X) (q : ℕ) (x : X) → tree.get (tree.insert m key value) q ≡ Some x
@@ -88,9 +88,9 @@ module _ (seats : tree.FinMap nat_cmp Seat) (wire : tree.FinMap name_cmp Letter)
         (got_insert seats n (first_seat node) q seat got);
     on_the_way = λ q seat got up. ⊎_elim
         (λ (own : (q ≡ n) × (first_seat node ≡ seat)). subst
-            (λ (seat : Seat). IsAllOnItsWay seat.node wire) own.1
-            (subst (λ (sends : List (NodeId × PeerReq)). All (λ (send : NodeId × PeerReq). IsOnItsWay node send (tree.get wire (own_name node send))) sends)
-            (sym idle) (All-nil (λ (send : NodeId × PeerReq). IsOnItsWay node send (tree.get wire (own_name node send))))))
+        (λ (seat : Seat). IsAllOnItsWay seat.node wire) own.1
+        (subst (λ (sends : List (NodeId × PeerReq)). All (λ (send : NodeId × PeerReq). IsOnItsWay node send (tree.get wire (own_name node send))) sends)
+        (sym idle) (All-nil (λ (send : NodeId × PeerReq). IsOnItsWay node send (tree.get wire (own_name node send))))))
         (λ (other : (q ≢ n) × (tree.get seats q ≡ Some seat)). wired.on_the_way q seat other.1 up)
         (got_insert seats n (first_seat node) q seat got);
     awaited = λ name letter seat got there up. ⊎_elim
@@ -149,9 +149,9 @@ module _ (seats : tree.FinMap nat_cmp Seat) (wire : tree.FinMap name_cmp Letter)
       (λ (send : NodeId × PeerReq). IsOnItsWay seat.node send (tree.get wire (own_name seat.node send)))
       (λ (send : NodeId × PeerReq). IsOnItsWay seat.node send (tree.get (without_replies n wire) (own_name seat.node send)))
       (λ (send : NodeId × PeerReq) (way : IsOnItsWay seat.node send (tree.get wire (own_name seat.node send))). subst
-          (λ (o : Option Letter). IsOnItsWay seat.node send o)
-          (sym (same_without n wire (own_name seat.node send) (λ (same : seat.node.me.0 ≡ n). apart (sym (wired.numbered q seat got) ∙ same))))
-          way)
+      (λ (o : Option Letter). IsOnItsWay seat.node send o)
+      (sym (same_without n wire (own_name seat.node send) (λ (same : seat.node.me.0 ≡ n). apart (sym (wired.numbered q seat got) ∙ same))))
+      way)
       (asked_by seat.node) (wired.on_the_way q seat got up)
 
   pub wired_lost : tree.get seats n ≡ Some lost → AreWired seats wire → AreWired (tree.insert seats n (failed lost)) (without_replies n wire)
@@ -169,7 +169,7 @@ module _ (seats : tree.FinMap nat_cmp Seat) (wire : tree.FinMap name_cmp Letter)
     awaited = λ name letter seat got at up. ⊎_elim
         (λ (own : (name.sender.0 ≡ n) × (failed lost ≡ seat)). not_failed lost (ap is_seat_up own.1 ∙ up))
         (λ (other : (name.sender.0 ≢ n) × (tree.get seats name.sender.0 ≡ Some seat)).
-            wired.awaited name letter seat (got_before name letter got) other.1 up)
+        wired.awaited name letter seat (got_before name letter got) other.1 up)
         (got_insert seats n (failed lost) name.sender.0 seat at);
   }
 

@@ -13,3 +13,5 @@ pub mod Run
 pub mod Enabled
 pub mod Lives
 pub mod Wired
+pub mod Meets
+pub mod Example

@@ -8,7 +8,7 @@ use Rattle.peer_proto.specs.declared.say.PeerRsp.{PeerRsp}
 use Rattle.peer_proto.specs.Ask.{ask_in}
 use Rattle.peer_proto.specs.Say.{say_in}
 use Rattle.gateway.specs.declared.message.Message.{Message}
-use Rattle.gateway.specs.Attempt.{Attempt, is_unanswered, send_of}
+use Rattle.gateway.specs.Attempt.{is_unanswered, send_of}
 use Rattle.gateway.specs.State as gateways
 use Rattle.gateway.specs.State.{Work, Stage, Open, Ended, Short}
 use Rattle.recovery.specs.State as recoveries

@@ -1,11 +1,27 @@
 //! Laws of the definitions, for the proofs of the layers above: each is the contract of a function that does nothing.
-ghost use Rattle.std.specs.Prelude.{◌≡◌, ◌≢◌, ℕ, Bool, true, List, ◌++◌, Contains, Option, Some, None, is_some};
+ghost use Rattle.std.specs.Prelude.{◌≡◌, ◌≢◌, ℕ, true, List, [], ◌++◌, Contains, Some, None, Ok, is_some};
 ghost use Rattle.object_id.specs.declared.node.NodeId.{NodeId};
+ghost use Rattle.object_id.specs.declared.entry.Entry.{Entry};
+ghost use Rattle.object_id.specs.declared.entry.Entry.TheVariants as entries;
 ghost use Rattle.cluster_script.specs.declared.statement.Statement.{Statement};
+ghost use Rattle.cluster_script.specs.Asked.{request_at};
+ghost use Rattle.peer_proto.specs.declared.say.PeerRsp.{PeerRsp};
+ghost use Rattle.peer_proto.specs.Say.{say_in};
 ghost use Rattle.disk_history.specs.declared.event.HistEvent.{HistEvent};
 ghost use Rattle.sheep_node.specs.declared.event.Event.{Event};
 ghost use Rattle.sheep_node.specs.declared.event.Event.TheVariants as events;
-ghost use Rattle.sheep_world.specs.World.{World, seat_at};
+ghost use Rattle.sheep_node.specs.declared.ask.Ask.{Ask};
+ghost use Rattle.sheep_node.specs.declared.input.Input.TheVariants as inputs;
+ghost use Rattle.sheep_world.specs.declared.name.MessageName.{MessageName};
+ghost use Rattle.sheep_world.specs.World.{Letter, Reply, World, seat_at, message_at, is_up};
+ghost use Rattle.sheep_world.specs.Opening.{opening};
+ghost use Rattle.sheep_world.specs.Conditions.{may_put, may_recover, may_retry};
+ghost use Rattle.sheep_world.specs.Asking.{input_of, session_asking};
+ghost use Rattle.sheep_world.specs.Changes.{last_weight};
+ghost use Rattle.sheep_world.specs.Granted.{entry_adds};
+ghost use Rattle.sheep_world.specs.Meets.{MayStepOn};
+ghost use Rattle.sheep_world.specs.Lives.{life_in};
+ghost use Rattle.sheep_world.specs.Example.{lived};
 ghost use Rattle.sheep_world.specs.Step.{Made, step};
 ghost use Rattle.sheep_world.specs.Run.{Moment, run_from};
 ghost use Rattle.sheep_world.specs.Enabled.{is_enabled, enabled};
@@ -43,8 +59,11 @@ pub fn a_history_only_grows()
 
 /// The nodes and the wire stay together: what is in the wire can be read, and it has exactly what up nodes wait for.
 pub fn nodes_and_wire_stay_together()
+    ensures opening { (statements : List Statement) → IsWired (opening statements) }
     ensures phase { (statements : List Statement) (world : World) (made : Made)
         → step statements events.Phase world ≡ Some made → IsWired world → IsWired made.world }
+    ensures put { (statements : List Statement) (world : World) (made : Made) (node : NodeId)
+        → step statements (events.Put node) world ≡ Some made → IsWired world → IsWired made.world }
     ensures leave { (statements : List Statement) (world : World) (made : Made) (node : NodeId)
         → step statements (events.Leave node) world ≡ Some made → IsWired world → IsWired made.world }
     ensures reweight { (statements : List Statement) (world : World) (made : Made) (node : NodeId)
@@ -54,4 +73,39 @@ pub fn nodes_and_wire_stay_together()
         → step statements (events.Join node) world ≡ Some made → seat_at node.0 world ≡ None → IsWired world → IsWired made.world }
     ensures lost { (statements : List Statement) (world : World) (made : Made) (node : NodeId)
         → step statements (events.Lost node) world ≡ Some made → IsWired world → IsWired made.world }
+{}
+
+/// A node steps only on what it may. So a loss that it is told is of a message that it waits for, and so is a reply, which
+/// fits what it asked, as long as nodes and wire go together.
+pub fn nodes_step_on_what_they_may()
+    ensures put { (world : World) (node : ℕ) → may_put node world ≡ true → MayStepOn inputs.Put node world }
+    ensures recover { (world : World) (node : ℕ) → may_recover node world ≡ true → MayStepOn inputs.RecoverTick node world }
+    ensures retry { (world : World) (node : ℕ) → may_retry node world ≡ true → MayStepOn inputs.RetryTick node world }
+    ensures lost { (world : World) (name : MessageName) (letter : Letter) → IsWired world → message_at name world ≡ Some letter
+        → is_up name.sender.0 world ≡ true → MayStepOn (inputs.Lost name.number) name.sender.0 world }
+    ensures reply { (world : World) (name : MessageName) (from : NodeId) (bytes : List ℕ) → IsWired world
+        → message_at name world ≡ Some (Reply from bytes) → is_up name.sender.0 world ≡ true
+        → (rsp : PeerRsp) × (say_in bytes ≡ Ok rsp) × MayStepOn (inputs.Reply rsp) name.sender.0 world }
+{}
+
+/// A request that the script has, and no other, has an input: of its session, and what its statement asks.
+pub fn requests_have_inputs()
+    ensures has { (statements : List Statement) (req : ℕ) → is_some (input_of statements req) ≡ is_some (request_at statements req) }
+    ensures session { (statements : List Statement) (req number session : ℕ) (ask : Ask)
+        → input_of statements req ≡ Some (inputs.Guest number session ask) → (number ≡ req) × (session_asking statements req ≡ Some session) }
+{}
+
+/// What joins, leaves or gets a weight makes no disk.
+pub fn members_make_no_disk()
+    ensures join { (log : List Entry) (node : NodeId) (zone vnodes : ℕ) → entry_adds log (entries.Join node zone vnodes) ≡ [] }
+    ensures leave { (log : List Entry) (node : NodeId) → entry_adds log (entries.Leave node) ≡ [] }
+    ensures reweight { (log : List Entry) (node : NodeId) (vnodes : ℕ) → entry_adds log (entries.Reweight node vnodes) ≡ [] }
+{}
+
+/// A small log: node 1 opens it, gets another weight, leaves, and comes back with it. Its first life is a member of epochs
+/// 1 and 2, and its second of epoch 4.
+pub fn lives_worked_out()
+    ensures first { life_in lived 1 1 ≡ 1 }
+    ensures second { life_in lived 4 1 ≡ 2 }
+    ensures weight { last_weight lived 1 ≡ 32 }
 {}

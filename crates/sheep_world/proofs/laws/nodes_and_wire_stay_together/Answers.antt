@@ -1,9 +1,13 @@
 use Rattle.sheep_world.proofs.WireLemmas.{wired-phase, wired-leave, wired-reweight, wired-join, wired-lost}
+use Rattle.sheep_world.proofs.OpeningLemmas.{opening-wired}
+use Rattle.sheep_world.proofs.PutLemmas.{wired-put}
 use Rattle.sheep_world.proofs.laws.nodes_and_wire_stay_together.Goals as goal
 
 pub returns : goal.returns
 returns c = record {
+  opening = opening-wired;
   phase = wired-phase;
+  put = wired-put;
   leave = wired-leave;
   reweight = wired-reweight;
   join = wired-join;

@@ -1,0 +1,157 @@
+-- A node steps only on what it may: where an event may happen, the node's step meets its condition.
+use Rattle.std.proofs.Common.{◌≡◌, ◌⊎◌, inl, inr, ℕ, ◌==◌, Bool, true, false, not, ◌&&◌, ◌||◌, cond, List, [], ◌∷◌, filter, find, Contains, Option, Some, Ok, refl, ap, subst, ◌∙◌, ⊎_elim}
+use Rattle.std.specs.List.{list_any}
+use Rattle.std.specs.FinMap as tree
+use Rattle.std.proofs.lemmas.Bool.{eqb-true, and_parts}
+use Rattle.std.proofs.lemmas.List.Elements.{All-contains, Contains-append_left, Contains-append_right}
+use Rattle.object_id.specs.declared.node.NodeId.{NodeId}
+use Rattle.peer_proto.specs.declared.ask.PeerReq.{PeerReq}
+use Rattle.peer_proto.specs.declared.say.PeerRsp.{PeerRsp}
+use Rattle.peer_proto.specs.Say.{say_in}
+use Rattle.gateway.specs.declared.message.Message.{Message}
+use Rattle.gateway.specs.Attempt.{is_unanswered, is_awaited, send_of}
+use Rattle.gateway.specs.State as gateways
+use Rattle.gateway.specs.State.{Work, Stage, Open, Ended, Short, open_messages, is_awaited_in}
+use Rattle.gateway.proofs.TryLaws.{found-passes}
+use Rattle.recovery.specs.State as recoveries
+use Rattle.sheep_node.specs.declared.input.Input.TheVariants as inputs
+use Rattle.sheep_node.specs.State.{Node}
+use Rattle.sheep_node.specs.May as nodes
+use Rattle.sheep_node.specs.May.{has_numbers, fits, May}
+use Rattle.sheep_world.specs.declared.name.MessageName.{MessageName}
+use Rattle.sheep_world.specs.World.{Letter, Reply, Seat, World, seat_at, is_seat_up, is_up, message_at}
+use Rattle.sheep_world.specs.Conditions.{may_put, may_recover, may_retry}
+use Rattle.sheep_world.specs.Meets.{MayStepOn}
+use Rattle.sheep_world.specs.Wired.{unanswered_in, asked_by_gateway, asked_by_recovery, asked_by, own_name, IsOnItsWay, IsWired}
+use Rattle.sheep_world.proofs.ListTools.{has-here, has-later, has-map, has-flat_map, has-filter, has-found}
+use Rattle.sheep_world.proofs.EnabledLemmas.{looked_up, some_of}
+
+numbers_left : (seat : Seat) → is_seat_up seat ≡ true → has_numbers seat.node ≡ true
+numbers_left seat up = (and_parts (not seat.is_lost) (has_numbers seat.node) up).1
+
+-- the ticks, and what is put
+module _ (world : World) (node : ℕ) where
+  pub meets-put : may_put node world ≡ true → MayStepOn inputs.Put node world
+  meets-put may =
+      let (seat, is, passes) = looked_up (λ (seat : Seat). is_seat_up seat && nodes.may_put seat.node) (seat_at node world) may in
+      let (up, puts) = and_parts (is_seat_up seat) (nodes.may_put seat.node) passes in
+      (seat, is, record { numbers = numbers_left seat up; condition = puts })
+
+  pub meets-recover : may_recover node world ≡ true → MayStepOn inputs.RecoverTick node world
+  meets-recover may =
+      let (seat, is, passes) = looked_up (λ (seat : Seat). is_seat_up seat && nodes.may_tick seat.node) (seat_at node world) may in
+      let (up, ticks) = and_parts (is_seat_up seat) (nodes.may_tick seat.node) passes in
+      (seat, is, record { numbers = numbers_left seat up; condition = ticks })
+
+  pub meets-retry : may_retry node world ≡ true → MayStepOn inputs.RetryTick node world
+  meets-retry may =
+      let (seat, is, passes) = looked_up (λ (seat : Seat). is_seat_up seat && nodes.may_retry seat.node) (seat_at node world) may in
+      let (up, retries) = and_parts (is_seat_up seat) (nodes.may_retry seat.node) passes in
+      (seat, is, record { numbers = numbers_left seat up; condition = retries })
+
+-- a loss of what is in the wire is one that its sender waits for
+pub meets-lost : (world : World) (name : MessageName) (letter : Letter) → IsWired world → message_at name world ≡ Some letter
+    → is_up name.sender.0 world ≡ true → MayStepOn (inputs.Lost name.number) name.sender.0 world
+meets-lost world name letter wired got up =
+    let (seat, is, seat_up) = looked_up is_seat_up (seat_at name.sender.0 world) up in
+    (seat, is, record { numbers = numbers_left seat seat_up; condition = wired.awaited name letter seat got is seat_up })
+
+-- an element that passes a test
+abbrev Passes : {X : Type 0} → (X → Bool) → List X → Type 0
+Passes {X} test xs = (x : X) × Contains xs x × (test x ≡ true)
+
+any_if : {X : Type 0} (test : X → Bool) (y : X) (xs : List X) (b : Bool) → test y ≡ b → (list_any test xs ≡ true → Passes test xs)
+    → (b || list_any test xs) ≡ true → Passes test (y ∷ xs)
+any_if test y xs true passes rest is = (y, has-here y y xs refl, passes)
+any_if test y xs false passes rest is =
+    let (x, there, so) = rest is in
+    (x, has-later y x xs there, so)
+
+-- where some element passes a test, there is one
+any_of : {X : Type 0} (test : X → Bool) (xs : List X) → list_any test xs ≡ true → Passes test xs
+any_of test [] is = absurd (cc (is))
+any_of test (y ∷ xs) is = any_if test y xs (test y) refl (any_of test xs) is
+
+awaited_parts : (number : ℕ) (message : Message) → is_awaited number message ≡ true → (message.number ≡ number) × (is_unanswered message.status ≡ true)
+awaited_parts number message is = by_tie (message.number == number) refl is
+  where
+    by_tie : (b : Bool) → (message.number == number) ≡ b → cond b (is_unanswered message.status) false ≡ true
+        → (message.number ≡ number) × (is_unanswered message.status ≡ true)
+    by_tie true tie passes = (eqb-true message.number number tie, passes)
+    by_tie false tie passes = absurd (cc (passes))
+
+-- a request of this number that a node waits for
+abbrev Asks : ℕ → List (NodeId × PeerReq) → Type 0
+Asks number sends = (send : NodeId × PeerReq) × Contains sends send × (send.1.number ≡ number)
+
+stage_asks : (me : NodeId) (number : ℕ) (work : Work) (stage : Stage) → list_any (is_awaited number) (open_messages stage) ≡ true
+    → Asks number (unanswered_in me work stage)
+stage_asks me number work (Open attempt) is =
+    let (message, there, awaited) = any_of (is_awaited number) attempt.messages is in
+    let (same, unanswered) = awaited_parts number message awaited in (
+      send_of me attempt.epoch work.work message,
+      has-map (send_of me attempt.epoch work.work) (filter (λ (message : Message). is_unanswered message.status) attempt.messages) message
+          (has-filter (λ (message : Message). is_unanswered message.status) attempt.messages message there unanswered),
+      same,
+    )
+stage_asks me number work Ended is = absurd (cc (is))
+stage_asks me number work (Short epoch) is = absurd (cc (is))
+
+gateway_asks : (me : NodeId) (number : ℕ) (gateway : gateways.Gateway) → gateways.waits_for number gateway ≡ true
+    → Asks number (asked_by_gateway me gateway)
+gateway_asks me number gateway is =
+    let test : ℕ × Work → Bool = λ (entry : ℕ × Work). is_awaited_in number entry.1 in
+    let (entry, found) = some_of (find test (tree.entries gateway.works)) is in
+    let (send, there, same) = stage_asks me number entry.1 entry.1.stage (found-passes test (tree.entries gateway.works) entry found) in (
+      send,
+      has-flat_map (λ (entry : ℕ × Work). unanswered_in me entry.1 entry.1.stage) (tree.entries gateway.works) entry send
+          (has-found test (tree.entries gateway.works) entry found) there,
+      same,
+    )
+
+recovery_asks : (number : ℕ) (recovery : recoveries.Recovery) → recoveries.waits_for number recovery ≡ true
+    → Asks number (asked_by_recovery recovery)
+recovery_asks number recovery is =
+    let (message, found) = some_of (recoveries.message_of number (recoveries.all_unanswered recovery)) is in
+    let numbered : (message.request.number == number) ≡ true
+    = found-passes (recoveries.is_numbered number) (recoveries.all_unanswered recovery) message found in (
+      (message.to, message.request),
+      has-map (λ (message : recoveries.Message). (message.to, message.request)) (recoveries.all_unanswered recovery) message
+          (has-found (recoveries.is_numbered number) (recoveries.all_unanswered recovery) message found),
+      eqb-true message.request.number number numbered,
+    )
+
+or_cases : (a b : Bool) → (a || b) ≡ true → (a ≡ true) ⊎ (b ≡ true)
+or_cases true b is = inl refl
+or_cases false b is = inr is
+
+-- a number that a node waits for is that of a request that it waits for
+node_asks : (number : ℕ) (node : Node) → nodes.waits_for number node ≡ true → Asks number (asked_by node)
+node_asks number node is = ⊎_elim
+    (λ (waits : gateways.waits_for number node.gateway ≡ true).
+    let (send, there, same) = gateway_asks node.me number node.gateway waits in
+    (send, Contains-append_left (asked_by_gateway node.me node.gateway) (asked_by_recovery node.recovery) send there, same))
+    (λ (waits : recoveries.waits_for number node.recovery ≡ true).
+    let (send, there, same) = recovery_asks number node.recovery waits in
+    (send, Contains-append_right (asked_by_gateway node.me node.gateway) (asked_by_recovery node.recovery) send there, same))
+    (or_cases (gateways.waits_for number node.gateway) (recoveries.waits_for number node.recovery) is)
+
+reply_fits : (node : Node) (send : NodeId × PeerReq) (from : NodeId) (bytes : List ℕ) (o : Option Letter) → o ≡ Some (Reply from bytes)
+    → IsOnItsWay node send o → (rsp : PeerRsp) × (say_in bytes ≡ Ok rsp) × (fits rsp node ≡ true)
+reply_fits node send from bytes o is way =
+    let (asked, (rsp, said, number, fit)) = subst (λ (o : Option Letter). IsOnItsWay node send o) is way in
+    (rsp, said, fit)
+
+-- a reply in the wire to an up node is one that it may step on
+pub meets-reply : (world : World) (name : MessageName) (from : NodeId) (bytes : List ℕ) → IsWired world
+    → message_at name world ≡ Some (Reply from bytes) → is_up name.sender.0 world ≡ true
+    → (rsp : PeerRsp) × (say_in bytes ≡ Ok rsp) × MayStepOn (inputs.Reply rsp) name.sender.0 world
+meets-reply world name from bytes wired got up =
+    let (seat, is, seat_up) = looked_up is_seat_up (seat_at name.sender.0 world) up in
+    let (send, there, same) = node_asks name.number seat.node (wired.awaited name (Reply from bytes) seat got is seat_up) in
+    let own : own_name seat.node send ≡ name = λ i. record { sender = record { 0 = wired.numbered name.sender.0 seat is i }; number = same i } in
+    let way : IsOnItsWay seat.node send (tree.get world.wire (own_name seat.node send))
+    = All-contains (λ (send : NodeId × PeerReq). IsOnItsWay seat.node send (tree.get world.wire (own_name seat.node send)))
+    (asked_by seat.node) send (wired.on_the_way name.sender.0 seat is seat_up) there in
+    let (rsp, said, fit) = reply_fits seat.node send from bytes (tree.get world.wire (own_name seat.node send)) (ap (tree.get world.wire) own ∙ got) way in
+    (rsp, said, (seat, is, record { numbers = numbers_left seat seat_up; condition = fit }))
