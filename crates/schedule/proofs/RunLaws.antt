@@ -1,15 +1,12 @@
--- A schedule is a run, and given events are one as far as they can be made.
-use Rattle.std.proofs.Common.{◌≡◌, ℕ, zero, suc, Bool, true, false, cond, List, [], ◌∷◌, ◌++◌, length, Option, Some, None, is_some, IsSome, refl, sym, ap, subst, ◌∙◌, arith}
+-- Given events are a run as far as they can be made.
+use Rattle.std.proofs.Common.{◌≡◌, ℕ, suc, List, [], ◌∷◌, ◌++◌, length, Option, Some, None, is_some, IsSome, refl, sym, ap, subst, ◌∙◌, arith}
 use Rattle.std.specs.Option.{option_map, option_and_then}
 use Rattle.std.proofs.lemmas.Option.{same_Some, none-some}
 use Rattle.cluster_script.specs.declared.statement.Statement.{Statement}
 use Rattle.sheep_node.specs.declared.event.Event.{Event}
-use Rattle.sheep_world.specs.Conditions.{may_end_phase}
 use Rattle.sheep_world.specs.Step.{Made, step}
 use Rattle.sheep_world.specs.Run.{Moment, opening, gone_on, next, run_from, IsRun}
-use Rattle.schedule.specs.Schedule.{Draft, blank, choice, world_after, went_on, scheduled_from, event_most, scheduled}
 use Rattle.schedule.specs.Stops.{stop_after, stop_from, stopped_at, IsStopAt}
-use Rattle.schedule.proofs.ChoiceLaws.{choice-may}
 
 module _ (statements : List Statement) where
   -- an event that makes something goes on a run
@@ -22,27 +19,6 @@ module _ (statements : List Statement) where
   unfolding run_from
   run-on event events moment made is later =
       ap (λ (after : Option Moment). is_some (option_and_then (run_from statements events) after)) (next-made event moment made is) ∙ later
-
-  schedule-runs : (most : ℕ) (draft : Draft) (moment : Moment) → moment.world ≡ draft.world
-      → IsSome (run_from statements (scheduled_from statements most draft) moment)
-  unfolding run_from scheduled_from
-  schedule-runs zero draft moment same = refl
-  schedule-runs (suc most) draft moment same =
-      by_end (schedule-runs most (went_on statements draft)) (may_end_phase statements draft.world) refl
-    where
-      by_end : ((moment : Moment) → moment.world ≡ (went_on statements draft).world
-          → IsSome (run_from statements (scheduled_from statements most (went_on statements draft)) moment))
-          → (may : Bool) → may_end_phase statements draft.world ≡ may
-          → IsSome (run_from statements (cond may ((choice statements draft).event ∷ scheduled_from statements most (went_on statements draft)) []) moment)
-      by_end later false e = refl
-      by_end later true e =
-          let one : (made : Made) × (step statements (choice statements draft).event draft.world ≡ Some made) = choice-may statements draft e in
-          run-on (choice statements draft).event (scheduled_from statements most (went_on statements draft)) moment one.0
-          (ap (step statements (choice statements draft).event) same ∙ one.1)
-          (later (gone_on moment.history one.0) (sym (ap (world_after draft.world) one.1)))
-
-  pub schedule-is-run : (seed : ℕ) → IsRun statements (scheduled statements seed)
-  schedule-is-run seed = schedule-runs (event_most statements) (blank statements seed) (opening statements) refl
 
   none-stop : (events : List Event) (moment : Moment) → stop_from statements events moment ≡ None → IsSome (run_from statements events moment)
   unfolding run_from stop_from

@@ -1,13 +1,12 @@
 //! Laws of the definitions, for the proofs of the layers above: each is the contract of a function that does nothing.
-ghost use Rattle.std.specs.Prelude.{◌≡◌, ◌≢◌, ◌⊎◌, ℕ, ◌+◌, ◌<◌, ◌≤◌, List, [], ◌∷◌, length, take, drop, codes, Some, None, IsTrue, Contains};
+ghost use Rattle.std.specs.Prelude.{◌≡◌, ◌≢◌, ℕ, ◌+◌, ◌<◌, ◌≤◌, List, [], ◌∷◌, length, take, drop, codes, Some, None, Contains};
 ghost use Rattle.rand_xoshiro.specs.SplitMix64.{mix_u64};
 ghost use Rattle.cluster_script.specs.declared.statement.Statement.{Statement};
 ghost use Rattle.cluster_script.specs.Settings.{limit_of};
 ghost use Rattle.sheep_node.specs.declared.event.Event.{Event};
-ghost use Rattle.sheep_node.specs.declared.event.Event.TheVariants.{Phase};
 ghost use Rattle.sheep_world.specs.Enabled.{enabled};
-ghost use Rattle.sheep_world.specs.Run.{run, IsRun, is_whole};
-ghost use Rattle.schedule.specs.Schedule.{Draft, phase_chosen, choice, event_most, scheduled};
+ghost use Rattle.sheep_world.specs.Run.{IsRun, IsWholeRun};
+ghost use Rattle.schedule.specs.Schedule.{Draft, phase_chosen, choice, scheduled};
 ghost use Rattle.schedule.specs.Generated.{generated_lines};
 ghost use Rattle.schedule.specs.Stops.{stopped_at, IsStopAt};
 ghost use Rattle.schedule.specs.Merged.{Kept, Merges};
@@ -30,9 +29,9 @@ pub fn phase_stands_last()
         × ((choice statements draft).taken ≡ draft.taken + 1) }
 {}
 
-/// A schedule is a run of its script.
-pub fn a_schedule_is_a_run()
-    ensures { (statements : List Statement) (seed : ℕ) → IsRun statements (scheduled statements seed) }
+/// A schedule is a run of its script, in which every phase is ended.
+pub fn a_schedule_is_a_whole_run()
+    ensures { (statements : List Statement) (seed : ℕ) → IsWholeRun statements (scheduled statements seed) }
 {}
 
 /// Given events are a run where they stop nowhere, and else the ones before the stop are.
