@@ -6,7 +6,7 @@ use Rattle.dog_report.specs.Words.{Words, hex}
 use Rattle.dog_report.specs.Fates.{Fate, Answered, Gone, Pending, Unsent, Line, Told, Listed, numbers_told}
 use Rattle.dog_report.specs.Report.{text_of}
 
--- the five ways in which a request's line tells of it
+-- the five ways in which a request's line tells of it: it is done
 abbrev pub is_ok : Fate → Bool
 is_ok (Answered Done) = true
 is_ok (Answered (Piece bytes)) = true
@@ -16,6 +16,7 @@ is_ok Gone = false
 is_ok Pending = false
 is_ok Unsent = false
 
+-- it is refused
 abbrev pub is_refused : Fate → Bool
 is_refused (Answered Done) = false
 is_refused (Answered (Piece bytes)) = false
@@ -25,18 +26,21 @@ is_refused Gone = false
 is_refused Pending = false
 is_refused Unsent = false
 
+-- the life of its gateway is lost
 abbrev pub is_gone : Fate → Bool
 is_gone (Answered rsp) = false
 is_gone Gone = true
 is_gone Pending = false
 is_gone Unsent = false
 
+-- it was started
 abbrev pub is_pending : Fate → Bool
 is_pending (Answered rsp) = false
 is_pending Gone = false
 is_pending Pending = true
 is_pending Unsent = false
 
+-- it was never started
 abbrev pub is_unsent : Fate → Bool
 is_unsent (Answered rsp) = false
 is_unsent Gone = false

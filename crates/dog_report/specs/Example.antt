@@ -15,13 +15,15 @@ use Rattle.vdi_directory.specs.declared.effect.Effect.TheVariants.{Reserved, Pub
 use Rattle.object_store.specs.Store.{SeenRow}
 use Rattle.sheep_world.specs.World.{World}
 
--- the node, the member and the id of a number
+-- the node of a number
 abbrev pub node : ℕ → NodeId
 node number = record { 0 = number }
 
+-- it as a member, in a zone of its own
 abbrev pub member : ℕ → Member
 member number = record { node = node number; zone = number; vnodes = 64 }
 
+-- the id of a number
 abbrev pub vid : ℕ → Vid
 vid number = record { 0 = number }
 

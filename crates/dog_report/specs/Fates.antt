@@ -7,6 +7,7 @@ use Rattle.dog_report.specs.Words.{Words}
 use Rattle.dog_report.specs.Runs.{runs_words}
 use Rattle.dog_report.specs.Causes.{cause_words}
 
+-- what became of a request
 pub data Fate : Type 0 where
   -- it has its reply
   Answered : GuestRsp → Fate
@@ -29,6 +30,7 @@ reply_words (Piece bytes) = codes "ok" ∷ runs_words bytes
 reply_words (Refused cause) = codes "refused" ∷ cause_words cause
 reply_words (Granted vid) = codes "ok" ∷ []
 
+-- the words of what became of a request
 abbrev pub fate_words : Fate → Words
 fate_words (Answered rsp) = reply_words rsp
 fate_words Gone = codes "gone" ∷ []

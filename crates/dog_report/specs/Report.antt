@@ -48,6 +48,7 @@ abbrev pub has_begun : List Statement → ℕ → World → ℕ → Bool
 has_begun statements req world session =
     list_any (λ other. other == req) (take (guest_at session world).begun (numbers_of_session statements session))
 
+-- whether a request was started
 abbrev pub is_begun : List Statement → ℕ → World → Bool
 is_begun statements req world = option_map_or (has_begun statements req world) (session_asking statements req) false
 
@@ -57,6 +58,7 @@ fate_by (Some rsp) gone = Some (Answered rsp)
 fate_by None true = Some Gone
 fate_by None false = None
 
+-- what is settled of a request by now
 abbrev pub fate_of : List Statement → Report → ℕ → Option Fate
 fate_of statements report req = fate_by (tree.get report.replies req) (is_lost_request statements req report.world)
 
@@ -79,6 +81,7 @@ phase_told statements report = record report {
       ++ map Listed (barrier_list statements report.world);
 }
 
+-- whether an event ends a phase
 abbrev pub is_phase : Event → Bool
 is_phase events.Phase = true
 is_phase event = false

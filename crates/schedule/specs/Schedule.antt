@@ -46,6 +46,7 @@ chosen limit draft [] = phase_chosen draft
 chosen limit draft (first ∷ later) =
     if nat_le limit draft.taken then phase_chosen draft else drawn draft (first ∷ later)
 
+-- the next event of a draft
 unfoldable pub choice : List Statement → Draft → Choice
 choice statements draft = chosen (limit_of statements) draft (enabled statements draft.world)
 
@@ -62,6 +63,7 @@ made_so statements choice draft = record {
   taken = choice.taken;
 }
 
+-- the draft after its next event
 abbrev pub went_on : List Statement → Draft → Draft
 went_on statements draft = made_so statements (choice statements draft) draft
 
