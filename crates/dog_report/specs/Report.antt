@@ -121,3 +121,7 @@ report_of statements run = finished statements (fold (reported statements) (blan
 -- its text
 abbrev pub text_of : List Line → List ℕ
 text_of lines = flat_map (λ line. spaced (line_words line) ++ codes "\n") lines
+
+-- the text of a barrier's list
+abbrev pub list_text : Statement → World → List ℕ
+list_text statement world = text_of (map Listed (list_of statement world))

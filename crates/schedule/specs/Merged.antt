@@ -1,5 +1,5 @@
 -- The run into which kept steps of a live cluster are merged.
-use Rattle.std.specs.Prelude.{◌≡◌, ℕ, ◌+◌, nat_le, Bool, true, false, ◌&&◌, ◌||◌, List, [], ◌∷◌, length, Option, Some, ◌==◌}
+use Rattle.std.specs.Prelude.{◌≡◌, ℕ, ◌+◌, nat_le, Bool, true, false, ◌&&◌, ◌||◌, List, [], ◌∷◌, ◌++◌, length, Option, Some, ◌==◌}
 use Rattle.cluster_script.specs.declared.statement.Statement.{Statement}
 use Rattle.cluster_script.specs.Settings.{limit_of}
 use Rattle.sheep_node.specs.declared.event.Event.{Event}
@@ -11,6 +11,7 @@ use Rattle.sheep_world.specs.Opening.{opening}
 use Rattle.sheep_world.specs.Conditions.{may_end_phase}
 use Rattle.sheep_world.specs.Enabled.{enabled}
 use Rattle.sheep_world.specs.Step.{Made, step}
+use Rattle.sheep_world.specs.Run.{Moment, run_from}
 
 -- a step that was kept: its event, the input of the node that stepped, none where none did, and its outputs
 pub record Kept : Type 0 where
@@ -48,3 +49,17 @@ MergesFrom statements (event ∷ events) world taken steps =
 -- whether the steps of a script's cluster merge to these events
 abbrev pub Merges : List Statement → List Kept → List Event → Type 0
 Merges statements steps events = MergesFrom statements events (opening statements) 0 steps
+
+-- where steps clash, from a moment of a run on: those before merge to events, after which Phase isn't due, and the step at the
+-- place, from 0, isn't enabled then or makes something else
+pub record IsClashAt (statements : List Statement) (moment : Moment) (taken : ℕ) (steps : List Kept) (place : ℕ) : Type 0 where
+  pub before : List Kept
+  pub kept : Kept
+  pub later : List Kept
+  pub parted : steps ≡ before ++ kept ∷ later
+  pub counted : place ≡ length before
+  pub events : List Event
+  pub merged : MergesFrom statements events moment.world taken before
+  pub last : Moment
+  pub made : run_from statements events moment ≡ Some last
+  pub clashes : (made : Made) → step statements kept.event last.world ≡ Some made → IsAsKept kept made → ⊥

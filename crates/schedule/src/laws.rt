@@ -5,11 +5,11 @@ ghost use Rattle.cluster_script.specs.declared.statement.Statement.{Statement};
 ghost use Rattle.cluster_script.specs.Settings.{limit_of};
 ghost use Rattle.sheep_node.specs.declared.event.Event.{Event};
 ghost use Rattle.sheep_world.specs.Enabled.{enabled};
-ghost use Rattle.sheep_world.specs.Run.{IsRun, IsWholeRun};
+ghost use Rattle.sheep_world.specs.Run.{Moment, IsRun, IsWholeRun};
 ghost use Rattle.schedule.specs.Schedule.{Draft, phase_chosen, choice, scheduled};
 ghost use Rattle.schedule.specs.Generated.{generated_lines};
 ghost use Rattle.schedule.specs.Stops.{stopped_at, IsStopAt};
-ghost use Rattle.schedule.specs.Merged.{Kept, Merges};
+ghost use Rattle.schedule.specs.Merged.{Kept, MergesFrom, Merges, IsClashAt};
 
 /// The first two words of the generator with seed 0.
 pub fn the_first_words()
@@ -44,12 +44,14 @@ pub fn a_stop_is_the_first()
         → IsStopAt statements events place }
 {}
 
-/// Steps merge to one list of events at most, and that is a run of the script.
+/// Steps merge to one list of events at most, and that is a run of the script. Where they clash they merge to none.
 pub fn steps_merge_to_one_run()
     ensures run { (statements : List Statement) (steps : List Kept) (events : List Event) → Merges statements steps events
         → IsRun statements events }
     ensures one { (statements : List Statement) (steps : List Kept) (events others : List Event)
         → Merges statements steps events → Merges statements steps others → events ≡ others }
+    ensures clash { (statements : List Statement) (moment : Moment) (taken : ℕ) (steps : List Kept) (place : ℕ) (events : List Event)
+        → IsClashAt statements moment taken steps place → MergesFrom statements events moment.world taken steps → ⊥ }
 {}
 
 /// The script that the number 0 generates: where its parts stand, and some of its lines.
