@@ -8,20 +8,20 @@ use Rattle.sheep_world.specs.World.{World}
 use Rattle.sheep_world.specs.Opening as worlds
 use Rattle.sheep_world.specs.Step.{Made, step}
 use Rattle.sheep_world.specs.Run.{Moment, opening, gone_on, run_from, IsRun}
-use Rattle.schedule.specs.Merged.{Kept, is_phase_due, IsAsKept, IsClashAt, MergesOne, MergesFrom, Merges}
+use Rattle.schedule.specs.Merged.{KeptStep, is_phase_due, IsAsKept, IsClashAt, MergesOne, MergesFrom, Merges}
 use Rattle.schedule.proofs.RunLaws.{next-made, run-on}
 
 module _ (statements : List Statement) where
-  merge-runs : (events : List Event) (world : World) (taken : ℕ) (steps : List Kept) (moment : Moment) → moment.world ≡ world
+  merge-runs : (events : List Event) (world : World) (taken : ℕ) (steps : List KeptStep) (moment : Moment) → moment.world ≡ world
       → MergesFrom statements events world taken steps → IsSome (run_from statements events moment)
   unfolding run_from
   merge-runs [] world taken steps moment same h = refl
   merge-runs (event ∷ events) world taken steps moment same h =
       by_due (merge-runs events) steps (is_phase_due statements world taken) h
     where
-      by_due : ((world : World) (taken : ℕ) (steps : List Kept) (moment : Moment) → moment.world ≡ world
+      by_due : ((world : World) (taken : ℕ) (steps : List KeptStep) (moment : Moment) → moment.world ≡ world
           → MergesFrom statements events world taken steps → IsSome (run_from statements events moment))
-          → (steps : List Kept) (due : Bool) → MergesOne statements world taken steps event (MergesFrom statements events) due
+          → (steps : List KeptStep) (due : Bool) → MergesOne statements world taken steps event (MergesFrom statements events) due
           → IsSome (run_from statements (event ∷ events) moment)
       by_due later steps true h =
           run-on statements event events moment h.0 (ap (step statements event) same ∙ h.2)
@@ -31,15 +31,15 @@ module _ (statements : List Statement) where
           run-on statements event events moment h.0 (ap (step statements event) same ∙ h.2)
           (later h.0.world (taken + 1) steps (gone_on moment.history h.0) refl h.4)
 
-  pub merge-is-run : (steps : List Kept) (events : List Event) → Merges statements steps events → IsRun statements events
+  pub merge-is-run : (steps : List KeptStep) (events : List Event) → Merges statements steps events → IsRun statements events
   merge-is-run steps events h = merge-runs events (worlds.opening statements) 0 steps (opening statements) refl h
 
-  abbrev MergesOn : List Event → Made → ℕ → List Kept → Type 0
+  abbrev MergesOn : List Event → Made → ℕ → List KeptStep → Type 0
   MergesOn events made taken steps = MergesFrom statements events made.world taken steps
 
   -- the same event makes the same, so what follows is the same too
-  cons_same : (event other : Event) (events others : List Event) (world : World) (made again : Made) (taken : ℕ) (steps : List Kept)
-      → ((world : World) (taken : ℕ) (steps : List Kept) → MergesFrom statements events world taken steps
+  cons_same : (event other : Event) (events others : List Event) (world : World) (made again : Made) (taken : ℕ) (steps : List KeptStep)
+      → ((world : World) (taken : ℕ) (steps : List KeptStep) → MergesFrom statements events world taken steps
       → MergesFrom statements others world taken steps → events ≡ others)
       → event ≡ other → step statements event world ≡ Some made → step statements other world ≡ Some again
       → MergesOn events made taken steps → MergesOn others again taken steps → event ∷ events ≡ other ∷ others
@@ -49,13 +49,13 @@ module _ (statements : List Statement) where
       ∙ ap (λ (rest : List Event). other ∷ rest)
       (later made.world taken steps h (subst (λ (m : Made). MergesOn others m taken steps) (sym one) k))
 
-  no_more : (world : World) (taken : ℕ) (steps : List Kept) (event : Event) (events : List Event)
+  no_more : (world : World) (taken : ℕ) (steps : List KeptStep) (event : Event) (events : List Event)
       → steps ≡ [] → is_phase_due statements world taken ≡ false → MergesFrom statements (event ∷ events) world taken steps → ⊥
   no_more world taken steps event events none due h =
-      subst (λ (steps : List Kept). MergesOne statements world taken steps event (MergesFrom statements events) false) none
+      subst (λ (steps : List KeptStep). MergesOne statements world taken steps event (MergesFrom statements events) false) none
       (subst (MergesOne statements world taken steps event (MergesFrom statements events)) due h)
 
-  merge-one : (events others : List Event) (world : World) (taken : ℕ) (steps : List Kept)
+  merge-one : (events others : List Event) (world : World) (taken : ℕ) (steps : List KeptStep)
       → MergesFrom statements events world taken steps → MergesFrom statements others world taken steps → events ≡ others
   merge-one [] [] world taken steps h k = refl
   merge-one [] (other ∷ others) world taken steps h k = absurd (no_more world taken steps other others h.0 h.1 k)
@@ -63,9 +63,9 @@ module _ (statements : List Statement) where
   merge-one (event ∷ events) (other ∷ others) world taken steps h k =
       by_due (merge-one events others) steps (is_phase_due statements world taken) h k
     where
-      by_due : ((world : World) (taken : ℕ) (steps : List Kept) → MergesFrom statements events world taken steps
+      by_due : ((world : World) (taken : ℕ) (steps : List KeptStep) → MergesFrom statements events world taken steps
           → MergesFrom statements others world taken steps → events ≡ others)
-          → (steps : List Kept) (due : Bool) → MergesOne statements world taken steps event (MergesFrom statements events) due
+          → (steps : List KeptStep) (due : Bool) → MergesOne statements world taken steps event (MergesFrom statements events) due
           → MergesOne statements world taken steps other (MergesFrom statements others) due → event ∷ events ≡ other ∷ others
       by_due later steps true h k =
           cons_same event other events others world h.0 k.0 taken steps later (h.1 ∙ sym k.1) h.2 k.2 h.3 k.3
@@ -73,11 +73,11 @@ module _ (statements : List Statement) where
       by_due later (kept ∷ steps) false h k =
           cons_same event other events others world h.0 k.0 (taken + 1) steps later (h.1 ∙ sym k.1) h.2 k.2 h.4 k.4
 
-  pub one-merge : (steps : List Kept) (events others : List Event) → Merges statements steps events → Merges statements steps others
+  pub one-merge : (steps : List KeptStep) (events others : List Event) → Merges statements steps events → Merges statements steps others
       → events ≡ others
   one-merge steps events others h k = merge-one events others (worlds.opening statements) 0 steps h k
 
-  not_nil : (before later : List Kept) (kept : Kept) → before ++ kept ∷ later ≡ [] → ⊥
+  not_nil : (before later : List KeptStep) (kept : KeptStep) → before ++ kept ∷ later ≡ [] → ⊥
   not_nil [] later kept e = absurd (cc (e))
   not_nil (first ∷ before) later kept e = absurd (cc (e))
 
@@ -88,13 +88,13 @@ module _ (statements : List Statement) where
       sym (ap (option_and_then (run_from statements events)) (next-made statements event moment made is)) ∙ run
 
   -- the step isn't made as it is kept
-  abbrev Clashes : Kept → Moment → Type 0
+  abbrev Clashes : KeptStep → Moment → Type 0
   Clashes kept last = (made : Made) → step statements kept.event last.world ≡ Some made → IsAsKept kept made → ⊥
 
   -- steps merge to nothing where, after those before, the next one isn't made as it is kept
   abbrev NoMerge : List Event → List Event → Type 0
   NoMerge events others =
-      (world : World) (taken : ℕ) (before later : List Kept) (kept : Kept) (moment last : Moment) → moment.world ≡ world
+      (world : World) (taken : ℕ) (before later : List KeptStep) (kept : KeptStep) (moment last : Moment) → moment.world ≡ world
       → MergesFrom statements events world taken before → run_from statements events moment ≡ Some last → Clashes kept last
       → MergesFrom statements others world taken (before ++ kept ∷ later) → ⊥
 
@@ -103,7 +103,7 @@ module _ (statements : List Statement) where
   no_merge [] [] world taken before later kept moment last same h run clash k = not_nil before later kept k.0
   no_merge [] (other ∷ others) world taken before later kept moment last same h run clash k =
       let one : MergesOne statements world taken (kept ∷ later) other (MergesFrom statements others) false =
-      subst (λ (steps : List Kept). MergesOne statements world taken (steps ++ kept ∷ later) other (MergesFrom statements others) false) h.0
+      subst (λ (steps : List KeptStep). MergesOne statements world taken (steps ++ kept ∷ later) other (MergesFrom statements others) false) h.0
       (subst (MergesOne statements world taken (before ++ kept ∷ later) other (MergesFrom statements others)) h.1 k) in
       clash one.0
       (ap (λ (m : Moment). step statements kept.event m.world) (sym (same_Some moment last run))
@@ -113,7 +113,7 @@ module _ (statements : List Statement) where
   no_merge (event ∷ events) (other ∷ others) world taken before later kept moment last same h run clash k =
       by_due (no_merge events others) before (is_phase_due statements world taken) h k
     where
-      go_on : NoMerge events others → (made again : Made) (taken : ℕ) (before : List Kept) → event ≡ other
+      go_on : NoMerge events others → (made again : Made) (taken : ℕ) (before : List KeptStep) → event ≡ other
           → step statements event world ≡ Some made → step statements other world ≡ Some again
           → MergesFrom statements events made.world taken before → MergesFrom statements others again.world taken (before ++ kept ∷ later) → ⊥
       go_on rest made again taken before alike is too h k =
@@ -122,14 +122,14 @@ module _ (statements : List Statement) where
           (run-rest event events moment last made (ap (step statements event) same ∙ is) run) clash
           (subst (λ (m : Made). MergesFrom statements others m.world taken (before ++ kept ∷ later)) (sym one) k)
 
-      by_due : NoMerge events others → (before : List Kept) (due : Bool)
+      by_due : NoMerge events others → (before : List KeptStep) (due : Bool)
           → MergesOne statements world taken before event (MergesFrom statements events) due
           → MergesOne statements world taken (before ++ kept ∷ later) other (MergesFrom statements others) due → ⊥
       by_due rest before true h k = go_on rest h.0 k.0 taken before (h.1 ∙ sym k.1) h.2 k.2 h.3 k.3
       by_due rest [] false h k = h
       by_due rest (first ∷ before) false h k = go_on rest h.0 k.0 (taken + 1) before (h.1 ∙ sym k.1) h.2 k.2 h.4 k.4
 
-  pub clash-no_merge : (moment : Moment) (taken : ℕ) (steps : List Kept) (place : ℕ) (events : List Event)
+  pub clash-no_merge : (moment : Moment) (taken : ℕ) (steps : List KeptStep) (place : ℕ) (events : List Event)
       → IsClashAt statements moment taken steps place → MergesFrom statements events moment.world taken steps → ⊥
   clash-no_merge moment taken steps place events clash h =
       no_merge clash.events events moment.world taken clash.before clash.later clash.kept moment clash.last refl clash.merged clash.made

@@ -9,7 +9,7 @@ ghost use Rattle.sheep_world.specs.Run.{Moment, IsRun, IsWholeRun};
 ghost use Rattle.schedule.specs.Schedule.{Draft, phase_chosen, choice, scheduled};
 ghost use Rattle.schedule.specs.Generated.{generated_lines};
 ghost use Rattle.schedule.specs.Stops.{stopped_at, IsStopAt};
-ghost use Rattle.schedule.specs.Merged.{Kept, MergesFrom, Merges, IsClashAt};
+ghost use Rattle.schedule.specs.Merged.{KeptStep, MergesFrom, Merges, IsClashAt};
 
 /// The first two words of the generator with seed 0.
 pub fn the_first_words()
@@ -46,11 +46,11 @@ pub fn a_stop_is_the_first()
 
 /// Steps merge to one list of events at most, and that is a run of the script. Where they clash they merge to none.
 pub fn steps_merge_to_one_run()
-    ensures run { (statements : List Statement) (steps : List Kept) (events : List Event) → Merges statements steps events
+    ensures run { (statements : List Statement) (steps : List KeptStep) (events : List Event) → Merges statements steps events
         → IsRun statements events }
-    ensures one { (statements : List Statement) (steps : List Kept) (events others : List Event)
+    ensures one { (statements : List Statement) (steps : List KeptStep) (events others : List Event)
         → Merges statements steps events → Merges statements steps others → events ≡ others }
-    ensures clash { (statements : List Statement) (moment : Moment) (taken : ℕ) (steps : List Kept) (place : ℕ) (events : List Event)
+    ensures clash { (statements : List Statement) (moment : Moment) (taken : ℕ) (steps : List KeptStep) (place : ℕ) (events : List Event)
         → IsClashAt statements moment taken steps place → MergesFrom statements events moment.world taken steps → ⊥ }
 {}
 
