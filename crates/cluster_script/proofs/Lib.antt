@@ -4,3 +4,5 @@ pub mod Pieces
 pub mod DigitLemmas
 pub mod LineSteps
 pub mod WorkedCases
+pub mod PhaseLaws
+pub mod SessionLaws

@@ -7,8 +7,8 @@ use Rattle.cluster_script.specs.declared.statement.Statement.{Statement}
 use Rattle.cluster_script.specs.declared.statement.Statement.TheVariants as lines
 use Rattle.cluster_script.specs.Settings.{nodes_of, vnodes_of, tries_of, limit_of, zone_of, opening_members}
 use Rattle.cluster_script.specs.Asked.{request_at, numbers_of_session, payload_of}
-use Rattle.cluster_script.specs.Phases.{Phase, phases_of, phase_of_request}
-use Rattle.cluster_script.specs.Sessions.{Session, sessions_of}
+use Rattle.cluster_script.specs.Phases.{phases_of, phase_of_request}
+use Rattle.cluster_script.specs.Sessions.{sessions_of}
 
 -- Two nodes in one zone, and a third one that joins. The disk is written, a node fails and comes back, and a session of
 -- its second life reads; what stands behind the last barrier ends by settling.

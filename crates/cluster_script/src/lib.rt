@@ -4,13 +4,16 @@
 //! and the cause of its first bad word. Both are exact, by a grammar over lines and words whose only state is the list
 //! of the statements so far. Want of memory is the one answer that the text doesn't decide.
 //!
-//! So far a script has one node, one session, and one disk with one copy. A definition apart from the grammar says
-//! which lists of statements are such scripts, and a [`Script`] keeps it. Of the workspace the crate stands on
-//! `object_id` alone.
+//! So far a text's script has one node, one session, and one disk with one copy. A definition apart from the grammar
+//! says which lists of statements are such scripts, and a [`Script`] keeps it. The type of statements is that of the
+//! whole language, and what a cluster takes from a script is defined over all of it: its settings and opening members,
+//! its requests by number and by session, its phases, and its sessions with the lives of their gateways. Of the
+//! workspace the crate stands on `object_id` alone.
 #![tactic(auto)]
 
 mod draft;
 mod fault;
+mod laws;
 mod limits;
 mod line;
 mod number;
@@ -20,6 +23,7 @@ mod statement;
 mod words;
 
 pub use fault::{LineCause, ScriptFault};
+pub use laws::{each_request_is_of_a_phase, each_session_is_declared, what_is_asked};
 pub use limits::TEXT_BYTES_MAX;
 pub use script::{Script, parse};
 pub use statement::{Pattern, Statement};

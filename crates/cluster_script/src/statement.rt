@@ -19,7 +19,7 @@ pub enum Statement {
     Cluster {
         nodes: u32,
     },
-    /// Each opening member has so many virtual nodes.
+    /// A node has so many virtual nodes at first.
     Vnodes {
         vnodes: u16,
     },

@@ -1,21 +1,15 @@
 -- Going to the next epoch, and settling one.
 use Rattle.std.specs.Prelude.{◌≡◌, ℕ, ◌+◌, ◌==◌, Bool, true, false, List, map, Option, None, Some, if◌then◌else◌}
-use Rattle.std.specs.List.{position, AllByRecursion}
-use Rattle.std.specs.Option.{option_map}
+use Rattle.std.specs.List.{AllByRecursion}
 use Rattle.object_id.specs.declared.node.NodeId.{NodeId}
 use Rattle.object_id.specs.declared.policy.Policy.{Policy}
 use Rattle.object_id.specs.declared.oid.Kind.{Kind}
 use Rattle.object_id.specs.Oid.{kind_of}
-use Rattle.strip_coding.specs.Part.{index_at}
-use Rattle.object_list.specs.Gathered.{is_node}
+use Rattle.strip_coding.specs.Part.{index_among}
 use Rattle.object_store.specs.declared.key.Key.{Key}
 use Rattle.object_store.specs.Rows.{is_open, is_kept, closed, purged}
 use Rattle.object_store.specs.Store.{SeenRow, rows_of, each}
 use Rattle.peer_service.specs.State.{Peer, policy_of}
-
--- the index under which a node keeps its part of an object, if it is among the object's targets
-abbrev pub index_among : NodeId → List NodeId → Policy → Kind → Option ℕ
-index_among node targets policy kind = option_map (index_at policy kind) (position (is_node node) targets)
 
 -- whether this is the index
 abbrev pub is_index : ℕ → Option ℕ → Bool

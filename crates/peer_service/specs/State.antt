@@ -10,7 +10,7 @@ use Rattle.object_id.specs.declared.entry.VdiSpec.{VdiSpec}
 use Rattle.object_id.specs.declared.entry.Entry.{Entry}
 use Rattle.strip_coding.specs.Part.{part_size}
 use Rattle.object_store.specs.Store.{AllRows}
-use Rattle.inode.specs.declared.layout.TheConstants.{INODE_HEADER_BYTES}
+use Rattle.inode.specs.declared.layout.TheConstants.{INODE_BYTES}
 use Rattle.vdi_directory.specs.declared.header.Header.{Header}
 use Rattle.vdi_directory.specs.declared.effect.Effect.{Effect}
 use Rattle.vdi_directory.specs.Effects.{header_of}
@@ -57,10 +57,10 @@ policy_of peer oid = option_map (λ (spec : VdiSpec). spec.policy) (spec_of peer
 abbrev pub is_dead_object : Peer → ℕ → Bool
 is_dead_object peer oid = is_dead (effects_of peer) (vid_of oid)
 
--- how many bytes an object has: an inode its header and four for each of 2^20 objects, a data object 2^shift
+-- how many bytes an object has: a data object 2^shift, an inode object always as many
 abbrev pub object_size : VdiSpec → Kind → ℕ
 object_size spec Block = 2 ^ spec.shift
-object_size spec Inode = INODE_HEADER_BYTES + 4 * 2 ^ 20
+object_size spec Inode = INODE_BYTES
 
 -- how many bytes each row of an object has
 abbrev pub row_size : Kind → VdiSpec → ℕ

@@ -1,6 +1,6 @@
 -- What a recovery sees of its node, and what it may make of that.
 use Rattle.std.specs.Prelude.{◌≡◌, ℕ, ◌≤◌, ◌==◌, nat_lt, nat_le, Bool, false, not, ◌&&◌, List, [], ◌∷◌, length, take, filter, Option, None, Some, is_some, if◌then◌else◌}
-use Rattle.std.specs.List.{list_any, position}
+use Rattle.std.specs.List.{list_any}
 use Rattle.std.specs.Option.{option_map}
 use Rattle.std.specs.FinMap as tree
 use Rattle.object_id.specs.declared.node.NodeId.{NodeId}
@@ -14,8 +14,7 @@ use Rattle.object_store.specs.declared.key.Key.{Key}
 use Rattle.object_store.specs.declared.row.RowCopy.{RowCopy}
 use Rattle.object_store.specs.Rows.{reaches}
 use Rattle.object_store.specs.Store.{AllRows, rows_of, open_row, create_in, copy_at}
-use Rattle.strip_coding.specs.Part.{index_at}
-use Rattle.object_list.specs.Gathered.{is_node}
+use Rattle.strip_coding.specs.Part.{index_among}
 
 -- a node, as its recovery sees it
 pub record Shown : Type 0 where
@@ -58,8 +57,7 @@ is_among oid (Some oids) = list_any (λ other. other == oid) oids
 
 -- the index of a node's part of an object in an epoch, if it is one of the targets
 abbrev pub index_in : Shown → ℕ → ℕ → Policy → NodeId → Option ℕ
-index_in shown epoch oid policy node =
-    option_map (index_at policy (kind_of oid)) (position (is_node node) (shown.targets epoch oid policy))
+index_in shown epoch oid policy node = index_among node (shown.targets epoch oid policy) policy (kind_of oid)
 
 -- whether the node has no open row of the index that is its own
 abbrev pub lacks_part : AllRows → ℕ → Option ℕ → Bool

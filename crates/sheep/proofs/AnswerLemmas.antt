@@ -1,21 +1,17 @@
 -- What a status tells of the answer that the call came to.
-use Rattle.std.proofs.Common.{◌≡◌, ℕ, ◌+◌, ◌<◌, ◌≤◌, List, [], length, refl, ap, sym, ◌∙◌, subst, rules, arith, Bool, true, false}
+use Rattle.std.proofs.Common.{◌≡◌, ℕ, ◌<◌, ◌≤◌, List, [], length, refl, ap, ◌∙◌, subst, rules, arith, Bool, true, false}
 use Rattle.std.specs.Prelude.{Option, Some, None, IsSome, Result, Ok, Err, nat_lt}
-use Rattle.std.specs.Io.KnownBytes.{Consumes, IsAtEnd}
 use Rattle.std.proofs.lemmas.Bool.{ltb-true, ltb-false}
 use Rattle.cluster_script.specs.declared.fault.LineCause.{LineCause}
 use Rattle.cluster_script.specs.declared.statement.Statement.{Statement}
 use Rattle.cluster_script.specs.OneDisk.{IsOneDiskScript}
 use Rattle.cluster_script.specs.Words.{lines_of}
 use Rattle.cluster_script.specs.Script.{script_of}
-use Rattle.disk_history.specs.Legal.{IsLegal}
 use Rattle.sheep.specs.declared.answer.Answer.{Answer}
 use Rattle.sheep.specs.declared.answer.TheConstants.{INPUT_BYTES_MAX}
 use Rattle.sheep.specs.declared.mode.Mode.{Mode}
-use Rattle.sheep.specs.declared.status.Status.{Status}
 use Rattle.sheep.specs.declared.status.Status.TheVariants as statuses
-use Rattle.sheep.specs.History.{history_of}
-use Rattle.sheep.specs.Answer.{AnswersCall, Reads, ReadsAll, RunsScript, NamesBadLine, ReadsTooMuch, MakesLegalHistory, answer_to, script_answer, bad_words_text, too_long_text, bad_line_text}
+use Rattle.sheep.specs.Answer.{AnswersCall, Reads, ReadsAll, RunsScript, NamesBadLine, ReadsTooMuch, MakesLegalHistory, answer_to, script_answer, bad_words_text, too_long_text}
 use Rattle.sheep.proofs.LegalityLemmas.{history_is_legal}
 
 -- a text that was read as a script makes a legal history

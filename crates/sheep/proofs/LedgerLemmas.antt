@@ -1,21 +1,19 @@
 -- What the events of one write or read do to a ledger.
-use Rattle.std.proofs.Common.{◌≡◌, ◌≢◌, ◌⊎◌, ℕ, zero, suc, ◌+◌, ◌-◌, ◌<◌, ◌≤◌, List, [], ◌∷◌, ◌++◌, length, map, refl, ap, sym, ◌∙◌, subst, inl, inr, rules, arith, if◌then◌else◌, Bool, true, false, not}
-use Rattle.std.specs.Prelude.{Option, Some, None, IsSome, ◌==◌, nat_lt, nat_le, filter, fold, ◌&&◌, ◌||◌}
-use Rattle.std.specs.Option.{option_and_then}
+use Rattle.std.proofs.Common.{◌≡◌, ◌≢◌, ◌⊎◌, ℕ, zero, suc, ◌+◌, ◌<◌, ◌≤◌, List, [], ◌∷◌, ◌++◌, length, map, refl, ap, sym, ◌∙◌, inl, inr, rules, arith, if◌then◌else◌, Bool, true, false, not}
+use Rattle.std.specs.Prelude.{Option, Some, ◌==◌, nat_lt, filter, ◌&&◌, ◌||◌}
 use Rattle.std.specs.List.{list_any, range_with_len}
 use Rattle.std.specs.Str.{bytes_eq}
-use Rattle.std.proofs.lemmas.Bool.{eqb-true, eq-eqb, le-leb}
-use Rattle.std.proofs.lemmas.Bool.Decides.{eqb_tells, leb_tells}
+use Rattle.std.proofs.lemmas.Bool.{eqb-true, eq-eqb}
+use Rattle.std.proofs.lemmas.Bool.Decides.{eqb_tells}
 use Rattle.std.proofs.lemmas.Slice.Eq.{bytes_eq-Decides}
 use Rattle.std.proofs.lemmas.List.Sums.{fold-append}
 use Rattle.std.proofs.lemmas.List.{map-append, append-nil}
 use Rattle.std.proofs.lemmas.List.Elements.{filter-append}
-use Rattle.std.proofs.lemmas.Grind.{common_steps}
-use Rattle.std.proofs.lemmas.Bool.{lt-ltb, ltb-true, ltb-false}
+use Rattle.std.proofs.lemmas.Bool.{ltb-false}
 use Rattle.disk_history.specs.declared.event.HistEvent.{HistEvent}
 use Rattle.disk_history.specs.declared.event.HistEvent.TheVariants as events
-use Rattle.disk_history.specs.Ledger.{Mark, Open, Acknowledged, Lost, Item, Disk, Request, Ledger, changed_at, with_disk, with_items, with_item, with_end, has_block, is_of, marked, after}
-use Rattle.disk_history.specs.Legal.{is_acknowledged, standing, is_torn, may_read, is_started, has_place, may_follow, step, ledger_from}
+use Rattle.disk_history.specs.Ledger.{Mark, Open, Acknowledged, Item, Disk, Request, Ledger, changed_at, with_item, has_block, is_of, marked, after}
+use Rattle.disk_history.specs.Legal.{is_acknowledged, standing, may_read, is_started, has_place, may_follow, ledger_from}
 
 -- an event that may come next is made
 pub first_ok : (ledger : Ledger) (event : HistEvent) (later : List HistEvent) → may_follow ledger event ≡ true

@@ -1,9 +1,9 @@
 -- The history of a script of one disk is legal: after each statement every block ends in an acknowledged item with the block's bytes.
-use Rattle.std.proofs.Common.{◌≡◌, ◌≢◌, ◌⊎◌, ℕ, zero, suc, ◌+◌, ◌-◌, ◌*◌, ◌/◌, ◌%◌, ◌<◌, ◌≤◌, List, [], ◌∷◌, ◌++◌, length, map, replicate, refl, ap, sym, ◌∙◌, subst, inl, inr, rules, arith, if◌then◌else◌, Bool, true, false, not}
-use Rattle.std.specs.Prelude.{Option, Some, None, IsSome, ◌==◌, nat_lt, nat_le, filter, fold, count_by, unwrap_or, ◌&&◌, ◌||◌}
+use Rattle.std.proofs.Common.{◌≡◌, ◌≢◌, ◌⊎◌, ℕ, zero, suc, ◌+◌, ◌-◌, ◌/◌, ◌<◌, ◌≤◌, List, [], ◌∷◌, ◌++◌, length, map, refl, ap, sym, ◌∙◌, subst, inl, inr, rules, arith, if◌then◌else◌, Bool, true, false, not}
+use Rattle.std.specs.Prelude.{Option, Some, None, IsSome, filter, fold, unwrap_or, ◌&&◌}
 use Rattle.std.specs.Option.{option_and_then}
 use Rattle.std.specs.List.{range_with_len}
-use Rattle.std.proofs.lemmas.Bool.{eqb-true, eq-eqb, le-leb, leb-true, lt-ltb}
+use Rattle.std.proofs.lemmas.Bool.{le-leb, leb-true, lt-ltb}
 use Rattle.std.proofs.lemmas.Bool.Decides.{eqb_tells, leb_tells}
 use Rattle.std.proofs.lemmas.List.{length-replicate}
 use Rattle.object_id.specs.declared.policy.Policy.{Policy}
@@ -12,10 +12,10 @@ use Rattle.cluster_script.specs.declared.statement.Statement.{Statement}
 use Rattle.cluster_script.specs.declared.statement.Statement.TheVariants.{Cluster, Session, Create, OpenDisk, Close, Read, Write}
 use Rattle.cluster_script.specs.Asked.{byte_of}
 use Rattle.cluster_script.specs.Statements.{disk_size, size_made, disk_name, name_made, requests_of, is_request}
-use Rattle.cluster_script.specs.OneDisk.{MayFollow, EachMayFollow, IsOneDiskScript, IsSpan}
+use Rattle.cluster_script.specs.OneDisk.{MayFollow, EachMayFollow, IsOneDiskScript}
 use Rattle.disk_history.specs.declared.event.HistEvent.{HistEvent}
 use Rattle.disk_history.specs.declared.event.HistEvent.TheVariants as events
-use Rattle.disk_history.specs.Ledger.{Mark, Acknowledged, Item, Disk, Request, Ledger, empty_ledger, changed_at, with_disk, is_of, marked, after}
+use Rattle.disk_history.specs.Ledger.{Acknowledged, Item, Disk, Request, Ledger, empty_ledger, changed_at, with_disk, is_of, marked, after}
 use Rattle.disk_history.specs.Legal.{IsLegal, ledger_from, may_follow}
 use Rattle.disk_history.proofs.LegalLemmas.{ledger_from-append}
 use Rattle.sheep.specs.Blocks.{zeros, size_after, block_after, block_of, blocks_of, laid_on, fits, covers}
@@ -24,7 +24,7 @@ use Rattle.sheep.specs.History.{first_vid, vid_after, events_after, history_of}
 use Rattle.sheep.proofs.AlongLemmas.{disk_size-snoc, disk_size-kept, disk_size-no_requests, disk_name-snoc, disk_name-kept, disk_name-no_requests, block_after-snoc, block_after-no_requests}
 use Rattle.sheep.proofs.ReportLemmas.{count_by-snoc}
 use Rattle.sheep.proofs.BlockLemmas.{block_filled}
-use Rattle.sheep.proofs.LedgerLemmas.{first_ok, changed_at-same, changed_at-other, NoneOf, NoneOf-append, marked-NoneOf, filter-NoneOf, open_item, settled_item, marked-open, filter-open, may_read-settled, Begins, begins_ok}
+use Rattle.sheep.proofs.LedgerLemmas.{first_ok, changed_at-same, changed_at-other, NoneOf, NoneOf-append, marked-NoneOf, filter-NoneOf, settled_item, marked-open, filter-open, may_read-settled, Begins, begins_ok}
 
 -- the items are of requests before number n
 abbrev AllBefore : ℕ → List Item → Type 0

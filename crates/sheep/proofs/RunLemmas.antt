@@ -1,7 +1,6 @@
 -- The runs of bytes.
-use Rattle.std.proofs.Common.{◌≡◌, ◌≢◌, ℕ, zero, suc, ◌+◌, ◌<◌, ◌≤◌, List, [], ◌∷◌, ◌++◌, length, take, drop, replicate, refl, ap, sym, ◌∙◌, slice_index, append_assoc, Bool, true, false, rules, arith}
+use Rattle.std.proofs.Common.{◌≡◌, ◌≢◌, ℕ, zero, suc, ◌+◌, ◌<◌, List, [], ◌∷◌, ◌++◌, length, replicate, refl, ap, sym, ◌∙◌, slice_index, append_assoc, Bool, true, false, rules, arith}
 use Rattle.std.specs.Prelude.{◌==◌}
-use Rattle.std.proofs.lemmas.List.{take-append-drop}
 use Rattle.std.specs.List.{flat_map}
 use Rattle.sheep.specs.Runs.{with_front, runs_of}
 use Rattle.sheep.specs.Report.{run_text, runs_text}

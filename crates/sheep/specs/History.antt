@@ -1,5 +1,5 @@
 -- The history that a script's run makes.
-use Rattle.std.specs.Prelude.{ℕ, ◌+◌, ◌/◌, ◌%◌, ◌^◌, ◌==◌, Bool, false, List, [], ◌∷◌, ◌++◌, map, if◌then◌else◌}
+use Rattle.std.specs.Prelude.{ℕ, ◌/◌, ◌%◌, ◌^◌, ◌==◌, false, List, [], ◌∷◌, ◌++◌, map, if◌then◌else◌}
 use Rattle.object_id.specs.Hash.{fnv1a_of}
 use Rattle.cluster_script.specs.declared.limits.TheConstants.{BLOCK}
 use Rattle.cluster_script.specs.declared.statement.Statement.{Statement}
@@ -7,7 +7,7 @@ use Rattle.cluster_script.specs.declared.statement.Statement.TheVariants.{Create
 use Rattle.cluster_script.specs.Statements.{disk_name}
 use Rattle.disk_history.specs.declared.event.HistEvent.{HistEvent}
 use Rattle.disk_history.specs.declared.event.HistEvent.TheVariants as events
-use Rattle.std.specs.Prelude.{Option, Some, None, unwrap_or}
+use Rattle.std.specs.Prelude.{unwrap_or}
 use Rattle.sheep.specs.Blocks.{size_after, fits, blocks_of, block_of, block_after}
 use Rattle.sheep.specs.Report.{along, number_after}
 

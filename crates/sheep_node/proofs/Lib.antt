@@ -5,3 +5,6 @@ pub mod SoundWaits
 pub mod SoundReading
 pub mod SoundSteps
 pub mod StepLaws
+pub mod LogLaws
+pub mod SameLaws
+pub mod StartLaws

@@ -1,37 +1,46 @@
 -- What each part of a step keeps: sends numbered upwards, replies by ascending request, what the log and the peers are told,
 -- and whether `Recovered` was put.
-use Rattle.std.proofs.Common.{◌≡◌, ℕ, ◌+◌, ◌≤◌, nat_lt, Bool, true, false, cond, List, [], ◌∷◌, ◌++◌, length, Option, refl, ap, sym, subst, ◌∙◌, arith}
+use Rattle.std.proofs.Common.{◌≡◌, ℕ, ◌+◌, ◌≤◌, nat_lt, Bool, true, false, cond, List, [], ◌∷◌, length, Option, refl, ap, sym, subst, ◌∙◌, arith}
 use Rattle.std.proofs.lemmas.Bool.{ltb-true, ltb-false}
 use Rattle.std.proofs.lemmas.List.{length-append}
 use Rattle.object_id.specs.declared.node.NodeId.{NodeId}
 use Rattle.object_id.specs.declared.entry.Entry.{Entry}
+use Rattle.vnode_table.specs.Epochs.{Entered}
 use Rattle.peer_proto.specs.declared.ask.PeerReq.{PeerReq}
 use Rattle.peer_proto.specs.declared.guest.GuestRsp.{GuestRsp}
 use Rattle.peer_proto.specs.declared.say.PeerRsp.{PeerRsp}
 use Rattle.gateway.specs.Told.{AreNumberedFrom}
-use Rattle.sheep_node.specs.declared.outputs.Outputs.{Outputs}
 use Rattle.sheep_node.specs.State.{Node}
 use Rattle.sheep_node.specs.Turn.{Turn, sent, placed, replied, without_request, ended}
 use Rattle.sheep_node.specs.Told.{AscendFrom, Ascend}
 use Rattle.sheep_node.proofs.Numbers.{numbers_joined}
 
--- what is known of a step in the making: whose it is, the entries read, whether `Recovered` was put, and what is said and put
+-- what a node has of the log: its epoch, the settled one, the entries read, and the members of epochs
+pub record Place : Type 0 where
+  pub epoch : ℕ
+  pub settled : ℕ
+  pub entries : List Entry
+  pub epochs : List Entered
+
+abbrev pub place_of : Node → Place
+place_of node = record {
+  epoch = node.peer.epoch;
+  settled = node.peer.settled;
+  entries = node.peer.entries;
+  epochs = node.epochs;
+}
+
+-- what is known of a step in the making: whose it is, where in the log, whether `Recovered` was put, and what is said and put
 pub record Known : Type 0 where
   pub me : NodeId
-  pub entries : List Entry
+  pub place : Place
   pub recovered : Bool
   pub said : Option PeerRsp
   pub put : Option Entry
 
--- the same of a node and its outputs
-abbrev pub known_of : Node → Outputs → Known
-known_of node outputs = record {
-  me = node.me;
-  entries = node.peer.entries;
-  recovered = node.recovered;
-  said = outputs.say;
-  put = outputs.put;
-}
+-- the same of a node, and what is said and put
+abbrev pub known_of : Node → Option PeerRsp → Option Entry → Known
+known_of node said put = record { me = node.me; place = place_of node; recovered = node.recovered; said = said; put = put }
 
 -- the sends are numbered from `first` on, and the count of sends is behind them; the replies ascend; the rest is as known
 pub record Sound (first : ℕ) (known now : Known) (sends : List (NodeId × PeerReq)) (count : ℕ) (replies : List (ℕ × GuestRsp)) : Type 0 where
@@ -43,7 +52,7 @@ pub record Sound (first : ℕ) (known now : Known) (sends : List (NodeId × Peer
 -- the same of a step in the making, by its parts
 abbrev pub IsSound : ℕ → Known → Turn → Type 0
 IsSound first known turn =
-    Sound first known (known_of turn.node turn.outputs) turn.outputs.sends turn.node.sends turn.outputs.replies
+    Sound first known (known_of turn.node turn.outputs.say turn.outputs.put) turn.outputs.sends turn.node.sends turn.outputs.replies
 
 pub either : {X : Type 0} (P : X → Type 0) (b : Bool) (x y : X) → P x → P y → P (cond b x y)
 either P true x y px py = px

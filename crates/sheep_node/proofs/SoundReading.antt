@@ -2,7 +2,6 @@
 use Rattle.std.proofs.Common.{◌≡◌, ℕ, nat_lt, Bool, true, false, cond, List, [], ◌∷◌, ◌++◌, Option, Some, None, refl, ap, ◌∙◌}
 use Rattle.object_id.specs.declared.node.NodeId.{NodeId}
 use Rattle.object_id.specs.declared.entry.Entry.{Entry}
-use Rattle.peer_proto.specs.declared.say.PeerRsp.{PeerRsp}
 use Rattle.epoch_log.specs.Epochs.{begins, epoch_of, settled_of}
 use Rattle.epoch_log.specs.Appending.{is_format}
 use Rattle.vdi_directory.specs.declared.decision.Decision.{Decision}
@@ -13,8 +12,8 @@ use Rattle.peer_service.specs.Back.{closed_at_end, come_back}
 use Rattle.sheep_node.specs.State.{Request, Node}
 use Rattle.sheep_node.specs.Turn.{Turn, with_node}
 use Rattle.sheep_node.specs.Courses.{course_decided}
-use Rattle.sheep_node.specs.Reading.{is_member, with_peer, placed, peer_entered, recovery_begun, recovery_begun_if, after_epoch, epoch_entered, entered_by, settled_by, entry_read, asker_of, decision_told, log_read, back}
-use Rattle.sheep_node.proofs.Sound.{Known, IsSound, either}
+use Rattle.sheep_node.specs.Reading.{is_member, with_peer, placed, peer_entered, recovery_begun_if, epoch_entered, entered_by, settled_by, entry_read, asker_of, decision_told, log_read, back}
+use Rattle.sheep_node.proofs.Sound.{place_of, Known, known_of, IsSound, either}
 use Rattle.sheep_node.proofs.SoundWorks.{course_decided_sound}
 use Rattle.sheep_node.proofs.SoundWaits.{let_begin_sound}
 
@@ -77,14 +76,7 @@ decision_told_sound first known decision (Some found) turn s =
 
 -- what is known once an entry was read
 abbrev pub known_reading : Entry → Node → Known → Known
-known_reading entry node known = record known { entries = node.peer.entries ++ entry ∷ []; recovered = (entry_read entry node).recovered }
-
-read_known : (me own : NodeId) (entries read : List Entry) (recovered : Bool) (said : Option PeerRsp) (put : Option Entry)
-    → own ≡ me → read ≡ entries
-    → ◌≡◌ {A = Known} (record { me = own; entries = read; recovered = recovered; said = said; put = put })
-    (record { me = me; entries = entries; recovered = recovered; said = said; put = put })
-read_known me own entries read recovered said put e r =
-    λ i. record { me = e i; entries = r i; recovered = recovered; said = said; put = put }
+known_reading entry node known = record known { place = place_of (entry_read entry node); recovered = (entry_read entry node).recovered }
 
 pub log_read_sound : (first : ℕ) (known : Known) (entry : Entry) (turn : Turn) → IsSound first known turn
     → IsSound first (known_reading entry turn.node known) (log_read entry turn)
@@ -98,21 +90,28 @@ log_read_sound first known entry turn s =
       counted = h.sent_so ∙ s.counted;
       ascend = s.ascend;
       same =
-          read_known turn.node.me (entry_read entry turn.node).me (turn.node.peer.entries ++ entry ∷ []) (entry_read entry turn.node).peer.entries
-          (entry_read entry turn.node).recovered turn.outputs.say turn.outputs.put h.own_so h.read_so
+          ap (λ (me : NodeId). record (known_of (entry_read entry turn.node) turn.outputs.say turn.outputs.put) { me = me }) h.own_so
           ∙ ap (λ (k : Known). known_reading entry turn.node k) s.same;
     })
 
 -- what is known once a node came back
-abbrev pub known_back : List Entry → Known → Known
-known_back entries known = record known { entries = entries; recovered = false }
+abbrev pub known_back : List Entry → Node → Known → Known
+known_back entries node known = record known { place = place_of (back entries node); recovered = false }
 
 pub back_sound : (first : ℕ) (known : Known) (log : List Entry) (turn : Turn) → IsSound first known turn
-    → IsSound first (known_back log known) (with_node (back log turn.node) turn)
-unfolding back come_back closed_at_end settled_to without_objects
+    → IsSound first (known_back log turn.node known) (with_node (back log turn.node) turn)
+unfolding back
 back_sound first known log turn s = record {
   numbers = s.numbers;
   counted = s.counted;
   ascend = s.ascend;
-  same = ap (λ (k : Known). known_back log k) s.same;
+  same = ap (λ (k : Known). known_back log turn.node k) s.same;
 }
+
+-- the entries that were read, after one more and after coming back
+pub entries_reading : (entry : Entry) (node : Node) → (entry_read entry node).peer.entries ≡ node.peer.entries ++ entry ∷ []
+entries_reading entry node = (entry_read_at entry node).read_so
+
+pub entries_back : (entries : List Entry) (node : Node) → (back entries node).peer.entries ≡ entries
+unfolding back come_back closed_at_end settled_to without_objects
+entries_back entries node = refl

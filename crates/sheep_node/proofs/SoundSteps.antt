@@ -1,7 +1,6 @@
 -- Each input keeps a step sound, and so does `Recovered` at its end.
-use Rattle.std.proofs.Common.{◌≡◌, ◌≢◌, ℕ, ◌+◌, ◌==◌, ◌&&◌, not, Bool, true, false, cond, List, [], ◌∷◌, ◌++◌, length, Option, Some, None, Result, Ok, Err, refl, ap, ◌∙◌, arith}
+use Rattle.std.proofs.Common.{◌≡◌, ℕ, ◌+◌, ◌&&◌, not, Bool, true, false, cond, List, [], ◌∷◌, length, Option, Some, None, Result, Ok, Err, refl, ap, sym, subst, ◌∙◌, arith}
 use Rattle.std.proofs.Math.Bool.{and-false}
-use Rattle.object_id.specs.declared.node.NodeId.{NodeId}
 use Rattle.object_id.specs.declared.entry.Entry.{Entry}
 use Rattle.object_store.specs.declared.fault.StoreFault.{StoreFault}
 use Rattle.object_store.specs.Store.{AllRows, read_at, write_at}
@@ -10,7 +9,6 @@ use Rattle.peer_proto.specs.declared.ask.PeerAsk.TheVariants as asks
 use Rattle.peer_proto.specs.declared.ask.PeerReq.{PeerReq}
 use Rattle.peer_proto.specs.declared.say.PeerRsp.{PeerRsp}
 use Rattle.peer_proto.specs.declared.say.Refusal.{Refusal}
-use Rattle.peer_proto.specs.declared.say.Refusal.TheVariants as refusals
 use Rattle.peer_service.specs.State.{Peer, is_waiting}
 use Rattle.peer_service.specs.Fence.{refusal_at}
 use Rattle.peer_service.specs.Serve.{refused, told, piece_or_refusal, written, if_recovered, fenced, served, reply_to}
@@ -26,32 +24,41 @@ use Rattle.sheep_node.specs.declared.input.Input.{Input}
 use Rattle.sheep_node.specs.declared.input.Input.TheVariants as inputs
 use Rattle.sheep_node.specs.State.{Node}
 use Rattle.sheep_node.specs.Shown.{state_of}
-use Rattle.sheep_node.specs.Turn.{Turn, at_first, sent}
+use Rattle.sheep_node.specs.Turn.{Turn, at_first, with_node}
 use Rattle.sheep_node.specs.Waiting.{gateway_stepped}
-use Rattle.sheep_node.specs.Reading.{entry_read}
+use Rattle.sheep_node.specs.Reading.{entry_read, back}
 use Rattle.sheep_node.specs.Step.{request_served, recovery_stepped, answered, lost, put_from, recovery_ticked, retry_ticked, taken_in, is_due, with_recovered, recovered_put, stepped}
 use Rattle.sheep_node.specs.Told.{read_after, may_begin_recovery, said_on, first_of, put_on, Ascend}
 use Rattle.gateway.specs.Told.{AreNumberedFrom}
 use Rattle.sheep_node.proofs.Numbers.{answered_numbers, retried_numbers, tick_numbers}
-use Rattle.sheep_node.proofs.Sound.{Known, known_of, Sound, IsSound, either, sent_sound}
+use Rattle.sheep_node.proofs.Sound.{Place, place_of, Known, known_of, IsSound, either, sent_sound}
 use Rattle.sheep_node.proofs.SoundWaits.{gateway_stepped_sound, guest_asked_sound}
-use Rattle.sheep_node.proofs.SoundReading.{log_read_sound, back_sound}
+use Rattle.sheep_node.proofs.SoundReading.{log_read_sound, back_sound, entries_reading, entries_back}
 
 -- a served request reads nothing of the log
 
-abbrev SameEntries : Peer → Peer → Type 0
-SameEntries old new = new.entries ≡ old.entries
+-- what a peer has of the log
+record Log : Type 0 where
+  epoch : ℕ
+  settled : ℕ
+  entries : List Entry
 
-written_same : (result : Result AllRows StoreFault) (peer : Peer) → SameEntries peer (written result peer).peer
+abbrev log_of : Peer → Log
+log_of peer = record { epoch = peer.epoch; settled = peer.settled; entries = peer.entries }
+
+abbrev SameLog : Peer → Peer → Type 0
+SameLog old new = log_of new ≡ log_of old
+
+written_same : (result : Result AllRows StoreFault) (peer : Peer) → SameLog peer (written result peer).peer
 written_same (Ok rows) peer = refl
 written_same (Err fault) peer = refl
 
-if_recovered_same : (waiting : Bool) (peer : Peer) (answer : serve.Served) → SameEntries peer answer.peer
-    → SameEntries peer (if_recovered waiting peer answer).peer
+if_recovered_same : (waiting : Bool) (peer : Peer) (answer : serve.Served) → SameLog peer answer.peer
+    → SameLog peer (if_recovered waiting peer answer).peer
 if_recovered_same true peer answer h = refl
 if_recovered_same false peer answer h = h
 
-answered_same : (ask : PeerAsk) (peer : Peer) → SameEntries peer (serve.answered ask peer).peer
+answered_same : (ask : PeerAsk) (peer : Peer) → SameLog peer (serve.answered ask peer).peer
 unfolding serve.answered
 answered_same (asks.Create key size offset bytes) peer = refl
 answered_same (asks.Write key offset bytes) peer =
@@ -62,11 +69,11 @@ answered_same (asks.Read key offset size) peer =
 answered_same asks.List peer = refl
 answered_same (asks.RecoverRead oid level) peer = refl
 
-served_same : (peer : Peer) (request : PeerReq) → SameEntries peer (served peer request).peer
+served_same : (peer : Peer) (request : PeerReq) → SameLog peer (served peer request).peer
 unfolding served
 served_same peer request = by_fence (refusal_at peer.epoch request.epoch.0)
   where
-    by_fence : (refusal : Option Refusal) → SameEntries peer (fenced refusal request.ask peer).peer
+    by_fence : (refusal : Option Refusal) → SameLog peer (fenced refusal request.ask peer).peer
     by_fence None = answered_same request.ask peer
     by_fence (Some refusal) = refl
 
@@ -74,9 +81,10 @@ served_same peer request = by_fence (refusal_at peer.epoch request.epoch.0)
 abbrev known_saying : PeerReq → Node → Known → Known
 known_saying request node known = record known { said = Some (reply_to node.peer request) }
 
-read_known : (known : Known) (said : Option PeerRsp) (read : List Entry) → read ≡ known.entries
-    → ◌≡◌ {A = Known} (record known { entries = read; said = said }) (record known { said = said })
-read_known known said read e = λ i. record known { entries = e i; said = said }
+abbrev known_at : Log → Known → Known
+known_at log known = record known {
+  place = record known.place { epoch = log.epoch; settled = log.settled; entries = log.entries };
+}
 
 request_served_sound : (first : ℕ) (known : Known) (request : PeerReq) (turn : Turn)
     → IsSound first known turn → IsSound first (known_saying request turn.node known) (request_served request turn)
@@ -86,7 +94,7 @@ request_served_sound first known request turn s = record {
   counted = s.counted;
   ascend = s.ascend;
   same =
-      read_known (known_of turn.node turn.outputs) (Some (reply_to turn.node.peer request)) (served turn.node.peer request).peer.entries
+      ap (λ (log : Log). known_at log (known_of turn.node (Some (reply_to turn.node.peer request)) turn.outputs.put))
       (served_same turn.node.peer request)
       ∙ ap (λ (k : Known). known_saying request turn.node k) s.same;
 }
@@ -125,7 +133,7 @@ put_sound first known [] turn none s = record {
   numbers = s.numbers;
   counted = s.counted;
   ascend = s.ascend;
-  same = (λ i. record (known_of turn.node turn.outputs) { put = none i }) ∙ ap (λ (k : Known). known_putting None k) s.same;
+  same = ap (λ (put : Option Entry). known_of turn.node turn.outputs.say put) none ∙ ap (λ (k : Known). known_putting None k) s.same;
 }
 put_sound first known (entry ∷ later) turn none s = record {
   numbers = s.numbers;
@@ -150,33 +158,31 @@ retry_ticked_sound first known turn s =
     (gateway_steps.retried turn.node.epochs turn.node.gateway turn.node.sends (record { 0 = turn.node.peer.epoch })) turn
     (retried_numbers turn.node.epochs turn.node.gateway turn.node.sends (record { 0 = turn.node.peer.epoch })) s
 
--- whether `Recovered` was put, before the end of a step
-abbrev put_after : Input → Node → Bool
-put_after (inputs.Guest req session ask) node = node.recovered
-put_after (inputs.Request request) node = node.recovered
-put_after (inputs.Reply rsp) node = node.recovered
-put_after (inputs.Lost number) node = node.recovered
-put_after (inputs.LogEntry entry) node = (entry_read entry node).recovered
-put_after inputs.Put node = node.recovered
-put_after inputs.RecoverTick node = node.recovered
-put_after inputs.RetryTick node = node.recovered
-put_after (inputs.Back entries) node = false
+-- the node after an input, as far as the log goes
+abbrev pub after : Input → Node → Node
+after (inputs.Guest req session ask) node = node
+after (inputs.Request request) node = node
+after (inputs.Reply rsp) node = node
+after (inputs.Lost number) node = node
+after (inputs.LogEntry entry) node = entry_read entry node
+after inputs.Put node = node
+after inputs.RecoverTick node = node
+after inputs.RetryTick node = node
+after (inputs.Back entries) node = back entries node
 
 -- what is known at first, and before the end of a step
 abbrev known_first : Node → Known
-known_first node = record { me = node.me; entries = node.peer.entries; recovered = node.recovered; said = None; put = None }
+known_first node = known_of node None None
 
 abbrev known_after : Input → Node → Known
-known_after input node = record {
-  me = node.me;
-  entries = read_after input node.peer.entries;
-  recovered = put_after input node;
-  said = said_on input node;
-  put = put_on input node;
-}
+known_after input node = record (known_of (after input node) (said_on input node) (put_on input node)) { me = node.me }
 
 at_first_sound : (node : Node) → IsSound node.sends (known_first node) (at_first node)
 at_first_sound node = record { numbers = refl; counted = omega arith; ascend = tt; same = refl }
+
+back_recovers : (entries : List Entry) (node : Node) → (back entries node).recovered ≡ false
+unfolding back
+back_recovers entries node = refl
 
 taken_in_sound : (input : Input) (node : Node) → IsSound node.sends (known_after input node) (taken_in input (at_first node))
 unfolding taken_in
@@ -197,7 +203,8 @@ taken_in_sound inputs.RecoverTick node =
 taken_in_sound inputs.RetryTick node =
     retry_ticked_sound node.sends (known_first node) (at_first node) (at_first_sound node)
 taken_in_sound (inputs.Back entries) node =
-    back_sound node.sends (known_first node) entries (at_first node) (at_first_sound node)
+    subst (λ (b : Bool). IsSound node.sends (record (known_after (inputs.Back entries) node) { recovered = b }) (with_node (back entries node) (at_first node)))
+    (sym (back_recovers entries node)) (back_sound node.sends (known_first node) entries (at_first node) (at_first_sound node))
 
 -- the end of a step
 
@@ -207,7 +214,7 @@ record Ends (first : ℕ) (known : Known) (turn : Turn) : Type 0 where
   counted : turn.node.sends ≡ first + length turn.outputs.sends
   ascend : Ascend turn.outputs.replies
   own : turn.node.me ≡ known.me
-  kept : turn.node.peer.entries ≡ known.entries
+  place : place_of turn.node ≡ known.place
   said : turn.outputs.say ≡ known.said
   put : turn.outputs.put ≡ known.put
 
@@ -217,7 +224,7 @@ sound_ends first known turn s = record {
   counted = s.counted;
   ascend = s.ascend;
   own = ap (λ (k : Known). k.me) s.same;
-  kept = ap (λ (k : Known). k.entries) s.same;
+  place = ap (λ (k : Known). k.place) s.same;
   said = ap (λ (k : Known). k.said) s.same;
   put = ap (λ (k : Known). k.put) s.same;
 }
@@ -228,7 +235,7 @@ with_recovered_ends first known turn e = record {
   counted = e.counted;
   ascend = e.ascend;
   own = e.own;
-  kept = e.kept;
+  place = e.place;
   said = e.said;
   put = e.put;
 }
@@ -261,9 +268,24 @@ stepped_replies input node = (stepped_ends input node).ascend
 pub stepped_own : (input : Input) (node : Node) → (stepped input node).node.me ≡ node.me
 stepped_own input node = (stepped_ends input node).own
 
+-- where it is in the log
+pub stepped_place : (input : Input) (node : Node) → place_of (stepped input node).node ≡ place_of (after input node)
+stepped_place input node = (stepped_ends input node).place
+
+entries_after : (input : Input) (node : Node) → (after input node).peer.entries ≡ read_after input node.peer.entries
+entries_after (inputs.Guest req session ask) node = refl
+entries_after (inputs.Request request) node = refl
+entries_after (inputs.Reply rsp) node = refl
+entries_after (inputs.Lost number) node = refl
+entries_after (inputs.LogEntry entry) node = entries_reading entry node
+entries_after inputs.Put node = refl
+entries_after inputs.RecoverTick node = refl
+entries_after inputs.RetryTick node = refl
+entries_after (inputs.Back entries) node = entries_back entries node
+
 -- the entries that it has read
 pub stepped_reads : (input : Input) (node : Node) → (stepped input node).node.peer.entries ≡ read_after input node.peer.entries
-stepped_reads input node = (stepped_ends input node).kept
+stepped_reads input node = ap (λ (place : Place). place.entries) (stepped_place input node) ∙ entries_after input node
 
 -- what is said to a peer
 pub stepped_says : (input : Input) (node : Node) → (stepped input node).outputs.say ≡ said_on input node
@@ -296,7 +318,7 @@ unfolding recovered_put
 recovered_stays turn done =
     either (λ (t : Turn). t.node.recovered ≡ true) (is_due turn.node) (with_recovered turn) turn refl done
 
-put_before : (input : Input) (node : Node) → may_begin_recovery input ≡ false → put_after input node ≡ node.recovered
+put_before : (input : Input) (node : Node) → may_begin_recovery input ≡ false → (after input node).recovered ≡ node.recovered
 put_before (inputs.Guest req session ask) node quiet = refl
 put_before (inputs.Request request) node quiet = refl
 put_before (inputs.Reply rsp) node quiet = refl

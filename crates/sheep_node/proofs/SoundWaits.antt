@@ -1,8 +1,7 @@
 -- What waited, an act of the gateway and a guest's request keep a step sound.
-use Rattle.std.proofs.Common.{◌≡◌, ℕ, ◌==◌, Bool, true, false, cond, List, [], ◌∷◌, ◌++◌, fold, Option, Some, None, refl}
+use Rattle.std.proofs.Common.{ℕ, ◌==◌, List, [], ◌∷◌, fold, Option, Some, None}
 use Rattle.std.specs.FinMap as tree
 use Rattle.object_id.specs.declared.cause.Cause.{Cause}
-use Rattle.object_id.specs.declared.entry.Entry.{Entry}
 use Rattle.peer_proto.specs.declared.guest.DiskAsk.{DiskAsk}
 use Rattle.peer_proto.specs.declared.guest.GuestRsp.TheVariants.{Refused}
 use Rattle.gateway.specs.declared.act.Act.{Act}
@@ -18,8 +17,8 @@ use Rattle.vdi_ops.specs.Steps.{begin}
 use Rattle.sheep_node.specs.declared.ask.Ask.{Ask}
 use Rattle.sheep_node.specs.declared.ask.Ask.TheVariants as asks
 use Rattle.sheep_node.specs.State.{Course, Waiting, Driving, Commanding, Request}
-use Rattle.sheep_node.specs.Turn.{Turn, sent, session_in, with_gateway, with_line, with_course}
-use Rattle.sheep_node.specs.Works.{request_refused, left_line, work_begun}
+use Rattle.sheep_node.specs.Turn.{Turn, session_in, with_gateway, with_line, with_course}
+use Rattle.sheep_node.specs.Works.{request_refused}
 use Rattle.sheep_node.specs.Courses.{disk_begun, course_went_on}
 use Rattle.sheep_node.specs.Waiting.{next_begun, course_begun, request_begun, begun_if_may, passed_over, let_begin, left_by, work_done, work_refused, acted, gateway_stepped}
 use Rattle.sheep_node.specs.Guests.{refusal, pushed, taken, taken_unless, guest_asked, inode_open}

@@ -1,5 +1,5 @@
 -- The works and courses of requests keep a step sound.
-use Rattle.std.proofs.Common.{◌≡◌, ℕ, ◌+◌, Bool, true, false, cond, List, [], ◌∷◌, ◌++◌, Option, Some, None, refl}
+use Rattle.std.proofs.Common.{ℕ, List, Option, Some, None}
 use Rattle.std.specs.FinMap as tree
 use Rattle.object_id.specs.declared.cause.Cause.{Cause}
 use Rattle.object_id.specs.declared.entry.Entry.{Entry}
@@ -24,7 +24,7 @@ use Rattle.vdi_ops.specs.Op as ops
 use Rattle.vdi_ops.specs.Op.{Op, opened}
 use Rattle.vdi_ops.specs.Steps.{on_refused, on_done, on_decision}
 use Rattle.sheep_node.specs.State.{Course, Waiting, Driving, Commanding, Request}
-use Rattle.sheep_node.specs.Turn.{Turn, sent, appended_if, session_in, with_gateway, with_line, with_disk, with_course, ended}
+use Rattle.sheep_node.specs.Turn.{Turn, appended_if, session_in, with_gateway, with_line, with_disk, with_course}
 use Rattle.sheep_node.specs.Works.{command_refused, course_refused, request_refused, left_line, after_start, start_of, work_begun, work_asked}
 use Rattle.sheep_node.specs.Courses.{driver_acted, driver_stepped, driver_went_on, disk_went_on, disk_begun, disk_after, command_acted, command_stepped, command_went_on, course_went_on, course_decided}
 use Rattle.sheep_node.proofs.Numbers.{NumbersOf, started_numbers}

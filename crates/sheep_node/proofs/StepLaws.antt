@@ -1,5 +1,5 @@
 -- What a step on a request of another epoch, on Put, and on a guest's create gives.
-use Rattle.std.proofs.Common.{◌≡◌, ℕ, ◌+◌, ◌<◌, ◌≤◌, nat_lt, ◌&&◌, not, Bool, true, false, cond, List, [], ◌∷◌, ◌++◌, Option, Some, None, refl, ap, sym, subst, ◌∙◌, arith}
+use Rattle.std.proofs.Common.{◌≡◌, ℕ, ◌<◌, ◌≤◌, nat_lt, Bool, false, cond, List, [], ◌∷◌, ◌++◌, Option, Some, None, ap, ◌∙◌, arith}
 use Rattle.std.proofs.lemmas.Bool.{lt-ltb, le-ltb}
 use Rattle.object_id.specs.declared.entry.Entry.{Entry}
 use Rattle.object_id.specs.declared.entry.Entry.TheVariants as entries
@@ -12,12 +12,10 @@ use Rattle.peer_proto.specs.declared.say.Refusal.{Refusal}
 use Rattle.peer_proto.specs.declared.say.Refusal.TheVariants.{OldEpoch, NewEpoch}
 use Rattle.peer_service.specs.Fence.{refusal_at}
 use Rattle.peer_service.specs.Serve.{fenced, served}
-use Rattle.recovery.specs.State as recoveries
 use Rattle.vdi_ops.specs.Steps.{begin}
 use Rattle.sheep_node.specs.declared.ask.Ask.TheVariants.{Vdi}
 use Rattle.sheep_node.specs.declared.input.Input.TheVariants as inputs
 use Rattle.sheep_node.specs.State.{Node}
-use Rattle.sheep_node.specs.Shown.{state_of}
 use Rattle.sheep_node.specs.Turn.{Turn, at_first}
 use Rattle.sheep_node.specs.Courses.{command_stepped}
 use Rattle.sheep_node.specs.Guests.{guest_asked}

@@ -1,6 +1,5 @@
 -- How a request goes on, and what its session has open then.
 use Rattle.std.specs.Prelude.{ℕ, Bool, false, List, Option, Some, None}
-use Rattle.std.specs.Option.{option_map}
 use Rattle.inode.specs.Layout.{Content}
 use Rattle.peer_proto.specs.declared.guest.DiskAsk.{DiskAsk}
 use Rattle.peer_proto.specs.declared.guest.VdiAsk.{VdiAsk}

@@ -1,10 +1,9 @@
 -- A guest's request comes: it is refused on the spot, or waits for its turn and begins.
-use Rattle.std.specs.Prelude.{ℕ, Bool, false, List, ◌∷◌, [], ◌++◌, Option, Some, None, if◌then◌else◌}
+use Rattle.std.specs.Prelude.{ℕ, Bool, false, ◌∷◌, [], ◌++◌, Option, Some, None}
 use Rattle.std.specs.Option.{option_map}
 use Rattle.object_id.specs.declared.cause.Cause.{Cause}
 use Rattle.inode.specs.Layout.{Content}
 use Rattle.peer_proto.specs.declared.guest.DiskAsk.{DiskAsk}
-use Rattle.peer_proto.specs.declared.guest.VdiAsk.{VdiAsk}
 use Rattle.peer_proto.specs.declared.guest.GuestRsp.TheVariants.{Refused}
 use Rattle.vdi_directory.specs.States.{state_of}
 use Rattle.vdi_directory.specs.Dead.{is_gone}
@@ -14,7 +13,6 @@ use Rattle.guest_driver.specs.declared.disk.Disk.{Disk}
 use Rattle.guest_driver.specs.Pieces.{offset_of, size_of, first_index, last_index}
 use Rattle.guest_driver.specs.Refusals as disk_refusals
 use Rattle.vdi_ops.specs.Entries as entries
-use Rattle.vdi_ops.specs.Op as ops
 use Rattle.vdi_ops.specs.Steps.{begin}
 use Rattle.sheep_node.specs.declared.ask.Ask.{Ask}
 use Rattle.sheep_node.specs.declared.ask.Ask.TheVariants as asks
@@ -65,6 +63,7 @@ taken number req (asks.Disk ask) turn =
 taken number req (asks.Vdi ask) turn =
     command_went_on number req ask (begin turn.node.me number ask (inode_open (session_in number turn).disk)) turn
 
+-- a request is refused for a cause, if there is one
 abbrev pub taken_unless : Option Cause → ℕ → ℕ → Ask → Turn → Turn
 taken_unless None number req ask turn = taken number req ask turn
 taken_unless (Some cause) number req ask turn = replied req (Refused cause) turn

@@ -1,5 +1,5 @@
 -- When a node may step on an input.
-use Rattle.std.specs.Prelude.{◌≡◌, ℕ, ◌-◌, ◌^◌, ◌<◌, ◌≤◌, ◌==◌, nat_lt, nat_le, Bool, true, false, not, ◌&&◌, ◌||◌, IsTrue, List, [], ◌∷◌, ◌++◌, length, map, filter}
+use Rattle.std.specs.Prelude.{◌≡◌, ℕ, ◌-◌, ◌^◌, ◌<◌, ◌==◌, nat_lt, nat_le, Bool, true, false, not, ◌&&◌, ◌||◌, IsTrue, List, [], ◌∷◌, ◌++◌, length, filter}
 use Rattle.std.specs.List.{list_all}
 use Rattle.std.specs.FinMap as tree
 use Rattle.object_id.specs.declared.entry.Entry.{Entry}
@@ -61,6 +61,7 @@ is_on_disk (Waiting ask) = true
 is_on_disk (Driving driver) = true
 is_on_disk (Commanding ask op) = false
 
+-- whether what is asked is a read or write
 abbrev pub asks_disk : Ask → Bool
 asks_disk (asks.Disk ask) = true
 asks_disk (asks.Vdi ask) = false

@@ -2,7 +2,6 @@
 use Rattle.std.specs.Prelude.{ℕ, zero, suc, nat_lt, Bool, false, List, [], ◌∷◌, map, Option, Some, None, if◌then◌else◌}
 use Rattle.std.specs.List.{find}
 use Rattle.std.specs.FinMap as tree
-use Rattle.object_id.specs.declared.node.NodeId.{NodeId}
 use Rattle.object_id.specs.declared.entry.Member.{Member}
 use Rattle.object_id.specs.declared.entry.Entry.{Entry}
 use Rattle.epoch_log.specs.Members as members
@@ -38,6 +37,7 @@ is_member node = members.is_member node.me.0 (members_now node)
 abbrev pub entered_in : List Entry → ℕ → Entered
 entered_in entries epoch = record { epoch = epoch; members = members_in entries epoch }
 
+-- the node's peer is so
 abbrev pub with_peer : Peer → Node → Node
 with_peer peer node = record node { peer = peer }
 

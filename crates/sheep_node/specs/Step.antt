@@ -1,5 +1,5 @@
 -- The step of a node: one clause for each input, and `Recovered` last.
-use Rattle.std.specs.Prelude.{ℕ, Bool, true, not, ◌&&◌, List, [], ◌∷◌, Option, Some, None, if◌then◌else◌}
+use Rattle.std.specs.Prelude.{ℕ, Bool, true, not, ◌&&◌, List, [], ◌∷◌, Some, if◌then◌else◌}
 use Rattle.object_id.specs.declared.entry.Entry.{Entry}
 use Rattle.object_id.specs.declared.entry.Entry.TheVariants.{Recovered}
 use Rattle.peer_proto.specs.declared.ask.PeerReq.{PeerReq}

@@ -1,6 +1,8 @@
 -- What a step leaves and gives, in few words.
-use Rattle.std.specs.Prelude.{ℕ, ◌≤◌, Bool, true, false, List, [], ◌∷◌, ◌++◌, Option, Some, None}
+use Rattle.std.specs.Prelude.{◌≡◌, ℕ, ◌≤◌, Bool, true, false, List, [], ◌∷◌, ◌++◌, Option, Some, None}
 use Rattle.object_id.specs.declared.entry.Entry.{Entry}
+use Rattle.epoch_log.specs.Epochs.{epoch_of, settled_of}
+use Rattle.vnode_table.specs.Epochs.{Entered}
 use Rattle.peer_proto.specs.declared.guest.GuestRsp.{GuestRsp}
 use Rattle.peer_proto.specs.declared.say.PeerRsp.{PeerRsp}
 use Rattle.peer_service.specs.Serve.{reply_to}
@@ -8,6 +10,7 @@ use Rattle.sheep_node.specs.declared.input.Input.{Input}
 use Rattle.sheep_node.specs.declared.input.Input.TheVariants as inputs
 use Rattle.sheep_node.specs.declared.outputs.Outputs.{Outputs}
 use Rattle.sheep_node.specs.State.{Node}
+use Rattle.sheep_node.specs.Reading.{epochs_up_to}
 
 -- the entries that a node has read after an input: one more, or those that it comes back with
 abbrev pub read_after : Input → List Entry → List Entry
@@ -49,6 +52,7 @@ said_on inputs.RecoverTick node = None
 said_on inputs.RetryTick node = None
 said_on (inputs.Back entries) node = None
 
+-- the first entry of an outbox
 abbrev pub first_of : List Entry → Option Entry
 first_of [] = None
 first_of (entry ∷ later) = Some entry
@@ -70,5 +74,21 @@ abbrev pub AscendFrom : ℕ → List (ℕ × GuestRsp) → Type 0
 AscendFrom low [] = Unit {0}
 AscendFrom low (reply ∷ later) = (low ≤ reply.0) × AscendFrom reply.0 later
 
+-- the same of all replies
 abbrev pub Ascend : List (ℕ × GuestRsp) → Type 0
 Ascend replies = AscendFrom 0 replies
+
+-- the epochs that have begun by these entries; none before the first entry
+abbrev pub epochs_of : List Entry → List Entered
+epochs_of [] = []
+epochs_of (first ∷ later) = epochs_up_to (first ∷ later) (epoch_of (first ∷ later))
+
+-- an epoch, a settled epoch and the members of epochs are those of these entries
+pub record FollowsLog (epoch settled : ℕ) (epochs : List Entered) (read : List Entry) : Type 0 where
+  pub epoch_so : epoch ≡ epoch_of read
+  pub settled_so : settled ≡ settled_of read
+  pub epochs_so : epochs ≡ epochs_of read
+
+-- the same of a node, and the entries that it has read
+abbrev pub IsByTheLog : Node → Type 0
+IsByTheLog node = FollowsLog node.peer.epoch node.peer.settled node.epochs node.peer.entries

@@ -11,8 +11,9 @@ use Rattle.gateway_queue.specs.Queue.{without}
 use Rattle.guest_driver.specs.declared.disk.Disk.{Disk}
 use Rattle.guest_driver.specs.InodeLine.{Line}
 use Rattle.sheep_node.specs.declared.outputs.Outputs.{Outputs}
-use Rattle.sheep_node.specs.State.{Course, Request, Session, Node, session_at}
+use Rattle.sheep_node.specs.State.{Course, Session, Node, session_at}
 
+-- the node, and the outputs
 pub record Turn : Type 0 where
   pub node : Node
   pub outputs : Outputs
@@ -21,6 +22,7 @@ pub record Turn : Type 0 where
 abbrev pub at_first : Node → Turn
 at_first node = record { node = node; outputs = record { sends = []; say = None; replies = []; put = None } }
 
+-- the node is so
 abbrev pub with_node : Node → Turn → Turn
 with_node node turn = record turn { node = node }
 
@@ -50,6 +52,7 @@ abbrev pub appended_if : Option Entry → Turn → Turn
 appended_if None turn = turn
 appended_if (Some entry) turn = appended entry turn
 
+-- its gateway is so
 abbrev pub with_gateway : Gateway → Turn → Turn
 with_gateway gateway turn = record turn { node = record turn.node { gateway = gateway } }
 

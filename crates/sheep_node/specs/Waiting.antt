@@ -66,7 +66,7 @@ work_refused work req cause None turn = turn
 work_refused work req cause (Some request) turn =
     let_begin request.session (request_refused req cause (Some request) (left_by request.session work turn))
 
--- what an act of the gateway comes to, which was `before` it
+-- what an act of the gateway comes to; before the act the gateway was this
 abbrev pub acted : Gateway → Act → Turn → Turn
 acted before (acts.Send sends) turn = sent sends.list turn
 acted before acts.Wait turn = turn

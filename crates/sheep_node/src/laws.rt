@@ -1,22 +1,29 @@
 //! Laws of a step, for the proofs of the layers above: each is the contract of a function that does nothing.
 ghost use Rattle.std.specs.Prelude.{◌≡◌, ℕ, ◌+◌, ◌<◌, true, false, List, [], ◌∷◌, ◌++◌, length, Option, Some, None, IsTrue};
+ghost use Rattle.object_id.specs.declared.node.NodeId.{NodeId};
 ghost use Rattle.object_id.specs.declared.entry.Entry.{Entry};
 ghost use Rattle.object_id.specs.declared.entry.Entry.TheVariants as entries;
 ghost use Rattle.object_id.specs.declared.entry.Origin.TheVariants.{Fresh};
 ghost use Rattle.object_id.specs.declared.entry.VdiSpec.{VdiSpec};
 ghost use Rattle.peer_proto.specs.declared.ask.PeerReq.{PeerReq};
+ghost use Rattle.peer_proto.specs.declared.guest.VdiAsk.{VdiAsk};
 ghost use Rattle.peer_proto.specs.declared.guest.VdiAsk.TheVariants.{Create};
 ghost use Rattle.peer_proto.specs.declared.say.PeerSay.TheVariants.{Refused};
 ghost use Rattle.peer_proto.specs.declared.say.Refusal.TheVariants.{OldEpoch, NewEpoch};
+ghost use Rattle.peer_proto.specs.declared.work.ObjWork.{ObjWork};
+ghost use Rattle.gateway.specs.State.{is_touched};
 ghost use Rattle.gateway.specs.Told.{AreNumberedFrom};
 ghost use Rattle.vdi_ops.specs.Op.{Op, entry_wanted};
 ghost use Rattle.sheep_node.specs.declared.ask.Ask.TheVariants.{Vdi};
 ghost use Rattle.sheep_node.specs.declared.input.Input.{Input};
 ghost use Rattle.sheep_node.specs.declared.input.Input.TheVariants as inputs;
-ghost use Rattle.sheep_node.specs.State.{Node, Commanding};
+ghost use Rattle.sheep_node.specs.State.{Node, Commanding, opening};
 ghost use Rattle.sheep_node.specs.Turn.{Turn};
+ghost use Rattle.sheep_node.specs.Same.{is_of_command, waits_for_entry};
+ghost use Rattle.sheep_node.specs.Works.{work_begun};
+ghost use Rattle.sheep_node.specs.May.{May};
 ghost use Rattle.sheep_node.specs.Step.{is_due, recovered_put, stepped};
-ghost use Rattle.sheep_node.specs.Told.{read_after, may_begin_recovery, only_said, said_on, put_on, Ascend};
+ghost use Rattle.sheep_node.specs.Told.{read_after, may_begin_recovery, only_said, said_on, put_on, Ascend, IsByTheLog};
 
 /// The sends of a step are numbered upwards from the node's count, and the count grows by how many they are. So no two
 /// sends of a node have one number.
@@ -30,6 +37,13 @@ pub fn sends_are_numbered()
 pub fn only_the_log_is_read()
     ensures read { (input : Input) (node : Node) → (stepped input node).node.peer.entries ≡ read_after input node.peer.entries }
     ensures own { (input : Input) (node : Node) → (stepped input node).node.me ≡ node.me }
+{}
+
+/// A node's epoch, its settled epoch and the members of its epochs are those of the entries that it has read: so it opens,
+/// and so it stays at each step.
+pub fn a_node_is_where_its_entries_have_it()
+    ensures opens { (me : NodeId) (tries : ℕ) → IsByTheLog (opening me tries) }
+    ensures stays { (input : Input) (node : Node) → May input node → IsByTheLog node → IsByTheLog (stepped input node).node }
 {}
 
 /// Something is said to a peer only on a request, and put into the log only on Put: the outbox's first entry. Guests are
@@ -74,6 +88,20 @@ pub fn recovered_is_put_once()
     ensures once { (turn : Turn) → turn.node.recovered ≡ true → recovered_put turn ≡ turn }
     ensures stays { (input : Input) (node : Node) → may_begin_recovery input ≡ false → node.recovered ≡ true
         → (stepped input node).node.recovered ≡ true }
+{}
+
+/// A decision goes to a command that waits for exactly the entry that was read.
+pub fn a_decision_is_on_the_entry_wanted()
+    ensures only { (entry : Entry) (ask : VdiAsk) (op : Op) → waits_for_entry entry (Commanding ask op) ≡ true
+        → entry_wanted op ≡ Some entry }
+    ensures each { (entry : Entry) (ask : VdiAsk) (op : Op) → is_of_command entry ≡ true → entry_wanted op ≡ Some entry
+        → waits_for_entry entry (Commanding ask op) ≡ true }
+{}
+
+/// A touched request's work begins or waits, and no guest is replied to: it is never refused at its start.
+pub fn a_touched_work_is_not_refused()
+    ensures { (number req : ℕ) (work : ObjWork) (turn : Turn) → is_touched req turn.node.gateway ≡ true
+        → (work_begun number req work turn).outputs.replies ≡ turn.outputs.replies }
 {}
 
 /// A guest's command begins with its entry in the outbox: a new disk with its reservation.

@@ -1,8 +1,15 @@
-//! A node of the cluster: one step at a time, each on one input, with what it sends, replies and puts into the log.
+//! A node of the cluster: one step at a time, each on one input, with what it sends, says, replies and puts into the log.
 //!
 //! The crate stands on the parts of a node: `peer_service`, `recovery`, `gateway`, `guest_driver`, `vdi_ops` and
 //! `gateway_queue`. Here stand the inputs and outputs of a step and the events of the cluster as types, and as
-//! definitions what a node is (`specs/State.antt`).
+//! definitions what a node is (`specs/State.antt`), its step (`specs/Step.antt`) and when it may step (`specs/May.antt`).
+//! The step is put together from a guest's request (`specs/Guests.antt`), the works of requests and how requests go on
+//! (`specs/Works.antt`, `specs/Courses.antt`), what waited (`specs/Waiting.antt`), and reading the log and coming back
+//! (`specs/Reading.antt`).
+//!
+//! The laws of `laws.rt` say what holds of every step: its sends are numbered upwards, so no two of a node are numbered
+//! alike; what it has read comes from the log alone, and its epochs and their members are those of what it has read; it
+//! puts `Recovered` once for each recovery; and a request of another epoch changes nothing.
 #![tactic(auto)]
 
 mod ask;
@@ -18,8 +25,10 @@ pub use ask::Ask;
 pub use event::Event;
 pub use input::Input;
 pub use laws::{
-    a_create_begins_with_its_reservation, only_the_log_is_read, other_epochs_are_refused,
-    recovered_is_put_once, sends_are_numbered, what_is_put_leaves_the_outbox,
+    a_create_begins_with_its_reservation, a_decision_is_on_the_entry_wanted,
+    a_node_is_where_its_entries_have_it, a_touched_work_is_not_refused, only_the_log_is_read,
+    other_epochs_are_refused, outputs_are_as_the_input, recovered_is_put_once, sends_are_numbered,
+    what_is_put_leaves_the_outbox,
 };
 pub use outputs::Outputs;
 pub use replies::ReplyList;

@@ -1,5 +1,8 @@
 -- The part of an object that a node keeps under an index.
-use Rattle.std.specs.Prelude.{◌≡◌, ℕ, zero, suc, ◌/◌, ◌%◌, Bool, true, false, List, [], ◌∷◌, ◌++◌, length, take, drop, map, if◌then◌else◌}
+use Rattle.std.specs.Prelude.{◌≡◌, ℕ, zero, suc, ◌/◌, ◌%◌, ◌==◌, Bool, true, false, List, [], ◌∷◌, ◌++◌, length, take, drop, map, Option, if◌then◌else◌}
+use Rattle.std.specs.List.{position}
+use Rattle.std.specs.Option.{option_map}
+use Rattle.object_id.specs.declared.node.NodeId.{NodeId}
 use Rattle.object_id.specs.declared.policy.Policy.{Policy}
 use Rattle.object_id.specs.declared.policy.Policy.TheVariants.{Copies, Coded}
 use Rattle.object_id.specs.declared.oid.Kind.{Kind}
@@ -58,3 +61,8 @@ is_in_strips (Coded d p) Inode = false
 -- the index under which a target keeps its part: of strips its place in the target list, of whole copies 0
 abbrev pub index_at : Policy → Kind → ℕ → ℕ
 index_at policy kind place = if is_in_strips policy kind then place else 0
+
+-- the index under which a node keeps its part of an object, if it is among the object's targets
+abbrev pub index_among : NodeId → List NodeId → Policy → Kind → Option ℕ
+index_among node targets policy kind =
+    option_map (index_at policy kind) (position (λ (target : NodeId). target.0 == node.0) targets)

@@ -12,10 +12,9 @@ use Rattle.object_id.specs.Spec.{IsSpec, objects_of}
 use Rattle.object_id.specs.Policy.{policy_byte, strips_of}
 use Rattle.object_id.specs.Fields.{u8_bytes, u32_bytes, u64_bytes, numbers_bytes, numbers_at, zeros, Stands}
 use Rattle.object_id.proofs.FieldLemmas.{wide32, numbers-read, length-numbers_at}
-use Rattle.inode.specs.declared.layout.TheConstants.{INODE_HEADER_BYTES, TEXT_BYTES, CHILDREN_BYTES}
+use Rattle.inode.specs.declared.layout.TheConstants.{INODE_BYTES, INODE_HEADER_BYTES, TEXT_BYTES, CHILDREN_BYTES}
 use Rattle.inode.specs.Layout.{Content, Unread, Fills, text_bytes, header_bytes, blank, no_children, SpellsInode, IsText, IsEntry}
 use Rattle.inode.proofs.TableLemmas.{entries-fit}
-use Rattle.vdi_ops.specs.declared.layout.TheConstants.{INODE_BYTES}
 use Rattle.vdi_ops.specs.Tables.{kept, table_in}
 use Rattle.vdi_ops.specs.Works.{written_bytes, written_back}
 

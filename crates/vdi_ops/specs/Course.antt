@@ -12,11 +12,11 @@ pub data Heard : Type 0 where
   Given : List ℕ → Heard
 
 abbrev pub goes_on : List Effect → Op → Heard → Option Step
-goes_on before op (Decided decision) = on_decision before decision op
-goes_on before op (Given bytes) = on_done bytes op
+goes_on known op (Decided decision) = on_decision known decision op
+goes_on known op (Given bytes) = on_done bytes op
 
 -- the acts from a step on, while the command hears this, one after the other
 unfoldable pub acts : List Effect → Option Step → List Heard → List OpAct
-acts before None heard = []
-acts before (Some step) [] = step.act ∷ []
-acts before (Some step) (first ∷ later) = step.act ∷ acts before (goes_on before step.op first) later
+acts known None heard = []
+acts known (Some step) [] = step.act ∷ []
+acts known (Some step) (first ∷ later) = step.act ∷ acts known (goes_on known step.op first) later

@@ -77,21 +77,22 @@ granted_known op vid chain disk ask (Some header) = granted op vid chain disk as
 
 -- a command's first entry is decided: it is refused, or goes on with what it was granted; an unlock grants nothing
 abbrev pub decided : List Effect → Op → VdiAsk → Option Content → Decision → Option Step
-decided before op ask disk decisions.None = Some (replies op Done None)
-decided before op ask disk (decisions.Granted vid) =
-    granted_known op vid (chain_of before vid.0) disk ask (header_of before vid.0)
-decided before op ask disk (decisions.Refused cause) = Some (replies op (Refused cause) None)
+decided known op ask disk decisions.None = Some (replies op Done None)
+decided known op ask disk (decisions.Granted vid) =
+    granted_known op vid (chain_of known vid.0) disk ask (header_of known vid.0)
+decided known op ask disk (decisions.Refused cause) = Some (replies op (Refused cause) None)
 
 -- the same by what the command waits for: its last entry is only awaited
 abbrev pub decided_at : List Effect → Decision → Op → Stage → Option Step
-decided_at before decision op (Asked entry ask disk) = decided before op ask disk decision
-decided_at before decision op (Working vid task) = None
-decided_at before decision op (Publishing entry opened) = Some (replies op Done opened)
-decided_at before decision op (Answered opened) = None
+decided_at known decision op (Asked entry ask disk) = decided known op ask disk decision
+decided_at known decision op (Working vid task) = None
+decided_at known decision op (Publishing entry opened) = Some (replies op Done opened)
+decided_at known decision op (Answered opened) = None
 
--- the node has read the entry that the command waits for, and the directory decided it; none where it waits for no entry
+-- the node has read the entry that the command waits for, and the directory decided it. What the entries did is known, this
+-- one's effect too; none where the command waits for no entry
 unfoldable pub on_decision : List Effect → Decision → Op → Option Step
-on_decision before decision op = decided_at before decision op op.stage
+on_decision known decision op = decided_at known decision op op.stage
 
 -- a work is done, and gave these bytes: a snapshot is open once its inode was read, a disk once it was written back too;
 -- what was created is published

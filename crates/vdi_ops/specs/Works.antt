@@ -4,11 +4,10 @@ use Rattle.object_id.specs.declared.entry.VdiSpec.{VdiSpec}
 use Rattle.object_id.specs.Oid.{inode_number}
 use Rattle.object_id.specs.Spec.{objects_of}
 use Rattle.object_id.specs.Piece.{laid_over}
-use Rattle.inode.specs.declared.layout.TheConstants.{INODE_HEADER_BYTES, TEXT_BYTES}
+use Rattle.inode.specs.declared.layout.TheConstants.{INODE_BYTES, INODE_HEADER_BYTES, TEXT_BYTES}
 use Rattle.inode.specs.Layout.{Content, header_bytes, inode_bytes, blank}
 use Rattle.peer_proto.specs.declared.work.ObjWork.{ObjWork}
 use Rattle.peer_proto.specs.declared.work.ObjWork.TheVariants.{Create, Write, Read}
-use Rattle.vdi_ops.specs.declared.layout.TheConstants.{INODE_BYTES}
 
 -- how many bytes of an inode are ever written: the header, and the entries that the disk has
 abbrev pub written_bytes : VdiSpec → ℕ

@@ -9,7 +9,7 @@ ghost use Rattle.object_id.specs.declared.entry.Origin.TheVariants.{Fresh, Snaps
 ghost use Rattle.object_id.specs.declared.entry.Entry.{Entry};
 ghost use Rattle.object_id.specs.declared.entry.Entry.TheVariants as entries;
 ghost use Rattle.object_id.specs.Spec.{IsSpec, objects_of};
-ghost use Rattle.inode.specs.declared.layout.TheConstants.{INODE_HEADER_BYTES};
+ghost use Rattle.inode.specs.declared.layout.TheConstants.{INODE_HEADER_BYTES, INODE_BYTES};
 ghost use Rattle.inode.specs.Layout.{Content, IsText, IsEntry, SpellsInode};
 ghost use Rattle.peer_proto.specs.declared.guest.VdiAsk.{VdiAsk};
 ghost use Rattle.peer_proto.specs.declared.guest.VdiAsk.TheVariants.{Create, Attach, Close, Snapshot, Clone, Delete};
@@ -23,7 +23,6 @@ ghost use Rattle.vdi_directory.specs.Dead.{is_above};
 ghost use Rattle.vdi_ops.specs.declared.act.OpAct.TheVariants.{Append, Work, Reply};
 ghost use Rattle.vdi_ops.specs.Entries.{first_entry};
 ghost use Rattle.vdi_ops.specs.Tables.{chain_of, kept, table_in, holes, inode_by};
-ghost use Rattle.vdi_ops.specs.declared.layout.TheConstants.{INODE_BYTES};
 ghost use Rattle.vdi_ops.specs.Works.{written_bytes, written_back, read_inode, create_inode, write_back, write_tag};
 ghost use Rattle.vdi_ops.specs.Op.{Op, entry_wanted, bytes_wanted, IsAwaited};
 ghost use Rattle.vdi_ops.specs.Steps.{begin, on_decision, on_done, on_refused};
@@ -32,64 +31,64 @@ ghost use Rattle.vdi_ops.specs.Course.{Decided, Given, acts};
 /// How each command goes, from its first entry to its reply, where each is granted and each work is done.
 pub fn commands_go_so()
     // An inode of holes is created, and the disk published.
-    ensures create { (before : List Effect) (by : NodeId) (session : ℕ) (name : List ℕ) (spec : VdiSpec) (disk : Option Content) (vid : Vid) (header : TheHeader) (last : Decision)
-        → header_of before vid.0 ≡ Some header
-        → acts before (begin by session (Create name spec) disk) (Decided (decisions.Granted vid) ∷ Given [] ∷ Decided last ∷ [])
+    ensures create { (known : List Effect) (by : NodeId) (session : ℕ) (name : List ℕ) (spec : VdiSpec) (disk : Option Content) (vid : Vid) (header : TheHeader) (last : Decision)
+        → header_of known vid.0 ≡ Some header
+        → acts known (begin by session (Create name spec) disk) (Decided (decisions.Granted vid) ∷ Given [] ∷ Decided last ∷ [])
         ≡ Append (entries.Reserve by session name (Fresh spec)) ∷ Work (create_inode (inode_by header vid.0 (holes header.spec)))
         ∷ Append (entries.Publish by vid) ∷ Reply Done ∷ [] }
     // The disk's inode is read, and written back with the directory's header.
-    ensures attach { (before : List Effect) (by : NodeId) (session : ℕ) (name : List ℕ) (disk : Option Content) (vid : Vid) (header : TheHeader) (bytes : List ℕ)
-        → header_of before vid.0 ≡ Some header
-        → acts before (begin by session (Attach name None) disk) (Decided (decisions.Granted vid) ∷ Given bytes ∷ Given [] ∷ [])
+    ensures attach { (known : List Effect) (by : NodeId) (session : ℕ) (name : List ℕ) (disk : Option Content) (vid : Vid) (header : TheHeader) (bytes : List ℕ)
+        → header_of known vid.0 ≡ Some header
+        → acts known (begin by session (Attach name None) disk) (Decided (decisions.Granted vid) ∷ Given bytes ∷ Given [] ∷ [])
         ≡ Append (entries.Lock by session name None) ∷ Work (read_inode vid.0 header.spec)
-        ∷ Work (write_back (inode_by header vid.0 (table_in (vid.0 ∷ chain_of before vid.0) header.spec bytes)) bytes) ∷ Reply Done ∷ [] }
+        ∷ Work (write_back (inode_by header vid.0 (table_in (vid.0 ∷ chain_of known vid.0) header.spec bytes)) bytes) ∷ Reply Done ∷ [] }
     // A snapshot's is only read.
-    ensures attach_snapshot { (before : List Effect) (by : NodeId) (session : ℕ) (name tag : List ℕ) (disk : Option Content) (vid : Vid) (header : TheHeader) (bytes : List ℕ)
-        → header_of before vid.0 ≡ Some header
-        → acts before (begin by session (Attach name (Some tag)) disk) (Decided (decisions.Granted vid) ∷ Given bytes ∷ [])
+    ensures attach_snapshot { (known : List Effect) (by : NodeId) (session : ℕ) (name tag : List ℕ) (disk : Option Content) (vid : Vid) (header : TheHeader) (bytes : List ℕ)
+        → header_of known vid.0 ≡ Some header
+        → acts known (begin by session (Attach name (Some tag)) disk) (Decided (decisions.Granted vid) ∷ Given bytes ∷ [])
         ≡ Append (entries.Lock by session name (Some tag)) ∷ Work (read_inode vid.0 header.spec) ∷ Reply Done ∷ [] }
-    ensures close { (before : List Effect) (by : NodeId) (session : ℕ) (disk : Content)
-        → acts before (begin by session Close (Some disk)) (Decided decisions.None ∷ [])
+    ensures close { (known : List Effect) (by : NodeId) (session : ℕ) (disk : Content)
+        → acts known (begin by session Close (Some disk)) (Decided decisions.None ∷ [])
         ≡ Append (entries.Unlock by session (record { 0 = disk.vid })) ∷ Reply Done ∷ [] }
     // The open disk's inode gets the tag, and the granted id's inode is created with the session's table.
-    ensures snapshot { (before : List Effect) (by : NodeId) (session : ℕ) (tag : List ℕ) (disk : Content) (vid : Vid) (header : TheHeader) (last : Decision)
-        → header_of before vid.0 ≡ Some header
-        → acts before (begin by session (Snapshot tag) (Some disk)) (Decided (decisions.Granted vid) ∷ Given [] ∷ Given [] ∷ Decided last ∷ [])
+    ensures snapshot { (known : List Effect) (by : NodeId) (session : ℕ) (tag : List ℕ) (disk : Content) (vid : Vid) (header : TheHeader) (last : Decision)
+        → header_of known vid.0 ≡ Some header
+        → acts known (begin by session (Snapshot tag) (Some disk)) (Decided (decisions.Granted vid) ∷ Given [] ∷ Given [] ∷ Decided last ∷ [])
         ≡ Append (entries.Reserve by session disk.name (SnapshotOf tag)) ∷ Work (write_tag disk tag)
         ∷ Work (create_inode (inode_by header vid.0 disk.table)) ∷ Append (entries.Snapshot by (record { 0 = disk.vid }) vid) ∷ Reply Done ∷ [] }
     // The parent's inode is read, and the granted id's created with its table.
-    ensures clone { (before : List Effect) (by : NodeId) (session : ℕ) (base tag name : List ℕ) (disk : Option Content) (vid parent : Vid) (header : TheHeader) (bytes : List ℕ) (last : Decision)
-        → header_of before vid.0 ≡ Some header → header.parent ≡ Some parent
-        → acts before (begin by session (Clone base tag name) disk) (Decided (decisions.Granted vid) ∷ Given bytes ∷ Given [] ∷ Decided last ∷ [])
+    ensures clone { (known : List Effect) (by : NodeId) (session : ℕ) (base tag name : List ℕ) (disk : Option Content) (vid parent : Vid) (header : TheHeader) (bytes : List ℕ) (last : Decision)
+        → header_of known vid.0 ≡ Some header → header.parent ≡ Some parent
+        → acts known (begin by session (Clone base tag name) disk) (Decided (decisions.Granted vid) ∷ Given bytes ∷ Given [] ∷ Decided last ∷ [])
         ≡ Append (entries.Reserve by session name (CloneOf base tag)) ∷ Work (read_inode parent.0 header.spec)
-        ∷ Work (create_inode (inode_by header vid.0 (table_in (chain_of before vid.0) header.spec bytes))) ∷ Append (entries.Clone by vid) ∷ Reply Done ∷ [] }
-    ensures delete { (before : List Effect) (by : NodeId) (session : ℕ) (name : List ℕ) (tag : Option (List ℕ)) (disk : Option Content) (vid : Vid) (header : TheHeader)
-        → header_of before vid.0 ≡ Some header
-        → acts before (begin by session (Delete name tag) disk) (Decided (decisions.Granted vid) ∷ [])
+        ∷ Work (create_inode (inode_by header vid.0 (table_in (chain_of known vid.0) header.spec bytes))) ∷ Append (entries.Clone by vid) ∷ Reply Done ∷ [] }
+    ensures delete { (known : List Effect) (by : NodeId) (session : ℕ) (name : List ℕ) (tag : Option (List ℕ)) (disk : Option Content) (vid : Vid) (header : TheHeader)
+        → header_of known vid.0 ≡ Some header
+        → acts known (begin by session (Delete name tag) disk) (Decided (decisions.Granted vid) ∷ [])
         ≡ Append (entries.Delete by session name tag) ∷ Reply Done ∷ [] }
     // Where the first entry is refused, that is the reply.
-    ensures refused { (before : List Effect) (by : NodeId) (session : ℕ) (entry : Entry) (ask : VdiAsk) (disk : Option Content) (cause : Cause)
+    ensures refused { (known : List Effect) (by : NodeId) (session : ℕ) (entry : Entry) (ask : VdiAsk) (disk : Option Content) (cause : Cause)
         → first_entry by session disk ask ≡ Some entry
-        → acts before (begin by session ask disk) (Decided (decisions.Refused cause) ∷ []) ≡ Append entry ∷ Reply (Refused cause) ∷ [] }
+        → acts known (begin by session ask disk) (Decided (decisions.Refused cause) ∷ []) ≡ Append entry ∷ Reply (Refused cause) ∷ [] }
 {}
 
 /// The parent chain of an id is the ids that the directory calls above it.
 pub fn the_chain_is_what_stands_above()
-    ensures { (before : List Effect) (elder vid : ℕ)
-        → is_above before elder vid ≡ list_any (λ id. id == elder) (chain_of before vid) }
+    ensures { (known : List Effect) (elder vid : ℕ)
+        → is_above known elder vid ≡ list_any (λ id. id == elder) (chain_of known vid) }
 {}
 
 /// What a command does is what it then waits for: the decision on an entry, a work, or nothing, once it has its reply.
 pub fn a_command_waits_for_what_it_did()
     ensures begun { (by : NodeId) (session : ℕ) (ask : VdiAsk) (disk : Option Content)
         → IfSome (begin by session ask disk) IsAwaited }
-    ensures decided { (before : List Effect) (decision : Decision) (op : Op)
-        → IfSome (on_decision before decision op) IsAwaited }
+    ensures decided { (known : List Effect) (decision : Decision) (op : Op)
+        → IfSome (on_decision known decision op) IsAwaited }
     ensures done { (bytes : List ℕ) (op : Op)
         → IfSome (on_done bytes op) IsAwaited }
     // An entry is decided, and a work is done or refused, only where the command waits for it.
-    ensures entries { (before : List Effect) (decision : Decision) (op : Op)
-        → IsTrue (is_some (on_decision before decision op)) → IsTrue (is_some (entry_wanted op)) }
+    ensures entries { (known : List Effect) (decision : Decision) (op : Op)
+        → IsTrue (is_some (on_decision known decision op)) → IsTrue (is_some (entry_wanted op)) }
     ensures works { (bytes : List ℕ) (op : Op) → is_some (on_done bytes op) ≡ is_some (bytes_wanted op) }
     ensures refused { (cause : Cause) (op : Op) → is_some (on_refused cause op) ≡ is_some (bytes_wanted op) }
 {}
@@ -112,8 +111,7 @@ pub fn the_table_is_written_back()
         → SpellsInode (written_back inode bytes) (record inode { table = read.table }) }
 {}
 
-/// An inode object has room for the header and the most entries that a disk may have, and what is written of it fits.
+/// What is written of an inode fits into its object.
 pub fn an_inode_has_room()
-    ensures whole { INODE_BYTES ≡ INODE_HEADER_BYTES + 4 * 2 ^ 20 }
-    ensures written { (spec : VdiSpec) → IsSpec spec → written_bytes spec ≤ INODE_BYTES }
+    ensures { (spec : VdiSpec) → IsSpec spec → written_bytes spec ≤ INODE_BYTES }
 {}

@@ -13,7 +13,6 @@
 mod act;
 mod end;
 mod laws;
-mod layout;
 #[cfg(test)]
 mod tests;
 
@@ -23,6 +22,5 @@ pub use laws::{
     a_command_waits_for_what_it_did, an_inode_has_room, commands_go_so,
     the_chain_is_what_stands_above, the_table_alone_is_taken, the_table_is_written_back,
 };
-pub use layout::INODE_BYTES;
 pub use peer_proto::{GuestRsp, VdiAsk, WorkDone};
 pub use vdi_directory::{Decision, Directory, Entry};

@@ -1,0 +1,27 @@
+//! Laws of the definitions, for the proofs of the layers above: each is the contract of a function that does nothing.
+ghost use Rattle.std.specs.Prelude.{◌≡◌, ℕ, ◌≤◌, List, length, flat_map, is_some};
+ghost use Rattle.std.specs.List.{range_with_len, AllPairs};
+ghost use Rattle.cluster_script.specs.declared.statement.Pattern.{Pattern};
+ghost use Rattle.cluster_script.specs.declared.statement.Statement.{Statement as Line};
+ghost use Rattle.cluster_script.specs.Statements.{is_request, requests_of, declared};
+ghost use Rattle.cluster_script.specs.Asked.{session_of, payload_of};
+ghost use Rattle.cluster_script.specs.Phases.{Phase, phases_of};
+ghost use Rattle.cluster_script.specs.Sessions.{Session, sessions_of, session_numbered};
+
+/// The requests of a script are what its sessions ask for, and a write has as many bytes as its length says.
+pub fn what_is_asked()
+    ensures session { (s : Line) → is_some (session_of s) ≡ is_request s }
+    ensures payload { (pattern : Pattern) (count : ℕ) → length (payload_of pattern count) ≡ count }
+{}
+
+/// Each request is of one phase, and the phases have them in their order: phase after phase, their numbers are those from 1 on.
+pub fn each_request_is_of_a_phase()
+    ensures { (statements : List Line) → flat_map (λ (phase : Phase). phase.requests) (phases_of statements)
+        ≡ range_with_len 1 (length (requests_of statements)) }
+{}
+
+/// A session of a number is there exactly where one is declared, and the sessions ascend by number.
+pub fn each_session_is_declared()
+    ensures declared { (statements : List Line) (number : ℕ) → is_some (session_numbered statements number) ≡ declared number statements }
+    ensures order { (statements : List Line) → AllPairs (λ (a b : Session). a.number ≤ b.number) (sessions_of statements) }
+{}

@@ -1,0 +1,258 @@
+-- A node's epoch, its settled epoch and the members of its epochs are those of the entries that it has read.
+use Rattle.std.proofs.Common.{◌≡◌, ℕ, zero, suc, ◌+◌, ◌<◌, ◌≤◌, nat_lt, Bool, true, false, cond, List, [], ◌∷◌, ◌++◌, length, filter, refl, ap, sym, subst, ◌∙◌, arith}
+use Rattle.std.proofs.lemmas.Bool.{ltb-false}
+use Rattle.object_id.specs.declared.node.NodeId.{NodeId}
+use Rattle.object_id.specs.declared.entry.Entry.{Entry}
+use Rattle.object_id.specs.declared.entry.Entry.TheVariants.{Format, Join, Leave, Reweight, Recovered, Reserve, Publish, Clone, Snapshot, Delete, Lock, Unlock}
+use Rattle.epoch_log.specs.Epochs.{begins, epoch_of, settled_of}
+use Rattle.epoch_log.specs.Appending.{is_format}
+use Rattle.epoch_log.proofs.EpochLemmas.{epoch_of-append, members_in-append, settled_of-begun, settled_of-append}
+use Rattle.vnode_table.specs.Epochs.{Entered}
+use Rattle.peer_service.specs.Epochs as peers
+use Rattle.peer_service.specs.Epochs.{settled_to}
+use Rattle.peer_service.specs.Reading.{without_objects, read_entry}
+use Rattle.peer_service.specs.Back.{closed_at_end, come_back}
+use Rattle.sheep_node.specs.declared.input.Input.{Input}
+use Rattle.sheep_node.specs.declared.input.Input.TheVariants as inputs
+use Rattle.sheep_node.specs.State.{Node, opening}
+use Rattle.sheep_node.specs.Reading.{is_member, entered_in, with_peer, placed, peer_entered, recovery_begun_if, epoch_entered, entered_by, entry_read, epochs_up_to, back}
+use Rattle.sheep_node.specs.Step.{stepped}
+use Rattle.sheep_node.specs.May.{MayRead, Meets, May}
+use Rattle.sheep_node.specs.Told.{epochs_of, FollowsLog, IsByTheLog}
+use Rattle.sheep_node.proofs.Sound.{Place}
+use Rattle.sheep_node.proofs.SoundSteps.{after, stepped_place}
+
+-- the epochs of entries, with one more
+
+epochs_same : (entries : List Entry) (entry : Entry) (most : ℕ) → 1 ≤ length entries → most ≤ epoch_of entries
+    → epochs_up_to (entries ++ entry ∷ []) most ≡ epochs_up_to entries most
+unfolding epochs_up_to
+epochs_same entries entry zero some begun = refl
+epochs_same entries entry (suc most) some begun =
+    let below : most ≤ epoch_of entries = omega arith in
+    ap (λ members. record { epoch = suc most; members = members } ∷ epochs_up_to (entries ++ entry ∷ []) most)
+    (members_in-append entries (entry ∷ []) (suc most) some begun)
+    ∙ ap (λ epochs. entered_in entries (suc most) ∷ epochs) (epochs_same entries entry most some below)
+
+epoch_more : (entries : List Entry) (entry : Entry) → begins entry ≡ true → epoch_of (entries ++ entry ∷ []) ≡ suc (epoch_of entries)
+epoch_more entries entry e =
+    let one : length (filter begins (entry ∷ [])) ≡ 1 = ap (λ b. length (cond b (entry ∷ []) [])) e in
+    let all : epoch_of (entries ++ entry ∷ []) ≡ epoch_of entries + length (filter begins (entry ∷ [])) = epoch_of-append entries (entry ∷ []) in
+    omega arith
+
+epoch_kept : (entries : List Entry) (entry : Entry) → begins entry ≡ false → epoch_of (entries ++ entry ∷ []) ≡ epoch_of entries
+epoch_kept entries entry e =
+    let none : length (filter begins (entry ∷ [])) ≡ 0 = ap (λ b. length (cond b (entry ∷ []) [])) e in
+    let all : epoch_of (entries ++ entry ∷ []) ≡ epoch_of entries + length (filter begins (entry ∷ [])) = epoch_of-append entries (entry ∷ []) in
+    omega arith
+
+-- the epochs of a log that isn't empty
+epochs_there : (entries : List Entry) → 1 ≤ length entries → epochs_of entries ≡ epochs_up_to entries (epoch_of entries)
+epochs_there [] some = absurd (omega arith)
+epochs_there (first ∷ later) some = refl
+
+some_more : (entries : List Entry) (entry : Entry) → 1 ≤ length (entries ++ entry ∷ [])
+some_more [] entry = omega arith
+some_more (first ∷ later) entry = omega arith
+
+epochs_more : (entries : List Entry) (entry : Entry) → 1 ≤ length entries → begins entry ≡ true
+    → epochs_of (entries ++ entry ∷ []) ≡ entered_in (entries ++ entry ∷ []) (epoch_of (entries ++ entry ∷ [])) ∷ epochs_of entries
+unfolding epochs_up_to
+epochs_more entries entry some e =
+    let all : List Entry = entries ++ entry ∷ [] in
+    let more : epoch_of all ≡ suc (epoch_of entries) = epoch_more entries entry e in
+    let whole : epoch_of entries ≤ epoch_of entries = omega arith in
+    epochs_there all (some_more entries entry)
+    ∙ ap (epochs_up_to all) more
+    ∙ ap (λ epochs. entered_in all (suc (epoch_of entries)) ∷ epochs) (epochs_same entries entry (epoch_of entries) some whole)
+    ∙ ap (λ (epoch : ℕ). entered_in all epoch ∷ epochs_up_to entries (epoch_of entries)) (sym more)
+    ∙ ap (λ epochs. entered_in all (epoch_of all) ∷ epochs) (sym (epochs_there entries some))
+
+epochs_kept : (entries : List Entry) (entry : Entry) → 1 ≤ length entries → begins entry ≡ false
+    → epochs_of (entries ++ entry ∷ []) ≡ epochs_of entries
+epochs_kept entries entry some e =
+    let all : List Entry = entries ++ entry ∷ [] in
+    let whole : epoch_of entries ≤ epoch_of entries = omega arith in
+    epochs_there all (some_more entries entry)
+    ∙ ap (epochs_up_to all) (epoch_kept entries entry e)
+    ∙ epochs_same entries entry (epoch_of entries) some whole
+    ∙ sym (epochs_there entries some)
+
+-- an entry is read
+
+-- epoch and members, once an entry was read
+record Entering (entries : List Entry) (epoch : ℕ) (epochs : List Entered) (read : List Entry) (settled before : ℕ) : Type 0 where
+  epoch_so : epoch ≡ epoch_of entries
+  epochs_so : epochs ≡ epochs_of entries
+  read_so : read ≡ entries
+  settled_so : settled ≡ before
+
+abbrev Enters : List Entry → ℕ → Node → Type 0
+Enters entries before node = Entering entries node.peer.epoch node.epochs node.peer.entries node.peer.settled before
+
+recovery_enters : (entries : List Entry) (before : ℕ) (member : Bool) (node : Node) → Enters entries before node
+    → Enters entries before (recovery_begun_if member node)
+recovery_enters entries before true node h = h
+recovery_enters entries before false node h = h
+
+-- the node with a peer that has read one more entry
+abbrev reading : Entry → Node → Node
+reading entry node = with_peer (read_entry entry node.peer) node
+
+epoch_enters : (entry : Entry) (node : Node) → 1 ≤ length node.peer.entries → begins entry ≡ true → IsByTheLog node
+    → Enters (node.peer.entries ++ entry ∷ []) node.peer.settled (epoch_entered (reading entry node))
+unfolding read_entry without_objects peers.entered
+epoch_enters entry node some e h =
+    let all : List Entry = node.peer.entries ++ entry ∷ [] in
+    let entered : Node = peer_entered (placed (epoch_of all) (reading entry node)) in
+    let more : epoch_of all ≡ suc (epoch_of node.peer.entries) = epoch_more node.peer.entries entry e in
+    let before : node.peer.epoch ≡ epoch_of node.peer.entries = h.epoch_so in
+    recovery_enters all node.peer.settled (is_member entered) entered (record {
+      epoch_so = omega arith;
+      epochs_so = ap (λ epochs. entered_in all (epoch_of all) ∷ epochs) h.epochs_so ∙ sym (epochs_more node.peer.entries entry some e);
+      read_so = refl;
+      settled_so = refl;
+    })
+
+-- an entry that may be read after others isn't the first, and one that may be read first is
+later_one : (entries : List Entry) (entry : Entry) → MayRead entries entry → 1 ≤ length entries → is_format entry ≡ false
+later_one [] entry may some = absurd (omega arith)
+later_one (first ∷ later) entry may some = may.later
+
+begins_later : (entries : List Entry) (entry : Entry) → MayRead entries entry → begins entry ≡ true → 1 ≤ length entries
+begins_later [] (Format members) may e = absurd (cc (e))
+begins_later [] (Join node zone vnodes) may e = absurd may
+begins_later [] (Leave node) may e = absurd may
+begins_later [] (Reweight node vnodes) may e = absurd may
+begins_later [] (Recovered node epoch) may e = absurd may
+begins_later [] (Reserve by session name origin) may e = absurd may
+begins_later [] (Publish by vid) may e = absurd may
+begins_later [] (Clone by vid) may e = absurd may
+begins_later [] (Snapshot by old vid) may e = absurd may
+begins_later [] (Delete by session name tag) may e = absurd may
+begins_later [] (Lock by session name tag) may e = absurd may
+begins_later [] (Unlock by session vid) may e = absurd may
+begins_later (first ∷ later) entry may e = omega arith
+
+none_before : (entries : List Entry) (entry : Entry) → MayRead entries entry → is_format entry ≡ true → entries ≡ []
+none_before [] entry may e = refl
+none_before (first ∷ later) entry may e = absurd (cc (e, may.later))
+
+some_before : (entries : List Entry) (entry : Entry) → MayRead entries entry → is_format entry ≡ false → 1 ≤ length entries
+some_before [] (Format members) may e = absurd (cc (e))
+some_before [] (Join node zone vnodes) may e = absurd may
+some_before [] (Leave node) may e = absurd may
+some_before [] (Reweight node vnodes) may e = absurd may
+some_before [] (Recovered node epoch) may e = absurd may
+some_before [] (Reserve by session name origin) may e = absurd may
+some_before [] (Publish by vid) may e = absurd may
+some_before [] (Clone by vid) may e = absurd may
+some_before [] (Snapshot by old vid) may e = absurd may
+some_before [] (Delete by session name tag) may e = absurd may
+some_before [] (Lock by session name tag) may e = absurd may
+some_before [] (Unlock by session vid) may e = absurd may
+some_before (first ∷ later) entry may e = omega arith
+
+-- the first entry: nothing was read before, and epoch 1 has its members
+first_epochs : (entries : List Entry) (entry : Entry) (epochs : List Entered) → entries ≡ [] → begins entry ≡ false → epochs ≡ epochs_of entries
+    → entered_in (entries ++ entry ∷ []) 1 ∷ epochs ≡ epochs_of (entries ++ entry ∷ [])
+unfolding epochs_up_to
+first_epochs [] entry epochs none e h =
+    ap (λ later. entered_in (entry ∷ []) 1 ∷ later) h
+    ∙ sym (ap (λ b. epochs_up_to (entry ∷ []) (length (cond b (entry ∷ []) []) + 1)) e)
+first_epochs (first ∷ later) entry epochs none e h = absurd (cc (none))
+
+other_enters : (entry : Entry) (node : Node) (b : Bool) → is_format entry ≡ b → MayRead node.peer.entries entry → begins entry ≡ false
+    → IsByTheLog node
+    → Enters (node.peer.entries ++ entry ∷ []) node.peer.settled (cond b (placed 1 (reading entry node)) (reading entry node))
+unfolding read_entry without_objects
+other_enters entry node true format may e h = record {
+  epoch_so = h.epoch_so ∙ sym (epoch_kept node.peer.entries entry e);
+  epochs_so = first_epochs node.peer.entries entry node.epochs (none_before node.peer.entries entry may format) e h.epochs_so;
+  read_so = refl;
+  settled_so = refl;
+}
+other_enters entry node false later may e h = record {
+  epoch_so = h.epoch_so ∙ sym (epoch_kept node.peer.entries entry e);
+  epochs_so = h.epochs_so ∙ sym (epochs_kept node.peer.entries entry (some_before node.peer.entries entry may later) e);
+  read_so = refl;
+  settled_so = refl;
+}
+
+entered_enters : (entry : Entry) (node : Node) (b : Bool) → begins entry ≡ b → MayRead node.peer.entries entry → IsByTheLog node
+    → Enters (node.peer.entries ++ entry ∷ []) node.peer.settled
+    (cond b (epoch_entered (reading entry node)) (cond (is_format entry) (placed 1 (reading entry node)) (reading entry node)))
+entered_enters entry node true e may h =
+    epoch_enters entry node (begins_later node.peer.entries entry may e) e h
+entered_enters entry node false e may h = other_enters entry node (is_format entry) refl may e h
+
+-- what is settled never falls
+settled_grows : (entries : List Entry) (entry : Entry) → settled_of entries ≤ settled_of (entries ++ entry ∷ [])
+settled_grows [] entry =
+    let one : settled_of [] ≤ 1 = (settled_of-begun []).1 in
+    let more : 1 ≤ settled_of (entry ∷ []) = (settled_of-begun (entry ∷ [])).0 in
+    omega arith
+settled_grows (first ∷ later) entry = settled_of-append (first ∷ later) (entry ∷ []) (omega arith)
+
+settled_follows : (entries : List Entry) (settled : ℕ) (node : Node) (b : Bool) → nat_lt node.peer.settled settled ≡ b
+    → settled ≡ settled_of entries → node.peer.settled ≤ settled → Enters entries node.peer.settled node
+    → IsByTheLog (cond b (with_peer (settled_to settled node.peer) node) node)
+unfolding settled_to
+settled_follows entries settled node true e is_so grows h = record {
+  epoch_so = h.epoch_so ∙ ap epoch_of (sym h.read_so);
+  settled_so = is_so ∙ ap settled_of (sym h.read_so);
+  epochs_so = h.epochs_so ∙ ap epochs_of (sym h.read_so);
+}
+settled_follows entries settled node false e is_so grows h =
+    let back_again : settled ≤ node.peer.settled = ltb-false node.peer.settled settled e in
+    let same : node.peer.settled ≡ settled = omega arith in
+    record {
+      epoch_so = h.epoch_so ∙ ap epoch_of (sym h.read_so);
+      settled_so = same ∙ is_so ∙ ap settled_of (sym h.read_so);
+      epochs_so = h.epochs_so ∙ ap epochs_of (sym h.read_so);
+    }
+
+reads_follow : (entry : Entry) (node : Node) → MayRead node.peer.entries entry → IsByTheLog node → IsByTheLog (entry_read entry node)
+unfolding entry_read read_entry without_objects
+reads_follow entry node may h =
+    let all : List Entry = node.peer.entries ++ entry ∷ [] in
+    let entered : Node = entered_by entry (reading entry node) in
+    let enters : Enters all node.peer.settled entered = entered_enters entry node (begins entry) refl may h in
+    let grows : entered.peer.settled ≤ settled_of all =
+    subst (λ (k : ℕ). k ≤ settled_of all) (sym (enters.settled_so ∙ h.settled_so)) (settled_grows node.peer.entries entry) in
+    settled_follows all (settled_of all) entered (nat_lt entered.peer.settled (settled_of all)) refl refl grows
+    (record { epoch_so = enters.epoch_so; epochs_so = enters.epochs_so; read_so = enters.read_so; settled_so = refl })
+
+-- coming back
+
+back_follows : (entries : List Entry) (node : Node) → 1 < epoch_of entries → IsByTheLog (back entries node)
+unfolding back come_back closed_at_end settled_to without_objects
+back_follows entries node above =
+    record { epoch_so = refl; settled_so = refl; epochs_so = sym (epochs_there entries (some_of entries above)) }
+  where
+    some_of : (entries : List Entry) → 1 < epoch_of entries → 1 ≤ length entries
+    some_of [] above = absurd (omega arith)
+    some_of (first ∷ later) above = omega arith
+
+-- each step
+
+after_follows : (input : Input) (node : Node) → Meets input node → IsByTheLog node → IsByTheLog (after input node)
+after_follows (inputs.Guest req session ask) node may h = h
+after_follows (inputs.Request request) node may h = h
+after_follows (inputs.Reply rsp) node may h = h
+after_follows (inputs.Lost number) node may h = h
+after_follows (inputs.LogEntry entry) node may h = reads_follow entry node may h
+after_follows inputs.Put node may h = h
+after_follows inputs.RecoverTick node may h = h
+after_follows inputs.RetryTick node may h = h
+after_follows (inputs.Back entries) node may h = back_follows entries node may.above_1
+
+-- a node stays where the entries that it has read have it
+pub stepped_follows : (input : Input) (node : Node) → May input node → IsByTheLog node → IsByTheLog (stepped input node).node
+stepped_follows input node may h =
+    subst (λ (place : Place). FollowsLog place.epoch place.settled place.epochs place.entries) (sym (stepped_place input node))
+    (after_follows input node may.condition h)
+
+-- so it opens
+pub opening_follows : (me : NodeId) (tries : ℕ) → IsByTheLog (opening me tries)
+opening_follows me tries = record { epoch_so = refl; settled_so = refl; epochs_so = refl }
