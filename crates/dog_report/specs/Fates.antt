@@ -1,0 +1,52 @@
+-- What became of a request, and how a report says it.
+use Rattle.std.specs.Prelude.{ℕ, List, [], ◌∷◌, codes, decimal, Option, Some, None}
+use Rattle.std.specs.List.{filter_map}
+use Rattle.peer_proto.specs.declared.guest.GuestRsp.{GuestRsp}
+use Rattle.peer_proto.specs.declared.guest.GuestRsp.TheVariants.{Done, Piece, Refused, Granted}
+use Rattle.dog_report.specs.Words.{Words}
+use Rattle.dog_report.specs.Runs.{runs_words}
+use Rattle.dog_report.specs.Causes.{cause_words}
+
+-- what became of a request
+pub data Fate : Type 0 where
+  -- it has its reply
+  Answered : GuestRsp → Fate
+  -- it has none, and the life of its gateway is lost
+  Gone : Fate
+  -- it was started, and has none yet
+  Pending : Fate
+  -- it was never started
+  Unsent : Fate
+
+-- a line of a report: a request's, or one of a list
+pub data Line : Type 0 where
+  Told : ℕ → Fate → Line
+  Listed : Words → Line
+
+-- the words of a reply
+abbrev pub reply_words : GuestRsp → Words
+reply_words Done = codes "ok" ∷ []
+reply_words (Piece bytes) = codes "ok" ∷ runs_words bytes
+reply_words (Refused cause) = codes "refused" ∷ cause_words cause
+reply_words (Granted vid) = codes "ok" ∷ []
+
+-- the words of what became of a request
+abbrev pub fate_words : Fate → Words
+fate_words (Answered rsp) = reply_words rsp
+fate_words Gone = codes "gone" ∷ []
+fate_words Pending = codes "pending" ∷ []
+fate_words Unsent = codes "unsent" ∷ []
+
+-- the words of a line: a request's begins with its number
+abbrev pub line_words : Line → Words
+line_words (Told number fate) = decimal number ∷ fate_words fate
+line_words (Listed words) = words
+
+-- the request that a line is of
+abbrev pub told_number : Line → Option ℕ
+told_number (Told number fate) = Some number
+told_number (Listed words) = None
+
+-- the requests that lines are of, in order
+abbrev pub numbers_told : List Line → List ℕ
+numbers_told lines = filter_map told_number lines

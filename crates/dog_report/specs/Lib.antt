@@ -1,0 +1,8 @@
+pub mod Words
+pub mod Runs
+pub mod Causes
+pub mod Fates
+pub mod Lists
+pub mod Report
+pub mod Counts
+pub mod Example

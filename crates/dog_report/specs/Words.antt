@@ -1,0 +1,21 @@
+-- The words of a line, and numbers in hexadecimal.
+use Rattle.std.specs.Prelude.{ℕ, zero, suc, ◌/◌, ◌%◌, List, [], ◌∷◌, ◌++◌, codes, slice_index}
+
+-- a line is told by its words, of which each is bytes
+abbrev pub Words : Type 0
+Words = List (List ℕ)
+
+-- the words of a line, with one space between
+abbrev pub spaced : Words → List ℕ
+spaced [] = []
+spaced (word ∷ []) = word
+spaced (word ∷ next ∷ later) = word ++ codes " " ++ spaced (next ∷ later)
+
+-- a digit of base 16, in lower case
+abbrev pub hex_digit : ℕ → ℕ
+hex_digit digit = slice_index (codes "0123456789abcdef") digit
+
+-- the last digits of a number in base 16, so many
+abbrev pub hex : ℕ → ℕ → List ℕ
+hex zero number = []
+hex (suc digits) number = hex digits (number / 16) ++ hex_digit (number % 16) ∷ []

@@ -1,0 +1,15 @@
+//! The report of a run: a line for each request, and the lists of the barriers.
+//!
+//! The crate stands on `sheep_world` and what is below it. Here stand as definitions how a refusal is told
+//! (`specs/Causes.antt`), how read bytes are (`specs/Runs.antt`), what may have become of a request and its line
+//! (`specs/Fates.antt`), the lists (`specs/Lists.antt`), and the report of a run by its lines (`specs/Report.antt`), over
+//! the words of a line (`specs/Words.antt`); and how many requests it tells of in each way (`specs/Counts.antt`). The laws of
+//! `laws.rt` say that each request has exactly one line, and spell lines out, of requests and of the lists of a small log
+//! (`specs/Example.antt`).
+#![tactic(auto)]
+
+mod laws;
+
+pub use laws::{
+    each_request_has_one_line, lists_spelled_out, requests_lines_spelled_out, the_counts_add_up,
+};

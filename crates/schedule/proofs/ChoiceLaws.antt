@@ -1,0 +1,72 @@
+-- Which event a schedule chooses, and that it is one that may be made.
+use Rattle.std.proofs.Common.{◌≡◌, ◌≢◌, ℕ, ◌+◌, ◌%◌, ◌<◌, ◌≤◌, Bool, true, false, cond, nat_le, List, [], ◌∷◌, length, Option, Some, None, is_some, refl, sym, ap, subst, ◌∙◌, arith, Contains}
+use Rattle.std.proofs.lemmas.Bool.{le-leb, lt-leb}
+use Rattle.std.proofs.lemmas.Option.{unwrap_or-slice_get}
+use Rattle.std.proofs.lemmas.List.Elements.{Contains-get_or}
+use Rattle.std.proofs.Math.Nat.{mod-lt}
+use Rattle.rand_xoshiro.specs.SplitMix64.{mix_u64}
+use Rattle.cluster_script.specs.declared.statement.Statement.{Statement}
+use Rattle.cluster_script.specs.Settings.{limit_of}
+use Rattle.sheep_node.specs.declared.event.Event.{Event}
+use Rattle.sheep_node.specs.declared.event.Event.TheVariants.{Phase}
+use Rattle.sheep_world.specs.Conditions.{may_end_phase}
+use Rattle.sheep_world.specs.Enabled.{enabled, is_enabled}
+use Rattle.sheep_world.specs.Step.{Made, step}
+use Rattle.sheep_world.proofs.EnabledLemmas.{is_some-step, enabled-makes}
+use Rattle.schedule.specs.Schedule.{Draft, phase_chosen, drawn, chosen, choice}
+
+pub choice-none : (statements : List Statement) (draft : Draft) → enabled statements draft.world ≡ [] → choice statements draft ≡ phase_chosen draft
+unfolding choice
+choice-none statements draft none = ap (chosen (limit_of statements) draft) none
+
+chosen-limit : (limit : ℕ) (draft : Draft) (events : List Event) → limit ≤ draft.taken → chosen limit draft events ≡ phase_chosen draft
+chosen-limit limit draft [] reached = refl
+chosen-limit limit draft (first ∷ later) reached = rw (le-leb limit draft.taken reached) refl
+
+pub choice-limit : (statements : List Statement) (draft : Draft) → limit_of statements ≤ draft.taken → choice statements draft ≡ phase_chosen draft
+unfolding choice
+choice-limit statements draft reached = chosen-limit (limit_of statements) draft (enabled statements draft.world) reached
+
+-- what is drawn is one of the events
+drawn-has : (draft : Draft) (first : Event) (later : List Event) → Contains (first ∷ later) (drawn draft (first ∷ later)).event
+drawn-has draft first later =
+    let events : List Event = first ∷ later in
+    let place : ℕ = (mix_u64 draft.rng).0 % length events in
+    subst (Contains events) (sym (unwrap_or-slice_get events place Phase))
+    (Contains-get_or events place Phase (mod-lt (mix_u64 draft.rng).0 (omega arith)))
+
+chosen-drawn : (limit : ℕ) (draft : Draft) (events : List Event) → events ≢ [] → draft.taken < limit
+    → Contains events (chosen limit draft events).event × ((chosen limit draft events).taken ≡ draft.taken + 1)
+chosen-drawn limit draft [] some room = absurd (some refl)
+chosen-drawn limit draft (first ∷ later) some room =
+    rw (lt-leb limit draft.taken room) (drawn-has draft first later, refl)
+
+pub choice-drawn : (statements : List Statement) (draft : Draft) → enabled statements draft.world ≢ [] → draft.taken < limit_of statements
+    → Contains (enabled statements draft.world) (choice statements draft).event × ((choice statements draft).taken ≡ draft.taken + 1)
+unfolding choice
+choice-drawn statements draft some room = chosen-drawn (limit_of statements) draft (enabled statements draft.world) some room
+
+pub some_of : {X : Type 0} (o : Option X) → is_some o ≡ true → (x : X) × (o ≡ Some x)
+some_of None is = absurd (cc (is))
+some_of (Some x) is = (x, refl)
+
+module _ (statements : List Statement) (draft : Draft) where
+  abbrev MayBeMade : Event → Type 0
+  MayBeMade event = (made : Made) × (step statements event draft.world ≡ Some made)
+
+  phase-may : may_end_phase statements draft.world ≡ true → MayBeMade Phase
+  unfolding is_enabled
+  phase-may may = some_of (step statements Phase draft.world) (is_some-step statements draft.world Phase ∙ may)
+
+  chosen-may : (limit : ℕ) (events : List Event) → ((event : Event) → Contains events event → MayBeMade event)
+      → may_end_phase statements draft.world ≡ true → MayBeMade (chosen limit draft events).event
+  chosen-may limit [] each may = phase-may may
+  chosen-may limit (first ∷ later) each may = by_limit (nat_le limit draft.taken)
+    where
+      by_limit : (reached : Bool) → MayBeMade (cond reached (phase_chosen draft) (drawn draft (first ∷ later))).event
+      by_limit true = phase-may may
+      by_limit false = each (drawn draft (first ∷ later)).event (drawn-has draft first later)
+
+  pub choice-may : may_end_phase statements draft.world ≡ true → MayBeMade (choice statements draft).event
+  unfolding choice
+  choice-may may = chosen-may (limit_of statements) (enabled statements draft.world) (enabled-makes statements draft.world) may

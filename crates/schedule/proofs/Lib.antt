@@ -1,0 +1,5 @@
+pub mod ChoiceLaws
+pub mod RunLaws
+pub mod MergeLaws
+pub mod PhaseLemmas
+pub mod WholeLaws

@@ -1,0 +1,4 @@
+pub mod Schedule
+pub mod Merged
+pub mod Stops
+pub mod Generated

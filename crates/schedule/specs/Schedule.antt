@@ -1,0 +1,84 @@
+-- The schedule that a seed gives: which event is made next, until every phase is ended.
+use Rattle.std.specs.Prelude.{ℕ, zero, suc, ◌+◌, ◌%◌, nat_le, List, [], ◌∷◌, length, Option, Some, None, slice_get, unwrap_or, if◌then◌else◌}
+use Rattle.rand_xoshiro.specs.SplitMix64.{mix_u64}
+use Rattle.cluster_script.specs.declared.statement.Statement.{Statement}
+use Rattle.cluster_script.specs.Settings.{limit_of}
+use Rattle.cluster_script.specs.Phases.{phases_of}
+use Rattle.sheep_node.specs.declared.event.Event.{Event}
+use Rattle.sheep_node.specs.declared.event.Event.TheVariants.{Phase}
+use Rattle.sheep_world.specs.World.{World}
+use Rattle.sheep_world.specs.Opening.{opening}
+use Rattle.sheep_world.specs.Conditions.{may_end_phase}
+use Rattle.sheep_world.specs.Enabled.{enabled}
+use Rattle.sheep_world.specs.Step.{Made, step}
+
+-- a run in the making: the world so far, the state of the generator, and how many events but Phase were taken
+pub record Draft : Type 0 where
+  pub world : World
+  pub rng : ℕ
+  pub taken : ℕ
+
+-- before the first event; the generator's state is the seed
+abbrev pub blank : List Statement → ℕ → Draft
+blank statements seed = record { world = opening statements; rng = seed; taken = 0 }
+
+-- the next event, with the generator and the count after it
+pub record Choice : Type 0 where
+  pub event : Event
+  pub rng : ℕ
+  pub taken : ℕ
+
+-- Phase draws no word, and isn't counted
+abbrev pub phase_chosen : Draft → Choice
+phase_chosen draft = record { event = Phase; rng = draft.rng; taken = draft.taken }
+
+-- of the enabled events that of number w modulo their count, w being the generator's next word
+abbrev pub drawn : Draft → List Event → Choice
+drawn draft events = record {
+  event = unwrap_or (slice_get events ((mix_u64 draft.rng).0 % length events)) Phase;
+  rng = (mix_u64 draft.rng).1;
+  taken = draft.taken + 1;
+}
+
+-- Phase where nothing is enabled, or as many events were taken as the limit allows; else an enabled event
+abbrev pub chosen : ℕ → Draft → List Event → Choice
+chosen limit draft [] = phase_chosen draft
+chosen limit draft (first ∷ later) =
+    if nat_le limit draft.taken then phase_chosen draft else drawn draft (first ∷ later)
+
+-- the next event of a draft
+unfoldable pub choice : List Statement → Draft → Choice
+choice statements draft = chosen (limit_of statements) draft (enabled statements draft.world)
+
+-- the world after an event
+abbrev pub world_after : World → Option Made → World
+world_after world None = world
+world_after world (Some made) = made.world
+
+-- the draft with the chosen event made
+abbrev pub made_so : List Statement → Choice → Draft → Draft
+made_so statements choice draft = record {
+  world = world_after draft.world (step statements choice.event draft.world);
+  rng = choice.rng;
+  taken = choice.taken;
+}
+
+-- the draft after its next event
+abbrev pub went_on : List Statement → Draft → Draft
+went_on statements draft = made_so statements (choice statements draft) draft
+
+-- the events from here on while a phase isn't ended, as many as `most`
+unfoldable pub scheduled_from : List Statement → ℕ → Draft → List Event
+scheduled_from statements zero draft = []
+scheduled_from statements (suc most) draft =
+    if may_end_phase statements draft.world
+    then (choice statements draft).event ∷ scheduled_from statements most (went_on statements draft)
+    else []
+
+-- each event is a Phase or counted, so no schedule has more events than this
+abbrev pub event_most : List Statement → ℕ
+event_most statements = limit_of statements + length (phases_of statements)
+
+-- the schedule of a script by a seed
+abbrev pub scheduled : List Statement → ℕ → List Event
+scheduled statements seed = scheduled_from statements (event_most statements) (blank statements seed)

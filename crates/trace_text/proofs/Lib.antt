@@ -1,0 +1,4 @@
+pub mod NumberLemmas
+pub mod ReadingLaws
+pub mod LineLaws
+pub mod ReplayLaws

@@ -1,0 +1,106 @@
+-- The lines of a trace are the texts of its events.
+use Rattle.std.proofs.Common.{◌≡◌, ℕ, ◌<◌, ◌^◌, ◌==◌, not, true, false, List, [], ◌∷◌, ◌++◌, length, get_or, map, codes, decimal, refl, sym, ap, subst, ◌∙◌, arith, All}
+use Rattle.std.specs.List.{list_all, AllByRecursion}
+use Rattle.std.specs.Int.{IsInRange}
+use Rattle.std.proofs.lemmas.Bool.{and_parts, not-true, ne_eqb}
+use Rattle.std.proofs.lemmas.List.{append_assoc}
+use Rattle.std.proofs.lemmas.List.Elements.{All-from_get_or, All-cons, All-nil, All-append, All-head, All-tail}
+use Rattle.std.proofs.lemmas.List.Splits.{slice_split_none, slice_split_at, length-slice_split}
+use Rattle.std.proofs.lemmas.Str.Parse.{digit_at}
+use Rattle.std.proofs.lemmas.Fmt.{decimal_is_IsNumeral}
+use Rattle.object_id.specs.declared.node.NodeId.{NodeId}
+use Rattle.sheep_node.specs.declared.event.Event.{Event}
+use Rattle.sheep_node.specs.declared.event.Event.TheVariants.{Guest, Deliver, LoseRequest, LoseReply, LogNext, Put, RecoverTick, RetryTick, Lost, Leave, Join, Reweight, Back, Phase}
+use Rattle.cluster_script.specs.Words.{lines_of}
+use Rattle.trace_text.specs.Spelling.{name_text, event_text, trace_text_of}
+use Rattle.trace_text.specs.Reading.{IsNamed}
+use Rattle.trace_text.specs.Lines.{whole_lines, lines_in}
+
+abbrev IsLine : List ℕ → Type 0
+IsLine bytes = All (λ byte. (byte == 10) ≡ false) bytes
+
+-- a written word with more behind it
+word : (bytes rest : List ℕ) → list_all (λ byte. not (byte == 10)) bytes ≡ true → IsLine rest → IsLine (bytes ++ rest)
+word [] rest h line = line
+word (byte ∷ bytes) rest h line =
+    let parts : (not (byte == 10) ≡ true) × (list_all (λ byte. not (byte == 10)) bytes ≡ true) = and_parts (not (byte == 10)) (list_all (λ byte. not (byte == 10)) bytes) h in
+    All-cons (λ (b : ℕ). (b == 10) ≡ false) byte (bytes ++ rest) (not-true (byte == 10) parts.0) (word bytes rest parts.1 line)
+
+number : (n : ℕ) → n < 2 ^ 32 → IsLine (decimal n)
+number n lt =
+    All-from_get_or (λ (byte : ℕ). (byte == 10) ≡ false) (decimal n) 0
+    (λ k k_lt. digit (get_or (decimal n) k 0) (digit_at (decimal n) k (decimal_is_IsNumeral n (omega (arith, lt))).0.1 k_lt))
+  where
+    digit : (byte : ℕ) → IsInRange 48 57 byte → (byte == 10) ≡ false
+    digit byte h = ne_eqb byte 10 (λ e. absurd (omega (arith, e, h.0)))
+
+name : (sender : NodeId) (n : ℕ) → sender.0 < 2 ^ 32 → n < 2 ^ 32 → IsLine (name_text sender n)
+name sender n s_lt n_lt =
+    subst IsLine (sym (append_assoc (decimal sender.0) (codes ".") (decimal n)))
+    (All-append (λ (byte : ℕ). (byte == 10) ≡ false) (decimal sender.0) (46 ∷ decimal n) (number sender.0 s_lt)
+    (word (codes ".") (decimal n) refl (number n n_lt)))
+
+first : (n : ℕ) (rest : List ℕ) → All (λ number. number < 2 ^ 32) (n ∷ rest) → n < 2 ^ 32
+first n rest h = All-head (λ (number : ℕ). number < 2 ^ 32) n rest h
+
+second : (m n : ℕ) → All (λ number. number < 2 ^ 32) (m ∷ n ∷ []) → n < 2 ^ 32
+second m n h = first n [] (All-tail (λ (number : ℕ). number < 2 ^ 32) m (n ∷ []) h)
+
+one-line : (event : Event) → IsNamed event → IsLine (event_text event)
+one-line (Guest session) h = word (codes "guest ") (decimal session) refl (number session (first session [] h))
+one-line (Deliver sender n) h = word (codes "deliver ") (name_text sender n) refl (name sender n (first sender.0 (n ∷ []) h) (second sender.0 n h))
+one-line (LoseRequest sender n) h = word (codes "loserequest ") (name_text sender n) refl (name sender n (first sender.0 (n ∷ []) h) (second sender.0 n h))
+one-line (LoseReply sender n) h = word (codes "losereply ") (name_text sender n) refl (name sender n (first sender.0 (n ∷ []) h) (second sender.0 n h))
+one-line (LogNext node) h = word (codes "log ") (decimal node.0) refl (number node.0 (first node.0 [] h))
+one-line (Put node) h = word (codes "put ") (decimal node.0) refl (number node.0 (first node.0 [] h))
+one-line (RecoverTick node) h = word (codes "recover ") (decimal node.0) refl (number node.0 (first node.0 [] h))
+one-line (RetryTick node) h = word (codes "retry ") (decimal node.0) refl (number node.0 (first node.0 [] h))
+one-line (Lost node) h = word (codes "lost ") (decimal node.0) refl (number node.0 (first node.0 [] h))
+one-line (Leave node) h = word (codes "leave ") (decimal node.0) refl (number node.0 (first node.0 [] h))
+one-line (Join node) h = word (codes "join ") (decimal node.0) refl (number node.0 (first node.0 [] h))
+one-line (Reweight node) h = word (codes "reweight ") (decimal node.0) refl (number node.0 (first node.0 [] h))
+one-line (Back node) h = word (codes "back ") (decimal node.0) refl (number node.0 (first node.0 [] h))
+one-line Phase h = word (codes "phase") [] refl (All-nil (λ (byte : ℕ). (byte == 10) ≡ false))
+
+-- no event's text is empty
+goes-on : (event : Event) (lines : List (List ℕ)) → 0 < length lines → whole_lines (event_text event ∷ lines) ≡ event_text event ∷ whole_lines lines
+goes-on event [] lt = absurd (omega (arith, lt))
+goes-on event (line ∷ lines) lt = refl
+
+last_one : (event : Event) → whole_lines (event_text event ∷ []) ≡ event_text event ∷ []
+last_one (Guest session) = refl
+last_one (Deliver sender n) = refl
+last_one (LoseRequest sender n) = refl
+last_one (LoseReply sender n) = refl
+last_one (LogNext node) = refl
+last_one (Put node) = refl
+last_one (RecoverTick node) = refl
+last_one (RetryTick node) = refl
+last_one (Lost node) = refl
+last_one (Leave node) = refl
+last_one (Join node) = refl
+last_one (Reweight node) = refl
+last_one (Back node) = refl
+last_one Phase = refl
+
+line_more : (event : Event) (rest : List ℕ) → IsNamed event → lines_in (event_text event ++ codes "\n" ++ rest) ≡ event_text event ∷ lines_in rest
+line_more event rest h =
+    ap lines_in (append_assoc (event_text event) (codes "\n") rest)
+    ∙ ap whole_lines (slice_split_at (λ (byte : ℕ). byte == 10) (event_text event) 10 rest (one-line event h) refl)
+    ∙ goes-on event (lines_of rest) (omega (arith, length-slice_split (λ (byte : ℕ). byte == 10) rest))
+
+-- a line each
+pub lines-are-texts : (events : List Event) → AllByRecursion IsNamed events → lines_in (trace_text_of events) ≡ map event_text events
+lines-are-texts [] h = refl
+lines-are-texts (event ∷ events) h =
+    line_more event (trace_text_of events) h.0 ∙ ap (λ (lines : List (List ℕ)). event_text event ∷ lines) (lines-are-texts events h.1)
+
+-- also where the last lacks its LF
+pub last-may-lack : (events : List Event) (event : Event) → AllByRecursion IsNamed events → IsNamed event
+    → lines_in (trace_text_of events ++ event_text event) ≡ map event_text events ++ event_text event ∷ []
+last-may-lack [] event h k =
+    ap whole_lines (slice_split_none (λ (byte : ℕ). byte == 10) (event_text event) (one-line event k)) ∙ last_one event
+last-may-lack (first ∷ events) event h k =
+    ap lines_in (append_assoc (event_text first ++ codes "\n") (trace_text_of events) (event_text event))
+    ∙ line_more first (trace_text_of events ++ event_text event) h.0
+    ∙ ap (λ (lines : List (List ℕ)). event_text first ∷ lines) (last-may-lack events event h.1 k)

@@ -1,0 +1,17 @@
+//! The spelling of events, and how a trace is replayed: a line for each event.
+//!
+//! The crate stands on `sheep_world` and `cluster_script`. Here stand the faults of a replay as types, and as definitions
+//! how an event is spelled (`specs/Spelling.antt`), which event a line spells (`specs/Reading.antt`), which lines a trace
+//! has (`specs/Lines.antt`), and which of them is the first bad one in a replay (`specs/Replay.antt`). The laws of
+//! `laws.rt` say what these mean: reading undoes spelling, an event has one spelling, and a replay takes a trace exactly
+//! where it spells a whole run.
+#![tactic(auto)]
+
+mod fault;
+mod laws;
+
+pub use fault::{BadEvent, TraceFault};
+pub use laws::{
+    a_replay_takes_whole_runs, a_text_is_of_one_event, a_trace_has_a_line_for_each_event,
+    events_spelled_out, lines_read, reading_undoes_spelling,
+};
