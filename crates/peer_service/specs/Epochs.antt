@@ -3,7 +3,6 @@ use Rattle.std.specs.Prelude.{◌≡◌, ℕ, ◌+◌, ◌==◌, Bool, true, fal
 use Rattle.std.specs.List.{AllByRecursion}
 use Rattle.object_id.specs.declared.node.NodeId.{NodeId}
 use Rattle.object_id.specs.declared.policy.Policy.{Policy}
-use Rattle.object_id.specs.declared.oid.Kind.{Kind}
 use Rattle.object_id.specs.Oid.{kind_of}
 use Rattle.strip_coding.specs.Part.{index_among}
 use Rattle.object_store.specs.declared.key.Key.{Key}

@@ -4,10 +4,7 @@ use Rattle.std.specs.List.{list_any}
 use Rattle.std.specs.Option.{option_map}
 use Rattle.std.specs.FinMap as tree
 use Rattle.object_id.specs.declared.node.NodeId.{NodeId}
-use Rattle.object_id.specs.declared.oid.Kind.{Kind}
-use Rattle.object_id.specs.declared.oid.Kind.TheVariants.{Block, Inode}
 use Rattle.object_id.specs.declared.policy.Policy.{Policy}
-use Rattle.object_id.specs.declared.policy.Policy.TheVariants.{Copies, Coded}
 use Rattle.object_id.specs.Oid.{kind_of}
 use Rattle.object_id.specs.Policy.{wanted_of}
 use Rattle.object_store.specs.declared.key.Key.{Key}
