@@ -42,6 +42,7 @@ within before totals (OpenDisk session name tag) total follows = (omega (arith, 
 within before totals (Close session) total follows = (omega (arith, follows.0.room), omega arith, omega arith)
 within before totals (Read session offset bytes) total follows = (omega (arith, follows.0.room), omega (arith, follows.3), omega arith)
 within before totals (Write session offset bytes pattern) total follows = (omega (arith, follows.0.room), omega arith, omega (arith, follows.4))
+within before totals s total follows = absurd follows
 
 pub total_more : (before : List Statement) (totals : Totals) (s : Statement) → IsTotal before totals → MayFollow before s → IsTotal (before ++ s ∷ []) (counted totals s)
 total_more before totals s total follows =

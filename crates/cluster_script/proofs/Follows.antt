@@ -16,17 +16,6 @@ use Rattle.cluster_script.specs.OneDisk.{IsDiskOpen, MayFollow, EachMayFollow, I
 use Rattle.cluster_script.specs.Words.{is_name, is_name_byte}
 use Rattle.cluster_script.specs.Requests.{is_disk_open, is_disk_named}
 
--- a list of settings without `cluster` is empty
-pub nothing_before : (before : List Statement) → list_all is_setting before ≡ true → has is_cluster before ≡ false → before ≡ []
-nothing_before [] settings none = refl
-nothing_before (Cluster nodes ∷ rest) settings none = absurd cc
-nothing_before (Session session node ∷ rest) settings none = absurd cc
-nothing_before (Create session policy shift name size ∷ rest) settings none = absurd cc
-nothing_before (OpenDisk session name tag ∷ rest) settings none = absurd cc
-nothing_before (Close session ∷ rest) settings none = absurd cc
-nothing_before (Read session offset bytes ∷ rest) settings none = absurd cc
-nothing_before (Write session offset bytes pattern ∷ rest) settings none = absurd cc
-
 pub no_requests : (before : List Statement) → count_by is_request before ≡ 0 → requests_of before ≡ []
 no_requests before none = nil_from_length (requests_of before) (length-filter is_request before ∙ none)
 
@@ -40,6 +29,7 @@ size_of_made (OpenDisk session name tag ∷ rest) made = size_of_made rest made
 size_of_made (Close session ∷ rest) made = size_of_made rest made
 size_of_made (Read session offset bytes ∷ rest) made = size_of_made rest made
 size_of_made (Write session offset bytes pattern ∷ rest) made = size_of_made rest made
+size_of_made (s ∷ rest) made = size_of_made rest made
 
 each_printed : (name : List ℕ) → list_all is_name_byte name ≡ true → AllByRecursion (λ byte. (33 ≤ byte) × (byte ≤ 126)) name
 each_printed [] passed = tt
@@ -104,6 +94,22 @@ one_session session before (OpenDisk number name tag ∷ rest) each found = one_
 one_session session before (Close number ∷ rest) each found = one_session session (before ++ Close number ∷ []) rest each.1 found
 one_session session before (Read number offset bytes ∷ rest) each found = one_session session (before ++ Read number offset bytes ∷ []) rest each.1 found
 one_session session before (Write number offset bytes pattern ∷ rest) each found = one_session session (before ++ Write number offset bytes pattern ∷ []) rest each.1 found
+one_session session before (s ∷ rest) each found = absurd each.0
+
+-- of settings a script has `cluster` alone
+no_setting : (before rest : List Statement) → EachMayFollow before rest → list_all is_setting rest ≡ true → has is_cluster rest ≡ false → rest ≡ []
+no_setting before [] each settings none = refl
+no_setting before (Cluster nodes ∷ rest) each settings none = absurd cc
+no_setting before (Session session node ∷ rest) each settings none = absurd cc
+no_setting before (Create session policy shift name size ∷ rest) each settings none = absurd cc
+no_setting before (OpenDisk session name tag ∷ rest) each settings none = absurd cc
+no_setting before (Close session ∷ rest) each settings none = absurd cc
+no_setting before (Read session offset bytes ∷ rest) each settings none = absurd cc
+no_setting before (Write session offset bytes pattern ∷ rest) each settings none = absurd cc
+no_setting before (s ∷ rest) each settings none = absurd each.0
+
+pub nothing_before : (before : List Statement) → IsOneDiskScript before → list_all is_setting before ≡ true → has is_cluster before ≡ false → before ≡ []
+nothing_before before each settings none = no_setting [] before each settings none
 
 pub only_session : (session : ℕ) (before : List Statement) → IsOneDiskScript before → declared session before ≡ true → session ≡ 1
 only_session session before each found = one_session session [] before each found

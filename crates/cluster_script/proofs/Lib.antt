@@ -3,3 +3,4 @@ pub mod Counting
 pub mod Pieces
 pub mod DigitLemmas
 pub mod LineSteps
+pub mod WorkedCases

@@ -1,6 +1,9 @@
 pub mod Statements
 pub mod OneDisk
 pub mod Settings
+pub mod Asked
+pub mod Phases
+pub mod Sessions
 pub mod Reading
 pub mod Words
 pub mod Numbers

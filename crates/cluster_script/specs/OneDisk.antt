@@ -2,7 +2,7 @@
 use Rattle.std.specs.Prelude.{◌≡◌, ◌≢◌, ℕ, ◌+◌, ◌%◌, ◌^◌, ◌<◌, ◌≤◌, true, false, List, [], ◌∷◌, ◌++◌, length, All, Some, None, IsSome, count_by, sum_by, slice_get}
 use Rattle.object_id.specs.declared.policy.Policy.TheVariants.{Copies}
 use Rattle.cluster_script.specs.declared.statement.Pattern.{Pattern}
-use Rattle.cluster_script.specs.declared.statement.Pattern.TheVariants.{Fill}
+use Rattle.cluster_script.specs.declared.statement.Pattern.TheVariants.{Fill, Step}
 use Rattle.cluster_script.specs.declared.statement.Statement.{Statement}
 use Rattle.cluster_script.specs.declared.statement.Statement.TheVariants.{Cluster, Session, Create, OpenDisk, Close, Read, Write}
 use Rattle.cluster_script.specs.declared.limits.TheConstants.{BLOCK, NAME_BYTES_MAX, SIZE_MAX, LENGTH_MAX, REQUESTS_MAX, READ_BYTES_MAX, WRITE_BYTES_MAX, SHIFT_DEFAULT}
@@ -27,9 +27,10 @@ pub record IsSpan (offset bytes : ℕ) : Type 0 where
   pub most : bytes ≤ LENGTH_MAX
   pub whole : bytes % BLOCK ≡ 0
 
--- each byte of what is written is one byte
+-- every byte of what is written is the same one
 abbrev pub IsPattern : Pattern → Type 0
 IsPattern (Fill byte) = byte < 2 ^ 8
+IsPattern (Step byte) = ⊥
 
 -- one request more of session 1, which is declared
 pub record MayRequest (before : List Statement) (session : ℕ) : Type 0 where
@@ -44,7 +45,7 @@ pub record IsDiskOpen (before : List Statement) : Type 0 where
   pub not_closed : has is_close before ≡ false
 
 -- a statement that may stand after the statements before it: `cluster 1` first, then session 1 on node 0, and of
--- its requests first a create, then an open of that disk, then reads and writes, and at last a close
+-- its requests first a create, then an open of that disk, then reads and writes, and at last a close; no other one so far
 abbrev pub MayFollow : List Statement → Statement → Type 0
 MayFollow before (Cluster nodes) = (before ≡ []) × (nodes ≡ 1)
 MayFollow before (Session session node) =
@@ -61,6 +62,7 @@ MayFollow before (Read session offset length) =
 MayFollow before (Write session offset length pattern) =
     MayRequest before session × IsDiskOpen before × IsSpan offset length × IsPattern pattern
     × (sum_by write_bytes before + length ≤ WRITE_BYTES_MAX)
+MayFollow before s = ⊥
 
 -- each statement may follow those before it
 abbrev pub EachMayFollow : List Statement → List Statement → Type 0

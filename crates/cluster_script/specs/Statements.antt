@@ -3,7 +3,7 @@ use Rattle.std.specs.Prelude.{ℕ, ◌==◌, Bool, true, false, List, [], ◌∷
 use Rattle.std.specs.List.{list_any}
 use Rattle.std.specs.Option.{option_or}
 use Rattle.cluster_script.specs.declared.statement.Statement.{Statement}
-use Rattle.cluster_script.specs.declared.statement.Statement.TheVariants.{Cluster, Session, Create, OpenDisk, Close, Read, Write}
+use Rattle.cluster_script.specs.declared.statement.Statement.TheVariants.{Cluster, Vnodes, Tries, Limit, Session, Create, OpenDisk, Close, Read, Write, Snapshot, Clone, Delete, Fail, Join, Lose, Settle, ListNodes, ListVdis, ClusterInfo, Dump, Zone, Reweight, Back}
 
 -- a statement says how many nodes there are
 abbrev pub is_cluster : Statement → Bool
@@ -13,6 +13,10 @@ is_cluster s = false
 -- settings stand before every other statement
 abbrev pub is_setting : Statement → Bool
 is_setting (Cluster nodes) = true
+is_setting (Vnodes vnodes) = true
+is_setting (Tries tries) = true
+is_setting (Limit limit) = true
+is_setting (Zone node zone) = true
 is_setting s = false
 
 -- a statement declares this session
@@ -38,12 +42,29 @@ is_close s = false
 -- a request is what a session asks for; requests are numbered from 1
 abbrev pub is_request : Statement → Bool
 is_request (Cluster nodes) = false
+is_request (Vnodes vnodes) = false
+is_request (Tries tries) = false
+is_request (Limit limit) = false
 is_request (Session session node) = false
 is_request (Create session policy shift name size) = true
 is_request (OpenDisk session name tag) = true
 is_request (Close session) = true
 is_request (Read session offset length) = true
 is_request (Write session offset length pattern) = true
+is_request (Snapshot session tag) = true
+is_request (Clone session base tag name) = true
+is_request (Delete session name tag) = true
+is_request (Fail node) = false
+is_request (Join node) = false
+is_request (Lose count) = false
+is_request Settle = false
+is_request ListNodes = false
+is_request ListVdis = false
+is_request ClusterInfo = false
+is_request Dump = false
+is_request (Zone node zone) = false
+is_request (Reweight node vnodes) = false
+is_request (Back node) = false
 
 -- how many bytes a statement reads
 abbrev pub read_bytes : Statement → ℕ

@@ -54,7 +54,21 @@ impl Totals {
                 has_cluster: true,
                 ..self
             },
-            Statement::Session { .. } => Totals {
+            Statement::Vnodes { .. }
+            | Statement::Tries { .. }
+            | Statement::Limit { .. }
+            | Statement::Zone { .. } => self,
+            Statement::Session { .. }
+            | Statement::Fail { .. }
+            | Statement::Join { .. }
+            | Statement::Lose { .. }
+            | Statement::Settle
+            | Statement::ListNodes
+            | Statement::ListVdis
+            | Statement::ClusterInfo
+            | Statement::Dump
+            | Statement::Reweight { .. }
+            | Statement::Back { .. } => Totals {
                 settings_only: false,
                 ..self
             },
@@ -78,6 +92,9 @@ impl Totals {
                 write_bytes: self.write_bytes + *length as u64,
                 ..self.with_request()
             },
+            Statement::Snapshot { .. } | Statement::Clone { .. } | Statement::Delete { .. } => {
+                self.with_request()
+            }
         }
     }
 
@@ -124,7 +141,9 @@ impl Draft {
     }
 
     pub fn is_settings_only(&self) -> bool
-        ensures { result ≡ list_all is_setting self.now }
+        ensures settings { result ≡ list_all is_setting self.now }
+        // No other setting is ever taken.
+        ensures none { IsTrue result → has is_cluster self.now ≡ false → self.now ≡ [] }
     {
         self.totals.settings_only
     }

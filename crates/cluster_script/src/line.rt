@@ -77,7 +77,7 @@ fn statement(
 }
 
 /// `cluster N`. It stands first, and `cluster info` is no setting.
-#[tactic(auto, using(crate::proofs::Follows::nothing_before), unfolding(crate::specs::Script::cluster_at))]
+#[tactic(auto, unfolding(crate::specs::Script::cluster_at))]
 fn cluster(before: &Draft, line: &[u8]) -> Result<Statement, LineCause>
     ensures statement { Gives (λ s. s) result (cluster_at before.now (words_of line.now)) }
     ensures follows { IfOk result (MayFollow before.now) }

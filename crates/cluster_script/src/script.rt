@@ -1,6 +1,6 @@
 ghost use Rattle.std.specs.Prelude.{◌≡◌, ◌≤◌, ◌<◌, [], length, IfOk};
 ghost use Rattle.cluster_script.specs.OneDisk.{IsOneDiskScript};
-ghost use Rattle.cluster_script.specs.Settings.{nodes_set, nodes_of, vnodes_of, tries_of, limit_of};
+ghost use Rattle.cluster_script.specs.Settings.{nodes_of, vnodes_of, tries_of, limit_of};
 ghost use Rattle.cluster_script.specs.Words.{lines_of};
 ghost use Rattle.cluster_script.specs.Script.{script_of, Answers};
 
@@ -41,25 +41,25 @@ impl Script {
         first_nodes(self.statements())
     }
 
-    /// How many virtual nodes each node has.
+    /// How many virtual nodes each node has at first.
     pub fn vnodes(&self) -> u16
         ensures { result ≡ vnodes_of self.now }
     {
-        VNODES_DEFAULT
+        first_vnodes(self.statements())
     }
 
     /// How many attempts a request has.
     pub fn tries(&self) -> u32
         ensures { result ≡ tries_of self.now }
     {
-        TRIES_DEFAULT
+        first_tries(self.statements())
     }
 
     /// How many events a run may take.
     pub fn limit(&self) -> u32
         ensures { result ≡ limit_of self.now }
     {
-        LIMIT_DEFAULT
+        first_limit(self.statements())
     }
 
     pub fn statements(&self) -> &[Statement]
@@ -76,20 +76,47 @@ fn first_nodes(statements: &[Statement]) -> u32
     ensures { result ≡ nodes_of statements.now }
 {
     for s in statements {
-        if let Some(nodes) = nodes_in(s) {
-            return nodes;
+        if let Statement::Cluster { nodes } = s {
+            return *nodes;
         }
     }
     NODES_DEFAULT
 }
 
-fn nodes_in(s: &Statement) -> Option<u32>
-    ensures { result ≡ nodes_set s.now }
+/// The number of virtual nodes that the first setting of it gives, or the default.
+fn first_vnodes(statements: &[Statement]) -> u16
+    ensures { result ≡ vnodes_of statements.now }
 {
-    match s {
-        Statement::Cluster { nodes } => Some(*nodes),
-        _ => None,
+    for s in statements {
+        if let Statement::Vnodes { vnodes } = s {
+            return *vnodes;
+        }
     }
+    VNODES_DEFAULT
+}
+
+/// The number of attempts that the first setting of it gives, or the default.
+fn first_tries(statements: &[Statement]) -> u32
+    ensures { result ≡ tries_of statements.now }
+{
+    for s in statements {
+        if let Statement::Tries { tries } = s {
+            return *tries;
+        }
+    }
+    TRIES_DEFAULT
+}
+
+/// The number of events that the first setting of it gives, or the default.
+fn first_limit(statements: &[Statement]) -> u32
+    ensures { result ≡ limit_of statements.now }
+{
+    for s in statements {
+        if let Statement::Limit { limit } = s {
+            return *limit;
+        }
+    }
+    LIMIT_DEFAULT
 }
 
 /// Reads a text. A script is answered as its statements; else the answer is the first bad line, from 1, and its cause.
