@@ -1,0 +1,4 @@
+pub mod Attempts
+pub mod Words
+pub mod Holders
+pub mod Past

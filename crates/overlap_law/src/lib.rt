@@ -1,0 +1,2 @@
+//! What the overlap of epochs keeps.
+#![tactic(auto)]
