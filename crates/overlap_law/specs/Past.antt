@@ -19,7 +19,8 @@ use Rattle.sheep_world.specs.declared.name.MessageName.{MessageName}
 use Rattle.sheep_world.specs.World.{Letter, Request, Reply, Seat, World, seat_at, message_at}
 use Rattle.sheep_world.specs.Opening.{opening}
 use Rattle.sheep_world.specs.Step.{Made, step}
-use Rattle.sheep_world.specs.Lives.{Ended, ended_after, counts_for}
+use Rattle.sheep_world.specs.Run as runs
+use Rattle.sheep_world.specs.Lives.{Ended, lives_after, counts_for}
 use Rattle.overlap_law.specs.Holders.{unborne_in, is_borne_disk, is_among}
 pub use Rattle.overlap_law.specs.Attempts.{Fate, Flying, Served, Doomed, Attempt, marked, fate_by, begun_by}
 
@@ -30,8 +31,8 @@ pub record Listed : Type 0 where
   pub own : List ℕ
 
 -- what is kept of a run: the attempts, in the order in which they began; the requests that were refused; the messages that
--- were lost, or whose replies were; what nodes had when their lists were finished; the objects that were once not borne
--- while they were born and not dead; the history; and the history without the reads of disks that weren't borne up to there
+-- were lost, or whose replies were; what nodes had when their lists were finished; the lives that ended; the objects that
+-- were once not borne while they were born and not dead; the history, whole and without the reads of disks that weren't borne
 pub record Past : Type 0 where
   pub attempts : List Attempt
   pub refused : List ℕ
@@ -146,10 +147,14 @@ is_counted log unborne (acts.WriteRefused req) = true
 is_counted log unborne (acts.WriterLost req) = true
 is_counted log unborne (acts.Read disk block bytes) = is_borne_disk log unborne disk
 
--- the objects that weren't borne at a state, and weren't among those before
+-- whether a node counts for an epoch at a state
+abbrev pub counts : List Ended → World → NodeId → ℕ → Bool
+counts ended world node epoch = counts_for epoch world ended node.0
+
+-- the objects that aren't borne at a state, and aren't among those before
 abbrev pub unborne_at : List Ended → World → List Attempt → List ℕ → List ℕ
 unborne_at ended world attempts before =
-    filter (λ oid. not (is_among oid before)) (unborne_in (counts_for ended world) world.log attempts)
+    filter (λ oid. not (is_among oid before)) (unborne_in (counts ended world) world.log attempts)
 
 -- the past after an event, by the attempts and the ended lives after it
 abbrev pub past_after : Event → World → Made → List Attempt → List Ended → Past → Past
@@ -167,7 +172,7 @@ past_after event old made attempts ended past = record {
 -- the past after an event, which makes this of a world
 unfoldable pub grown : List Statement → Event → World → Made → Past → Past
 grown script event old made past =
-    past_after event old made (attempts_after script event old made.world past.attempts) (ended_after event old past.ended) past
+    past_after event old made (attempts_after script event old made.world past.attempts) (lives_after old past.ended event) past
 
 -- a moment after an event that is made
 abbrev pub moment_after : List Statement → Event → Moment → Made → Moment
@@ -191,3 +196,7 @@ first_moment script = record { world = opening script; past = no_past }
 -- the moment in which a run of a script ends; none where its events are no run
 unfoldable pub run_with_past : List Statement → List Event → Option Moment
 run_with_past script events = run_on script (first_moment script) events
+
+-- a moment as a run alone has it
+abbrev pub without_past : Moment → runs.Moment
+without_past moment = record { world = moment.world; history = moment.past.history }
