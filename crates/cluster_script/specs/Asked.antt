@@ -44,11 +44,11 @@ numbered statements = enumerate_from 1 (requests_of statements)
 abbrev pub numbers_of_session : List Statement → ℕ → List ℕ
 numbers_of_session statements session = map (λ request. request.0) (filter (λ request. is_of_session session request.1) (numbered statements))
 
--- the byte at a place of what is written: every one, or one more for each block; 0 follows 255
+-- the byte that a block of what is written is full of: the same one, or one more for each block; 0 follows 255
 abbrev pub byte_of : Pattern → ℕ → ℕ
-byte_of (Fill byte) place = byte
-byte_of (Step byte) place = (byte + place / BLOCK) % 256
+byte_of (Fill byte) block = byte
+byte_of (Step byte) block = (byte + block) % 256
 
 -- the bytes of a write of this length
 abbrev pub payload_of : Pattern → ℕ → List ℕ
-payload_of pattern length = map (byte_of pattern) (range_with_len 0 length)
+payload_of pattern length = map (λ place. byte_of pattern (place / BLOCK)) (range_with_len 0 length)

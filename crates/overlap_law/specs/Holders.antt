@@ -1,5 +1,6 @@
 -- Live holders: whether enough nodes keep an object, and whether that was so of all objects that a disk is read from.
-use Rattle.std.specs.Prelude.{ℕ, ◌+◌, ◌-◌, ◌==◌, nat_le, Bool, true, false, not, ◌&&◌, ◌||◌, max, List, [], length, filter, map, Option, Some, None}
+use Rattle.std.specs.Prelude.{ℕ, ◌+◌, ◌-◌, ◌==◌, nat_le, Bool, true, false, not, ◌&&◌, ◌||◌, max, List, [], length, filter, map, IsTrue, Option, Some, None}
+use Rattle.std.specs.Option.{option_map}
 use Rattle.std.specs.List.{find, list_any, list_all, range_with_len}
 use Rattle.object_id.specs.declared.node.NodeId.{NodeId}
 use Rattle.object_id.specs.declared.entry.Entry.{Entry}
@@ -31,8 +32,12 @@ abbrev pub creates : Attempt → Bool
 creates attempt = is_create attempt.work
 
 -- the first attempt to create an object, with whose first message the object is born
-abbrev pub birth_of : ℕ → List Attempt → Option Attempt
-birth_of oid attempts = find creates (attempts_on oid attempts)
+abbrev pub first_create : ℕ → List Attempt → Option Attempt
+first_create oid attempts = find creates (attempts_on oid attempts)
+
+-- the epoch in which an object was born, if it was
+abbrev pub birth_of : ℕ → List Attempt → Option ℕ
+birth_of oid attempts = option_map (λ (create : Attempt). create.epoch) (first_create oid attempts)
 
 -- the epochs from one to another
 abbrev pub epochs_between : ℕ → ℕ → List ℕ
@@ -53,13 +58,14 @@ abbrev pub is_borne_since : (NodeId → ℕ → Bool) → List Entry → ℕ →
 is_borne_since counts log oid policy birth =
     list_all (is_kept_in counts log oid policy) (epochs_between (max birth (settled_of log)) (epoch_of log))
 
--- whether an object is borne, by the attempt that bore it; one that isn't born is
+-- the same by the first attempt to create it; an object that isn't born needs no holders
 abbrev pub is_borne_by : (NodeId → ℕ → Bool) → List Entry → ℕ → Option Attempt → Bool
 is_borne_by counts log oid None = true
-is_borne_by counts log oid (Some birth) = is_borne_since counts log oid (policy_of birth.work) birth.epoch
+is_borne_by counts log oid (Some create) = is_borne_since counts log oid (policy_of create.work) create.epoch
 
+-- whether an object is borne, of these attempts
 unfoldable pub is_borne : (NodeId → ℕ → Bool) → List Entry → List Attempt → ℕ → Bool
-is_borne counts log attempts oid = is_borne_by counts log oid (birth_of oid attempts)
+is_borne counts log attempts oid = is_borne_by counts log oid (first_create oid attempts)
 
 -- the objects that were born, in the order of their attempts
 abbrev pub born_objects : List Attempt → List ℕ
@@ -88,6 +94,9 @@ is_live log attempts oid = is_among oid (born_objects attempts) && not (is_dead_
 abbrev pub is_good : List Entry → List Attempt → List ℕ → ℕ → Bool
 is_good log attempts unborne oid = is_live log attempts oid && not (is_among oid unborne)
 
+abbrev pub IsGood : List Entry → List Attempt → List ℕ → ℕ → Type 0
+IsGood log attempts unborne oid = IsTrue (is_good log attempts unborne oid)
+
 -- whether an object is of the disk, or of one in its parent chain
 abbrev pub is_of_chain : List Effect → ℕ → ℕ → Bool
 is_of_chain before vid oid = vid_of oid == vid || is_above before (vid_of oid) vid
@@ -95,3 +104,7 @@ is_of_chain before vid oid = vid_of oid == vid || is_above before (vid_of oid) v
 -- a disk is borne up to here where no object of it or of its parent chain is among those that were once not borne
 unfoldable pub is_borne_disk : List Entry → List ℕ → ℕ → Bool
 is_borne_disk log unborne vid = not (list_any (is_of_chain (happened log) vid) unborne)
+
+-- an id is good where its disk is borne up to here
+abbrev pub IsGoodId : List Entry → List ℕ → ℕ → Type 0
+IsGoodId log unborne vid = IsTrue (is_borne_disk log unborne vid)

@@ -1,4 +1,9 @@
 pub mod Attempts
 pub mod Words
 pub mod Holders
+pub mod Each
+pub mod Grants
 pub mod Past
+pub mod Contents
+pub mod Facts
+pub mod Headline

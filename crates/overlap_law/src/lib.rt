@@ -1,2 +1,17 @@
-//! What the overlap of epochs keeps.
+//! What the overlap of epochs keeps: while nodes are lost, leave, join and come back, and recoveries run, the replies of
+//! every run stay one legal history.
+//!
+//! The crate stands on `sheep_world` and on the crates below it. So far it has definitions alone. Beside the world stands
+//! the past of a run (`specs/Past.antt`): all attempts to create or write, with the fate of each message
+//! (`specs/Attempts.antt`), and what else later words need. Over it stand the words made, mute, doomed, covered and quiet
+//! (`specs/Words.antt`), live holders (`specs/Holders.antt`), the six facts on which the overlap rests
+//! (`specs/Contents.antt`, `specs/Facts.antt`), and the headline (`specs/Headline.antt`). Neither the facts nor the headline
+//! is proved here; the laws of `laws.rt` say what the words mean.
 #![tactic(auto)]
+
+mod laws;
+
+pub use laws::{
+    no_read_of_what_was_borne_is_left_out, other_attempts_hear_nothing, the_past_follows_the_run,
+    what_is_doomed_stays_doomed, what_is_made_stays_made,
+};

@@ -5,7 +5,7 @@ use Rattle.std.specs.Option.{option_or}
 use Rattle.std.proofs.lemmas.List.Sums.{fold-append}
 use Rattle.std.proofs.lemmas.Grind.{common_steps}
 use Rattle.cluster_script.specs.declared.statement.Statement.{Statement}
-use Rattle.cluster_script.specs.declared.statement.Statement.TheVariants.{Cluster, Session, Create, OpenDisk, Close, Read, Write}
+use Rattle.cluster_script.specs.declared.statement.Statement.TheVariants.{Cluster, Session, Create, OpenDisk, Close, Read, Write, Snapshot, Clone, Delete}
 use Rattle.cluster_script.specs.Statements.{disk_size, size_made, requests_of, disk_name, name_made}
 use Rattle.cluster_script.specs.OneDisk.{MayFollow}
 use Rattle.sheep.specs.declared.disk.Disk.{Disk}
@@ -51,35 +51,41 @@ disk_name-kept before s none = disk_name-snoc before s ∙ ap (option_or (disk_n
 -- without a request no disk is made
 pub disk_name-no_requests : (before : List Statement) → requests_of before ≡ [] → disk_name before ≡ None
 disk_name-no_requests [] none = refl
-disk_name-no_requests (Cluster nodes ∷ before) none = disk_name-no_requests before none
-disk_name-no_requests (Session session node ∷ before) none = disk_name-no_requests before none
 disk_name-no_requests (Create session policy shift name size ∷ before) none = absurd (cc)
 disk_name-no_requests (OpenDisk session name tag ∷ before) none = absurd (cc)
 disk_name-no_requests (Close session ∷ before) none = absurd (cc)
 disk_name-no_requests (Read session offset length ∷ before) none = absurd (cc)
 disk_name-no_requests (Write session offset length pattern ∷ before) none = absurd (cc)
+disk_name-no_requests (Snapshot session tag ∷ before) none = absurd (cc)
+disk_name-no_requests (Clone session base tag name ∷ before) none = absurd (cc)
+disk_name-no_requests (Delete session name tag ∷ before) none = absurd (cc)
+disk_name-no_requests (s ∷ before) none = disk_name-no_requests before none
 
 pub disk_size-no_requests : (before : List Statement) → requests_of before ≡ [] → disk_size before ≡ None
 disk_size-no_requests [] none = refl
-disk_size-no_requests (Cluster nodes ∷ before) none = disk_size-no_requests before none
-disk_size-no_requests (Session session node ∷ before) none = disk_size-no_requests before none
 disk_size-no_requests (Create session policy shift name size ∷ before) none = absurd (cc)
 disk_size-no_requests (OpenDisk session name tag ∷ before) none = absurd (cc)
 disk_size-no_requests (Close session ∷ before) none = absurd (cc)
 disk_size-no_requests (Read session offset length ∷ before) none = absurd (cc)
 disk_size-no_requests (Write session offset length pattern ∷ before) none = absurd (cc)
+disk_size-no_requests (Snapshot session tag ∷ before) none = absurd (cc)
+disk_size-no_requests (Clone session base tag name ∷ before) none = absurd (cc)
+disk_size-no_requests (Delete session name tag ∷ before) none = absurd (cc)
+disk_size-no_requests (s ∷ before) none = disk_size-no_requests before none
 
 -- and nothing is laid on a block
 laid-no_requests : (before : List Statement) (size block : ℕ) (bytes : List ℕ) → requests_of before ≡ []
     → fold (λ bytes s. unwrap_or (laid_on size block s) bytes) bytes before ≡ bytes
 laid-no_requests [] size block bytes none = refl
-laid-no_requests (Cluster nodes ∷ before) size block bytes none = laid-no_requests before size block bytes none
-laid-no_requests (Session session node ∷ before) size block bytes none = laid-no_requests before size block bytes none
 laid-no_requests (Create session policy shift name bytes' ∷ before) size block bytes none = absurd (cc)
 laid-no_requests (OpenDisk session name tag ∷ before) size block bytes none = absurd (cc)
 laid-no_requests (Close session ∷ before) size block bytes none = absurd (cc)
 laid-no_requests (Read session offset length ∷ before) size block bytes none = absurd (cc)
 laid-no_requests (Write session offset length pattern ∷ before) size block bytes none = absurd (cc)
+laid-no_requests (Snapshot session tag ∷ before) size block bytes none = absurd (cc)
+laid-no_requests (Clone session base tag name ∷ before) size block bytes none = absurd (cc)
+laid-no_requests (Delete session name tag ∷ before) size block bytes none = absurd (cc)
+laid-no_requests (s ∷ before) size block bytes none = laid-no_requests before size block bytes none
 
 pub block_after-no_requests : (before : List Statement) (size block : ℕ) → requests_of before ≡ [] → block_after size before block ≡ zeros
 block_after-no_requests before size block none = laid-no_requests before size block zeros none
@@ -103,6 +109,7 @@ size_after-snoc before s may = ap (λ size. unwrap_or size 0) (disk_size-snoc be
     by_kind before (Close session) may = kept (disk_size before)
     by_kind before (Read session offset length) may = kept (disk_size before)
     by_kind before (Write session offset length pattern) may = kept (disk_size before)
+    by_kind before s may = absurd may
 
 -- what the blocks hold after one statement more: what it lays on them, and else what they held
 pub blocks_after-snoc : (before : List Statement) (s : Statement) (block : ℕ) → MayFollow before s
@@ -123,6 +130,7 @@ blocks_after-snoc before s block may =
     by_kind before (Read session offset length) may same = ap (λ size. block_after size before block) same
     by_kind before (Write session offset length pattern) may same =
         ap (λ size. unwrap_or (laid_on size block (Write session offset length pattern)) (block_after size before block)) same
+    by_kind before s may same = absurd may
 
 -- the disk is the next one, where its size and its blocks are what the statement makes of them
 pub holds_next : (before : List Statement) (s : Statement) (old new : Disk) → MayFollow before s → Holds before old

@@ -164,11 +164,11 @@ begin_one req vid bytes a old disk long there unended fresh = (may, go (nat_lt a
     )
 
 -- What the begins of one request's writes, to n blocks from block a on, leave: each block that is there has an open item more.
-pub record Begins (req vid : ℕ) (bytes : List ℕ) (a n : ℕ) (old : Ledger) (disk : Disk) (new : Ledger) (left : Disk) : Type 0 where
+pub record Begins (req vid : ℕ) (bytes : ℕ → List ℕ) (a n : ℕ) (old : Ledger) (disk : Disk) (new : Ledger) (left : Disk) : Type 0 where
   pub there : new.disks vid ≡ Some left
   pub blocks : left.blocks ≡ disk.blocks
   pub live : left.deleted ≡ disk.deleted
-  pub here : (block : ℕ) → a ≤ block → block < a + n → block < disk.blocks → left.items block ≡ disk.items block ++ open_item req bytes ∷ []
+  pub here : (block : ℕ) → a ≤ block → block < a + n → block < disk.blocks → left.items block ≡ disk.items block ++ open_item req (bytes block) ∷ []
   pub others : (block : ℕ) → (block < a) ⊎ (a + n ≤ block) → left.items block ≡ disk.items block
   pub ended : (new.requests req).ended ≡ false
   pub started : (is_started (old.requests req) ≡ true) ⊎ (0 < n) → is_started (new.requests req) ≡ true
@@ -176,15 +176,15 @@ pub record Begins (req vid : ℕ) (bytes : List ℕ) (a n : ℕ) (old : Ledger) 
   pub requests : (other : ℕ) → other ≢ req → new.requests other ≡ old.requests other
 
 -- the first begin, and those after it
-begins_join : (req vid : ℕ) (bytes : List ℕ) (a n : ℕ) (old mid new : Ledger) (disk one all : Disk)
-    → Began req vid bytes a old disk mid one → Begins req vid bytes (a + 1) n mid one new all → Begins req vid bytes a (suc n) old disk new all
+begins_join : (req vid : ℕ) (bytes : ℕ → List ℕ) (a n : ℕ) (old mid new : Ledger) (disk one all : Disk)
+    → Began req vid (bytes a) a old disk mid one → Begins req vid bytes (a + 1) n mid one new all → Begins req vid bytes a (suc n) old disk new all
 begins_join req vid bytes a n old mid new disk one all first rest = record {
   there = rest.there;
   blocks = rest.blocks ∙ first.blocks;
   live = rest.live ∙ first.live;
   here = λ block from to inside. elim (eqb_tells block a) [
     | inl same ↦ rest.others block (inl (omega (arith, same.1))) ∙ rw same.1 (first.here (omega (arith, same.1)))
-    | inr apart ↦ rest.here block (omega (arith, apart.1)) (omega arith) (rw first.blocks inside) ∙ ap (λ xs. xs ++ open_item req bytes ∷ []) (first.others block apart.1)
+    | inr apart ↦ rest.here block (omega (arith, apart.1)) (omega arith) (rw first.blocks inside) ∙ ap (λ xs. xs ++ open_item req (bytes block) ∷ []) (first.others block apart.1)
   ];
   others = λ block out. rest.others block (later out) ∙ first.others block (apart out);
   ended = rest.ended;
@@ -202,9 +202,9 @@ begins_join req vid bytes a n old mid new disk one all first rest = record {
     apart (inr behind) = λ same. omega arith
 
 -- the begins of a request's writes may come one after another
-pub begins_ok : (req vid : ℕ) (bytes : List ℕ) (n a : ℕ) (old : Ledger) (disk : Disk) → length bytes ≡ 512 → old.disks vid ≡ Some disk
+pub begins_ok : (req vid : ℕ) (bytes : ℕ → List ℕ) (n a : ℕ) (old : Ledger) (disk : Disk) → ((block : ℕ) → length (bytes block) ≡ 512) → old.disks vid ≡ Some disk
     → (old.requests req).ended ≡ false → ((block : ℕ) → a ≤ block → has_place (old.requests req) vid block ≡ false)
-    → (new : Ledger) × (left : Disk) × (ledger_from old (map (λ block. events.WriteStart req vid block false bytes) (range_with_len a n)) ≡ Some new)
+    → (new : Ledger) × (left : Disk) × (ledger_from old (map (λ block. events.WriteStart req vid block false (bytes block)) (range_with_len a n)) ≡ Some new)
     × Begins req vid bytes a n old disk new left
 begins_ok req vid bytes zero a old disk long there unended fresh = (
   old,
@@ -223,12 +223,12 @@ begins_ok req vid bytes zero a old disk long there unended fresh = (
   },
 )
 begins_ok req vid bytes (suc n) a old disk long there unended fresh =
-    let one = begin_one req vid bytes a old disk long there unended (fresh a (omega arith)) in
-    let mid : Ledger = after old (events.WriteStart req vid a false bytes) in
+    let one = begin_one req vid (bytes a) a old disk (long a) there unended (fresh a (omega arith)) in
+    let mid : Ledger = after old (events.WriteStart req vid a false (bytes a)) in
     let rest = begins_ok req vid bytes n (a + 1) mid one.1.0 long one.1.1.there one.1.1.ended
     (λ block from. one.1.1.places block (λ same. omega arith) (fresh block (omega arith))) in (
       rest.0,
       rest.1,
-      first_ok old (events.WriteStart req vid a false bytes) (map (λ block. events.WriteStart req vid block false bytes) (range_with_len (a + 1) n)) one.0 ∙ rest.2,
+      first_ok old (events.WriteStart req vid a false (bytes a)) (map (λ block. events.WriteStart req vid block false (bytes block)) (range_with_len (a + 1) n)) one.0 ∙ rest.2,
       begins_join req vid bytes a n old mid rest.0 disk one.1.0 rest.1 one.1.1 rest.3,
     )

@@ -8,9 +8,9 @@ use Rattle.std.proofs.lemmas.Bool.Decides.{eqb_tells, leb_tells}
 use Rattle.std.proofs.lemmas.List.{length-replicate}
 use Rattle.object_id.specs.declared.policy.Policy.{Policy}
 use Rattle.cluster_script.specs.declared.statement.Pattern.{Pattern}
-use Rattle.cluster_script.specs.declared.statement.Pattern.TheVariants.{Fill}
 use Rattle.cluster_script.specs.declared.statement.Statement.{Statement}
 use Rattle.cluster_script.specs.declared.statement.Statement.TheVariants.{Cluster, Session, Create, OpenDisk, Close, Read, Write}
+use Rattle.cluster_script.specs.Asked.{byte_of}
 use Rattle.cluster_script.specs.Statements.{disk_size, size_made, disk_name, name_made, requests_of, is_request}
 use Rattle.cluster_script.specs.OneDisk.{MayFollow, EachMayFollow, IsOneDiskScript, IsSpan}
 use Rattle.disk_history.specs.declared.event.HistEvent.{HistEvent}
@@ -23,6 +23,7 @@ use Rattle.sheep.specs.Report.{along, number_after}
 use Rattle.sheep.specs.History.{first_vid, vid_after, events_after, history_of}
 use Rattle.sheep.proofs.AlongLemmas.{disk_size-snoc, disk_size-kept, disk_size-no_requests, disk_name-snoc, disk_name-kept, disk_name-no_requests, block_after-snoc, block_after-no_requests}
 use Rattle.sheep.proofs.ReportLemmas.{count_by-snoc}
+use Rattle.sheep.proofs.BlockLemmas.{block_filled}
 use Rattle.sheep.proofs.LedgerLemmas.{first_ok, changed_at-same, changed_at-other, NoneOf, NoneOf-append, marked-NoneOf, filter-NoneOf, open_item, settled_item, marked-open, filter-open, may_read-settled, Begins, begins_ok}
 
 -- the items are of requests before number n
@@ -86,6 +87,9 @@ settled_kept before s ledger no_size no_name nothing settled = record {
 }
 
 -- a block has 512 bytes
+length-block_of : (pattern : Pattern) (offset block : ℕ) → length (block_of pattern offset block) ≡ 512
+length-block_of pattern offset block = ap length (sym (block_filled pattern offset block)) ∙ length-replicate {A = ℕ} 512 (byte_of pattern (block - offset / 512))
+
 length-block_after : (size : ℕ) (before : List Statement) (block : ℕ) → length (block_after size before block) ≡ 512
 length-block_after size before block = go before zeros (length-replicate {A = ℕ} 512 0)
   where
@@ -96,11 +100,12 @@ length-block_after size before block = go before zeros (length-replicate {A = �
     laid (OpenDisk session name tag) bytes long = long
     laid (Close session) bytes long = long
     laid (Read session offset span) bytes long = long
-    laid (Write session offset length' (Fill byte)) bytes long = either (fits size offset length' && covers offset length' block)
+    laid (Write session offset length' pattern) bytes long = either (fits size offset length' && covers offset length' block)
       where
-        either : (lays : Bool) → length (unwrap_or (if lays then Some (replicate 512 byte) else None) bytes) ≡ 512
-        either true = length-replicate {A = ℕ} 512 byte
+        either : (lays : Bool) → length (unwrap_or (if lays then Some (block_of pattern offset block) else None) bytes) ≡ 512
+        either true = length-block_of pattern offset block
         either false = long
+    laid s bytes long = long
 
     go : (statements : List Statement) (bytes : List ℕ) → length bytes ≡ 512
         → length (fold (λ bytes s. unwrap_or (laid_on size block s) bytes) bytes statements) ≡ 512
@@ -147,7 +152,7 @@ covers_cases offset count block = elim (leb_tells (offset / 512) block) [
 
 -- what a write that ends inside the disk leaves of a block, and one that doesn't
 block_written : (size : ℕ) (before : List Statement) (session offset count : ℕ) (pattern : Pattern) (block : ℕ) → fits size offset count ≡ true
-    → covers offset count block ≡ true → block_after size (before ++ Write session offset count pattern ∷ []) block ≡ block_of pattern
+    → covers offset count block ≡ true → block_after size (before ++ Write session offset count pattern ∷ []) block ≡ block_of pattern offset block
 block_written size before session offset count pattern block inside covered =
     block_after-snoc size before (Write session offset count pattern) block ∙ rw (inside, covered) refl
 
@@ -158,20 +163,20 @@ block_passed size before session offset count pattern block passed =
     block_after-snoc size before (Write session offset count pattern) block ∙ rw passed refl
 
 -- what a write's end leaves of each block: an acknowledged one
-block_acknowledged : (n a k : ℕ) (bytes : List ℕ) (old new : Ledger) (disk left : Disk) (vid block : ℕ) (held : List ℕ)
+block_acknowledged : (n a k : ℕ) (bytes : ℕ → List ℕ) (old new : Ledger) (disk left : Disk) (vid block : ℕ) (held : List ℕ)
     → Begins n vid bytes a k old disk new left → BlockIs n held (disk.items block) → block < disk.blocks
-    → (a ≤ block) × (block < a + k) → BlockIs (n + 1) bytes (map (marked Acknowledged n) (left.items block))
+    → (a ≤ block) × (block < a + k) → BlockIs (n + 1) (bytes block) (map (marked Acknowledged n) (left.items block))
 block_acknowledged n a k bytes old new disk left vid block held begins is inside covered = record {
   front = disk.items block;
   writer = Some n;
-  ends = ap (map (marked Acknowledged n)) (begins.here block covered.0 covered.1 inside) ∙ marked-open n (disk.items block) bytes (is.before n (omega arith));
+  ends = ap (map (marked Acknowledged n)) (begins.here block covered.0 covered.1 inside) ∙ marked-open n (disk.items block) (bytes block) (is.before n (omega arith));
   before = subst (λ (items : List Item). AllBefore (n + 1) items)
-      (sym (ap (map (marked Acknowledged n)) (begins.here block covered.0 covered.1 inside) ∙ marked-open n (disk.items block) bytes (is.before n (omega arith))))
-      (settled_more n bytes (disk.items block) is.before);
+      (sym (ap (map (marked Acknowledged n)) (begins.here block covered.0 covered.1 inside) ∙ marked-open n (disk.items block) (bytes block) (is.before n (omega arith))))
+      (settled_more n (bytes block) (disk.items block) is.before);
 }
 
 -- one that isn't covered
-block_untouched : (n a k : ℕ) (bytes : List ℕ) (old new : Ledger) (disk left : Disk) (vid block : ℕ) (held now : List ℕ)
+block_untouched : (n a k : ℕ) (bytes : ℕ → List ℕ) (old new : Ledger) (disk left : Disk) (vid block : ℕ) (held now : List ℕ)
     → Begins n vid bytes a k old disk new left → BlockIs n held (disk.items block)
     → (block < a) ⊎ (a + k ≤ block) → held ≡ now → BlockIs (n + 1) now (map (marked Acknowledged n) (left.items block))
 block_untouched n a k bytes old new disk left vid block held now begins is out same =
@@ -180,12 +185,12 @@ block_untouched n a k bytes old new disk left vid block held now begins is out s
     (block_later n (n + 1) held now (disk.items block) (omega arith) same is)
 
 -- and what a refusal leaves: what was there
-items_refused : (n a k : ℕ) (bytes : List ℕ) (old new : Ledger) (disk left : Disk) (vid block : ℕ) (held : List ℕ)
+items_refused : (n a k : ℕ) (bytes : ℕ → List ℕ) (old new : Ledger) (disk left : Disk) (vid block : ℕ) (held : List ℕ)
     → Begins n vid bytes a k old disk new left → BlockIs n held (disk.items block) → block < disk.blocks
     → filter (λ item. not (is_of n item)) (left.items block) ≡ disk.items block
 items_refused n a k bytes old new disk left vid block held begins is inside = elim (leb_tells a block) [
   | inl from ↦ elim (leb_tells (suc block) (a + k)) [
-    | inl to ↦ ap (filter (λ item. not (is_of n item))) (begins.here block from.1 (omega (arith, to.1)) inside) ∙ filter-open n (disk.items block) bytes (is.before n (omega arith))
+    | inl to ↦ ap (filter (λ item. not (is_of n item))) (begins.here block from.1 (omega (arith, to.1)) inside) ∙ filter-open n (disk.items block) (bytes block) (is.before n (omega arith))
     | inr behind ↦ ap (filter (λ item. not (is_of n item))) (begins.others block (inr (omega (arith, behind.1)))) ∙ filter-NoneOf n (disk.items block) (is.before n (omega arith))
   ]
   | inr out ↦ ap (filter (λ item. not (is_of n item))) (begins.others block (inl (omega (arith, out.1)))) ∙ filter-NoneOf n (disk.items block) (is.before n (omega arith))
@@ -203,9 +208,6 @@ later_kept n request old new others later req from =
 abbrev Continues : List Statement → Statement → Ledger → Type 0
 Continues before s ledger = (next : Ledger) × (ledger_from ledger (events_after before s) ≡ Some next) × Settled (before ++ s ∷ []) next
 
-length-block_of : (pattern : Pattern) → length (block_of pattern) ≡ 512
-length-block_of (Fill byte) = length-replicate {A = ℕ} 512 byte
-
 -- two lists of events, of which the first leads to a ledger
 ledger_through : (ledger next : Ledger) (before later : List HistEvent) → ledger_from ledger before ≡ Some next
     → ledger_from ledger (before ++ later) ≡ ledger_from next later
@@ -218,7 +220,7 @@ number_after-request before s request = ap (λ n. n + 1) (count_by-snoc before s
 -- a write that ends inside the disk, begun and acknowledged
 disk_acknowledged : (before : List Statement) (session offset count n vid size : ℕ) (pattern : Pattern) (ledger new : Ledger) (left : Disk)
     → (was : DiskIs n (size / 512) (block_after size before) ledger vid)
-    → Begins n vid (block_of pattern) (offset / 512) (count / 512) ledger was.disk new left → fits size offset count ≡ true
+    → Begins n vid (block_of pattern offset) (offset / 512) (count / 512) ledger was.disk new left → fits size offset count ≡ true
     → DiskIs (n + 1) (size / 512) (block_after size (before ++ Write session offset count pattern ∷ [])) (after new (events.WriteDone n)) vid
 disk_acknowledged before session offset count n vid size pattern ledger new left was begins inside = record {
   disk = record left { items = λ block. map (marked Acknowledged n) (left.items block) };
@@ -226,11 +228,11 @@ disk_acknowledged before session offset count n vid size pattern ledger new left
   count = begins.blocks ∙ was.count;
   live = begins.live ∙ was.live;
   each = λ block within. elim (covers_cases offset count block) [
-    | inl covered ↦ block_later (n + 1) (n + 1) (block_of pattern) (block_after size (before ++ Write session offset count pattern ∷ []) block)
+    | inl covered ↦ block_later (n + 1) (n + 1) (block_of pattern offset block) (block_after size (before ++ Write session offset count pattern ∷ []) block)
         (map (marked Acknowledged n) (left.items block)) (omega arith) (sym (block_written size before session offset count pattern block inside covered.0))
-        (block_acknowledged n (offset / 512) (count / 512) (block_of pattern) ledger new was.disk left vid block (block_after size before block) begins
+        (block_acknowledged n (offset / 512) (count / 512) (block_of pattern offset) ledger new was.disk left vid block (block_after size before block) begins
         (was.each block within) (rw was.count within) (covered.1, covered.2))
-    | inr out ↦ block_untouched n (offset / 512) (count / 512) (block_of pattern) ledger new was.disk left vid block (block_after size before block)
+    | inr out ↦ block_untouched n (offset / 512) (count / 512) (block_of pattern offset) ledger new was.disk left vid block (block_after size before block)
         (block_after size (before ++ Write session offset count pattern ∷ []) block) begins (was.each block within) out.1
         (sym (block_passed size before session offset count pattern block (rw (inside, out.0) refl)))
   ];
@@ -239,7 +241,7 @@ disk_acknowledged before session offset count n vid size pattern ledger new left
 -- one that doesn't, begun and refused
 disk_refused : (before : List Statement) (session offset count n vid size : ℕ) (pattern : Pattern) (ledger new : Ledger) (left : Disk)
     → (was : DiskIs n (size / 512) (block_after size before) ledger vid)
-    → Begins n vid (block_of pattern) (offset / 512) (count / 512) ledger was.disk new left → fits size offset count ≡ false
+    → Begins n vid (block_of pattern offset) (offset / 512) (count / 512) ledger was.disk new left → fits size offset count ≡ false
     → DiskIs (n + 1) (size / 512) (block_after size (before ++ Write session offset count pattern ∷ [])) (after new (events.WriteRefused n)) vid
 disk_refused before session offset count n vid size pattern ledger new left was begins outside = record {
   disk = record left { items = λ block. filter (λ item. not (is_of n item)) (left.items block) };
@@ -247,7 +249,7 @@ disk_refused before session offset count n vid size pattern ledger new left was 
   count = begins.blocks ∙ was.count;
   live = begins.live ∙ was.live;
   each = λ block within. subst (λ (items : List Item). BlockIs (n + 1) (block_after size (before ++ Write session offset count pattern ∷ []) block) items)
-      (sym (items_refused n (offset / 512) (count / 512) (block_of pattern) ledger new was.disk left vid block (block_after size before block) begins
+      (sym (items_refused n (offset / 512) (count / 512) (block_of pattern offset) ledger new was.disk left vid block (block_after size before block) begins
       (was.each block within) (rw was.count within)))
       (block_later n (n + 1) (block_after size before block) (block_after size (before ++ Write session offset count pattern ∷ []) block) (was.disk.items block)
       (omega arith) (sym (block_passed size before session offset count pattern block (rw outside refl))) (was.each block within));
@@ -284,7 +286,7 @@ write_continues before session offset count pattern ledger size least is settled
     vid = vid_after before
 
     starts : List HistEvent
-    starts = map (λ block. events.WriteStart n vid block false (block_of pattern)) (range_with_len (offset / 512) (count / 512))
+    starts = map (λ block. events.WriteStart n vid block false (block_of pattern offset block)) (range_with_len (offset / 512) (count / 512))
 
     was : DiskIs n (size / 512) (block_after size before) ledger vid
     was = settled.made size is
@@ -295,8 +297,8 @@ write_continues before session offset count pattern ledger size least is settled
     size_is : size_after before ≡ size
     size_is = ap (λ o. unwrap_or o 0) is
 
-    begun : (new : Ledger) × (left : Disk) × (ledger_from ledger starts ≡ Some new) × Begins n vid (block_of pattern) (offset / 512) (count / 512) ledger was.disk new left
-    begun = begins_ok n vid (block_of pattern) (count / 512) (offset / 512) ledger was.disk (length-block_of pattern) was.there
+    begun : (new : Ledger) × (left : Disk) × (ledger_from ledger starts ≡ Some new) × Begins n vid (block_of pattern offset) (offset / 512) (count / 512) ledger was.disk new left
+    begun = begins_ok n vid (block_of pattern offset) (count / 512) (offset / 512) ledger was.disk (length-block_of pattern offset) was.there
         (ap (λ (r : Request). r.ended) unbegun) (λ block from. rw unbegun refl)
 
     go : (inside : Bool) → fits size offset count ≡ inside → Continues before s ledger
@@ -406,6 +408,7 @@ continues before (Read session offset count) ledger may settled =
 continues before (Write session offset count pattern) ledger may settled =
     let made = some_of (disk_size before) may.1.made in
     write_continues before session offset count pattern ledger made.0 may.2.least made.1 settled
+continues before s ledger may settled = absurd may
 
 history_continues : (before statements : List Statement) (ledger : Ledger) → EachMayFollow before statements → Settled before ledger
     → IsSome (ledger_from ledger (along events_after before statements))

@@ -46,6 +46,7 @@ reply_is before disk s held = ap (λ size. reply_on size (bytes_at disk.blocks) 
         ap (λ bytes. if fits size offset length then codes " ok" ++ runs_text bytes else refused_text)
         (flat_map-same (bytes_at disk.blocks) (block_after (size_after before) before) (blocks_of offset length) held.blocks)
     by_kind size (Write session offset length pattern) = refl
+    by_kind size s = refl
 
 -- the disk is the one that the statements leave, and the lines are theirs
 pub record Told (before : List Statement) (disk : Disk) (lines : Lines) : Type 0 where

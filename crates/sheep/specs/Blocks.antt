@@ -1,12 +1,12 @@
 -- What the blocks of the one disk hold after the statements of a script.
-use Rattle.std.specs.Prelude.{ℕ, ◌+◌, ◌*◌, ◌/◌, Bool, ◌&&◌, List, fold, replicate, nat_le, nat_lt, Option, Some, None, unwrap_or, if◌then◌else◌}
+use Rattle.std.specs.Prelude.{ℕ, ◌+◌, ◌-◌, ◌*◌, ◌/◌, Bool, ◌&&◌, List, fold, replicate, nat_le, nat_lt, Option, Some, None, unwrap_or, if◌then◌else◌}
 use Rattle.std.specs.List.{range_with_len}
 use Rattle.cluster_script.specs.declared.limits.TheConstants.{BLOCK}
 use Rattle.cluster_script.specs.declared.statement.Pattern.{Pattern}
-use Rattle.cluster_script.specs.declared.statement.Pattern.TheVariants.{Fill}
 use Rattle.cluster_script.specs.declared.statement.Statement.{Statement}
-use Rattle.cluster_script.specs.declared.statement.Statement.TheVariants.{Cluster, Session, Create, OpenDisk, Close, Read, Write}
+use Rattle.cluster_script.specs.declared.statement.Statement.TheVariants.{Write}
 use Rattle.cluster_script.specs.Statements.{disk_size}
+use Rattle.cluster_script.specs.Asked.{byte_of}
 
 -- the size of the disk in bytes; 0 where none is made
 abbrev pub size_after : List Statement → ℕ
@@ -27,14 +27,14 @@ covers offset length block = nat_le (offset / BLOCK) block && nat_lt block (offs
 abbrev pub zeros : List ℕ
 zeros = replicate BLOCK 0
 
--- what a write with this pattern gives each of its blocks
-abbrev pub block_of : Pattern → List ℕ
-block_of (Fill byte) = replicate BLOCK byte
+-- what a write with this pattern from an offset on gives a block
+unfoldable pub block_of : Pattern → ℕ → ℕ → List ℕ
+block_of pattern offset block = replicate BLOCK (byte_of pattern (block - offset / BLOCK))
 
 -- what a statement lays on a block of a disk of this size: a write does, where it ends inside the disk and covers the block
 abbrev pub laid_on : ℕ → ℕ → Statement → Option (List ℕ)
 laid_on size block (Write session offset length pattern) =
-    if fits size offset length && covers offset length block then Some (block_of pattern) else None
+    if fits size offset length && covers offset length block then Some (block_of pattern offset block) else None
 laid_on size block s = None
 
 -- the bytes of a block: what the last statement that lays any laid on it, or else zeros

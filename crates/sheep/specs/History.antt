@@ -3,7 +3,7 @@ use Rattle.std.specs.Prelude.{ℕ, ◌+◌, ◌/◌, ◌%◌, ◌^◌, ◌==◌,
 use Rattle.object_id.specs.Hash.{fnv1a_of}
 use Rattle.cluster_script.specs.declared.limits.TheConstants.{BLOCK}
 use Rattle.cluster_script.specs.declared.statement.Statement.{Statement}
-use Rattle.cluster_script.specs.declared.statement.Statement.TheVariants.{Cluster, Session, Create, OpenDisk, Close, Read, Write}
+use Rattle.cluster_script.specs.declared.statement.Statement.TheVariants.{Create, Read, Write}
 use Rattle.cluster_script.specs.Statements.{disk_name}
 use Rattle.disk_history.specs.declared.event.HistEvent.{HistEvent}
 use Rattle.disk_history.specs.declared.event.HistEvent.TheVariants as events
@@ -21,18 +21,15 @@ vid_after before = first_vid (unwrap_or (disk_name before) [])
 
 -- what a statement adds to the history: a disk, the writes and the end of a write request, or the blocks of a read
 abbrev pub events_after : List Statement → Statement → List HistEvent
-events_after before (Cluster nodes) = []
-events_after before (Session session node) = []
 events_after before (Create session policy shift name size) = events.Create (first_vid name) (size / BLOCK) ∷ []
-events_after before (OpenDisk session name tag) = []
-events_after before (Close session) = []
 events_after before (Read session offset length) =
     if fits (size_after before) offset length
     then map (λ block. events.Read (vid_after before) block (block_after (size_after before) before block)) (blocks_of offset length)
     else []
 events_after before (Write session offset length pattern) =
-    map (λ block. events.WriteStart (number_after before) (vid_after before) block false (block_of pattern)) (blocks_of offset length)
+    map (λ block. events.WriteStart (number_after before) (vid_after before) block false (block_of pattern offset block)) (blocks_of offset length)
     ++ (if fits (size_after before) offset length then events.WriteDone (number_after before) else events.WriteRefused (number_after before)) ∷ []
+events_after before s = []
 
 -- the history of a script's run
 abbrev pub history_of : List Statement → List HistEvent

@@ -1,7 +1,7 @@
 -- The text of a script's run: a line for each request.
 use Rattle.std.specs.Prelude.{ℕ, ◌+◌, ◌/◌, ◌%◌, List, [], ◌∷◌, ◌++◌, flat_map, codes, decimal, slice_index, count_by, if◌then◌else◌}
 use Rattle.cluster_script.specs.declared.statement.Statement.{Statement}
-use Rattle.cluster_script.specs.declared.statement.Statement.TheVariants.{Cluster, Session, Create, OpenDisk, Close, Read, Write}
+use Rattle.cluster_script.specs.declared.statement.Statement.TheVariants.{Create, OpenDisk, Close, Read, Write}
 use Rattle.cluster_script.specs.Statements.{is_request}
 use Rattle.sheep.specs.Blocks.{size_after, fits, blocks_of, block_after}
 use Rattle.sheep.specs.Runs.{runs_of}
@@ -31,14 +31,13 @@ refused_text = codes " refused 05 INVALID_PARMS"
 
 -- What the line of a request says, on a disk of this size whose blocks hold these bytes. A piece must end inside the disk.
 abbrev pub reply_on : ℕ → (ℕ → List ℕ) → Statement → List ℕ
-reply_on size held (Cluster nodes) = []
-reply_on size held (Session session node) = []
 reply_on size held (Create session policy shift name bytes) = codes " ok"
 reply_on size held (OpenDisk session name tag) = codes " ok"
 reply_on size held (Close session) = codes " ok"
 reply_on size held (Read session offset length) =
     if fits size offset length then codes " ok" ++ runs_text (flat_map held (blocks_of offset length)) else refused_text
 reply_on size held (Write session offset length pattern) = if fits size offset length then codes " ok" else refused_text
+reply_on size held s = []
 
 -- what it says after the statements before it
 abbrev pub reply_after : List Statement → Statement → List ℕ

@@ -1,4 +1,5 @@
-ghost use Rattle.std.specs.Prelude.{◌≡◌, ℕ, ◌+◌, ◌^◌, ◌<◌, [], ◌++◌, ◌&&◌, codes, flat_map, replicate, unwrap_or, IfOk, OnOk, if◌then◌else◌};
+ghost use Rattle.std.specs.Prelude.{◌≡◌, ℕ, ◌+◌, ◌^◌, ◌<◌, [], ◌++◌, ◌&&◌, codes, flat_map, unwrap_or, IfOk, OnOk, if◌then◌else◌};
+ghost use Rattle.cluster_script.specs.Asked.{byte_of};
 ghost use Rattle.sheep.specs.Blocks.{fits, covers, blocks_of, block_of, laid_on};
 ghost use Rattle.sheep.specs.Report.{reply_on, refused_text, runs_text};
 ghost use Rattle.sheep.specs.Stored.{bytes_at, size_next, Holds};
@@ -34,20 +35,32 @@ fn ends_inside(size: u64, offset: u64, length: u32) -> bool
     offset <= size && u64::from(length) <= size - offset
 }
 
-/// Fills each block of a piece with a byte.
+/// The byte that a block of what is written is full of, from 0.
+fn byte_of(pattern: Pattern, block: u64) -> u8
+    requires { block + 256 < 2 ^ 64 }
+    ensures { result ≡ byte_of pattern block }
+{
+    match pattern {
+        Pattern::Fill(byte) => byte,
+        Pattern::Step(byte) => ((u64::from(byte) + block) % 256) as u8,
+    }
+}
+
+/// Fills the blocks of a piece.
 fn fill(
     alloc: Global,
     blocks: &mut Blocks,
     offset: u64,
     length: u32,
-    byte: u8,
+    pattern: Pattern,
 ) -> Result<(), NoMemory>
     requires { offset + length < 2 ^ 64 }
     ensures { OnOk result ((block : ℕ) → bytes_at blocks.new block
-        ≡ (if covers offset length block then replicate 512 byte else bytes_at blocks.old block)) }
+        ≡ (if covers offset length block then block_of pattern offset block else bytes_at blocks.old block)) }
 {
     let first = offset / BLOCK_BYTES;
     for block in first..first + u64::from(length) / BLOCK_BYTES {
+        let byte = byte_of(pattern, block - first);
         blocks.insert(block, Bytes::from_slice(alloc, &[byte; 512])?)?;
     }
     Ok(())
@@ -107,11 +120,6 @@ impl Disk {
         ensures { IfOk result (λ reply. reply.items ≡ reply_on self.now.size (bytes_at self.now.blocks) statement.now) }
     {
         match statement {
-            Statement::Cluster { nodes: _ }
-            | Statement::Session {
-                session: _,
-                node: _,
-            } => Ok(Vec::new(alloc)),
             Statement::Create {
                 session: _,
                 policy: _,
@@ -143,6 +151,7 @@ impl Disk {
                 };
                 Ok(Vec::from_slice(alloc, text)?)
             }
+            _ => Ok(Vec::new(alloc)),
         }
     }
 
@@ -156,13 +165,12 @@ impl Disk {
     ) -> Result<(), NoMemory>
         ensures size { OnOk result (self.new.size ≡ self.old.size) }
         ensures blocks { OnOk result ((block : ℕ) → bytes_at self.new.blocks block
-            ≡ (if fits self.old.size offset length && covers offset length block then block_of pattern else bytes_at self.old.blocks block)) }
+            ≡ (if fits self.old.size offset length && covers offset length block then block_of pattern offset block else bytes_at self.old.blocks block)) }
     {
         if !ends_inside(self.size, offset, length) {
             return Ok(());
         }
-        let Pattern::Fill(byte) = pattern;
-        fill(alloc, &mut self.blocks, offset, length, byte)
+        fill(alloc, &mut self.blocks, offset, length, pattern)
     }
 
     /// Makes what a statement asks for.

@@ -21,12 +21,15 @@ fn is_request(statement: &Statement) -> bool
     ensures { result ≡ is_request statement.now }
 {
     match statement {
-        Statement::Cluster { nodes: _ }
-        | Statement::Session {
-            session: _,
-            node: _,
-        } => false,
-        _ => true,
+        Statement::Create { .. }
+        | Statement::OpenDisk { .. }
+        | Statement::Close { .. }
+        | Statement::Read { .. }
+        | Statement::Write { .. }
+        | Statement::Snapshot { .. }
+        | Statement::Clone { .. }
+        | Statement::Delete { .. } => true,
+        _ => false,
     }
 }
 

@@ -1,1 +1,11 @@
 pub mod State
+pub mod Shown
+pub mod Turn
+pub mod Same
+pub mod Works
+pub mod Courses
+pub mod Waiting
+pub mod Guests
+pub mod Reading
+pub mod Step
+pub mod May

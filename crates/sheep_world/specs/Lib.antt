@@ -1,1 +1,15 @@
 pub mod World
+pub mod Opening
+pub mod Conditions
+pub mod Asking
+pub mod Stepped
+pub mod Effects
+pub mod Messages
+pub mod Changes
+pub mod Grown
+pub mod Granted
+pub mod Step
+pub mod Run
+pub mod Enabled
+pub mod Lives
+pub mod Wired

@@ -4,6 +4,8 @@
 //! (`specs/World.antt`).
 #![tactic(auto)]
 
+mod fault;
 mod name;
 
+pub use fault::ApplyFault;
 pub use name::MessageName;

@@ -1,5 +1,5 @@
 use Rattle.std.proofs.Common.{◌≡◌, take}
-use Rattle.peer_proto.proofs.replies.ReplyList.copy.Given as goal
+use Rattle.sheep_node.proofs.replies.ReplyList.copy.Given as goal
 
-abbrev pub invariant-loop-send : goal.invariant-loop-send
-invariant-loop-send l = l.copy ≡ take l.reply-index l.reply-items
+abbrev pub invariant-loop-reply : goal.invariant-loop-reply
+invariant-loop-reply l = l.copy ≡ take l.reply-index l.reply-items

@@ -1,0 +1,54 @@
+-- Going to the next epoch, and settling one.
+use Rattle.std.specs.Prelude.{◌≡◌, ℕ, ◌+◌, ◌==◌, Bool, true, false, List, map, Option, None, Some, if◌then◌else◌}
+use Rattle.std.specs.List.{position, AllByRecursion}
+use Rattle.std.specs.Option.{option_map}
+use Rattle.object_id.specs.declared.node.NodeId.{NodeId}
+use Rattle.object_id.specs.declared.policy.Policy.{Policy}
+use Rattle.object_id.specs.declared.oid.Kind.{Kind}
+use Rattle.object_id.specs.Oid.{kind_of}
+use Rattle.strip_coding.specs.Part.{index_at}
+use Rattle.object_list.specs.Gathered.{is_node}
+use Rattle.object_store.specs.declared.key.Key.{Key}
+use Rattle.object_store.specs.Rows.{is_open, is_kept, closed, purged}
+use Rattle.object_store.specs.Store.{SeenRow, rows_of, each}
+use Rattle.peer_service.specs.State.{Peer, policy_of}
+
+-- the index under which a node keeps its part of an object, if it is among the object's targets
+abbrev pub index_among : NodeId → List NodeId → Policy → Kind → Option ℕ
+index_among node targets policy kind = option_map (index_at policy kind) (position (is_node node) targets)
+
+-- whether this is the index
+abbrev pub is_index : ℕ → Option ℕ → Bool
+is_index index None = false
+is_index index (Some own) = own == index
+
+-- whether the targets of an object of this policy in an epoch have the node at the index; an object that isn't known has none
+abbrev pub has_at : NodeId → (ℕ → ℕ → Policy → List NodeId) → ℕ → ℕ → ℕ → Option Policy → Bool
+has_at me targets epoch oid index None = false
+has_at me targets epoch oid index (Some policy) = is_index index (index_among me (targets epoch oid policy) policy (kind_of oid))
+
+-- whether an open row of an object and an index stays open in the next epoch
+abbrev pub stays_open : NodeId → (ℕ → ℕ → Policy → List NodeId) → Peer → ℕ → ℕ → Bool
+stays_open me targets peer oid index = has_at me targets (peer.epoch + 1) oid index (policy_of peer oid)
+
+-- a row in the next epoch: it stays open, or ends with the epoch before
+abbrev pub row_entering : NodeId → (ℕ → ℕ → Policy → List NodeId) → Peer → ℕ → SeenRow → SeenRow
+row_entering me targets peer oid row = if stays_open me targets peer oid row.index then row else closed peer.epoch row
+
+-- an object's rows in the next epoch
+abbrev pub rows_entering : NodeId → (ℕ → ℕ → Policy → List NodeId) → Peer → ℕ → List SeenRow → List SeenRow
+rows_entering me targets peer oid rows = map (row_entering me targets peer oid) rows
+
+-- the peer goes to the next epoch; no row is dropped
+unfoldable pub entered : NodeId → (ℕ → ℕ → Policy → List NodeId) → Peer → Peer
+entered me targets peer = record peer { epoch = peer.epoch + 1; rows = each (rows_entering me targets peer) peer.rows }
+
+-- the keys are those of the open rows that stay open
+abbrev pub AreKept : List Key → NodeId → (ℕ → ℕ → Policy → List NodeId) → Peer → Type 0
+AreKept keeps me targets peer = (oid : ℕ)
+    → AllByRecursion (λ (row : SeenRow). is_open row ≡ true → is_kept keeps oid row.index ≡ stays_open me targets peer oid row.index)
+    (rows_of peer.rows oid)
+
+-- an epoch is settled: the closed rows that ended below it are dropped
+unfoldable pub settled_to : ℕ → Peer → Peer
+settled_to settled peer = record peer { settled = settled; rows = each (λ oid. purged settled) peer.rows }

@@ -1,0 +1,7 @@
+pub mod State
+pub mod Pending
+pub mod Fence
+pub mod Serve
+pub mod Epochs
+pub mod Reading
+pub mod Back

@@ -1,0 +1,98 @@
+-- The answer to a peer's request, and what it leaves.
+use Rattle.std.specs.Prelude.{ℕ, ◌+◌, ◌≤◌, Bool, true, nat_le, List, length, Option, None, Some, Result, Ok, Err, if◌then◌else◌}
+use Rattle.std.specs.FinMap as tree
+use Rattle.object_store.specs.declared.fault.StoreFault.{StoreFault}
+use Rattle.object_store.specs.declared.row.RowCopy.{RowCopy}
+use Rattle.object_store.specs.Store.{AllRows, SeenRow, open_row, read_at, write_at, copy_at}
+use Rattle.peer_proto.specs.declared.ask.PeerAsk.{PeerAsk}
+use Rattle.peer_proto.specs.declared.ask.PeerAsk.TheVariants as asks
+use Rattle.peer_proto.specs.declared.ask.PeerReq.{PeerReq}
+use Rattle.peer_proto.specs.declared.say.Refusal.{Refusal}
+use Rattle.peer_proto.specs.declared.say.Refusal.TheVariants as refusals
+use Rattle.peer_proto.specs.declared.say.PeerSay.{PeerSay}
+use Rattle.peer_proto.specs.declared.say.PeerSay.TheVariants as says
+use Rattle.peer_proto.specs.declared.say.PeerRsp.{PeerRsp}
+use Rattle.peer_service.specs.State.{Peer, is_waiting}
+use Rattle.peer_service.specs.Pending.{row_made}
+use Rattle.peer_service.specs.Fence.{refusal_at}
+
+-- what a request leaves of the peer, and what the peer says to it
+pub record Served : Type 0 where
+  pub peer : Peer
+  pub say : PeerSay
+
+-- a request is refused, and changes nothing
+abbrev pub refused : Refusal → Peer → Served
+refused refusal peer = record { peer = peer; say = says.Refused refusal }
+
+-- a request is answered from what is there, and changes nothing
+abbrev pub told : PeerSay → Peer → Served
+told say peer = record { peer = peer; say = say }
+
+-- what a read gives; without an open row of its index it is refused
+abbrev pub piece_or_refusal : Result (List ℕ) StoreFault → PeerSay
+piece_or_refusal (Ok piece) = says.Piece piece
+piece_or_refusal (Err fault) = says.Refused refusals.NoObj
+
+-- a write leaves these rows; without an open row of its index it is refused
+abbrev pub written : Result AllRows StoreFault → Peer → Served
+written (Ok rows) peer = record { peer = record peer { rows = rows }; say = says.Success }
+written (Err fault) peer = refused refusals.NoObj peer
+
+-- a row that holds the level, or that there is none
+abbrev pub row_or_none : Option RowCopy → PeerSay
+row_or_none None = says.NoRow
+row_or_none (Some row) = says.Row row
+
+-- reads and writes are refused while their object is waited for
+abbrev pub if_recovered : Bool → Peer → Served → Served
+if_recovered waiting peer answer = if waiting then refused refusals.Recovery peer else answer
+
+-- what a request of the node's own epoch leaves, and what is said to it
+unfoldable pub answered : PeerAsk → Peer → Served
+answered (asks.Create key size offset bytes) peer = record { peer = row_made key size offset bytes peer; say = says.Success }
+answered (asks.Write key offset bytes) peer =
+    if_recovered (is_waiting peer key.oid) peer (written (write_at peer.rows key offset bytes) peer)
+answered (asks.Read key offset size) peer =
+    if_recovered (is_waiting peer key.oid) peer (told (piece_or_refusal (read_at peer.rows key offset size)) peer)
+answered asks.List peer = told (says.Objects (tree.keys peer.rows)) peer
+answered (asks.RecoverRead oid level) peer = told (row_or_none (copy_at peer.rows oid level.0)) peer
+
+-- a request that the fence refuses is asked no further
+abbrev pub fenced : Option Refusal → PeerAsk → Peer → Served
+fenced None ask peer = answered ask peer
+fenced (Some refusal) ask peer = refused refusal peer
+
+-- a request is served: first by its epoch, then by what it asks
+unfoldable pub served : Peer → PeerReq → Served
+served peer request = fenced (refusal_at peer.epoch request.epoch.0) request.ask peer
+
+-- the reply has the request's number and the node's epoch
+abbrev pub reply_to : Peer → PeerReq → PeerRsp
+reply_to peer request =
+    record { number = request.number; epoch = record { 0 = peer.epoch }; say = (served peer request).say }
+
+-- a piece ends inside an open row, where there is one
+abbrev pub EndsInside : ℕ → Option SeenRow → Type 0
+EndsInside end None = Unit {0}
+EndsInside end (Some row) = end ≤ length row.bytes
+
+-- what a request must meet: a created row holds its piece, and a read or written piece ends inside the open row of its key
+abbrev pub MayServe : Peer → PeerAsk → Type 0
+MayServe peer (asks.Create key size offset bytes) = offset + length bytes ≤ size
+MayServe peer (asks.Write key offset bytes) = EndsInside (offset + length bytes) (open_row peer.rows key)
+MayServe peer (asks.Read key offset size) = EndsInside (offset + size) (open_row peer.rows key)
+MayServe peer asks.List = Unit {0}
+MayServe peer (asks.RecoverRead oid level) = Unit {0}
+
+-- the same as tests
+abbrev pub ends_inside : ℕ → Option SeenRow → Bool
+ends_inside end None = true
+ends_inside end (Some row) = nat_le end (length row.bytes)
+
+abbrev pub may_serve : Peer → PeerAsk → Bool
+may_serve peer (asks.Create key size offset bytes) = nat_le (offset + length bytes) size
+may_serve peer (asks.Write key offset bytes) = ends_inside (offset + length bytes) (open_row peer.rows key)
+may_serve peer (asks.Read key offset size) = ends_inside (offset + size) (open_row peer.rows key)
+may_serve peer asks.List = true
+may_serve peer (asks.RecoverRead oid level) = true

@@ -1,0 +1,75 @@
+-- A guest's request comes: it is refused on the spot, or waits for its turn and begins.
+use Rattle.std.specs.Prelude.{ℕ, Bool, false, List, ◌∷◌, [], ◌++◌, Option, Some, None, if◌then◌else◌}
+use Rattle.std.specs.Option.{option_map}
+use Rattle.object_id.specs.declared.cause.Cause.{Cause}
+use Rattle.inode.specs.Layout.{Content}
+use Rattle.peer_proto.specs.declared.guest.DiskAsk.{DiskAsk}
+use Rattle.peer_proto.specs.declared.guest.VdiAsk.{VdiAsk}
+use Rattle.peer_proto.specs.declared.guest.GuestRsp.TheVariants.{Refused}
+use Rattle.vdi_directory.specs.States.{state_of}
+use Rattle.vdi_directory.specs.Dead.{is_gone}
+use Rattle.peer_service.specs.State.{Peer, effects_of}
+use Rattle.gateway_queue.specs.declared.queue.Queued.{Queued}
+use Rattle.guest_driver.specs.declared.disk.Disk.{Disk}
+use Rattle.guest_driver.specs.Pieces.{offset_of, size_of, first_index, last_index}
+use Rattle.guest_driver.specs.Refusals as disk_refusals
+use Rattle.vdi_ops.specs.Entries as entries
+use Rattle.vdi_ops.specs.Op as ops
+use Rattle.vdi_ops.specs.Steps.{begin}
+use Rattle.sheep_node.specs.declared.ask.Ask.{Ask}
+use Rattle.sheep_node.specs.declared.ask.Ask.TheVariants as asks
+use Rattle.sheep_node.specs.State.{Waiting}
+use Rattle.sheep_node.specs.Turn.{Turn, replied, session_in, with_session, with_course}
+use Rattle.sheep_node.specs.Courses.{command_went_on}
+use Rattle.sheep_node.specs.Waiting.{course_begun}
+
+-- whether a session's disk is deleted, by the entries that the node has read
+abbrev pub is_deleted : Peer → Option Disk → Bool
+is_deleted peer None = false
+is_deleted peer (Some disk) = is_gone (state_of (effects_of peer) disk.inode.vid)
+
+-- whether what a session has open is a snapshot, if it has a disk open
+abbrev pub snapshot_open : Option Disk → Option Bool
+snapshot_open disk = option_map (λ (disk : Disk). disk.snapshot) disk
+
+-- the inode of what it has open
+abbrev pub inode_open : Option Disk → Option Content
+inode_open disk = option_map (λ (disk : Disk). disk.inode) disk
+
+-- why a request is refused on the spot
+abbrev pub refusal : Peer → Option Disk → Ask → Option Cause
+refusal peer disk (asks.Disk ask) = disk_refusals.refusal disk (is_deleted peer disk) ask
+refusal peer disk (asks.Vdi ask) = entries.refusal (snapshot_open disk) ask
+
+-- a read or write among the session's: the first and the last object that it touches; objects have 2^shift bytes
+abbrev pub queued_as : ℕ → ℕ → DiskAsk → Queued
+queued_as shift req ask = record {
+  req = req;
+  first = first_index shift (offset_of ask);
+  last = last_index shift (offset_of ask) (size_of ask);
+}
+
+-- a read or write stands behind the session's others
+abbrev pub pushed : ℕ → ℕ → DiskAsk → Option Disk → Turn → Turn
+pushed number req ask None turn = turn
+pushed number req ask (Some disk) turn = with_session
+    number
+    (record (session_in number turn) { queue = (session_in number turn).queue ++ queued_as disk.inode.spec.shift req ask ∷ [] })
+    turn
+
+-- a request that isn't refused: a read or write begins, if it may run; a command begins with its entry in the outbox
+abbrev pub taken : ℕ → ℕ → Ask → Turn → Turn
+taken number req (asks.Disk ask) turn =
+    course_begun number req (Waiting ask)
+    (pushed number req ask (session_in number turn).disk (with_course number req (Waiting ask) turn))
+taken number req (asks.Vdi ask) turn =
+    command_went_on number req ask (begin turn.node.me number ask (inode_open (session_in number turn).disk)) turn
+
+abbrev pub taken_unless : Option Cause → ℕ → ℕ → Ask → Turn → Turn
+taken_unless None number req ask turn = taken number req ask turn
+taken_unless (Some cause) number req ask turn = replied req (Refused cause) turn
+
+-- a guest's request comes
+unfoldable pub guest_asked : ℕ → ℕ → Ask → Turn → Turn
+guest_asked req number ask turn =
+    taken_unless (refusal turn.node.peer (session_in number turn).disk ask) number req ask turn

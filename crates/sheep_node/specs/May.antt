@@ -1,0 +1,132 @@
+-- When a node may step on an input.
+use Rattle.std.specs.Prelude.{◌≡◌, ℕ, ◌-◌, ◌^◌, ◌<◌, ◌≤◌, ◌==◌, nat_lt, nat_le, Bool, true, false, not, ◌&&◌, ◌||◌, IsTrue, List, [], ◌∷◌, ◌++◌, length, map, filter}
+use Rattle.std.specs.List.{list_all}
+use Rattle.std.specs.FinMap as tree
+use Rattle.object_id.specs.declared.entry.Entry.{Entry}
+use Rattle.object_id.specs.declared.entry.Entry.TheVariants.{Format}
+use Rattle.epoch_log.specs.Members as members
+use Rattle.epoch_log.specs.Epochs.{epoch_of, members_in}
+use Rattle.epoch_log.specs.Appending.{MayAppend, MayOpen}
+use Rattle.peer_service.specs.Serve.{MayServe}
+use Rattle.gateway.specs.State as gateways
+use Rattle.recovery.specs.State as recoveries
+use Rattle.recovery.specs.Fits as recovery_fits
+use Rattle.guest_driver.specs.Pieces.{is_ask}
+use Rattle.vdi_ops.specs.Entries.{IsAsk}
+use Rattle.sheep_node.specs.declared.ask.Ask.{Ask}
+use Rattle.sheep_node.specs.declared.ask.Ask.TheVariants as asks
+use Rattle.sheep_node.specs.declared.input.Input.{Input}
+use Rattle.sheep_node.specs.declared.input.Input.TheVariants as inputs
+use Rattle.peer_proto.specs.declared.say.PeerRsp.{PeerRsp}
+use Rattle.sheep_node.specs.State.{Course, Waiting, Driving, Commanding, Request, Node}
+use Rattle.sheep_node.specs.Shown.{state_of}
+use Rattle.sheep_node.specs.Reading.{is_member}
+
+-- whether the node has numbers left for the sends of a step
+abbrev pub has_numbers : Node → Bool
+has_numbers node = nat_le node.sends (2 ^ 32 - 1024)
+
+-- whether it has an entry to put
+abbrev pub may_put : Node → Bool
+may_put node = not (length node.outbox == 0)
+
+-- whether its recovery has work for a tick
+abbrev pub may_tick : Node → Bool
+may_tick node = recoveries.can_tick (state_of node)
+
+-- whether a work of its gateway may be tried again
+abbrev pub may_retry : Node → Bool
+may_retry node = gateways.can_retry (record { 0 = node.peer.epoch }) node.gateway
+
+-- whether it has read so many entries of the log
+abbrev pub has_read : ℕ → Node → Bool
+has_read count node = nat_le count (length node.peer.entries)
+
+-- whether a message of this number was sent, and is unanswered
+abbrev pub waits_for : ℕ → Node → Bool
+waits_for number node = gateways.waits_for number node.gateway || recoveries.waits_for number node.recovery
+
+-- whether a reply answers such a message, and fits what that asked
+abbrev pub fits : PeerRsp → Node → Bool
+fits rsp node = gateways.fits rsp node.gateway || recovery_fits.fits rsp (state_of node)
+
+-- a session's requests without reply
+abbrev pub requests_of : ℕ → Node → List Request
+requests_of session node =
+    filter (λ (request : Request). request.session == session) (tree.values node.requests)
+
+-- whether a request is a read or write
+abbrev pub is_on_disk : Course → Bool
+is_on_disk (Waiting ask) = true
+is_on_disk (Driving driver) = true
+is_on_disk (Commanding ask op) = false
+
+abbrev pub asks_disk : Ask → Bool
+asks_disk (asks.Disk ask) = true
+asks_disk (asks.Vdi ask) = false
+
+-- whether these and the next one are all reads and writes
+abbrev pub are_on_disk : List Request → Ask → Bool
+are_on_disk requests ask = asks_disk ask && list_all (λ (request : Request). is_on_disk request.course) requests
+
+-- whether there is room for one more beside these: fewer than 16, and all reads and writes with it, or none
+abbrev pub is_room : List Request → Ask → Bool
+is_room requests ask = nat_lt (length requests) 16 && (length requests == 0 || are_on_disk requests ask)
+
+-- whether the session has room for a request
+abbrev pub may_ask : ℕ → Ask → Node → Bool
+may_ask session ask node = is_room (requests_of session node) ask
+
+-- what is asked is as it may be: whole blocks and one at least, and names, tags and specs that may be such
+abbrev pub IsGuestAsk : Ask → Type 0
+IsGuestAsk (asks.Disk ask) = IsTrue (is_ask ask)
+IsGuestAsk (asks.Vdi ask) = IsAsk ask
+
+-- what a guest's request must meet
+pub record MayGuest (req session : ℕ) (ask : Ask) (node : Node) : Type 0 where
+  pub room : IsTrue (may_ask session ask node)
+  pub number : IsTrue (not (tree.contains_key node.requests req))
+  pub member : IsTrue (is_member node)
+  pub asked : IsGuestAsk ask
+
+-- which entry may be the first
+abbrev pub MayBeFirst : Entry → Type 0
+MayBeFirst (Format opening) = MayOpen opening
+MayBeFirst _ = ⊥
+
+-- which entry may be read after these
+abbrev pub MayRead : List Entry → Entry → Type 0
+MayRead [] entry = MayBeFirst entry
+MayRead (first ∷ later) entry = MayAppend (first ∷ later) entry
+
+-- which entries may be read after these, one after the other
+abbrev pub MayReadAll : List Entry → List Entry → Type 0
+MayReadAll before [] = Unit {0}
+MayReadAll before (entry ∷ later) = MayRead before entry × MayReadAll (before ++ entry ∷ []) later
+
+-- what the log must meet with which a lost node comes back: it goes on behind what the node has read, and its last epoch is
+-- above 1 and the node's, and has the node as a member
+pub record MayComeBack (entries : List Entry) (node : Node) : Type 0 where
+  pub later : List Entry
+  pub goes_on : entries ≡ node.peer.entries ++ later
+  pub read : MayReadAll node.peer.entries later
+  pub above_1 : 1 < epoch_of entries
+  pub above_own : node.peer.epoch < epoch_of entries
+  pub member : IsTrue (members.is_member node.me.0 (members_in entries (epoch_of entries)))
+
+-- what an input must meet
+abbrev pub Meets : Input → Node → Type 0
+Meets (inputs.Guest req session ask) node = MayGuest req session ask node
+Meets (inputs.Request request) node = MayServe node.peer request.ask
+Meets (inputs.Reply rsp) node = IsTrue (fits rsp node)
+Meets (inputs.Lost number) node = IsTrue (waits_for number node)
+Meets (inputs.LogEntry entry) node = MayRead node.peer.entries entry
+Meets inputs.Put node = IsTrue (may_put node)
+Meets inputs.RecoverTick node = IsTrue (may_tick node)
+Meets inputs.RetryTick node = IsTrue (may_retry node)
+Meets (inputs.Back entries) node = MayComeBack entries node
+
+-- a node may step where it has numbers left, and the input meets its condition
+pub record May (input : Input) (node : Node) : Type 0 where
+  pub numbers : IsTrue (has_numbers node)
+  pub condition : Meets input node

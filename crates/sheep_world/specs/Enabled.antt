@@ -1,0 +1,67 @@
+-- The events that may happen in a world, in the order in which a schedule draws them.
+use Rattle.std.specs.Prelude.{ℕ, Bool, List, [], ◌∷◌, ◌++◌, map, flat_map, filter}
+use Rattle.std.specs.Option.{option_map_or}
+use Rattle.std.specs.FinMap as tree
+use Rattle.cluster_script.specs.declared.statement.Statement.{Statement}
+use Rattle.cluster_script.specs.declared.statement.Statement.TheVariants as lines
+use Rattle.cluster_script.specs.Sessions.{Session, sessions_of}
+use Rattle.sheep_node.specs.declared.event.Event.{Event}
+use Rattle.sheep_node.specs.declared.event.Event.TheVariants as events
+use Rattle.sheep_world.specs.declared.name.MessageName.{MessageName}
+use Rattle.sheep_world.specs.World.{Letter, Request, Reply, World, next_control}
+use Rattle.sheep_world.specs.Conditions.{may_guest, may_deliver, may_lose_request, may_lose_reply, may_read, may_put, may_recover, may_retry, may_lose_node, may_leave, may_join, may_reweight, may_come_back, may_end_phase}
+
+-- whether an event may happen
+unfoldable pub is_enabled : List Statement → World → Event → Bool
+is_enabled statements world (events.Guest session) = may_guest statements session world
+is_enabled statements world (events.Deliver node number) = may_deliver (record { sender = node; number = number }) world
+is_enabled statements world (events.LoseRequest node number) = may_lose_request (record { sender = node; number = number }) world
+is_enabled statements world (events.LoseReply node number) = may_lose_reply (record { sender = node; number = number }) world
+is_enabled statements world (events.LogNext node) = may_read node.0 world
+is_enabled statements world (events.Put node) = may_put node.0 world
+is_enabled statements world (events.RecoverTick node) = may_recover node.0 world
+is_enabled statements world (events.RetryTick node) = may_retry node.0 world
+is_enabled statements world (events.Lost node) = may_lose_node node.0 world
+is_enabled statements world (events.Leave node) = may_leave node.0 world
+is_enabled statements world (events.Join node) = may_join node.0 world
+is_enabled statements world (events.Reweight node) = may_reweight node.0 world
+is_enabled statements world (events.Back node) = may_come_back node.0 world
+is_enabled statements world events.Phase = may_end_phase statements world
+
+-- each session's request, by session
+abbrev pub guest_events : List Statement → List Event
+guest_events statements = map (λ (session : Session). events.Guest session.number) (sessions_of statements)
+
+-- the loss of a message, by what it is
+abbrev pub loss_of : MessageName → Letter → Event
+loss_of name (Request to bytes) = events.LoseRequest name.sender name.number
+loss_of name (Reply from bytes) = events.LoseReply name.sender name.number
+
+-- a message is delivered, or lost
+abbrev pub message_events : MessageName × Letter → List Event
+message_events found = events.Deliver found.0.sender found.0.number ∷ loss_of found.0 found.1 ∷ []
+
+-- what a node may do, and that it leaves
+abbrev pub node_events : ℕ → List Event
+node_events node =
+    events.LogNext (record { 0 = node }) ∷ events.Put (record { 0 = node }) ∷ events.RecoverTick (record { 0 = node })
+    ∷ events.RetryTick (record { 0 = node }) ∷ events.Leave (record { 0 = node }) ∷ []
+
+-- the event that a control makes
+abbrev pub control_event : Statement → List Event
+control_event (lines.Fail node) = events.Lost (record { 0 = node }) ∷ []
+control_event (lines.Join node) = events.Join (record { 0 = node }) ∷ []
+control_event (lines.Reweight node vnodes) = events.Reweight (record { 0 = node }) ∷ []
+control_event (lines.Back node) = events.Back (record { 0 = node }) ∷ []
+control_event s = []
+
+-- the events that are looked at: of each session; then of each message, by sender and number; then of each node, by number;
+-- then of the next control. Phase isn't among them
+abbrev pub looked_at : List Statement → World → List Event
+looked_at statements world =
+    guest_events statements ++ flat_map message_events (tree.entries world.wire)
+    ++ flat_map node_events (tree.keys world.seats) ++ option_map_or control_event (next_control world) []
+
+-- those of them that may happen, in this order
+unfoldable pub enabled : List Statement → World → List Event
+enabled statements world = filter (is_enabled statements world) (looked_at statements world)
