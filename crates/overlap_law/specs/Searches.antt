@@ -1,0 +1,169 @@
+-- Recoveries: what was told to them, what they have found, and that what they passed by isn't there.
+use Rattle.std.specs.Prelude.{◌≡◌, ◌≢◌, ◌⊎◌, ◌↔◌, ℕ, ◌+◌, ◌≤◌, ◌<◌, ◌==◌, min, nat_le, nat_lt, ◌&&◌, not, Bool, true, false, List, [], ◌∷◌, ◌++◌, length, filter, fold, find, filter_map, option_map, slice_get, Option, Some, None, if◌then◌else◌}
+use Rattle.std.specs.List.{list_any}
+use Rattle.std.specs.FinMap as tree
+use Rattle.object_id.specs.declared.node.NodeId.{NodeId}
+use Rattle.object_id.specs.declared.node.Epoch.{Epoch}
+use Rattle.object_id.specs.declared.entry.Entry.{Entry}
+use Rattle.object_id.specs.declared.policy.Policy.{Policy}
+use Rattle.object_id.specs.Oid.{kind_of, vid_of}
+use Rattle.object_id.specs.Policy.{wanted_of, need_of}
+use Rattle.epoch_log.specs.Members.{is_member}
+use Rattle.epoch_log.specs.Epochs.{members_in}
+use Rattle.object_list.specs.Gathered.{is_node, has_node}
+use Rattle.object_store.specs.declared.row.RowCopy.{RowCopy}
+use Rattle.object_store.specs.declared.key.Key.{Key}
+use Rattle.object_store.specs.Rows.{is_open, reaches}
+use Rattle.object_store.specs.Store.{SeenRow, AllRows, rows_of, open_row, bytes_of}
+use Rattle.vdi_directory.specs.declared.effect.Effect.{Effect}
+use Rattle.peer_proto.specs.declared.ask.PeerAsk.TheVariants as asks
+use Rattle.peer_proto.specs.declared.say.PeerSay.{PeerSay}
+use Rattle.peer_proto.specs.declared.say.PeerSay.TheVariants as says
+use Rattle.peer_proto.specs.declared.say.PeerRsp.{PeerRsp}
+use Rattle.peer_service.specs.State.{is_known}
+use Rattle.recovery.specs.Shown.{first_in, is_among}
+use Rattle.recovery.specs.Level.{is_of_search}
+use Rattle.recovery.specs.State.{Message, Answer, Search, search_on, is_listed, is_missing}
+use Rattle.sheep_node.specs.State.{Node}
+use Rattle.sheep_node.specs.Shown.{state_of}
+use Rattle.sheep_world.specs.World.{Seat}
+use Rattle.overlap_law.specs.Attempts.{Attempt, object_of}
+use Rattle.overlap_law.specs.Words.{Seats, has_served}
+use Rattle.overlap_law.specs.Past.{Listed}
+use Rattle.overlap_law.specs.Each.{Placing, EachSeat, EachUp, EachRowOf, has_reached, row_covers, holds_level, policy_in, index_in}
+use Rattle.overlap_law.specs.Letters.{Wire, name_of, IsAnswering}
+use Rattle.overlap_law.specs.Rows.{IsMadeBy}
+use Rattle.overlap_law.specs.Since.{IsSince}
+use Rattle.overlap_law.specs.Told.{ToldObjects, ToldRow, IsListUnderWay, end_told, served_told}
+
+-- where a recovery's list isn't finished, it isn't known what is pending, and nothing is searched
+pub record ListsComeFirst (seats : Seats) : Type 0 where
+  pub pending : EachUp seats (λ n node. is_listed node.recovery ≡ false → node.peer.pending ≡ None)
+  pub search : EachUp seats (λ n node. is_listed node.recovery ≡ false → node.recovery.search ≡ None)
+
+-- a node that told something to a recovery came to its epoch
+pub record TellersHaveCome (seats : Seats) (wire : Wire) : Type 0 where
+  pub lists : EachUp seats (λ n node. (from : NodeId) (epoch : ℕ) (oids : List ℕ)
+      → IsListUnderWay wire n node.recovery from epoch oids → has_reached seats epoch from ≡ true)
+  pub rows : EachUp seats (λ n node. (from : NodeId) (epoch oid level : ℕ) (row : Option RowCopy)
+      → ToldRow wire n node from epoch oid level row → has_reached seats epoch from ≡ true)
+
+-- what a node told of its objects has each one of which it has a row from before the recovery's epoch
+pub record ListsAreWhole (live : ℕ → Bool) (seats : Seats) (wire : Wire) : Type 0 where
+  pub each : EachUp seats (λ n node. EachSeat seats (λ q teller. (oids : List ℕ) → ToldObjects wire n node.recovery (record { 0 = q }) oids
+      → (oid : ℕ) → live oid ≡ true → EachRowOf teller.node.peer.rows oid (λ row. row.from.0 < node.recovery.epoch
+      → list_any (λ other. other == oid) oids ≡ true)))
+
+-- a node had rows of the object when its list of the epoch was finished
+pub record HadRowsOf (listed : List Listed) (n epoch oid : ℕ) : Type 0 where
+  pub place : ℕ
+  pub list : Listed
+  pub there : slice_get listed place ≡ Some list
+  pub node : list.node.0 ≡ n
+  pub of_epoch : list.epoch ≡ epoch
+  pub had : list_any (λ other. other == oid) list.own ≡ true
+
+-- a finished list, with the rows that the node had then, has each object that was made before its epoch
+pub record ListsAreComplete (good : ℕ → Bool) (listed : List Listed) (seats : Seats) (attempts : List Attempt) : Type 0 where
+  pub each : EachUp seats (λ n node. (oid before : ℕ) → is_listed node.recovery ≡ true → good oid ≡ true → before < node.recovery.epoch
+      → IsMadeBy attempts oid before
+      → (list_any (λ other. other == oid) node.recovery.lists.objects ≡ true) ⊎ HadRowsOf listed n node.recovery.epoch oid)
+
+-- the open rows of an object are none
+pub record HasNoOpenRow (rows : AllRows) (oid : ℕ) : Type 0 where
+  pub each : EachRowOf rows oid (λ row. is_open row ≡ false)
+
+-- a pending object is one of which the node is a target and has no open row, and whose id it knows
+pub record PendingIsLacked (T : Placing) (effects : List Effect) (live : ℕ → Bool) (seats : Seats) : Type 0 where
+  pub target : EachUp seats (λ n node. (oid : ℕ) (policy : Policy) → is_among oid node.peer.pending ≡ true → live oid ≡ true
+      → policy_in effects oid ≡ Some policy → has_node (record { 0 = n }) (T node.recovery.epoch oid policy) ≡ true)
+  pub lacked : EachUp seats (λ n node. (oid : ℕ) → is_among oid node.peer.pending ≡ true → live oid ≡ true → HasNoOpenRow node.peer.rows oid)
+  pub known : EachUp seats (λ n node. (oid : ℕ) → is_among oid node.peer.pending ≡ true → live oid ≡ true → is_known node.peer oid ≡ true)
+
+-- a node has an open row of the index
+pub record HasOpenRow (rows : AllRows) (oid index : ℕ) : Type 0 where
+  pub row : SeenRow
+  pub found : open_row rows (record { oid = oid; index = index }) ≡ Some row
+
+-- what a target with a finished list hasn't pending it has, of all that was made up to its epoch
+pub record WhatIsNotPendingIsThere (T : Placing) (effects : List Effect) (good : ℕ → Bool) (seats : Seats) (attempts : List Attempt) : Type 0 where
+  pub each : EachUp seats (λ n node. (oid index : ℕ) (policy : Policy) → is_listed node.recovery ≡ true → good oid ≡ true
+      → policy_in effects oid ≡ Some policy → index_in T node.recovery.epoch oid policy (record { 0 = n }) ≡ Some index
+      → IsMadeBy attempts oid node.recovery.epoch
+      → (is_among oid node.peer.pending ≡ true) ⊎ HasOpenRow node.peer.rows oid index)
+
+-- a search is of the first pending object, and of a level before the recovery's epoch
+pub record SearchesAreOfTheFirst (seats : Seats) : Type 0 where
+  pub first : EachUp seats (λ n node. (search : Search) → search_on (state_of node) ≡ Some search → first_in node.peer.pending ≡ Some search.oid)
+  pub below : EachUp seats (λ n node. (search : Search) → search_on (state_of node) ≡ Some search → search.level < node.recovery.epoch)
+  pub above : EachUp seats (λ n node. (search : Search) → search_on (state_of node) ≡ Some search → 1 ≤ search.level)
+
+-- a node is awaited, or its answer is kept
+abbrev pub is_awaited_of : ℕ → List Message → NodeId → Bool
+is_awaited_of oid messages node = list_any (λ message. is_of_search oid message && is_node node message.to) messages
+
+abbrev pub has_answered : List Answer → NodeId → Bool
+has_answered answers node = list_any (λ (answer : Answer). is_node node answer.from) answers
+
+-- whom a level is asked of: its targets that are members of the recovery's epoch, but for the node itself
+abbrev pub is_asked : Placing → List Entry → ℕ → Search → ℕ → Policy → NodeId → Bool
+is_asked T log epoch search n policy node =
+    has_node node (T search.level search.oid policy) && is_member node.0 (members_in log epoch) && not (node.0 == n)
+
+-- while answers of a level are awaited, and none was refused or lost, those awaited and those kept are all that it is asked of
+pub record LevelsAreAsked (T : Placing) (log : List Entry) (effects : List Effect) (good : ℕ → Bool) (seats : Seats) : Type 0 where
+  pub each : EachUp seats (λ n node. (search : Search) (policy : Policy) → search_on (state_of node) ≡ Some search → good search.oid ≡ true
+      → policy_in effects search.oid ≡ Some policy → list_any (is_of_search search.oid) node.recovery.unanswered ≡ true → search.again ≡ false
+      → (other : NodeId) → (is_asked T log node.recovery.epoch search n policy other ≡ true)
+      ↔ ((is_awaited_of search.oid node.recovery.unanswered other ≡ true) ⊎ (has_answered search.answers other ≡ true)))
+
+-- a row that was told covers its level, and has the index of its node
+pub record IsTrueRow (T : Placing) (policy : Policy) (from : NodeId) (oid level : ℕ) (row : RowCopy) : Type 0 where
+  pub low : row.from.0 ≤ level
+  pub high : reaches level row.to ≡ true
+  pub index : index_in T level oid policy from ≡ Some row.index
+
+-- rows that were told are such
+pub record ToldRowsAreTrue (T : Placing) (effects : List Effect) (good : ℕ → Bool) (seats : Seats) (wire : Wire) : Type 0 where
+  pub each : EachUp seats (λ n node. (from : NodeId) (epoch oid level : ℕ) (row : RowCopy) (policy : Policy)
+      → ToldRow wire n node from epoch oid level (Some row) → good oid ≡ true → policy_in effects oid ≡ Some policy
+      → IsTrueRow T policy from oid level row)
+
+-- a row that was told has what it owes
+pub record ToldRowsAreSince (effects : List Effect) (good : ℕ → Bool) (seats : Seats) (wire : Wire) (attempts : List Attempt) : Type 0 where
+  pub each : EachUp seats (λ n node. (from : NodeId) (epoch oid level : ℕ) (row : RowCopy) (policy : Policy)
+      → ToldRow wire n node from epoch oid level (Some row) → good oid ≡ true → policy_in effects oid ≡ Some policy
+      → IsSince policy oid seats attempts from row.index (end_told epoch row.to) (served_told epoch row.to) (bytes_of row))
+
+-- a node that told that it has no row of a level has none
+pub record NoRowIsTrue (good : ℕ → Bool) (seats : Seats) (wire : Wire) : Type 0 where
+  pub each : EachUp seats (λ n node. (from : NodeId) (epoch oid level : ℕ) → ToldRow wire n node from epoch oid level None
+      → good oid ≡ true → holds_level (tree.get seats from.0) oid level ≡ false)
+
+-- the index of a node's row of an object that covers a level
+abbrev pub index_held : Option Seat → ℕ → ℕ → Option ℕ
+index_held None oid level = None
+index_held (Some seat) oid level =
+    option_map (λ (row : SeenRow). row.index) (find (row_covers seat.node.peer.epoch level) (rows_of seat.node.peer.rows oid))
+
+-- numbers with one more, if it isn't among them
+abbrev pub with_number : List ℕ → ℕ → List ℕ
+with_number numbers number = if list_any (λ other. other == number) numbers then numbers else numbers ++ number ∷ []
+
+-- the different indexes of the rows that cover a level, at the targets that are members of the recovery's epoch
+abbrev pub indexes_held : Placing → List Entry → Seats → ℕ → ℕ → ℕ → Policy → List ℕ
+indexes_held T log seats oid level epoch policy =
+    fold with_number []
+    (filter_map (λ (node : NodeId). index_held (tree.get seats node.0) oid level)
+    (filter (λ (node : NodeId). is_member node.0 (members_in log epoch)) (T level oid policy)))
+
+-- at each level that a search has passed there are fewer rows than are needed
+pub record PassedLevelsLackRows (T : Placing) (log : List Entry) (effects : List Effect) (good : ℕ → Bool) (seats : Seats) : Type 0 where
+  pub each : EachUp seats (λ n node. (search : Search) (policy : Policy) (level : ℕ) → search_on (state_of node) ≡ Some search
+      → good search.oid ≡ true → policy_in effects search.oid ≡ Some policy → search.level < level → level < node.recovery.epoch
+      → length (indexes_held T log seats search.oid level node.recovery.epoch policy) < need_of policy (kind_of search.oid))
+
+-- an object that was made before a recovery's epoch isn't missing there
+pub record TheMadeIsNotMissing (good : ℕ → Bool) (seats : Seats) (attempts : List Attempt) : Type 0 where
+  pub each : EachUp seats (λ n node. (oid before : ℕ) → is_listed node.recovery ≡ true → good oid ≡ true → before < node.recovery.epoch
+      → IsMadeBy attempts oid before → is_missing oid node.recovery ≡ false)
