@@ -1,11 +1,11 @@
 -- What a base is, who served a made attempt, and what becomes of one whose targets went on.
-use Rattle.std.proofs.Common.{◌≡◌, ⊎_elim, ℕ, ◌==◌, ◌&&◌, ◌||◌, Bool, true, false, cond, List, [], ◌∷◌, length, filter, Option, Some, None, refl, ap, subst}
+use Rattle.std.proofs.Common.{◌≡◌, ⊎_elim, ℕ, ◌==◌, ◌&&◌, Bool, true, false, cond, List, [], ◌∷◌, length, filter, Option, Some, None, refl, ap, subst}
 use Rattle.std.specs.List.{list_all, last_or, AllByRecursion}
 use Rattle.std.proofs.lemmas.Bool.{and_parts, or_left, or_right, or_cases}
 use Rattle.object_id.specs.declared.node.NodeId.{NodeId}
 use Rattle.object_list.specs.Gathered.{has_node}
 use Rattle.overlap_law.specs.Attempts.{Fate, Flying, Served, Doomed, Attempt}
-use Rattle.overlap_law.specs.Words.{Seats, is_beyond, is_served, is_made, is_in_vain, is_one_in_vain, is_doomed, is_served_by, has_served, covers, covering, last_of, base_of, own_base_of}
+use Rattle.overlap_law.specs.Words.{Seats, is_beyond, is_served, is_made, is_one_in_vain, is_doomed, is_served_by, has_served, covers, covering, last_of, base_of, own_base_of}
 
 -- where every target is beyond the epoch, what isn't served is in vain
 unserved-in_vain : (seats : Seats) (epoch : ℕ) (targets : List NodeId) (fates : List Fate) → length fates ≡ length targets
@@ -32,7 +32,7 @@ all_served-each node (target ∷ targets) (Flying ∷ fates) long e there = absu
 all_served-each node (target ∷ targets) (Served ∷ fates) long e there = ⊎_elim
     (λ (h : (target.0 == node.0) ≡ true). or_left ((target.0 == node.0) && true) (is_served_by node targets fates) (ap (λ (b : Bool). b && true) h))
     (λ (h : has_node node targets ≡ true). or_right ((target.0 == node.0) && true) (is_served_by node targets fates)
-        (all_served-each node targets fates (cc (long)) e h))
+    (all_served-each node targets fates (cc (long)) e h))
     (or_cases (target.0 == node.0) (has_node node targets) there)
 all_served-each node (target ∷ targets) (Doomed ∷ fates) long e there = absurd (cc)
 

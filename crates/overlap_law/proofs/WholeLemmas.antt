@@ -1,5 +1,5 @@
 -- Every attempt of a run has a fate for each of its targets: the begun ones have, and what is told of a message keeps it so.
-use Rattle.std.proofs.Common.{◌≡◌, ℕ, zero, suc, ◌-◌, ◌==◌, ◌&&◌, Bool, true, false, cond, List, [], ◌∷◌, ◌++◌, length, map, Option, Some, None, refl, sym, ap, ◌∙◌, subst}
+use Rattle.std.proofs.Common.{◌≡◌, ℕ, zero, suc, ◌-◌, ◌&&◌, Bool, true, false, cond, List, [], ◌∷◌, ◌++◌, length, map, Option, Some, None, refl, sym, ap, ◌∙◌, subst}
 use Rattle.std.specs.List.{filter_map, cons_option, AllByRecursion}
 use Rattle.std.specs.Option.{option_map, option_and_then}
 use Rattle.std.specs.FinMap as tree
@@ -19,8 +19,9 @@ use Rattle.sheep_world.specs.declared.name.MessageName.{MessageName}
 use Rattle.sheep_world.specs.World as worlds
 use Rattle.sheep_world.specs.World.{Letter, Seat, World, seat_at, message_at}
 use Rattle.sheep_world.specs.Step.{Made, step}
-use Rattle.overlap_law.specs.Attempts.{Fate, Flying, Served, Doomed, Attempt, has_message, known_fate, told_at, marked_in, marked, fate_by, beginning, is_first, beginning_with, begun_with, numbers_given, begun_by}
-use Rattle.overlap_law.specs.Past.{Past, Moment, begun_in, begun, begun_for, delivered, attempts_after, grown, moment_after, run_on, first_moment, run_with_past}
+use Rattle.overlap_law.specs.Attempts.{Fate, Flying, Doomed, Attempt, has_message, told_at, marked_in, marked, fate_by, beginning, is_first, beginning_with, begun_with, numbers_given, begun_by}
+use Rattle.overlap_law.specs.Begun.{begun_in, begun, begun_for, delivered, attempts_after}
+use Rattle.overlap_law.specs.Past.{Moment, grown, moment_after, run_on, first_moment, run_with_past}
 
 -- an attempt has a fate for each target
 abbrev pub HasFates : Attempt → Type 0

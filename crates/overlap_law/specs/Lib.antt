@@ -1,8 +1,11 @@
 pub mod Attempts
+pub mod Reached
+pub mod Units
 pub mod Words
 pub mod Holders
 pub mod Each
 pub mod Grants
+pub mod Begun
 pub mod Past
 pub mod Contents
 pub mod Facts

@@ -27,7 +27,7 @@ pub fn what_is_doomed_stays_doomed()
         → is_doomed old attempt ≡ true → is_doomed new attempt ≡ true }
     ensures told { (seats : Seats) (told : Fate) (sender : NodeId) (number : ℕ) (attempt : Attempt) → told ≢ Flying
         → ((target : NodeId) → slice_get attempt.targets (number - attempt.first) ≡ Some target → told ≡ Served
-            → is_beyond seats attempt.epoch target ≡ false)
+        → is_beyond seats attempt.epoch target ≡ false)
         → is_doomed seats attempt ≡ true → is_doomed seats (marked_in told sender number attempt) ≡ true }
 {}
 
