@@ -11,7 +11,8 @@ use Rattle.sheep_world.specs.Step.{Made, step}
 use Rattle.sheep_world.specs.Run as runs
 use Rattle.overlap_law.specs.Holders.{is_borne_disk}
 use Rattle.overlap_law.specs.Begun.{attempts_after}
-use Rattle.overlap_law.specs.Past.{Moment, unborne_at, is_counted, grown, moment_after, run_on, first_moment, run_with_past, without_past}
+use Rattle.overlap_law.specs.Added.{unborne_at, is_counted}
+use Rattle.overlap_law.specs.Past.{Moment, grown, moment_after, run_on, first_moment, run_with_past, without_past}
 use Rattle.sheep_world.specs.Lives.{lives_after}
 
 along : (script : List Statement) (event : Event) (events : List Event) (moment : Moment)

@@ -6,6 +6,7 @@ pub mod Holders
 pub mod Each
 pub mod Grants
 pub mod Begun
+pub mod Added
 pub mod Past
 pub mod Contents
 pub mod Facts
