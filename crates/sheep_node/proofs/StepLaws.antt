@@ -99,17 +99,6 @@ newer_step request node above none =
 
 -- the entry that is put
 
-put_kept : (turn : Turn) (b : Bool) → (cond b (with_recovered turn) turn).outputs.put ≡ turn.outputs.put
-put_kept turn true = refl
-put_kept turn false = refl
-
-pub put_step : (node : Node) (entry : Entry) (later : List Entry) → node.outbox ≡ entry ∷ later
-    → (stepped inputs.Put node).outputs.put ≡ Some entry
-unfolding stepped taken_in recovered_put
-put_step node entry later e =
-    put_kept (put_from node.outbox (at_first node)) (is_due (put_from node.outbox (at_first node)).node)
-    ∙ ap (λ (outbox : List Entry). (put_from outbox (at_first node)).outputs.put) e
-
 pub left_step : (node : Node) (entry : Entry) (later : List Entry) → node.outbox ≡ entry ∷ later → is_due node ≡ false
     → (stepped inputs.Put node).node ≡ record node { outbox = later }
 unfolding stepped taken_in

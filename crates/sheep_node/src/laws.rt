@@ -16,7 +16,7 @@ ghost use Rattle.sheep_node.specs.declared.input.Input.TheVariants as inputs;
 ghost use Rattle.sheep_node.specs.State.{Node, Commanding};
 ghost use Rattle.sheep_node.specs.Turn.{Turn};
 ghost use Rattle.sheep_node.specs.Step.{is_due, recovered_put, stepped};
-ghost use Rattle.sheep_node.specs.Told.{read_after, may_begin_recovery, only_said};
+ghost use Rattle.sheep_node.specs.Told.{read_after, may_begin_recovery, only_said, said_on, put_on, Ascend};
 
 /// The sends of a step are numbered upwards from the node's count, and the count grows by how many they are. So no two
 /// sends of a node have one number.
@@ -26,9 +26,18 @@ pub fn sends_are_numbered()
         → (stepped input node).node.sends ≡ node.sends + length (stepped input node).outputs.sends }
 {}
 
-/// Only an entry of the log, and coming back, change what a node has read.
+/// Only an entry of the log, and coming back, change what a node has read; and it stays itself.
 pub fn only_the_log_is_read()
-    ensures { (input : Input) (node : Node) → (stepped input node).node.peer.entries ≡ read_after input node.peer.entries }
+    ensures read { (input : Input) (node : Node) → (stepped input node).node.peer.entries ≡ read_after input node.peer.entries }
+    ensures own { (input : Input) (node : Node) → (stepped input node).node.me ≡ node.me }
+{}
+
+/// Something is said to a peer only on a request, and put into the log only on Put: the outbox's first entry. Guests are
+/// replied to by ascending request.
+pub fn outputs_are_as_the_input()
+    ensures say { (input : Input) (node : Node) → (stepped input node).outputs.say ≡ said_on input node }
+    ensures put { (input : Input) (node : Node) → (stepped input node).outputs.put ≡ put_on input node }
+    ensures replies { (input : Input) (node : Node) → Ascend (stepped input node).outputs.replies }
 {}
 
 /// A request of another epoch is answered with the node's own, and changes nothing.
@@ -53,11 +62,9 @@ pub fn other_epochs_are_refused()
         } }
 {}
 
-/// What goes into the log is the outbox's first entry, which leaves the outbox.
-pub fn the_first_entry_is_put()
-    ensures put { (node : Node) (entry : Entry) (later : List Entry) → node.outbox ≡ entry ∷ later
-        → (stepped inputs.Put node).outputs.put ≡ Some entry }
-    ensures left { (node : Node) (entry : Entry) (later : List Entry) → node.outbox ≡ entry ∷ later → is_due node ≡ false
+/// The entry that was put leaves the outbox, and nothing else changes.
+pub fn what_is_put_leaves_the_outbox()
+    ensures { (node : Node) (entry : Entry) (later : List Entry) → node.outbox ≡ entry ∷ later → is_due node ≡ false
         → (stepped inputs.Put node).node ≡ record node { outbox = later } }
 {}
 
