@@ -7,3 +7,15 @@ pub mod Past
 pub mod Contents
 pub mod Facts
 pub mod Headline
+pub mod Letters
+pub mod Flight
+pub mod Fates
+pub mod Writers
+pub mod Terms
+pub mod Rows
+pub mod Since
+pub mod Told
+pub mod Searches
+pub mod Tables
+pub mod Written
+pub mod Overlap

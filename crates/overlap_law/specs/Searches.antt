@@ -31,7 +31,7 @@ use Rattle.overlap_law.specs.Attempts.{Attempt, object_of}
 use Rattle.overlap_law.specs.Words.{Seats, has_served}
 use Rattle.overlap_law.specs.Past.{Listed}
 use Rattle.overlap_law.specs.Each.{Placing, EachSeat, EachUp, EachRowOf, has_reached, row_covers, holds_level, policy_in, index_in}
-use Rattle.overlap_law.specs.Letters.{Wire, name_of, IsAnswering}
+use Rattle.overlap_law.specs.Letters.{Wire, named, IsAnswering}
 use Rattle.overlap_law.specs.Rows.{IsMadeBy}
 use Rattle.overlap_law.specs.Since.{IsSince}
 use Rattle.overlap_law.specs.Told.{ToldObjects, ToldRow, IsListUnderWay, end_told, served_told}

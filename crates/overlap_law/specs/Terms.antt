@@ -79,16 +79,3 @@ pub record SettledIsRead (log : List Entry) (seats : Seats) : Type 0 where
 pub record TheSettledHaveRecovered (log : List Entry) (seats : Seats) : Type 0 where
   pub each : (node : NodeId) → 1 < settled_of log → is_member node.0 (members_in log (settled_of log)) ≡ true
       → has_finished seats log (settled_of log) node ≡ true
-
--- the group of epochs
-pub record TermsAreKept (log : List Entry) (seats : Seats) : Type 0 where
-  pub up_member : TheUpAreMembers log seats
-  pub stayed : TheUpHaveStayed log seats
-  pub left : LeaversAreBeyond log seats
-  pub read : NodesHaveRead log seats
-  pub present : RecoveriesArePresent log seats
-  pub answered : AnswerersHaveCome seats
-  pub recovered : TheRecoveredHaveAll log seats
-  pub unsettled : TheUnfinishedAreUnsettled log seats
-  pub settled_read : SettledIsRead log seats
-  pub settles : TheSettledHaveRecovered log seats

@@ -27,7 +27,7 @@ use Rattle.sheep_node.specs.Same.{is_same_entry}
 use Rattle.overlap_law.specs.Attempts.{Attempt, object_of}
 use Rattle.overlap_law.specs.Words.{Seats}
 use Rattle.overlap_law.specs.Each.{EachUp, EachAttempt}
-use Rattle.overlap_law.specs.Letters.{Wire, IsOnItsWay, IsQuiet}
+use Rattle.overlap_law.specs.Letters.{Wire, HasLetter, IsQuiet}
 use Rattle.overlap_law.specs.Grants.{granted_in, writer_of, leave_of}
 
 -- a session of a node
@@ -162,12 +162,4 @@ pub record ReadsAreLast (seats : Seats) (wire : Wire) (attempts : List Attempt) 
   pub flying : EachUp seats (λ n node. (req : ℕ) (work : Work) (current : gateways.Attempt) → tree.get node.gateway.works req ≡ Some work
       → is_making work.work ≡ false → work.stage ≡ Open current
       → EachAttempt attempts (λ j attempt. object_of attempt ≡ oid_of work.work → (place : ℕ) (target : NodeId)
-      → IsOnItsWay wire attempt place target → attempt.epoch < current.epoch.0))
-
--- the group of the one writer
-pub record WritersAreKept (log : List Entry) (seats : Seats) (wire : Wire) (attempts : List Attempt) : Type 0 where
-  pub may_write : OnlyTheWriterWrites log seats attempts
-  pub one_writer : ThereIsOneWriter log wire attempts
-  pub one_work : WorksAreApart seats
-  pub held : OpenDisksAreHeld log seats
-  pub read_last : ReadsAreLast seats wire attempts
+      → HasLetter wire attempt place target → attempt.epoch < current.epoch.0))
