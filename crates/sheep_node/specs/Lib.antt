@@ -9,3 +9,4 @@ pub mod Guests
 pub mod Reading
 pub mod Step
 pub mod May
+pub mod Told

@@ -14,7 +14,8 @@ use Rattle.vdi_directory.specs.declared.decision.Decision.{Decision}
 use Rattle.peer_service.specs.State.{Peer}
 use Rattle.peer_service.specs.Epochs as peers
 use Rattle.peer_service.specs.Epochs.{settled_to}
-use Rattle.peer_service.specs.Reading.{read_entry, decision_on, come_back}
+use Rattle.peer_service.specs.Reading.{read_entry, decision_on}
+use Rattle.peer_service.specs.Back.{come_back}
 use Rattle.gateway.specs.State as gateways
 use Rattle.recovery.specs.State as recoveries
 use Rattle.recovery.specs.Steps.{begun}

@@ -10,18 +10,12 @@ use std::alloc::Global;
 #[derive(Debug, Drop)]
 pub enum Input {
     /// A session's request, by its number.
-    Guest {
-        req: u32,
-        session: u32,
-        ask: Ask,
-    },
+    Guest { req: u32, session: u32, ask: Ask },
     /// Another node's request, or the node's own to itself.
     Request(PeerReq),
     Reply(PeerRsp),
     /// The message of this number, or the reply to it, was lost.
-    Lost {
-        number: u32,
-    },
+    Lost { number: u32 },
     /// The next entry of the log.
     LogEntry(Entry),
     /// The first entry of the outbox goes into the log.
@@ -29,9 +23,7 @@ pub enum Input {
     RecoverTick,
     RetryTick,
     /// A lost node comes back with its store. These are all entries of the log.
-    Back {
-        entries: EntryList,
-    },
+    Back { entries: EntryList },
 }
 
 impl Input {

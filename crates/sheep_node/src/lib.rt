@@ -8,11 +8,18 @@
 mod ask;
 mod event;
 mod input;
+mod laws;
 mod outputs;
 mod replies;
+#[cfg(test)]
+mod tests;
 
 pub use ask::Ask;
 pub use event::Event;
 pub use input::Input;
+pub use laws::{
+    a_create_begins_with_its_reservation, only_the_log_is_read, other_epochs_are_refused,
+    recovered_is_put_once, sends_are_numbered, what_is_put_leaves_the_outbox,
+};
 pub use outputs::Outputs;
 pub use replies::ReplyList;

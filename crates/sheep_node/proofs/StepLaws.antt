@@ -1,0 +1,116 @@
+-- What a step on a request of another epoch, on Put, and on a guest's create gives.
+use Rattle.std.proofs.Common.{◌≡◌, ℕ, ◌+◌, ◌<◌, ◌≤◌, nat_lt, ◌&&◌, not, Bool, true, false, cond, List, [], ◌∷◌, ◌++◌, Option, Some, None, refl, ap, sym, subst, ◌∙◌, arith}
+use Rattle.std.proofs.lemmas.Bool.{lt-ltb, le-ltb}
+use Rattle.object_id.specs.declared.entry.Entry.{Entry}
+use Rattle.object_id.specs.declared.entry.Entry.TheVariants as entries
+use Rattle.object_id.specs.declared.entry.Origin.TheVariants.{Fresh}
+use Rattle.object_id.specs.declared.entry.VdiSpec.{VdiSpec}
+use Rattle.peer_proto.specs.declared.ask.PeerReq.{PeerReq}
+use Rattle.peer_proto.specs.declared.guest.VdiAsk.TheVariants.{Create}
+use Rattle.peer_proto.specs.declared.say.PeerSay.TheVariants.{Refused}
+use Rattle.peer_proto.specs.declared.say.Refusal.{Refusal}
+use Rattle.peer_proto.specs.declared.say.Refusal.TheVariants.{OldEpoch, NewEpoch}
+use Rattle.peer_service.specs.Fence.{refusal_at}
+use Rattle.peer_service.specs.Serve.{fenced, served}
+use Rattle.recovery.specs.State as recoveries
+use Rattle.vdi_ops.specs.Steps.{begin}
+use Rattle.sheep_node.specs.declared.ask.Ask.TheVariants.{Vdi}
+use Rattle.sheep_node.specs.declared.input.Input.TheVariants as inputs
+use Rattle.sheep_node.specs.State.{Node}
+use Rattle.sheep_node.specs.Shown.{state_of}
+use Rattle.sheep_node.specs.Turn.{Turn, at_first}
+use Rattle.sheep_node.specs.Courses.{command_stepped}
+use Rattle.sheep_node.specs.Guests.{guest_asked}
+use Rattle.sheep_node.specs.Reading.{with_peer}
+use Rattle.sheep_node.specs.Step.{request_served, put_from, taken_in, is_due, with_recovered, recovered_put, stepped}
+use Rattle.sheep_node.specs.Told.{only_said}
+
+-- a step at whose end nothing is due
+not_due : (turn : Turn) → is_due turn.node ≡ false → recovered_put turn ≡ turn
+unfolding recovered_put
+not_due turn none = ap (λ (b : Bool). cond b (with_recovered turn) turn) none
+
+-- a request that the fence refuses
+fenced_step : (request : PeerReq) (node : Node) (refusal : Refusal) → refusal_at node.peer.epoch request.epoch.0 ≡ Some refusal
+    → request_served request (at_first node) ≡ record {
+      node = node;
+      outputs = only_said (record { number = request.number; epoch = record { 0 = node.peer.epoch }; say = Refused refusal });
+    }
+unfolding request_served served
+fenced_step request node refusal e =
+    ap (λ (why : Option Refusal). record {
+      node = with_peer (fenced why request.ask node.peer).peer node;
+      outputs = only_said (record {
+        number = request.number;
+        epoch = record { 0 = node.peer.epoch };
+        say = (fenced why request.ask node.peer).say;
+      });
+    }) e
+
+refused_step : (request : PeerReq) (node : Node) (refusal : Refusal) → refusal_at node.peer.epoch request.epoch.0 ≡ Some refusal
+    → is_due node ≡ false
+    → stepped (inputs.Request request) node ≡ record {
+      node = node;
+      outputs = only_said (record { number = request.number; epoch = record { 0 = node.peer.epoch }; say = Refused refusal });
+    }
+unfolding stepped taken_in
+refused_step request node refusal e none =
+    ap recovered_put (fenced_step request node refusal e)
+    ∙ not_due (record {
+      node = node;
+      outputs = only_said (record { number = request.number; epoch = record { 0 = node.peer.epoch }; say = Refused refusal });
+    }) none
+
+older_refusal : (own requested : ℕ) → requested < own → refusal_at own requested ≡ Some (OldEpoch (record { 0 = own }))
+older_refusal own requested below =
+    ap (λ (b : Bool). cond b (Some (OldEpoch (record { 0 = own }))) (cond (nat_lt own requested) (Some (NewEpoch (record { 0 = own }))) None))
+    (lt-ltb requested own below)
+
+newer_refusal : (own requested : ℕ) → own < requested → refusal_at own requested ≡ Some (NewEpoch (record { 0 = own }))
+newer_refusal own requested above =
+    let below : own ≤ requested = omega arith in
+    let not_below : nat_lt requested own ≡ false = le-ltb requested own below in
+    ap (λ (b : Bool). cond b (Some (OldEpoch (record { 0 = own }))) (cond (nat_lt own requested) (Some (NewEpoch (record { 0 = own }))) None)) not_below
+    ∙ ap (λ (b : Bool). cond b (Some (NewEpoch (record { 0 = own }))) None) (lt-ltb own requested above)
+
+pub older_step : (request : PeerReq) (node : Node) → request.epoch.0 < node.peer.epoch → is_due node ≡ false
+    → stepped (inputs.Request request) node ≡ record {
+      node = node;
+      outputs = only_said (record {
+        number = request.number;
+        epoch = record { 0 = node.peer.epoch };
+        say = Refused (OldEpoch (record { 0 = node.peer.epoch }));
+      });
+    }
+older_step request node below none =
+    refused_step request node (OldEpoch (record { 0 = node.peer.epoch })) (older_refusal node.peer.epoch request.epoch.0 below) none
+
+pub newer_step : (request : PeerReq) (node : Node) → node.peer.epoch < request.epoch.0 → is_due node ≡ false
+    → stepped (inputs.Request request) node ≡ record {
+      node = node;
+      outputs = only_said (record {
+        number = request.number;
+        epoch = record { 0 = node.peer.epoch };
+        say = Refused (NewEpoch (record { 0 = node.peer.epoch }));
+      });
+    }
+newer_step request node above none =
+    refused_step request node (NewEpoch (record { 0 = node.peer.epoch })) (newer_refusal node.peer.epoch request.epoch.0 above) none
+
+-- the entry that is put
+
+pub left_step : (node : Node) (entry : Entry) (later : List Entry) → node.outbox ≡ entry ∷ later → is_due node ≡ false
+    → (stepped inputs.Put node).node ≡ record node { outbox = later }
+unfolding stepped taken_in
+left_step node entry later e none =
+    ap (λ (outbox : List Entry). (recovered_put (put_from outbox (at_first node))).node) e
+    ∙ ap (λ (turn : Turn). turn.node) (not_due (put_from (entry ∷ later) (at_first node)) none)
+
+-- a guest's create
+
+pub create_step : (req session : ℕ) (name : List ℕ) (spec : VdiSpec) (node : Node) → is_due node ≡ false
+    → (stepped (inputs.Guest req session (Vdi (Create name spec))) node).node.outbox
+    ≡ node.outbox ++ entries.Reserve node.me session name (Fresh spec) ∷ []
+unfolding stepped taken_in guest_asked command_stepped begin
+create_step req session name spec node none =
+    ap (λ (turn : Turn). turn.node.outbox) (not_due (guest_asked req session (Vdi (Create name spec)) (at_first node)) none)
