@@ -1,2 +1,4 @@
 pub mod FateLemmas
 pub mod RunLemmas
+pub mod UnitLemmas
+pub mod WorkedCases

@@ -1,12 +1,4 @@
 //! Laws of the definitions, for the proofs of the layers above: each is the contract of a function that does nothing.
-<<<<<<< HEAD
-ghost use Rattle.std.specs.Prelude.{◌≡◌, ℕ, false};
-ghost use Rattle.object_store.specs.Store.{AllRows};
-ghost use Rattle.peer_service.specs.State.{opening, is_waiting};
-
-pub fn a_new_peer_waits_for_nothing()
-    ensures { (rows : AllRows) (epoch oid : ℕ) → is_waiting (opening rows epoch) oid ≡ false }
-=======
 ghost use Rattle.std.specs.Prelude.{◌≡◌, ◌≢◌, ◌↔◌, ℕ, ◌+◌, ◌*◌, ◌^◌, ◌<◌, ◌≤◌, ◌&&◌, true, false, IsTrue, List, [], ◌∷◌, length, map, filter, Option, Some, None, Ok, if◌then◌else◌};
 ghost use Rattle.std.specs.FinMap as tree;
 ghost use Rattle.object_id.specs.declared.entry.Entry.{Entry};
@@ -195,5 +187,4 @@ pub fn row_sizes_worked_out()
     ensures inode { row_size Inode (record { size = 2 ^ 20; policy = Coded 4 2; shift = 22 }) ≡ 4198968 }
     ensures whole { row_size Block (record { size = 2 ^ 20; policy = Copies 3; shift = 22 }) ≡ 4194304 }
     ensures strip { row_size Block (record { size = 2 ^ 20; policy = Coded 4 2; shift = 22 }) ≡ 1048576 }
->>>>>>> 4e0b1eebf834136f69f1ba8117331201679f1e65
 {}
