@@ -88,8 +88,9 @@ pub record RepliesAreOfTheirEpoch (seats : Seats) (wire : Wire) : Type 0 where
 
 -- a reply to an attempt's message is Success exactly where the target has served it
 pub record FatesAreTold (wire : Wire) (attempts : List Attempt) : Type 0 where
-  pub each : EachAttempt attempts (λ j attempt. (place : ℕ) (from : NodeId) (reply : PeerRsp)
-      → IsAnswering wire (name_at attempt place) from reply → (slice_get attempt.fates place ≡ Some Served) ↔ (reply.say ≡ says.Success))
+  pub each : EachAttempt attempts (λ j attempt. (place : ℕ) (target from : NodeId) (reply : PeerRsp)
+      → slice_get attempt.targets place ≡ Some target → IsAnswering wire (name_at attempt place) from reply
+      → (slice_get attempt.fates place ≡ Some Served) ↔ (reply.say ≡ says.Success))
 
 -- the requests of a node that was lost and left are of epochs below that of its `Leave`
 pub record TheGoneAreFenced (log : List Entry) (seats : Seats) (wire : Wire) : Type 0 where

@@ -17,11 +17,13 @@ use Rattle.overlap_law.specs.Each.{Placing}
 use Rattle.overlap_law.specs.Letters.{Wire}
 use Rattle.overlap_law.specs.Flight.{NumbersAreSent, LettersAreAwaited, NoReplyGoesToTheLost, RequestsAreOfThePast, RepliesAreOfTheirEpoch, FatesAreTold, TheGoneAreFenced}
 use Rattle.overlap_law.specs.Fates.{FatesAreOfTheWire, ServersReachedTheEpoch, AttemptsAreShaped, IdsAreKnown, AttemptsAreOrdered, OpenAttemptsAreLatest, WorksKnowTheirFates, ServedRequestsAreTouched, RefusedRequestsAreMute, CreatesComeFirst}
-use Rattle.overlap_law.specs.Writers.{OnlyTheWriterWrites, ThereIsOneWriter, WorksAreApart, OpenDisksAreHeld, ReadsAreLast}
+use Rattle.overlap_law.specs.Writers.{OnlyTheWriterWrites, ThereIsOneWriter}
+use Rattle.overlap_law.specs.Sessions.{WorksAreApart, OpenDisksAreHeld, ReadsAreLast}
 use Rattle.overlap_law.specs.Terms.{TheUpAreMembers, TheUpHaveStayed, LeaversAreBeyond, NodesHaveRead, RecoveriesArePresent, AnswerersHaveCome, TheRecoveredHaveAll, TheUnfinishedAreUnsettled, SettledIsRead, TheSettledHaveRecovered}
 use Rattle.overlap_law.specs.Rows.{RowsHaveEnds, OneRowIsOpen, RowsAreApart, RowsAreWhole, RowsAreAtTargets, RowsAreBegun, ServedRowsStay, RecoveredRowsAreKept, AttemptsAreCarried}
-use Rattle.overlap_law.specs.Since.{RowsAreSince}
-use Rattle.overlap_law.specs.Searches.{ListsComeFirst, TellersHaveCome, ListsAreWhole, ListsAreComplete, PendingIsLacked, WhatIsNotPendingIsThere, SearchesAreOfTheFirst, LevelsAreAsked, ToldRowsAreTrue, ToldRowsAreSince, NoRowIsTrue, PassedLevelsLackRows, TheMadeIsNotMissing}
+use Rattle.overlap_law.specs.Since.{RowsAreSince, CopiesAreOfAttempts}
+use Rattle.overlap_law.specs.Lists.{ListsComeFirst, TellersHaveCome, ListsAreWhole, ListsAreComplete, PendingIsLacked, WhatIsNotPendingIsThere}
+use Rattle.overlap_law.specs.Searches.{SearchesAreOfTheFirst, LevelsAreAsked, ToldRowsAreTrue, ToldRowsAreSince, NoRowIsTrue, PassedLevelsLackRows, TheMadeIsNotMissing, ToldCopiesAreOfAttempts}
 use Rattle.overlap_law.specs.Tables.{EntriesAreMade, PublishedInodesAreMade, TablesAreTheInodes, SnapshotsAreFrozen, TablesAreMade}
 use Rattle.overlap_law.specs.Written.{BlocksAreWritten, StripsAreSound}
 
@@ -81,6 +83,7 @@ pub record RowsAreKept (T : Placing) (log : List Entry) (effects : List Effect) 
   pub begun : RowsAreBegun log live seats attempts
   pub stays : ServedRowsStay live seats attempts
   pub since : RowsAreSince effects good seats attempts
+  pub of_attempts : CopiesAreOfAttempts effects live seats attempts
   pub kept : RecoveredRowsAreKept T log effects good seats attempts
   pub carried : AttemptsAreCarried T log effects good seats attempts
 
@@ -97,6 +100,7 @@ pub record SearchesAreKept (T : Placing) (log : List Entry) (effects : List Effe
   pub asked : LevelsAreAsked T log effects good seats
   pub row_told : ToldRowsAreTrue T effects good seats wire
   pub row_told_since : ToldRowsAreSince effects good seats wire attempts
+  pub told_of_attempts : ToldCopiesAreOfAttempts effects live seats wire attempts
   pub norow_told : NoRowIsTrue good seats wire
   pub passed : PassedLevelsLackRows T log effects good seats
   pub not_missing : TheMadeIsNotMissing good seats attempts

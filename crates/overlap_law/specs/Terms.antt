@@ -66,7 +66,7 @@ pub record TheRecoveredHaveAll (log : List Entry) (seats : Seats) : Type 0 where
   pub all : EachUp seats (λ n node. has_finished seats log node.peer.epoch (record { 0 = n }) ≡ true
       → node.recovery.epoch ≡ node.peer.epoch → HasRecovered node)
 
--- no epoch is settled while a node that is up recovers in it or an earlier one
+-- the settled epoch is below that of a node that isn't lost and hasn't finished its recovery
 pub record TheUnfinishedAreUnsettled (log : List Entry) (seats : Seats) : Type 0 where
   pub each : EachUp seats (λ n node. is_finished (state_of node) ≡ false → settled_of log < node.peer.epoch)
 
