@@ -34,6 +34,10 @@ EachUp seats P = (n : ℕ) (seat : Seat) → tree.get seats n ≡ Some seat → 
 abbrev pub EachAttempt : List Attempt → (ℕ → Attempt → Type 0) → Type 0
 EachAttempt attempts P = (j : ℕ) (attempt : Attempt) → slice_get attempts j ≡ Some attempt → P j attempt
 
+-- of some attempt
+abbrev pub SomeAttempt : List Attempt → (Attempt → Type 0) → Type 0
+SomeAttempt attempts P = (j : ℕ) × (attempt : Attempt) × (slice_get attempts j ≡ Some attempt) × P attempt
+
 -- of each row of an object in a store
 abbrev pub EachRowOf : AllRows → ℕ → (SeenRow → Type 0) → Type 0
 EachRowOf rows oid P = (i : ℕ) (row : SeenRow) → slice_get (rows_of rows oid) i ≡ Some row → P row

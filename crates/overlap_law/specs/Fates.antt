@@ -23,7 +23,7 @@ use Rattle.overlap_law.specs.Attempts.{Fate, Flying, Served, Doomed, Attempt, ob
 use Rattle.overlap_law.specs.Words.{Seats, is_served, is_made, is_mute, has_served}
 use Rattle.overlap_law.specs.Holders.{creates, is_among}
 use Rattle.overlap_law.specs.Each.{Placing, EachSeat, EachUp, EachAttempt, has_reached}
-use Rattle.overlap_law.specs.Letters.{Wire, name_of, name_at, request_at, is_in_wire, is_request, IsAsking, IsAnswering, IsOnItsWay, IsQuiet}
+use Rattle.overlap_law.specs.Letters.{Wire, named, name_at, request_at, is_in_wire, is_request, IsAsking, IsAnswering, HasLetter, IsQuiet}
 use Rattle.overlap_law.specs.Grants.{reserved_in}
 
 -- a message flies exactly where its request is in the wire
@@ -57,7 +57,7 @@ pub record IdsAreKnown (log : List Entry) (attempts : List Attempt) : Type 0 whe
 -- of two attempts on an object the later one is of no earlier epoch, and of a later one while the other has letters
 pub record AreInOrder (wire : Wire) (first second : Attempt) : Type 0 where
   pub epochs : first.epoch ≤ second.epoch
-  pub flying : (place : ℕ) (target : NodeId) → IsOnItsWay wire first place target → first.epoch < second.epoch
+  pub flying : (place : ℕ) (target : NodeId) → HasLetter wire first place target → first.epoch < second.epoch
 
 -- the attempts on an object are ordered
 pub record AttemptsAreOrdered (wire : Wire) (attempts : List Attempt) : Type 0 where
@@ -135,17 +135,3 @@ pub record IsCreated (attempts : List Attempt) (oid epoch : ℕ) : Type 0 where
 pub record CreatesComeFirst (good_id : ℕ → Bool) (attempts : List Attempt) : Type 0 where
   pub each : EachAttempt attempts (λ j attempt. good_id (vid_of (object_of attempt)) ≡ true → creates attempt ≡ false
       → (created : IsCreated attempts (object_of attempt) attempt.epoch) × (created.place < j))
-
--- the group of attempts
-pub record AttemptsAreKept (T : Placing) (log : List Entry) (seats : Seats) (wire : Wire) (refused : List ℕ) (good_id : ℕ → Bool)
-    (attempts : List Attempt) : Type 0 where
-  pub fates : FatesAreOfTheWire wire attempts
-  pub reached : ServersReachedTheEpoch seats attempts
-  pub shape : AttemptsAreShaped T log attempts
-  pub known : IdsAreKnown log attempts
-  pub ordered : AttemptsAreOrdered wire attempts
-  pub latest : OpenAttemptsAreLatest seats attempts
-  pub worked : WorksKnowTheirFates seats wire attempts
-  pub touched : ServedRequestsAreTouched seats wire attempts
-  pub untouched : RefusedRequestsAreMute wire refused attempts
-  pub create_first : CreatesComeFirst good_id attempts

@@ -1,26 +1,19 @@
--- The messages in the wire: requests, replies, and what a node waits for.
-use Rattle.std.specs.Prelude.{◌≡◌, ◌⊎◌, ℕ, ◌+◌, Bool, true, false, List, slice_get, Option, Some, None}
+-- The messages in the wire: requests, replies, what a node waits for, and which of them are an attempt's.
+use Rattle.std.specs.Prelude.{◌≡◌, ℕ, ◌+◌, Bool, true, false, List, slice_get, Option, Some, None, Ok}
 use Rattle.std.specs.FinMap as tree
 use Rattle.object_id.specs.declared.node.NodeId.{NodeId}
-use Rattle.object_id.specs.declared.oid.Kind.{Kind}
 use Rattle.object_id.specs.Oid.{kind_of}
 use Rattle.strip_coding.specs.Part.{index_at}
 use Rattle.peer_proto.specs.declared.ask.PeerReq.{PeerReq}
 use Rattle.peer_proto.specs.declared.say.PeerRsp.{PeerRsp}
-use Rattle.peer_proto.specs.Ask.{ask_bytes}
-use Rattle.peer_proto.specs.Say.{say_bytes}
+use Rattle.peer_proto.specs.Ask.{ask_in}
+use Rattle.peer_proto.specs.Say.{say_in}
 use Rattle.peer_proto.specs.Work.{policy_of}
-use Rattle.gateway.specs.declared.message.Message as sent
-use Rattle.gateway.specs.declared.message.Status.TheVariants.{Unanswered}
 use Rattle.gateway.specs.Work.{ask_for}
-use Rattle.gateway.specs.Attempt as gateways
-use Rattle.gateway.specs.Attempt.{send_of}
-use Rattle.gateway.specs.State.{Open, Work, Gateway}
-use Rattle.recovery.specs.State as recoveries
-use Rattle.recovery.specs.State.{all_unanswered}
 use Rattle.sheep_node.specs.State.{Node}
 use Rattle.sheep_world.specs.declared.name.MessageName.{MessageName}
 use Rattle.sheep_world.specs.World.{Letter, Request, Reply, name_cmp}
+use Rattle.sheep_world.specs.Wired.{asked_by}
 use Rattle.overlap_law.specs.Attempts.{Attempt, object_of}
 
 -- the messages in the wire, by name
@@ -28,16 +21,20 @@ abbrev pub Wire : Type 0
 Wire = tree.FinMap name_cmp Letter
 
 -- the name of a node's message of a number
-abbrev pub name_of : ℕ → ℕ → MessageName
-name_of n number = record { sender = record { 0 = n }; number = number }
+abbrev pub named : ℕ → ℕ → MessageName
+named n number = record { sender = record { 0 = n }; number = number }
 
 -- a request is in the wire, on its way to a node
 pub record IsAsking (wire : Wire) (name : MessageName) (to : NodeId) (request : PeerReq) : Type 0 where
-  pub there : tree.get wire name ≡ Some (Request to (ask_bytes request))
+  pub bytes : List ℕ
+  pub there : tree.get wire name ≡ Some (Request to bytes)
+  pub spelled : ask_in bytes ≡ Ok request
 
 -- a node's reply is in the wire, on its way back
 pub record IsAnswering (wire : Wire) (name : MessageName) (from : NodeId) (reply : PeerRsp) : Type 0 where
-  pub there : tree.get wire name ≡ Some (Reply from (say_bytes reply))
+  pub bytes : List ℕ
+  pub there : tree.get wire name ≡ Some (Reply from bytes)
+  pub spelled : say_in bytes ≡ Ok reply
 
 -- whether a message, or the reply to it, is in the wire
 abbrev pub is_in_wire : Wire → MessageName → Bool
@@ -48,30 +45,10 @@ is_request None = false
 is_request (Some (Request to bytes)) = true
 is_request (Some (Reply from bytes)) = false
 
--- an unanswered message of a gateway's open attempt: the node that it goes to, and what it asks there
-pub record IsOfWork (gateway : Gateway) (to : NodeId) (request : PeerReq) : Type 0 where
-  pub req : ℕ
-  pub work : Work
-  pub attempt : gateways.Attempt
+-- a node waits for the answer to what it asked another: for an open work, or for one of its recoveries
+pub record IsAwaited (node : Node) (to : NodeId) (request : PeerReq) : Type 0 where
   pub place : ℕ
-  pub message : sent.Message
-  pub there : tree.get gateway.works req ≡ Some work
-  pub stage : work.stage ≡ Open attempt
-  pub among : slice_get attempt.messages place ≡ Some message
-  pub unanswered : message.status ≡ Unanswered
-  pub asked : send_of gateway.me attempt.epoch work.work message ≡ (to, request)
-
--- one of these messages of a recovery
-pub record IsOfRecovery (messages : List recoveries.Message) (to : NodeId) (request : PeerReq) : Type 0 where
-  pub place : ℕ
-  pub message : recoveries.Message
-  pub among : slice_get messages place ≡ Some message
-  pub receiver : message.to ≡ to
-  pub asked : message.request ≡ request
-
--- a node waits for the answer to what it asked another: for a work that is open, or for one of its recoveries
-abbrev pub IsAwaited : Node → NodeId → PeerReq → Type 0
-IsAwaited node to request = IsOfWork node.gateway to request ⊎ IsOfRecovery (all_unanswered node.recovery) to request
+  pub among : slice_get (asked_by node) place ≡ Some (to, request)
 
 -- the name of an attempt's message at a place
 abbrev pub name_at : Attempt → ℕ → MessageName
@@ -86,8 +63,8 @@ request_at attempt place = record {
   ask = ask_for attempt.work (index_at (policy_of attempt.work) (kind_of (object_of attempt)) place);
 }
 
--- an attempt's message to a target, with its place, or the reply to it, is in the wire
-pub record IsOnItsWay (wire : Wire) (attempt : Attempt) (place : ℕ) (target : NodeId) : Type 0 where
+-- an attempt's message to the target at a place, or the reply to it, is in the wire
+pub record HasLetter (wire : Wire) (attempt : Attempt) (place : ℕ) (target : NodeId) : Type 0 where
   pub among : slice_get attempt.targets place ≡ Some target
   pub there : is_in_wire wire (name_at attempt place) ≡ true
 

@@ -15,10 +15,13 @@ pub mod Letters
 pub mod Flight
 pub mod Fates
 pub mod Writers
+pub mod Sessions
 pub mod Terms
 pub mod Rows
 pub mod Since
 pub mod Told
+pub mod Lists
 pub mod Searches
 pub mod Tables
 pub mod Written
+pub mod Overlap

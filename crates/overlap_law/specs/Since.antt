@@ -1,6 +1,6 @@
 -- What the bytes of a row are of: the attempts that it owes, or later ones. One predicate for copies and strips, over the
 -- row's index, end and bytes, so that it serves rows in stores and rows that were told.
-use Rattle.std.specs.Prelude.{◌≡◌, ◌⊎◌, ℕ, ◌≤◌, ◌<◌, nat_le, nat_lt, ◌&&◌, ◌||◌, Bool, true, false, List, slice_get, Option, Some, None}
+use Rattle.std.specs.Prelude.{◌≡◌, ◌⊎◌, ℕ, ◌≤◌, ◌<◌, nat_le, nat_lt, ◌&&◌, ◌||◌, Bool, true, false, List, length, slice_get, Option, Some, None}
 use Rattle.object_id.specs.declared.node.NodeId.{NodeId}
 use Rattle.object_id.specs.declared.oid.Kind.{Kind}
 use Rattle.object_id.specs.declared.policy.Policy.{Policy}
@@ -8,8 +8,8 @@ use Rattle.object_id.specs.Oid.{kind_of}
 use Rattle.strip_coding.specs.Part.{is_in_strips}
 use Rattle.vdi_directory.specs.declared.effect.Effect.{Effect}
 use Rattle.overlap_law.specs.Attempts.{Attempt, attempts_on}
-use Rattle.overlap_law.specs.Words.{Seats, is_doomed, is_mute, has_served, covers, part_by, row_bytes_at}
-use Rattle.overlap_law.specs.Each.{EachAttempt, EachRow, end_of, policy_in}
+use Rattle.overlap_law.specs.Words.{Seats, is_doomed, is_mute, has_served, covers, part_by, row_bytes_at, unit_end}
+use Rattle.overlap_law.specs.Each.{EachAttempt, SomeAttempt, EachRow, end_of, policy_in}
 
 -- whether a row of a node that covers up to an end owes an attempt: one of an earlier epoch, or one that the node served, of
 -- no later epoch than this one
@@ -61,3 +61,18 @@ IsSince policy oid seats attempts node index end served_to bytes =
 pub record RowsAreSince (effects : List Effect) (good : ℕ → Bool) (seats : Seats) (attempts : List Attempt) : Type 0 where
   pub each : EachRow seats (λ n seat oid row. (policy : Policy) → good oid ≡ true → policy_in effects oid ≡ Some policy
       → IsSince policy oid seats attempts (record { 0 = n }) row.index (end_of seat.node.peer.epoch row.to) (end_of seat.node.peer.epoch row.to) row.bytes)
+
+-- at each unit a copy has the bytes of some attempt that covers it
+pub record IsOfAttempts (kind : Kind) (policy : Policy) (attempts : List Attempt) (index : ℕ) (bytes : List ℕ) : Type 0 where
+  pub each : (unit : ℕ) → nat_le (unit_end kind unit) (length bytes) ≡ true
+      → SomeAttempt attempts (λ attempt. (covers unit attempt ≡ true) × (row_bytes_at policy kind unit bytes ≡ part_by index unit attempt.work))
+
+-- the same of an object, if its rows are copies
+abbrev pub IsCopyOfAttempts : Policy → ℕ → List Attempt → ℕ → List ℕ → Type 0
+IsCopyOfAttempts policy oid attempts index bytes =
+    is_in_strips policy (kind_of oid) ≡ false → IsOfAttempts (kind_of oid) policy (attempts_on oid attempts) index bytes
+
+-- each copy in a store is of attempts, also where what it owes is doomed
+pub record CopiesAreOfAttempts (effects : List Effect) (live : ℕ → Bool) (seats : Seats) (attempts : List Attempt) : Type 0 where
+  pub each : EachRow seats (λ n seat oid row. (policy : Policy) → live oid ≡ true → policy_in effects oid ≡ Some policy
+      → IsCopyOfAttempts policy oid attempts row.index row.bytes)

@@ -131,11 +131,3 @@ pub record TablesAreMade (effects : List Effect) (good_id : ℕ → Bool) (seats
       → session.disk ≡ Some disk → good_id disk.inode.vid ≡ true → is_dead effects disk.inode.vid ≡ false
       → index < objects_of disk.inode.spec → slice_index disk.inode.table index ≢ 0
       → IsCreated attempts (object_number (slice_index disk.inode.table index) index) node.peer.epoch)
-
--- the group of inodes and tables
-pub record TablesAreKept (log : List Entry) (live : ℕ → Bool) (good_id : ℕ → Bool) (seats : Seats) (attempts : List Attempt) : Type 0 where
-  pub entries : EntriesAreMade (happened log) live good_id attempts
-  pub published : PublishedInodesAreMade log live good_id attempts
-  pub table : TablesAreTheInodes (happened log) good_id seats attempts
-  pub frozen : SnapshotsAreFrozen (happened log) live good_id attempts
-  pub table_made : TablesAreMade (happened log) good_id seats attempts

@@ -66,7 +66,7 @@ pub record TheRecoveredHaveAll (log : List Entry) (seats : Seats) : Type 0 where
   pub all : EachUp seats (λ n node. has_finished seats log node.peer.epoch (record { 0 = n }) ≡ true
       → node.recovery.epoch ≡ node.peer.epoch → HasRecovered node)
 
--- no epoch is settled while a node that is up recovers in it or an earlier one
+-- the settled epoch is below that of a node that isn't lost and hasn't finished its recovery
 pub record TheUnfinishedAreUnsettled (log : List Entry) (seats : Seats) : Type 0 where
   pub each : EachUp seats (λ n node. is_finished (state_of node) ≡ false → settled_of log < node.peer.epoch)
 
@@ -79,16 +79,3 @@ pub record SettledIsRead (log : List Entry) (seats : Seats) : Type 0 where
 pub record TheSettledHaveRecovered (log : List Entry) (seats : Seats) : Type 0 where
   pub each : (node : NodeId) → 1 < settled_of log → is_member node.0 (members_in log (settled_of log)) ≡ true
       → has_finished seats log (settled_of log) node ≡ true
-
--- the group of epochs
-pub record TermsAreKept (log : List Entry) (seats : Seats) : Type 0 where
-  pub up_member : TheUpAreMembers log seats
-  pub stayed : TheUpHaveStayed log seats
-  pub left : LeaversAreBeyond log seats
-  pub read : NodesHaveRead log seats
-  pub present : RecoveriesArePresent log seats
-  pub answered : AnswerersHaveCome seats
-  pub recovered : TheRecoveredHaveAll log seats
-  pub unsettled : TheUnfinishedAreUnsettled log seats
-  pub settled_read : SettledIsRead log seats
-  pub settles : TheSettledHaveRecovered log seats

@@ -14,7 +14,7 @@ use Rattle.recovery.specs.Level.{is_of_search}
 use Rattle.recovery.specs.State.{Message, Answer, Search, Recovery, all_unanswered, search_on}
 use Rattle.sheep_node.specs.State.{Node}
 use Rattle.sheep_node.specs.Shown.{state_of}
-use Rattle.overlap_law.specs.Letters.{Wire, name_of, IsAnswering}
+use Rattle.overlap_law.specs.Letters.{Wire, named, IsAnswering}
 
 -- a node's list of its objects is on its way to a recovery of a node, which asked for it in this epoch
 pub record IsListUnderWay (wire : Wire) (n : ℕ) (recovery : Recovery) (from : NodeId) (epoch : ℕ) (oids : List ℕ) : Type 0 where
@@ -24,7 +24,7 @@ pub record IsListUnderWay (wire : Wire) (n : ℕ) (recovery : Recovery) (from : 
   pub unanswered : slice_get (all_unanswered recovery) place ≡ Some message
   pub asked : message.request.ask ≡ asks.List
   pub of_epoch : message.request.epoch.0 ≡ epoch
-  pub answering : IsAnswering wire (name_of n message.request.number) from reply
+  pub answering : IsAnswering wire (named n message.request.number) from reply
   pub said : reply.say ≡ says.Objects oids
 
 -- a recovery has a node's objects among its own: it doesn't wait for the node
@@ -51,7 +51,7 @@ pub record IsRowUnderWay (wire : Wire) (n : ℕ) (recovery : Recovery) (from : N
   pub unanswered : slice_get (all_unanswered recovery) place ≡ Some message
   pub asked : message.request.ask ≡ asks.RecoverRead oid (record { 0 = level })
   pub of_epoch : message.request.epoch.0 ≡ epoch
-  pub answering : IsAnswering wire (name_of n message.request.number) from reply
+  pub answering : IsAnswering wire (named n message.request.number) from reply
   pub said : reply.say ≡ say_of row
 
 -- a search keeps it, while further answers of its level are awaited

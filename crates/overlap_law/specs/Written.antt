@@ -115,8 +115,3 @@ pub record StripsAreSound (ledger : Ledger) (effects : List Effect) (good_id : �
       → own_base_of unit (attempts_on (object_number home index) attempts) ≡ Some base
       → slice_get (later_on unit (attempts_on (object_number home index) attempts)) place ≡ Some later
       → (is_mute later ≡ true) ⊎ (IsUnanswered seats later ⊎ (bytes_by unit later.work ≡ bytes_by unit base.work))
-
--- the group of the history
-pub record WrittenIsKept (ledger : Ledger) (effects : List Effect) (good_id : ℕ → Bool) (seats : Seats) (attempts : List Attempt) : Type 0 where
-  pub written : BlocksAreWritten ledger effects good_id seats attempts
-  pub sound : StripsAreSound ledger effects good_id seats attempts

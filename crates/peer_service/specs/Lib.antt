@@ -5,3 +5,4 @@ pub mod Serve
 pub mod Epochs
 pub mod Reading
 pub mod Back
+pub mod Example

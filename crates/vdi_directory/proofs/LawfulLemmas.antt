@@ -49,7 +49,7 @@ tag_for-is before name old (sources.Snapshot of other) tag base is = by_test (of
     by_test false apart is = cc
 tag_for-is before name old sources.Clone tag base is = cc
 
-tagged-is : (tag : List ℕ) (name : Name) (vid : Vid) → tagged tag name ≡ Some vid → (shot : TheShot) × In shot name.shots × (shot.vid ≡ vid)
+pub tagged-is : (tag : List ℕ) (name : Name) (vid : Vid) → tagged tag name ≡ Some vid → (shot : TheShot) × In shot name.shots × (shot.vid ≡ vid)
 tagged-is tag name vid is = by_found (find (has_tag tag) name.shots) refl is
   where
     by_found : (found : Option TheShot) → find (has_tag tag) name.shots ≡ found → option_map (λ (shot : TheShot). shot.vid) found ≡ Some vid
@@ -205,7 +205,7 @@ module _ (before : List Effect) (sound : IsSound before) where
   tag-found None vid is = cc
   tag-found (Some now) vid is = cc
 
-  target-tagged : (b : Bool) (found : Option Vid) (vid : Vid) → cond b (or_no_tag found) (Err causes.NoVdi) ≡ Ok vid → found ≡ Some vid
+  pub target-tagged : (b : Bool) (found : Option Vid) (vid : Vid) → cond b (or_no_tag found) (Err causes.NoVdi) ≡ Ok vid → found ≡ Some vid
   target-tagged true found vid is = tag-found found vid is
   target-tagged false found vid is = cc
 

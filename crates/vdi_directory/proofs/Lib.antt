@@ -12,7 +12,9 @@ pub mod AscentLemmas
 pub mod ShotLemmas
 pub mod WorkingLemmas
 pub mod DeadLemmas
+pub mod DeadTests
 pub mod LineLemmas
+pub mod KnownLemmas
 pub mod StandLemmas
 pub mod UnborneLemmas
 pub mod FreeLemmas

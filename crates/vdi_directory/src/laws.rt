@@ -1,27 +1,30 @@
 //! Laws of the definitions, for the proofs of the layers above: each is the contract of a function that does nothing.
-ghost use Rattle.std.specs.Prelude.{◌≡◌, ◌⊎◌, ℕ, ◌<◌, ◌≤◌, ◌==◌, ◌&&◌, Bool, true, false, List, [], ◌∷◌, ◌++◌, Option, Some, None, IsTrue};
+ghost use Rattle.std.specs.Prelude.{◌≡◌, ◌↔◌, ◌⊎◌, ℕ, ◌<◌, ◌≤◌, ◌==◌, ◌&&◌, Bool, true, false, List, [], ◌∷◌, ◌++◌, Option, Some, None, IsTrue};
 ghost use Rattle.std.specs.List.{list_any};
 ghost use Rattle.std.specs.FinMap as tree;
 ghost use Rattle.std.specs.List.Sorted.{IsStrictlyIncreasing};
 ghost use Rattle.object_id.specs.Oid.{IsVid};
 ghost use Rattle.object_id.specs.declared.oid.Vid.{Vid};
 ghost use Rattle.object_id.specs.declared.node.NodeId.{NodeId};
+ghost use Rattle.object_id.specs.declared.entry.Origin.TheVariants as origins;
 ghost use Rattle.object_id.specs.declared.entry.Entry.{Entry};
 ghost use Rattle.object_id.specs.declared.entry.Entry.TheVariants as the_entries;
 ghost use Rattle.disk_lock.specs.declared.holder.Holder.{Holder};
 ghost use Rattle.vdi_directory.specs.declared.shot.Shot.{Shot as TheShot};
+ghost use Rattle.vdi_directory.specs.declared.header.Header.{Header};
 ghost use Rattle.vdi_directory.specs.declared.effect.Claim.{Claim};
 ghost use Rattle.vdi_directory.specs.declared.effect.Grant.{Grant};
 ghost use Rattle.vdi_directory.specs.declared.effect.Effect.{Effect};
 ghost use Rattle.vdi_directory.specs.declared.effect.Effect.TheVariants as effects;
+ghost use Rattle.vdi_directory.specs.declared.decision.Decision.TheVariants as decisions;
 ghost use Rattle.vdi_directory.specs.declared.vid_range.TheConstants.{VID_MAX};
 ghost use Rattle.vdi_directory.specs.Vids.{own_vid, free_id};
 ghost use Rattle.vdi_directory.specs.Sources.{is_for, tag_for};
-ghost use Rattle.vdi_directory.specs.Effects.{is_used, name_of, claims_of, claim_on, live_of, holder_of};
-ghost use Rattle.vdi_directory.specs.Decisions.{outcome, happened, nothing};
+ghost use Rattle.vdi_directory.specs.Effects.{is_used, header_of, name_of, claims_of, claim_on, live_of, holder_of};
+ghost use Rattle.vdi_directory.specs.Decisions.{outcome, happened, nothing, decision_after, found, held_disk};
 ghost use Rattle.vdi_directory.specs.States.{Working, Shot, rank, state_of, owner_of, is_live_state, may_take};
 ghost use Rattle.vdi_directory.specs.Sound.{In, IsWorking, IsTaken};
-ghost use Rattle.vdi_directory.specs.Dead.{is_above, IsDead};
+ghost use Rattle.vdi_directory.specs.Dead.{is_above, IsDead, is_dead};
 ghost use Rattle.vdi_directory.specs.Books.{AreLocks};
 
 /// Before any entry was read nobody holds a disk: a new directory and new locks fit each other.
@@ -37,6 +40,23 @@ pub fn an_id_is_granted_once()
         → is_used (happened (entries ++ entry ∷ [])) grant.claim.vid.0 ≡ true }
     ensures stays { (entries later : List Entry) (vid : ℕ) → is_used (happened entries) vid ≡ true
         → is_used (happened (entries ++ later)) vid ≡ true }
+{}
+
+/// An id that is granted has a header once the entry is read. The parent of an id that is reserved for a clone is the snapshot
+/// that the base's name and the tag find; of one that is reserved for a snapshot, the name's working disk, which the session holds.
+pub fn grants_are_known()
+    ensures header { (entries : List Entry) (entry : Entry) (vid : Vid) → decision_after entries entry ≡ decisions.Granted vid
+        → (header : Header) × (header_of (happened (entries ++ entry ∷ [])) vid.0 ≡ Some header) }
+    ensures clone { (entries : List Entry) (by : NodeId) (session : ℕ) (name base tag : List ℕ) (vid : Vid)
+        → decision_after entries (the_entries.Reserve by session name (origins.CloneOf base tag)) ≡ decisions.Granted vid
+        → (header : Header) × (parent : Vid)
+        × (header_of (happened (entries ++ the_entries.Reserve by session name (origins.CloneOf base tag) ∷ [])) vid.0 ≡ Some header)
+        × (header.parent ≡ Some parent) × (found entries base (Some tag) ≡ Some parent) }
+    ensures snapshot { (entries : List Entry) (by : NodeId) (session : ℕ) (name tag : List ℕ) (vid : Vid)
+        → decision_after entries (the_entries.Reserve by session name (origins.SnapshotOf tag)) ≡ decisions.Granted vid
+        → (header : Header) × (parent : Vid)
+        × (header_of (happened (entries ++ the_entries.Reserve by session name (origins.SnapshotOf tag) ∷ [])) vid.0 ≡ Some header)
+        × (header.parent ≡ Some parent) × (held_disk (happened entries) by session (found entries name None) ≡ Some parent) }
 {}
 
 /// An id is reserved, then published, then a snapshot, then deleted; it may leave steps out, and never goes back.
@@ -108,6 +128,11 @@ pub fn the_dead_stay_dead()
     ensures heirs { (entries : List Entry) (vid other : ℕ) → IsDead (happened entries) vid → is_above (happened entries) vid other ≡ true
         → IsDead (happened entries) other }
     ensures stays { (entries later : List Entry) (vid : ℕ) → IsDead (happened entries) vid → IsDead (happened (entries ++ later)) vid }
+{}
+
+/// The test over the ids that were granted tells exactly which ids are dead.
+pub fn a_test_finds_the_dead()
+    ensures { (entries : List Entry) (vid : ℕ) → IsTrue (is_dead (happened entries) vid) ↔ IsDead (happened entries) vid }
 {}
 
 /// The free id of a name is the first that is not used, from the name's own id on, where the first id follows on the last.

@@ -38,7 +38,8 @@ pub use epoch_log::{Cause, Entry, Epoch, Member, MemberList, NodeId, NodeList, O
 pub use header::Header;
 pub use laws::{
     a_disk_stays_with_its_holder, a_free_id_is_the_first, a_node_that_left_has_nothing,
-    an_id_is_granted_once, live_ids_are_published, names_find_their_disks, nobody_holds_at_first,
-    one_holds_a_disk, only_reservations_are_published, states_move_forward, the_dead_stay_dead,
+    a_test_finds_the_dead, an_id_is_granted_once, grants_are_known, live_ids_are_published,
+    names_find_their_disks, nobody_holds_at_first, one_holds_a_disk,
+    only_reservations_are_published, states_move_forward, the_dead_stay_dead,
 };
 pub use vid_range::{FullVdi, VidRange, free_vid};
