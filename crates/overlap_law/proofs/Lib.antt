@@ -3,4 +3,6 @@ pub mod RunLemmas
 pub mod UnitLemmas
 pub mod BaseLemmas
 pub mod WholeLemmas
+pub mod RestLemmas
+pub mod EpochLemmas
 pub mod WorkedCases
