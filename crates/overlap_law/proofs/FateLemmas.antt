@@ -1,10 +1,10 @@
 -- How the fates of messages make an attempt made or doomed, and what stays so.
-use Rattle.std.proofs.Common.{◌≡◌, ◌≢◌, ◌⊎◌, ⊎_elim, ℕ, zero, suc, ◌-◌, ◌==◌, ◌&&◌, ◌||◌, not, Bool, true, false, cond, List, [], ◌∷◌, Option, Some, None, refl, sym, ap, ◌∙◌, slice_get}
-use Rattle.std.specs.List.{list_all, list_any}
-use Rattle.std.proofs.lemmas.Bool.{and_parts, and_from, or_left, or_right, or_cases}
+use Rattle.std.proofs.Common.{◌≡◌, ◌≢◌, ⊎_elim, ℕ, zero, suc, ◌-◌, Bool, true, false, cond, List, [], ◌∷◌, Some, refl, ap, slice_get}
+use Rattle.std.specs.List.{list_all}
+use Rattle.std.proofs.lemmas.Bool.{or_left, or_right, or_cases}
 use Rattle.object_id.specs.declared.node.NodeId.{NodeId}
 use Rattle.overlap_law.specs.Attempts.{Fate, Flying, Served, Doomed, Attempt, has_message, known_fate, told_at, marked_in}
-use Rattle.overlap_law.specs.Words.{Seats, is_beyond, is_served, is_made, is_mute, is_in_vain, is_one_in_vain, is_doomed}
+use Rattle.overlap_law.specs.Words.{Seats, is_beyond, is_served, is_made, is_in_vain, is_one_in_vain, is_doomed}
 
 all_served-not_in_vain : (seats : Seats) (epoch : ℕ) (targets : List NodeId) (fates : List Fate) → list_all is_served fates ≡ true
     → is_one_in_vain seats epoch targets fates ≡ false
@@ -47,9 +47,9 @@ one_in_vain-grows old new epoch grows [] fates e = absurd (cc)
 one_in_vain-grows old new epoch grows (target ∷ targets) [] e = absurd (cc)
 one_in_vain-grows old new epoch grows (target ∷ targets) (fate ∷ fates) e = ⊎_elim
     (λ (h : is_in_vain old epoch target fate ≡ true). or_left (is_in_vain new epoch target fate) (is_one_in_vain new epoch targets fates)
-        (in_vain-grows old new epoch target fate (grows target) h))
+    (in_vain-grows old new epoch target fate (grows target) h))
     (λ (h : is_one_in_vain old epoch targets fates ≡ true). or_right (is_in_vain new epoch target fate) (is_one_in_vain new epoch targets fates)
-        (one_in_vain-grows old new epoch grows targets fates h))
+    (one_in_vain-grows old new epoch grows targets fates h))
     (or_cases (is_in_vain old epoch target fate) (is_one_in_vain old epoch targets fates) e)
 
 pub doomed-grows : (old new : Seats) (attempt : Attempt)
@@ -73,13 +73,13 @@ told-one_in_vain seats epoch told known [] fates place within e = absurd (cc)
 told-one_in_vain seats epoch told known (target ∷ targets) [] place within e = absurd (cc)
 told-one_in_vain seats epoch told known (target ∷ targets) (fate ∷ fates) zero within e = ⊎_elim
     (λ (h : is_in_vain seats epoch target fate ≡ true). or_left (is_in_vain seats epoch target (known_fate told fate)) (is_one_in_vain seats epoch targets fates)
-        (told-in_vain seats epoch target told fate (within target refl) known h))
+    (told-in_vain seats epoch target told fate (within target refl) known h))
     (λ (h : is_one_in_vain seats epoch targets fates ≡ true). or_right (is_in_vain seats epoch target (known_fate told fate)) (is_one_in_vain seats epoch targets fates) h)
     (or_cases (is_in_vain seats epoch target fate) (is_one_in_vain seats epoch targets fates) e)
 told-one_in_vain seats epoch told known (target ∷ targets) (fate ∷ fates) (suc place) within e = ⊎_elim
     (λ (h : is_in_vain seats epoch target fate ≡ true). or_left (is_in_vain seats epoch target fate) (is_one_in_vain seats epoch targets (told_at place told fates)) h)
     (λ (h : is_one_in_vain seats epoch targets fates ≡ true). or_right (is_in_vain seats epoch target fate) (is_one_in_vain seats epoch targets (told_at place told fates))
-        (told-one_in_vain seats epoch told known targets fates place within h))
+    (told-one_in_vain seats epoch told known targets fates place within h))
     (or_cases (is_in_vain seats epoch target fate) (is_one_in_vain seats epoch targets fates) e)
 
 doomed_if : (seats : Seats) (told : Fate) (number : ℕ) (attempt : Attempt) → told ≢ Flying

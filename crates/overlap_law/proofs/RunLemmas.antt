@@ -1,5 +1,5 @@
 -- The past beside a run: it follows the run, and leaves no read out where every object was borne.
-use Rattle.std.proofs.Common.{◌≡◌, ℕ, ◌==◌, not, Bool, true, false, cond, List, [], ◌∷◌, ◌++◌, filter, Option, Some, None, refl, sym, ap, ◌∙◌, subst}
+use Rattle.std.proofs.Common.{◌≡◌, ℕ, Bool, true, false, cond, List, [], ◌∷◌, ◌++◌, filter, Option, Some, None, refl, sym, ap, ◌∙◌, subst}
 use Rattle.std.specs.Option.{option_map, option_and_then}
 use Rattle.std.proofs.lemmas.List.{append-nil, append_assoc}
 use Rattle.object_id.specs.declared.entry.Entry.{Entry}
@@ -7,11 +7,12 @@ use Rattle.cluster_script.specs.declared.statement.Statement.{Statement}
 use Rattle.disk_history.specs.declared.event.HistEvent.{HistEvent}
 use Rattle.disk_history.specs.declared.event.HistEvent.TheVariants.{Create, Copy, Delete, WriteStart, WriteDone, WriteRefused, WriterLost, Read}
 use Rattle.sheep_node.specs.declared.event.Event.{Event}
-use Rattle.sheep_world.specs.World.{World}
 use Rattle.sheep_world.specs.Step.{Made, step}
 use Rattle.sheep_world.specs.Run as runs
 use Rattle.overlap_law.specs.Holders.{is_borne_disk}
-use Rattle.overlap_law.specs.Past.{Past, Moment, counts, unborne_at, is_counted, grown, attempts_after, moment_after, next_moment, run_on, first_moment, run_with_past, without_past}
+use Rattle.overlap_law.specs.Begun.{attempts_after}
+use Rattle.overlap_law.specs.Added.{unborne_at, is_counted}
+use Rattle.overlap_law.specs.Past.{Moment, grown, moment_after, run_on, first_moment, run_with_past, without_past}
 use Rattle.sheep_world.specs.Lives.{lives_after}
 
 along : (script : List Statement) (event : Event) (events : List Event) (moment : Moment)
@@ -103,12 +104,13 @@ no_events-keep_reads moment = (record { more = []; whole = sym (append-nil momen
 then-keeps_reads : (script : List Statement) (event : Event) (first last : Moment) (made : Made)
     → KeepsReads (moment_after script event first made) last → KeepsReads first last
 then-keeps_reads script event first last made later =
-    let grows = step-grows script event first made in
-    (grows-twice first.past.unborne (moment_after script event first made).past.unborne last.past.unborne grows later.0,
-    λ none same. later.1 none (step-keeps_reads script event first made
-        (no_more-before first.past.unborne (moment_after script event first made).past.unborne grows
-            (no_more-before (moment_after script event first made).past.unborne last.past.unborne later.0 none))
-        same))
+    let grows = step-grows script event first made in (
+      grows-twice first.past.unborne (moment_after script event first made).past.unborne last.past.unborne grows later.0,
+      λ none same. later.1 none (step-keeps_reads script event first made
+          (no_more-before first.past.unborne (moment_after script event first made).past.unborne grows
+          (no_more-before (moment_after script event first made).past.unborne last.past.unborne later.0 none))
+          same),
+    )
 
 keeps_reads-along : (script : List Statement) (event : Event) (events : List Event) (first last : Moment)
     → ((next : Moment) → run_on script next events ≡ Some last → KeepsReads next last)

@@ -1,10 +1,10 @@
 -- Units of an object: each begins where the one before ends, and is found by the place of its first byte.
-use Rattle.std.proofs.Common.{arith, ◌≡◌, ℕ, ◌+◌, ◌*◌, ◌-◌, ◌/◌, ◌<◌, ◌≤◌, nat_lt, Bool, true, false, cond, refl, sym, ap, ◌∙◌}
+use Rattle.std.proofs.Common.{arith, ◌≡◌, ℕ, ◌+◌, ◌*◌, ◌-◌, ◌<◌, ◌≤◌, nat_lt, Bool, true, false, cond, refl}
 use Rattle.std.proofs.lemmas.Bool.{ltb-true, ltb-false}
 use Rattle.object_id.specs.declared.oid.Kind.{Kind}
 use Rattle.object_id.specs.declared.oid.Kind.TheVariants.{Block, Inode}
 use Rattle.inode.specs.declared.layout.TheConstants.{INODE_HEADER_BYTES}
-use Rattle.overlap_law.specs.Words.{unit_start, unit_size, unit_end, unit_of}
+use Rattle.overlap_law.specs.Words.{unit_start, unit_end}
 
 ends_header : (unit : ℕ) → unit < INODE_HEADER_BYTES → INODE_HEADER_BYTES ≤ unit + 1
     → unit + 1 ≡ INODE_HEADER_BYTES + 4 * (unit + 1 - INODE_HEADER_BYTES)

@@ -1,11 +1,11 @@
 -- Cases that are worked out by computing: an object of 1,024 bytes with two copies, of which three attempts are made or tried.
-use Rattle.std.proofs.Common.{◌≡◌, ℕ, ◌+◌, ◌*◌, ◌^◌, Bool, true, false, List, [], ◌∷◌, ◌++◌, replicate, Option, Some, None, refl}
+use Rattle.std.proofs.Common.{◌≡◌, ℕ, ◌+◌, ◌^◌, true, false, List, [], ◌∷◌, replicate, Some, None, refl}
 use Rattle.object_id.specs.declared.node.NodeId.{NodeId}
 use Rattle.object_id.specs.declared.oid.Kind.TheVariants.{Block, Inode}
-use Rattle.object_id.specs.declared.policy.Policy.TheVariants.{Copies, Coded}
+use Rattle.object_id.specs.declared.policy.Policy.TheVariants.{Copies}
 use Rattle.peer_proto.specs.declared.work.ObjWork.{ObjWork}
 use Rattle.peer_proto.specs.declared.work.ObjWork.TheVariants.{Create, Write}
-use Rattle.overlap_law.specs.Attempts.{Fate, Flying, Served, Doomed, Attempt, marked, attempts_on}
+use Rattle.overlap_law.specs.Attempts.{Fate, Flying, Served, Doomed, Attempt, marked}
 use Rattle.overlap_law.specs.Words.{is_made, is_mute, covers, unit_start, unit_size, unit_of, base_of, own_base_of, later_on, is_quiet, has_served}
 use Rattle.overlap_law.specs.Holders.{birth_of, born_objects}
 
@@ -19,8 +19,15 @@ object = 2 ^ 32
 -- an attempt of node 3 on the object, to nodes 4 and 7
 abbrev attempt : ObjWork → ℕ → ℕ → Fate → Fate → Attempt
 attempt work epoch first four seven = record {
-  req = 1; session = 1; gateway = node 3; life = 1; work = work; epoch = epoch; first = first;
-  targets = node 4 ∷ node 7 ∷ []; fates = four ∷ seven ∷ [];
+  req = 1;
+  session = 1;
+  gateway = node 3;
+  life = 1;
+  work = work;
+  epoch = epoch;
+  first = first;
+  targets = node 4 ∷ node 7 ∷ [];
+  fates = four ∷ seven ∷ [];
 }
 
 -- the object is created, its second block is written, and then its first one

@@ -1,8 +1,7 @@
 -- The other facts on which the overlap of epochs rests: holders and lists, lost gateways, and entries; and all six together.
-use Rattle.std.specs.Prelude.{◌≡◌, ℕ, ◌+◌, ◌*◌, ◌^◌, ◌==◌, ◌<◌, ◌≤◌, max, Bool, true, false, ◌&&◌, List, [], ◌∷◌, ◌++◌, All, Option, Some, None, Ok}
+use Rattle.std.specs.Prelude.{◌≡◌, ℕ, ◌+◌, ◌*◌, ◌^◌, ◌==◌, ◌<◌, ◌≤◌, max, Bool, true, false, ◌&&◌, List, [], ◌++◌, All, Some, Ok}
 use Rattle.std.specs.List.{find, list_any}
 use Rattle.std.specs.Option.{option_map_or}
-use Rattle.std.specs.Ordering.{nat_cmp}
 use Rattle.std.specs.FinMap as tree
 use Rattle.object_id.specs.declared.node.NodeId.{NodeId}
 use Rattle.object_id.specs.declared.entry.Entry.{Entry}
@@ -23,7 +22,7 @@ use Rattle.overlap_law.specs.Words.{Seats, is_made, covers, row_bytes_at, last_o
 use Rattle.overlap_law.specs.Holders.{targets_by, creates, is_among, IsGood}
 use Rattle.overlap_law.specs.Each.{Placing, EachSeat, EachAttempt, EachRowOf, end_of, holds_level}
 use Rattle.overlap_law.specs.Grants.{leave_of, writer_of, granted_in}
-use Rattle.overlap_law.specs.Past.{Listed, Past, Moment, counts}
+use Rattle.overlap_law.specs.Past.{Listed, Past, counts}
 use Rattle.overlap_law.specs.Contents.{RowContents, AttemptsStand}
 
 -- Holders of the base. Each target of the greater of the base's epoch and the settled one that counts for it has a row that

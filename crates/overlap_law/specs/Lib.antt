@@ -1,8 +1,12 @@
 pub mod Attempts
+pub mod Reached
+pub mod Units
 pub mod Words
 pub mod Holders
 pub mod Each
 pub mod Grants
+pub mod Begun
+pub mod Added
 pub mod Past
 pub mod Contents
 pub mod Facts

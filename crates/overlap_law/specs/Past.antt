@@ -1,34 +1,19 @@
--- The past of a run as data beside the world, and what each event adds to it.
-use Rattle.std.specs.Prelude.{ℕ, ◌+◌, ◌==◌, nat_le, nat_lt, Bool, true, false, not, ◌&&◌, ◌||◌, List, [], ◌∷◌, ◌++◌, length, map, filter, take, Option, Some, None, if◌then◌else◌}
+-- The past of a run as data beside the world, and runs with their past.
+use Rattle.std.specs.Prelude.{ℕ, List, [], ◌∷◌, ◌++◌, filter, Option, Some}
 use Rattle.std.specs.Option.{option_map, option_and_then}
-use Rattle.std.specs.List.{filter_map, list_any}
-use Rattle.std.specs.FinMap as tree
-use Rattle.object_id.specs.declared.node.NodeId.{NodeId}
-use Rattle.object_id.specs.declared.entry.Entry.{Entry}
 use Rattle.cluster_script.specs.declared.statement.Statement.{Statement}
-use Rattle.cluster_script.specs.Sessions.{Session, session_numbered}
 use Rattle.disk_history.specs.declared.event.HistEvent.{HistEvent}
-use Rattle.disk_history.specs.declared.event.HistEvent.TheVariants as acts
-use Rattle.peer_proto.specs.declared.guest.GuestRsp.{GuestRsp}
-use Rattle.peer_proto.specs.declared.guest.GuestRsp.TheVariants as replies
-use Rattle.recovery.specs.State.{Recovery, is_listed}
 use Rattle.sheep_node.specs.declared.event.Event.{Event}
-use Rattle.sheep_node.specs.declared.event.Event.TheVariants.{Guest, Deliver, LoseRequest, LoseReply, LogNext, Put, RecoverTick, RetryTick, Lost, Leave, Join, Reweight, Back, Phase}
-use Rattle.sheep_node.specs.State.{Node}
 use Rattle.sheep_world.specs.declared.name.MessageName.{MessageName}
-use Rattle.sheep_world.specs.World.{Letter, Request, Reply, Seat, World, seat_at, message_at}
+use Rattle.sheep_world.specs.World.{World}
 use Rattle.sheep_world.specs.Opening.{opening}
 use Rattle.sheep_world.specs.Step.{Made, step}
 use Rattle.sheep_world.specs.Run as runs
-use Rattle.sheep_world.specs.Lives.{Ended, lives_after, counts_for}
-use Rattle.overlap_law.specs.Holders.{unborne_in, is_borne_disk, is_among}
-pub use Rattle.overlap_law.specs.Attempts.{Fate, Flying, Served, Doomed, Attempt, marked, fate_by, begun_by}
-
--- the objects of which a node had rows when its list of an epoch was finished
-pub record Listed : Type 0 where
-  pub node : NodeId
-  pub epoch : ℕ
-  pub own : List ℕ
+use Rattle.sheep_world.specs.Lives.{Ended, lives_after}
+use Rattle.overlap_law.specs.Begun.{attempts_after}
+use Rattle.overlap_law.specs.Added.{lost_by, refused_in, listed_by, is_counted, unborne_at}
+pub use Rattle.overlap_law.specs.Attempts.{Fate, Flying, Served, Doomed, Attempt}
+pub use Rattle.overlap_law.specs.Added.{Listed, counts}
 
 -- what is kept of a run: the attempts, in the order in which they began; the requests that were refused; the messages that
 -- were lost, or whose replies were; what nodes had when their lists were finished; the lives that ended; the objects that
@@ -51,110 +36,6 @@ no_past = record { attempts = []; refused = []; lost = []; listed = []; ended = 
 pub record Moment : Type 0 where
   pub world : World
   pub past : Past
-
--- the attempts that the step of a node between two worlds began
-abbrev pub begun_in : Option Seat → Option Seat → List Attempt
-begun_in None new = []
-begun_in (Some old) None = []
-begun_in (Some old) (Some new) = begun_by old new
-
-abbrev pub begun : ℕ → World → World → List Attempt
-begun node old new = begun_in (seat_at node old) (seat_at node new)
-
--- the same of the gateway of a session
-abbrev pub begun_for : Option Session → World → World → List Attempt
-begun_for None old new = []
-begun_for (Some session) old new = begun session.node old new
-
--- a message is delivered: a request's fate is told by the step that serves it, and a reply may begin attempts at the node
--- that asked
-abbrev pub delivered : Option Letter → MessageName → World → World → List Attempt → List Attempt
-delivered None name old new attempts = attempts
-delivered (Some (Request to bytes)) name old new attempts = marked (fate_by new.outputs.say) name.sender name.number attempts
-delivered (Some (Reply from bytes)) name old new attempts = attempts ++ begun name.sender.0 old new
-
--- the attempts after an event, which leads from one world to another
-unfoldable pub attempts_after : List Statement → Event → World → World → List Attempt → List Attempt
-attempts_after script (Guest session) old new attempts = attempts ++ begun_for (session_numbered script session) old new
-attempts_after script (Deliver node number) old new attempts =
-    delivered (message_at (record { sender = node; number = number }) old) (record { sender = node; number = number }) old new attempts
-attempts_after script (LoseRequest node number) old new attempts = marked Doomed node number attempts ++ begun node.0 old new
-attempts_after script (LoseReply node number) old new attempts = attempts ++ begun node.0 old new
-attempts_after script (LogNext node) old new attempts = attempts ++ begun node.0 old new
-attempts_after script (Put node) old new attempts = attempts
-attempts_after script (RecoverTick node) old new attempts = attempts
-attempts_after script (RetryTick node) old new attempts = attempts ++ begun node.0 old new
-attempts_after script (Lost node) old new attempts = attempts
-attempts_after script (Leave node) old new attempts = attempts
-attempts_after script (Join node) old new attempts = attempts
-attempts_after script (Reweight node) old new attempts = attempts
-attempts_after script (Back node) old new attempts = attempts
-attempts_after script Phase old new attempts = attempts
-
--- the messages that an event loses, or whose replies it does
-abbrev pub lost_by : Event → List MessageName
-lost_by (Guest session) = []
-lost_by (Deliver node number) = []
-lost_by (LoseRequest node number) = record { sender = node; number = number } ∷ []
-lost_by (LoseReply node number) = record { sender = node; number = number } ∷ []
-lost_by (LogNext node) = []
-lost_by (Put node) = []
-lost_by (RecoverTick node) = []
-lost_by (RetryTick node) = []
-lost_by (Lost node) = []
-lost_by (Leave node) = []
-lost_by (Join node) = []
-lost_by (Reweight node) = []
-lost_by (Back node) = []
-lost_by Phase = []
-
--- whether a reply to a guest refuses
-abbrev pub is_refusal : GuestRsp → Bool
-is_refusal replies.Done = false
-is_refusal (replies.Piece bytes) = false
-is_refusal (replies.Refused cause) = true
-is_refusal (replies.Granted vid) = false
-
--- the requests that a step refused
-abbrev pub refused_in : List (ℕ × GuestRsp) → List ℕ
-refused_in answers = map (λ (answer : ℕ × GuestRsp). answer.0) (filter (λ (answer : ℕ × GuestRsp). is_refusal answer.1) answers)
-
--- whether a node's list of an epoch is finished, which before wasn't
-abbrev pub finishes : Recovery → Recovery → Bool
-finishes old new = is_listed new && not (is_listed old && old.epoch == new.epoch)
-
--- what a node had when its list was finished, where the step from one seat to another finished it
-abbrev pub listed_in : Option Seat → Seat → Option Listed
-listed_in None new = None
-listed_in (Some old) new =
-    if finishes old.node.recovery new.node.recovery
-    then Some (record { node = new.node.me; epoch = new.node.recovery.epoch; own = tree.keys new.node.peer.rows })
-    else None
-
--- the lists that an event finished
-abbrev pub listed_by : World → World → List Listed
-listed_by old new =
-    filter_map (λ (entry : ℕ × Seat). listed_in (seat_at entry.0 old) entry.1) (tree.entries new.seats)
-
--- whether an event of the history counts where disks that weren't borne are left out: it reads no such disk
-abbrev pub is_counted : List Entry → List ℕ → HistEvent → Bool
-is_counted log unborne (acts.Create disk blocks) = true
-is_counted log unborne (acts.Copy old new) = true
-is_counted log unborne (acts.Delete disk) = true
-is_counted log unborne (acts.WriteStart req disk block coded bytes) = true
-is_counted log unborne (acts.WriteDone req) = true
-is_counted log unborne (acts.WriteRefused req) = true
-is_counted log unborne (acts.WriterLost req) = true
-is_counted log unborne (acts.Read disk block bytes) = is_borne_disk log unborne disk
-
--- whether a node counts for an epoch at a state
-abbrev pub counts : List Ended → World → NodeId → ℕ → Bool
-counts ended world node epoch = counts_for epoch world ended node.0
-
--- the objects that aren't borne at a state, and aren't among those before
-abbrev pub unborne_at : List Ended → World → List Attempt → List ℕ → List ℕ
-unborne_at ended world attempts before =
-    filter (λ oid. not (is_among oid before)) (unborne_in (counts ended world) world.log attempts)
 
 -- the past after an event, by the attempts and the ended lives after it
 abbrev pub past_after : Event → World → Made → List Attempt → List Ended → Past → Past

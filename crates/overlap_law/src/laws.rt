@@ -1,12 +1,15 @@
 //! Laws of the definitions, for the proofs of the layers above: each is the contract of a function that does nothing.
-ghost use Rattle.std.specs.Prelude.{◌≡◌, ◌≢◌, ℕ, ◌-◌, true, false, List, [], slice_get, Some};
+ghost use Rattle.std.specs.Prelude.{◌≡◌, ◌≢◌, ℕ, ◌+◌, ◌-◌, true, false, List, [], length, slice_get, Some};
+ghost use Rattle.std.specs.List.{list_all, AllByRecursion};
 ghost use Rattle.std.specs.Option.{option_map};
 ghost use Rattle.object_id.specs.declared.node.NodeId.{NodeId};
+ghost use Rattle.object_id.specs.declared.oid.Kind.{Kind};
+ghost use Rattle.object_list.specs.Gathered.{has_node};
 ghost use Rattle.cluster_script.specs.declared.statement.Statement.{Statement};
 ghost use Rattle.sheep_node.specs.declared.event.Event.{Event};
 ghost use Rattle.sheep_world.specs.Run.{run};
 ghost use Rattle.overlap_law.specs.Attempts.{Fate, Flying, Served, Attempt, has_message, marked_in};
-ghost use Rattle.overlap_law.specs.Words.{Seats, is_beyond, is_made, is_doomed};
+ghost use Rattle.overlap_law.specs.Words.{Seats, is_beyond, is_made, is_doomed, has_served, unit_start, unit_end, covers, base_of, own_base_of};
 ghost use Rattle.overlap_law.specs.Past.{Moment, run_with_past, without_past};
 
 /// A made attempt isn't doomed, and whatever is told of a message leaves it made.
@@ -24,8 +27,35 @@ pub fn what_is_doomed_stays_doomed()
         → is_doomed old attempt ≡ true → is_doomed new attempt ≡ true }
     ensures told { (seats : Seats) (told : Fate) (sender : NodeId) (number : ℕ) (attempt : Attempt) → told ≢ Flying
         → ((target : NodeId) → slice_get attempt.targets (number - attempt.first) ≡ Some target → told ≡ Served
-            → is_beyond seats attempt.epoch target ≡ false)
+        → is_beyond seats attempt.epoch target ≡ false)
         → is_doomed seats attempt ≡ true → is_doomed seats (marked_in told sender number attempt) ≡ true }
+{}
+
+/// Once all targets of an attempt are beyond its epoch it is made or doomed, and a made one was served by each of them.
+pub fn what_becomes_of_an_attempt()
+    ensures doomed { (seats : Seats) (attempt : Attempt) → length attempt.fates ≡ length attempt.targets
+        → list_all (is_beyond seats attempt.epoch) attempt.targets ≡ true → is_made attempt ≡ false
+        → is_doomed seats attempt ≡ true }
+    ensures served { (node : NodeId) (attempt : Attempt) → length attempt.fates ≡ length attempt.targets
+        → is_made attempt ≡ true → has_node node attempt.targets ≡ true → has_served node attempt ≡ true }
+{}
+
+/// In every run each attempt has a fate for each of its targets.
+pub fn each_target_has_its_fate()
+    ensures { (script : List Statement) (events : List Event) (moment : Moment) → run_with_past script events ≡ Some moment
+        → AllByRecursion (λ (attempt : Attempt). length attempt.fates ≡ length attempt.targets) moment.past.attempts }
+{}
+
+/// A base is made, and a unit's own base covers it.
+pub fn a_base_is_made()
+    ensures made { (attempts : List Attempt) (base : Attempt) → base_of attempts ≡ Some base → is_made base ≡ true }
+    ensures covers { (unit : ℕ) (attempts : List Attempt) (own : Attempt) → own_base_of unit attempts ≡ Some own
+        → covers unit own ≡ true }
+{}
+
+/// The units of an object follow each other without a gap.
+pub fn units_follow_each_other()
+    ensures { (kind : Kind) (unit : ℕ) → unit_end kind unit ≡ unit_start kind (unit + 1) }
 {}
 
 /// What is told of a message says nothing of the attempts that it isn't of.

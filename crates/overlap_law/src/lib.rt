@@ -12,6 +12,7 @@
 mod laws;
 
 pub use laws::{
-    no_read_of_what_was_borne_is_left_out, other_attempts_hear_nothing, the_past_follows_the_run,
-    what_is_doomed_stays_doomed, what_is_made_stays_made,
+    a_base_is_made, each_target_has_its_fate, no_read_of_what_was_borne_is_left_out,
+    other_attempts_hear_nothing, the_past_follows_the_run, units_follow_each_other,
+    what_becomes_of_an_attempt, what_is_doomed_stays_doomed, what_is_made_stays_made,
 };

@@ -57,9 +57,13 @@ IsOnItsWay node send (Some (Request to bytes)) = (to ≡ send.0) × (ask_in byte
 IsOnItsWay node send (Some (Reply from bytes)) =
     (from ≡ send.0) × ((rsp : PeerRsp) × (say_in bytes ≡ Ok rsp) × (rsp.number ≡ send.1.number) × IsTrue (fits rsp node))
 
+-- the name under which a node has a request in the wire
+abbrev pub own_name : Node → NodeId × PeerReq → MessageName
+own_name node send = record { sender = node.me; number = send.1.number }
+
 -- all that a node waits for is in the wire
 abbrev pub IsAllOnItsWay : Node → tree.FinMap name_cmp Letter → Type 0
-IsAllOnItsWay node wire = All (λ (send : NodeId × PeerReq). IsOnItsWay node send (tree.get wire (name_of send.1))) (asked_by node)
+IsAllOnItsWay node wire = All (λ (send : NodeId × PeerReq). IsOnItsWay node send (tree.get wire (own_name node send))) (asked_by node)
 
 -- each message in the wire can be read
 abbrev pub AreSpelled : tree.FinMap name_cmp Letter → Type 0

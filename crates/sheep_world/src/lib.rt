@@ -5,7 +5,12 @@
 #![tactic(auto)]
 
 mod fault;
+mod laws;
 mod name;
 
 pub use fault::ApplyFault;
+pub use laws::{
+    a_history_only_grows, a_run_is_cut_anywhere, nodes_and_wire_stay_together,
+    the_enabled_list_has_what_may_happen, what_may_happen_is_made,
+};
 pub use name::MessageName;
