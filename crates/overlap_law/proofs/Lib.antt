@@ -4,3 +4,4 @@ pub mod UnitLemmas
 pub mod BaseLemmas
 pub mod WholeLemmas
 pub mod WorkedCases
+pub mod OverlapLemmas

@@ -1,5 +1,5 @@
 -- Inodes and tables: what the entries of inodes stand for, and that a session's table is what its inode has.
-use Rattle.std.specs.Prelude.{◌≡◌, ◌≢◌, ◌⊎◌, ℕ, ◌+◌, ◌*◌, ◌<◌, ◌==◌, ◌&&◌, Bool, true, false, List, [], ◌∷◌, ◌++◌, map, fold, slice_get, slice_index, Option, Some, None, if◌then◌else◌}
+use Rattle.std.specs.Prelude.{◌≡◌, ◌≢◌, ◌⊎◌, ℕ, ◌+◌, ◌*◌, ◌^◌, ◌<◌, ◌==◌, ◌&&◌, Bool, true, false, List, [], ◌∷◌, ◌++◌, map, fold, slice_get, slice_index, Option, Some, None, if◌then◌else◌}
 use Rattle.std.specs.Option.{option_map}
 use Rattle.std.specs.List.{list_any, list_all}
 use Rattle.std.specs.FinMap as tree
@@ -63,8 +63,8 @@ pub record StandsFor (effects : List Effect) (attempts : List Attempt) (vid inde
 
 -- the entries of an attempt on an inode stand for objects that were made by then
 pub record EntriesAreMade (effects : List Effect) (live : ℕ → Bool) (good_id : ℕ → Bool) (attempts : List Attempt) : Type 0 where
-  pub each : EachAttempt attempts (λ j attempt. (vid index : ℕ) (spec : VdiSpec) → object_of attempt ≡ inode_number vid
-      → live (inode_number vid) ≡ true → good_id vid ≡ true → spec_in effects vid ≡ Some spec → index < objects_of spec
+  pub each : EachAttempt attempts (λ j attempt. (vid index : ℕ) → object_of attempt ≡ inode_number vid
+      → live (inode_number vid) ≡ true → good_id vid ≡ true → index < 2 ^ 20
       → covers (entry_unit index) attempt ≡ true → entry_by index attempt ≢ 0
       → StandsFor effects attempts vid index attempt.epoch (entry_by index attempt))
 
