@@ -6,3 +6,4 @@ pub mod WholeLemmas
 pub mod RestLemmas
 pub mod EpochLemmas
 pub mod WorkedCases
+pub mod OverlapLemmas

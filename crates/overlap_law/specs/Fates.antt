@@ -1,16 +1,15 @@
 -- The attempts against the wire and the works: what their fates say, in which order they began, and which one is a work's.
-use Rattle.std.specs.Prelude.{◌≡◌, ◌≢◌, ◌⊎◌, ℕ, ◌+◌, ◌≤◌, ◌<◌, Bool, true, false, List, map, length, slice_get, Option, Some, None}
+use Rattle.std.specs.Prelude.{◌≡◌, ◌≢◌, ◌⊎◌, ℕ, ◌+◌, ◌≤◌, ◌<◌, Bool, true, false, List, map, length, slice_get, Some}
 use Rattle.std.specs.FinMap as tree
 use Rattle.object_id.specs.declared.node.NodeId.{NodeId}
 use Rattle.object_id.specs.declared.entry.Entry.{Entry}
-use Rattle.object_id.specs.declared.oid.Kind.{Kind}
 use Rattle.object_id.specs.Oid.{kind_of, vid_of}
 use Rattle.object_id.specs.Policy.{wanted_of}
 use Rattle.epoch_log.specs.Epochs.{epoch_of}
 use Rattle.peer_proto.specs.declared.work.ObjWork.{ObjWork}
 use Rattle.peer_proto.specs.declared.say.PeerRsp.{PeerRsp}
 use Rattle.peer_proto.specs.declared.say.PeerSay.TheVariants as says
-use Rattle.peer_proto.specs.Work.{oid_of, policy_of}
+use Rattle.peer_proto.specs.Work.{policy_of}
 use Rattle.gateway.specs.declared.message.Message.{Message}
 use Rattle.gateway.specs.declared.message.Status.{Status}
 use Rattle.gateway.specs.declared.message.Status.TheVariants.{Unanswered, Succeeded, Refused, Lost}
@@ -18,12 +17,11 @@ use Rattle.gateway.specs.Work.{is_making}
 use Rattle.gateway.specs.Attempt as gateways
 use Rattle.gateway.specs.State.{Open, Work, is_touched}
 use Rattle.sheep_node.specs.State.{Node}
-use Rattle.sheep_world.specs.World.{Seat}
 use Rattle.overlap_law.specs.Attempts.{Fate, Flying, Served, Doomed, Attempt, object_of}
-use Rattle.overlap_law.specs.Words.{Seats, is_served, is_made, is_mute, has_served}
+use Rattle.overlap_law.specs.Words.{Seats, is_made, is_mute, has_served}
 use Rattle.overlap_law.specs.Holders.{creates, is_among}
-use Rattle.overlap_law.specs.Each.{Placing, EachSeat, EachUp, EachAttempt, has_reached}
-use Rattle.overlap_law.specs.Letters.{Wire, named, name_at, request_at, is_in_wire, is_request, IsAsking, IsAnswering, HasLetter, IsQuiet}
+use Rattle.overlap_law.specs.Each.{Placing, EachUp, EachAttempt, has_reached}
+use Rattle.overlap_law.specs.Letters.{Wire, name_at, request_at, is_in_wire, is_request, IsAsking, IsAnswering, HasLetter, IsQuiet}
 use Rattle.overlap_law.specs.Grants.{reserved_in}
 
 -- a message flies exactly where its request is in the wire

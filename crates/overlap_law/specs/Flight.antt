@@ -1,5 +1,5 @@
 -- What the wire carries: numbers that were sent, letters that are awaited, and replies that fit what became of the message.
-use Rattle.std.specs.Prelude.{◌≡◌, ◌≢◌, ◌⊎◌, ◌↔◌, ℕ, ◌≤◌, ◌<◌, ◌-◌, Bool, true, false, List, slice_get, Option, Some, None}
+use Rattle.std.specs.Prelude.{◌≡◌, ◌≢◌, ◌↔◌, ℕ, ◌≤◌, ◌<◌, true, List, slice_get, Some}
 use Rattle.std.specs.FinMap as tree
 use Rattle.object_id.specs.declared.node.NodeId.{NodeId}
 use Rattle.object_id.specs.declared.entry.Entry.{Entry}
@@ -18,7 +18,7 @@ use Rattle.sheep_node.specs.May.{waits_for}
 use Rattle.sheep_world.specs.declared.name.MessageName.{MessageName}
 use Rattle.sheep_world.specs.World.{Letter}
 use Rattle.sheep_world.specs.Wired.{AreGiven, AreSpelled, AreNumbered, IsAllOnItsWay}
-use Rattle.overlap_law.specs.Attempts.{Fate, Served, Attempt}
+use Rattle.overlap_law.specs.Attempts.{Served, Attempt}
 use Rattle.overlap_law.specs.Words.{Seats}
 use Rattle.overlap_law.specs.Each.{EachSeat, EachUp, EachAttempt, has_reached}
 use Rattle.overlap_law.specs.Letters.{Wire, named, name_at, IsAsking, IsAnswering, IsAwaited, is_request}

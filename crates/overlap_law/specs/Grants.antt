@@ -1,9 +1,8 @@
 -- Where in the log an id was reserved, given to its writer and published, and where a life of a node left: by epochs.
-use Rattle.std.specs.Prelude.{ℕ, ◌+◌, ◌-◌, ◌==◌, Bool, true, false, not, List, [], ◌++◌, ◌∷◌, length, take, map, fold, zip, Option, Some, None, slice_get, if◌then◌else◌}
+use Rattle.std.specs.Prelude.{ℕ, ◌+◌, ◌-◌, ◌==◌, Bool, false, List, length, map, fold, zip, Option, Some, None, slice_get, if◌then◌else◌}
 use Rattle.std.specs.List.{filter_map, range_with_len}
-use Rattle.std.specs.Option.{option_map}
 use Rattle.object_id.specs.declared.entry.Entry.{Entry}
-use Rattle.epoch_log.specs.Epochs.{epoch_of, epoch_at}
+use Rattle.epoch_log.specs.Epochs.{epoch_at}
 use Rattle.disk_lock.specs.declared.holder.Holder.{Holder}
 use Rattle.vdi_directory.specs.declared.effect.Claim.{Claim}
 use Rattle.vdi_directory.specs.declared.effect.Effect.{Effect}

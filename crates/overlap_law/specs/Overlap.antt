@@ -1,16 +1,15 @@
 -- The invariant of the epoch overlap: its groups, and the whole of it, over the parts of a moment; and what is owed of it.
-use Rattle.std.specs.Prelude.{◌≡◌, ℕ, Bool, true, List, Option, Some}
+use Rattle.std.specs.Prelude.{◌≡◌, ℕ, Bool, List, Some}
 use Rattle.object_id.specs.declared.entry.Entry.{Entry}
 use Rattle.disk_history.specs.Ledger.{Ledger}
 use Rattle.vdi_directory.specs.declared.effect.Effect.{Effect}
 use Rattle.vdi_directory.specs.Decisions.{happened}
 use Rattle.cluster_script.specs.declared.statement.Statement.{Statement}
 use Rattle.sheep_node.specs.declared.event.Event.{Event}
-use Rattle.sheep_world.specs.World.{World}
 use Rattle.overlap_law.specs.Attempts.{Attempt}
 use Rattle.overlap_law.specs.Words.{Seats}
 use Rattle.overlap_law.specs.Holders.{targets_by, is_live, is_good, is_borne_disk}
-use Rattle.overlap_law.specs.Past.{Past, Listed, Moment, next_moment, first_moment}
+use Rattle.overlap_law.specs.Past.{Listed, Moment, next_moment, first_moment}
 use Rattle.overlap_law.specs.Facts.{MeetsFacts}
 use Rattle.overlap_law.specs.Headline.{IsLegalWhereBorne, ledger_of}
 use Rattle.overlap_law.specs.Each.{Placing}

@@ -1,7 +1,5 @@
 -- The rows of the nodes: which epochs they cover, at whom they stand, and that what a node served or recovered stays.
-use Rattle.std.specs.Prelude.{◌≡◌, ◌≢◌, ◌⊎◌, ℕ, ◌+◌, ◌≤◌, ◌<◌, ◌==◌, nat_le, nat_lt, ◌&&◌, not, Bool, true, false, List, [], length, filter, slice_get, Option, Some, None}
-use Rattle.std.specs.List.{list_any}
-use Rattle.std.specs.FinMap as tree
+use Rattle.std.specs.Prelude.{◌≡◌, ◌⊎◌, ℕ, ◌≤◌, ◌<◌, Bool, true, false, List, length, filter, slice_get, Some}
 use Rattle.object_id.specs.declared.node.NodeId.{NodeId}
 use Rattle.object_id.specs.declared.entry.Entry.{Entry}
 use Rattle.object_id.specs.declared.policy.Policy.{Policy}
@@ -12,13 +10,12 @@ use Rattle.epoch_log.specs.Members.{is_member}
 use Rattle.epoch_log.specs.Epochs.{epoch_of, members_in, settled_of}
 use Rattle.object_list.specs.Gathered.{has_node}
 use Rattle.object_store.specs.Rows.{is_open}
-use Rattle.object_store.specs.Store.{SeenRow, AllRows, rows_of}
+use Rattle.object_store.specs.Store.{SeenRow, rows_of}
 use Rattle.vdi_directory.specs.declared.effect.Effect.{Effect}
 use Rattle.peer_service.specs.State.{row_size}
-use Rattle.sheep_world.specs.World.{Seat}
-use Rattle.overlap_law.specs.Attempts.{Attempt, object_of, attempts_on}
+use Rattle.overlap_law.specs.Attempts.{Attempt, object_of}
 use Rattle.overlap_law.specs.Words.{Seats, has_entered, has_finished, is_dying, is_made, is_doomed, has_served}
-use Rattle.overlap_law.specs.Each.{Placing, EachSeat, EachUp, EachAttempt, EachRow, EachRowOf, end_of, row_covers, has_row_at, holds_level, spec_in, policy_in, index_in}
+use Rattle.overlap_law.specs.Each.{Placing, EachSeat, EachAttempt, EachRow, end_of, row_covers, has_row_at, spec_in, policy_in, index_in}
 use Rattle.overlap_law.specs.Holders.{creates}
 
 -- a row begins no later than it ends

@@ -1,41 +1,31 @@
 -- The searches of recoveries: whom they ask, what was told to them, and that what they passed by isn't there.
-use Rattle.std.specs.Prelude.{◌≡◌, ◌≢◌, ◌⊎◌, ◌↔◌, ℕ, ◌+◌, ◌≤◌, ◌<◌, ◌==◌, min, nat_le, nat_lt, ◌&&◌, not, Bool, true, false, List, [], ◌∷◌, ◌++◌, length, filter, fold, find, filter_map, option_map, slice_get, Option, Some, None, if◌then◌else◌}
+use Rattle.std.specs.Prelude.{◌≡◌, ◌⊎◌, ◌↔◌, ℕ, ◌≤◌, ◌<◌, ◌==◌, ◌&&◌, not, Bool, true, false, List, [], ◌∷◌, ◌++◌, length, filter, fold, find, filter_map, option_map, Option, Some, None, if◌then◌else◌}
 use Rattle.std.specs.List.{list_any}
 use Rattle.std.specs.FinMap as tree
 use Rattle.object_id.specs.declared.node.NodeId.{NodeId}
-use Rattle.object_id.specs.declared.node.Epoch.{Epoch}
 use Rattle.object_id.specs.declared.entry.Entry.{Entry}
 use Rattle.object_id.specs.declared.policy.Policy.{Policy}
-use Rattle.object_id.specs.Oid.{kind_of, vid_of}
-use Rattle.object_id.specs.Policy.{wanted_of, need_of}
+use Rattle.object_id.specs.Oid.{kind_of}
+use Rattle.object_id.specs.Policy.{need_of}
 use Rattle.epoch_log.specs.Members.{is_member}
 use Rattle.epoch_log.specs.Epochs.{members_in}
 use Rattle.object_list.specs.Gathered.{is_node, has_node}
 use Rattle.object_store.specs.declared.row.RowCopy.{RowCopy}
-use Rattle.object_store.specs.declared.key.Key.{Key}
-use Rattle.object_store.specs.Rows.{is_open, reaches}
-use Rattle.object_store.specs.Store.{SeenRow, AllRows, rows_of, open_row, bytes_of}
+use Rattle.object_store.specs.Rows.{reaches}
+use Rattle.object_store.specs.Store.{SeenRow, rows_of, bytes_of}
 use Rattle.vdi_directory.specs.declared.effect.Effect.{Effect}
-use Rattle.peer_proto.specs.declared.ask.PeerAsk.TheVariants as asks
-use Rattle.peer_proto.specs.declared.say.PeerSay.{PeerSay}
-use Rattle.peer_proto.specs.declared.say.PeerSay.TheVariants as says
-use Rattle.peer_proto.specs.declared.say.PeerRsp.{PeerRsp}
-use Rattle.peer_service.specs.State.{is_known}
-use Rattle.recovery.specs.Shown.{first_in, is_among}
+use Rattle.recovery.specs.Shown.{first_in}
 use Rattle.recovery.specs.Level.{is_of_search}
 use Rattle.recovery.specs.State.{Message, Answer, Search, search_on, is_listed, is_missing}
-use Rattle.sheep_node.specs.State.{Node}
 use Rattle.sheep_node.specs.Shown.{state_of}
 use Rattle.sheep_world.specs.World.{Seat}
-use Rattle.overlap_law.specs.Attempts.{Attempt, object_of}
-use Rattle.overlap_law.specs.Words.{Seats, has_served}
-use Rattle.overlap_law.specs.Past.{Listed}
-use Rattle.overlap_law.specs.Facts.{is_in_list}
-use Rattle.overlap_law.specs.Each.{Placing, EachSeat, EachUp, EachRowOf, has_reached, row_covers, holds_level, policy_in, index_in}
-use Rattle.overlap_law.specs.Letters.{Wire, named, IsAnswering}
+use Rattle.overlap_law.specs.Attempts.{Attempt}
+use Rattle.overlap_law.specs.Words.{Seats}
+use Rattle.overlap_law.specs.Each.{Placing, EachUp, row_covers, holds_level, policy_in, index_in}
+use Rattle.overlap_law.specs.Letters.{Wire}
 use Rattle.overlap_law.specs.Rows.{IsMadeBy}
 use Rattle.overlap_law.specs.Since.{IsSince, IsCopyOfAttempts}
-use Rattle.overlap_law.specs.Told.{ToldObjects, ToldRow, IsListUnderWay, end_told, served_told}
+use Rattle.overlap_law.specs.Told.{ToldRow, end_told, served_told}
 
 -- a search is of the first pending object, and of a level before the recovery's epoch
 pub record SearchesAreOfTheFirst (seats : Seats) : Type 0 where

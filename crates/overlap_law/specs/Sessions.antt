@@ -1,14 +1,10 @@
 -- The works and the open disks of sessions: they are apart, the disks are held, and reads come last.
-use Rattle.std.specs.Prelude.{◌≡◌, ◌≢◌, ◌⊎◌, ℕ, ◌≤◌, ◌<◌, ◌==◌, ◌&&◌, Bool, true, false, List, slice_get, Option, Some, None}
+use Rattle.std.specs.Prelude.{◌≡◌, ◌≢◌, ◌⊎◌, ℕ, ◌≤◌, ◌<◌, Bool, true, false, List, slice_get, Some}
 use Rattle.std.specs.List.{list_any}
 use Rattle.std.specs.FinMap as tree
 use Rattle.object_id.specs.declared.node.NodeId.{NodeId}
 use Rattle.object_id.specs.declared.entry.Entry.{Entry}
-use Rattle.object_id.specs.declared.entry.Entry.TheVariants.{Format, Join, Leave, Reweight, Recovered, Reserve, Publish, Clone, Snapshot, Delete, Lock, Unlock}
-use Rattle.object_id.specs.Oid.{vid_of}
-use Rattle.epoch_log.specs.Epochs.{epoch_of}
-use Rattle.disk_lock.specs.declared.holder.Holder.{Holder}
-use Rattle.vdi_directory.specs.declared.effect.Effect.{Effect}
+use Rattle.object_id.specs.declared.entry.Entry.TheVariants.{Snapshot, Unlock}
 use Rattle.vdi_directory.specs.Effects.{holder_of}
 use Rattle.vdi_directory.specs.Decisions.{happened}
 use Rattle.peer_proto.specs.Work.{oid_of}
@@ -27,8 +23,8 @@ use Rattle.sheep_node.specs.Same.{is_same_entry}
 use Rattle.overlap_law.specs.Attempts.{Attempt, object_of}
 use Rattle.overlap_law.specs.Words.{Seats}
 use Rattle.overlap_law.specs.Each.{EachUp, EachAttempt}
-use Rattle.overlap_law.specs.Letters.{Wire, HasLetter, IsQuiet}
-use Rattle.overlap_law.specs.Grants.{granted_in, writer_of, leave_of}
+use Rattle.overlap_law.specs.Letters.{Wire, HasLetter}
+use Rattle.overlap_law.specs.Grants.{granted_in}
 use Rattle.overlap_law.specs.Writers.{session_of}
 
 -- whether an entry gives the open disk back, or turns it into a snapshot

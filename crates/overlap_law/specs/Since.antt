@@ -1,6 +1,6 @@
 -- What the bytes of a row are of: the attempts that it owes, or later ones. One predicate for copies and strips, over the
 -- row's index, end and bytes, so that it serves rows in stores and rows that were told.
-use Rattle.std.specs.Prelude.{◌≡◌, ◌⊎◌, ℕ, ◌≤◌, ◌<◌, nat_le, nat_lt, ◌&&◌, ◌||◌, Bool, true, false, List, length, slice_get, Option, Some, None}
+use Rattle.std.specs.Prelude.{◌≡◌, ◌⊎◌, ℕ, ◌≤◌, ◌<◌, nat_le, nat_lt, ◌&&◌, ◌||◌, Bool, true, false, List, length, slice_get, Some}
 use Rattle.object_id.specs.declared.node.NodeId.{NodeId}
 use Rattle.object_id.specs.declared.oid.Kind.{Kind}
 use Rattle.object_id.specs.declared.policy.Policy.{Policy}

@@ -1,15 +1,14 @@
 -- Inodes and tables: what the entries of inodes stand for, and that a session's table is what its inode has.
-use Rattle.std.specs.Prelude.{◌≡◌, ◌≢◌, ◌⊎◌, ℕ, ◌+◌, ◌*◌, ◌≤◌, ◌<◌, ◌==◌, ◌&&◌, Bool, true, false, List, [], ◌∷◌, ◌++◌, map, fold, slice_get, slice_index, Option, Some, None, if◌then◌else◌}
+use Rattle.std.specs.Prelude.{◌≡◌, ◌≢◌, ◌⊎◌, ℕ, ◌+◌, ◌*◌, ◌^◌, ◌<◌, ◌==◌, ◌&&◌, Bool, true, false, List, [], ◌∷◌, ◌++◌, map, fold, slice_get, slice_index, Option, Some, None, if◌then◌else◌}
 use Rattle.std.specs.Option.{option_map}
 use Rattle.std.specs.List.{list_any, list_all}
 use Rattle.std.specs.FinMap as tree
 use Rattle.object_id.specs.declared.entry.Entry.{Entry}
 use Rattle.object_id.specs.declared.entry.VdiSpec.{VdiSpec}
-use Rattle.object_id.specs.Oid.{vid_of, inode_number, object_number}
+use Rattle.object_id.specs.Oid.{inode_number, object_number}
 use Rattle.object_id.specs.Spec.{objects_of}
 use Rattle.object_id.specs.Fields.{u32_at}
 use Rattle.inode.specs.declared.layout.TheConstants.{INODE_HEADER_BYTES}
-use Rattle.inode.specs.Layout.{Content}
 use Rattle.vdi_directory.specs.declared.effect.Effect.{Effect}
 use Rattle.vdi_directory.specs.States.{State, Unused, Claimed, Working, Shot, Deleted, Freed, state_of, is_live_state}
 use Rattle.vdi_directory.specs.Dead.{is_above, is_dead}
@@ -64,8 +63,8 @@ pub record StandsFor (effects : List Effect) (attempts : List Attempt) (vid inde
 
 -- the entries of an attempt on an inode stand for objects that were made by then
 pub record EntriesAreMade (effects : List Effect) (live : ℕ → Bool) (good_id : ℕ → Bool) (attempts : List Attempt) : Type 0 where
-  pub each : EachAttempt attempts (λ j attempt. (vid index : ℕ) (spec : VdiSpec) → object_of attempt ≡ inode_number vid
-      → live (inode_number vid) ≡ true → good_id vid ≡ true → spec_in effects vid ≡ Some spec → index < objects_of spec
+  pub each : EachAttempt attempts (λ j attempt. (vid index : ℕ) → object_of attempt ≡ inode_number vid
+      → live (inode_number vid) ≡ true → good_id vid ≡ true → index < 2 ^ 20
       → covers (entry_unit index) attempt ≡ true → entry_by index attempt ≢ 0
       → StandsFor effects attempts vid index attempt.epoch (entry_by index attempt))
 

@@ -1,6 +1,5 @@
 -- Nodes and epochs: who is a member when, who came how far, and what `Recovered` and the settled epoch say.
-use Rattle.std.specs.Prelude.{◌≡◌, ◌⊎◌, ℕ, ◌≤◌, ◌<◌, nat_le, not, ◌||◌, Bool, true, false, List, [], length, take, slice_get, Option, Some, None}
-use Rattle.std.specs.FinMap as tree
+use Rattle.std.specs.Prelude.{◌≡◌, ◌⊎◌, ℕ, ◌≤◌, ◌<◌, true, false, List, [], length, take, Some}
 use Rattle.object_id.specs.declared.node.NodeId.{NodeId}
 use Rattle.object_id.specs.declared.entry.Entry.{Entry}
 use Rattle.epoch_log.specs.Members.{is_member}
@@ -10,7 +9,6 @@ use Rattle.object_list.specs.Gathered.{has_node}
 use Rattle.recovery.specs.State.{is_listed, is_finished}
 use Rattle.sheep_node.specs.State.{Node}
 use Rattle.sheep_node.specs.Shown.{state_of}
-use Rattle.sheep_world.specs.World.{Seat}
 use Rattle.overlap_law.specs.Words.{Seats, has_come, has_finished}
 use Rattle.overlap_law.specs.Each.{EachSeat, EachUp, has_reached}
 

@@ -1,33 +1,21 @@
 -- The one writer of an id: which works it may have open, and what every other attempt has come to.
-use Rattle.std.specs.Prelude.{◌≡◌, ◌≢◌, ◌⊎◌, ℕ, ◌≤◌, ◌<◌, ◌==◌, ◌&&◌, Bool, true, false, List, slice_get, Option, Some, None}
+use Rattle.std.specs.Prelude.{◌≡◌, ◌⊎◌, ℕ, ◌≤◌, ◌<◌, ◌==◌, ◌&&◌, Bool, true, false, List, Option, Some, None}
 use Rattle.std.specs.List.{list_any}
 use Rattle.std.specs.FinMap as tree
-use Rattle.object_id.specs.declared.node.NodeId.{NodeId}
 use Rattle.object_id.specs.declared.entry.Entry.{Entry}
-use Rattle.object_id.specs.declared.entry.Entry.TheVariants.{Format, Join, Leave, Reweight, Recovered, Reserve, Publish, Clone, Snapshot, Delete, Lock, Unlock}
+use Rattle.object_id.specs.declared.entry.Entry.TheVariants.{Unlock}
 use Rattle.object_id.specs.Oid.{vid_of}
 use Rattle.epoch_log.specs.Epochs.{epoch_of}
 use Rattle.disk_lock.specs.declared.holder.Holder.{Holder}
-use Rattle.vdi_directory.specs.declared.effect.Effect.{Effect}
-use Rattle.vdi_directory.specs.Effects.{holder_of}
 use Rattle.vdi_directory.specs.Decisions.{happened}
 use Rattle.peer_proto.specs.Work.{oid_of}
 use Rattle.gateway.specs.Work.{is_making}
-use Rattle.gateway.specs.Attempt as gateways
-use Rattle.gateway.specs.State.{Open, Work}
-use Rattle.gateway_queue.specs.declared.queue.Queued.{Queued}
-use Rattle.gateway_queue.specs.Queue.{AreApart}
-use Rattle.guest_driver.specs.declared.disk.Disk.{Disk}
-use Rattle.guest_driver.specs.Driver.{Driver}
-use Rattle.guest_driver.specs.InodeLine.{is_on_inode}
-use Rattle.peer_proto.specs.declared.guest.VdiAsk.{VdiAsk}
-use Rattle.vdi_ops.specs.Op.{Op, entry_wanted}
-use Rattle.sheep_node.specs.State.{Node, Session, Request, Driving, Commanding}
-use Rattle.sheep_node.specs.Same.{is_same_entry}
+use Rattle.gateway.specs.State.{Work}
+use Rattle.sheep_node.specs.State.{Node, Request}
 use Rattle.overlap_law.specs.Attempts.{Attempt, object_of}
 use Rattle.overlap_law.specs.Words.{Seats}
 use Rattle.overlap_law.specs.Each.{EachUp, EachAttempt}
-use Rattle.overlap_law.specs.Letters.{Wire, HasLetter, IsQuiet}
+use Rattle.overlap_law.specs.Letters.{Wire, IsQuiet}
 use Rattle.overlap_law.specs.Grants.{granted_in, writer_of, leave_of}
 
 -- a session of a node
@@ -87,4 +75,4 @@ pub record IsFencedOff (log : List Entry) (attempt : Attempt) (bound : ℕ) : Ty
 pub record ThereIsOneWriter (log : List Entry) (wire : Wire) (attempts : List Attempt) : Type 0 where
   pub each : EachAttempt attempts (λ j attempt. IsUnderTheGrant log attempt (vid_of (object_of attempt))
       ⊎ (HasEnded wire attempt (bound_of log (vid_of (object_of attempt)))
-        ⊎ IsFencedOff log attempt (bound_of log (vid_of (object_of attempt)))))
+      ⊎ IsFencedOff log attempt (bound_of log (vid_of (object_of attempt)))))

@@ -1,11 +1,9 @@
 -- The history against the attempts: that what a block may be read as is among the bytes that may be read of it.
-use Rattle.std.specs.Prelude.{◌≡◌, ◌≢◌, ◌⊎◌, ℕ, ◌+◌, ◌*◌, ◌/◌, ◌^◌, ◌≤◌, ◌<◌, ◌==◌, ◌&&◌, ◌||◌, not, nat_lt, length, Bool, true, false, List, [], ◌∷◌, ◌++◌, map, filter, fold, replicate, slice_get, Option, Some, None, if◌then◌else◌}
-use Rattle.std.specs.Option.{option_map}
+use Rattle.std.specs.Prelude.{◌≡◌, ◌≢◌, ◌⊎◌, ℕ, ◌+◌, ◌*◌, ◌/◌, ◌^◌, ◌<◌, ◌==◌, ◌&&◌, not, nat_lt, length, Bool, true, false, List, [], ◌∷◌, filter, replicate, slice_get, Option, Some, None, if◌then◌else◌}
 use Rattle.std.specs.List.{list_any, list_all}
 use Rattle.std.specs.Str.{bytes_eq}
 use Rattle.std.specs.FinMap as tree
 use Rattle.object_id.specs.declared.entry.VdiSpec.{VdiSpec}
-use Rattle.object_id.specs.declared.oid.Kind.{Kind}
 use Rattle.object_id.specs.declared.oid.Kind.TheVariants.{Block}
 use Rattle.object_id.specs.Oid.{object_number}
 use Rattle.object_id.specs.Spec.{objects_of}
@@ -14,10 +12,9 @@ use Rattle.disk_history.specs.Ledger.{Item, Disk, Ledger}
 use Rattle.disk_history.specs.Legal.{standing, is_torn}
 use Rattle.vdi_directory.specs.declared.effect.Effect.{Effect}
 use Rattle.vdi_directory.specs.States.{state_of, is_live_state}
-use Rattle.sheep_node.specs.State.{Node}
 use Rattle.sheep_world.specs.World.{Seat}
 use Rattle.overlap_law.specs.Attempts.{Attempt, attempts_on}
-use Rattle.overlap_law.specs.Words.{Seats, is_made, is_mute, is_doomed, covers, covering, bytes_by, own_base_of, later_on}
+use Rattle.overlap_law.specs.Words.{Seats, is_mute, is_doomed, covering, bytes_by, own_base_of, later_on}
 use Rattle.overlap_law.specs.Each.{spec_in}
 use Rattle.overlap_law.specs.Tables.{candidates}
 

@@ -10,9 +10,14 @@
 #![tactic(auto)]
 
 mod laws;
+mod overlap;
 
 pub use laws::{
     a_base_is_made, each_target_has_its_fate, no_read_of_what_was_borne_is_left_out, other_attempts_hear_nothing,
     peers_of_another_epoch_change_nothing, the_past_follows_the_run, units_follow_each_other,
     what_becomes_of_an_attempt, what_is_doomed_stays_doomed, what_is_made_stays_made,
+};
+pub use overlap::{
+    the_messages_of_the_gone_are_fenced, the_overlap_gives_complete_lists,
+    the_overlap_gives_legal_replies, the_settled_have_recovered,
 };
