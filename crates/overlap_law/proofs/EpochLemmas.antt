@@ -1,5 +1,5 @@
 -- A peer's request of another epoch changes nothing, in every run: it is refused, and no `Recovered` is due that the step might put.
-use Rattle.std.proofs.Common.{◌≡◌, ◌≢◌, ⊎_elim, arith, ℕ, ◌<◌, ◌≤◌, nat_lt, Bool, true, false, cond, List, [], flat_map, Option, Some, None, Result, Ok, Err, refl, sym, ap, ◌∙◌, subst}
+use Rattle.std.proofs.Common.{◌≡◌, ◌≢◌, ⊎_elim, arith, ℕ, ◌<◌, ◌≤◌, nat_lt, Bool, true, false, cond, List, flat_map, Option, Some, None, Result, Ok, refl, sym, ap, ◌∙◌, subst}
 use Rattle.std.specs.Option.{option_map}
 use Rattle.std.specs.Ordering.{is_eq}
 use Rattle.std.specs.Cmp.{nat_cmp_total, tied_itself}
@@ -8,7 +8,6 @@ use Rattle.std.proofs.lemmas.Bool.{cases_lt, lt-ltb, le-ltb}
 use Rattle.std.proofs.lemmas.Option.{same_Some}
 use Rattle.object_id.specs.declared.node.NodeId.{NodeId}
 use Rattle.cluster_script.specs.declared.statement.Statement.{Statement}
-use Rattle.disk_history.specs.declared.event.HistEvent.{HistEvent}
 use Rattle.peer_proto.specs.declared.ask.PeerReq.{PeerReq}
 use Rattle.peer_proto.specs.declared.say.PeerRsp.{PeerRsp}
 use Rattle.peer_proto.specs.declared.say.PeerSay.TheVariants as says
@@ -20,7 +19,6 @@ use Rattle.peer_service.specs.Fence.{refusal_at}
 use Rattle.sheep_node.specs.declared.input.Input.{Input}
 use Rattle.sheep_node.specs.declared.input.Input.TheVariants as inputs
 use Rattle.sheep_node.specs.declared.event.Event.{Event}
-use Rattle.sheep_node.specs.declared.event.Event.TheVariants.{Deliver}
 use Rattle.sheep_node.specs.State.{Node}
 use Rattle.sheep_node.specs.Turn.{Turn}
 use Rattle.sheep_node.specs.Told.{only_said}
@@ -30,13 +28,14 @@ use Rattle.sheep_world.specs.declared.name.MessageName.{MessageName}
 use Rattle.sheep_world.specs.World.{Letter, Request, Seat, World, node_at, is_up, message_at}
 use Rattle.sheep_world.specs.Stepped.{turned, seat_stepped, node_stepped, at_rest}
 use Rattle.sheep_world.specs.Conditions.{may_deliver}
-use Rattle.sheep_world.specs.Messages.{without_message, with_reply, replied, request_got, request_delivered, delivered_as, delivered}
+use Rattle.sheep_world.specs.Messages.{without_message, with_reply, request_got, request_delivered, delivered_as, delivered}
 use Rattle.sheep_world.specs.Grown.{reply_grown}
 use Rattle.sheep_world.specs.Step.{Made, with_replies, step}
 use Rattle.overlap_law.specs.Words.{Seats}
 use Rattle.overlap_law.specs.Past.{Moment, run_with_past}
 use Rattle.overlap_law.specs.Headline.{IsOfAnotherEpoch, ChangesNothing, OtherEpochsChangeNothing}
-use Rattle.overlap_law.proofs.RestLemmas.{AreRested, run-rested}
+use Rattle.overlap_law.proofs.RestEffects.{AreRested}
+use Rattle.overlap_law.proofs.RestLemmas.{run-rested}
 
 got-own : (seats : Seats) (n : ℕ) (seat : Seat) → tree.get (tree.insert seats n seat) n ≡ Some seat
 got-own seats n seat =
@@ -67,7 +66,7 @@ seat-as_before script n input (Some seat) node rsp world found says_so =
     = subst (λ (x : Node). stepped input x ≡ saying x rsp) (sym same) says_so in
     subst (λ (x : Node). IsAsBefore n x rsp (turned script n input seat (stepped input seat.node) world)) same
     (subst (λ (turn : Turn). IsAsBefore n seat.node rsp (turned script n input seat turn world)) (sym own)
-        (turned-as_before script n input seat rsp world))
+    (turned-as_before script n input seat rsp world))
 
 node-as_before : (script : List Statement) (n : ℕ) (input : Input) (node : Node) (rsp : PeerRsp) (world : World)
     → node_at n world ≡ Some node → stepped input node ≡ saying node rsp
@@ -102,7 +101,7 @@ unfolding request_delivered
 delivered-as_before script name to bytes request node rsp world letter decoded found says_so =
     subst (λ (l : Option Letter). IsAsBefore to.0 node rsp (delivered_as script name l world)) (sym letter)
     (subst (λ (r : Result PeerReq PeerFault). IsAsBefore to.0 node rsp (request_got script name to r (at_rest world))) (sym decoded)
-        (got-as_before script name to request node rsp (at_rest world) found says_so))
+    (got-as_before script name to request node rsp (at_rest world) found says_so))
 
 made-same : (b : Bool) (one made : Made) → cond b (Some one) None ≡ Some made → one ≡ made
 made-same true one made e = same_Some one made e
@@ -158,12 +157,12 @@ other_epoch-changes_nothing script world rested name to node request made is =
     let due : is_due node ≡ false = due_of world.seats to.0 node (tree.get world.seats to.0) rested refl is.asked in
     ⊎_elim
     (λ (below : request.epoch.0 < node.peer.epoch). refused-changes_nothing
-        script world name to node request made (OldEpoch (record { 0 = node.peer.epoch })) is
-        (older node.peer.epoch request.epoch.0 below) (older_step request node below due))
+    script world name to node request made (OldEpoch (record { 0 = node.peer.epoch })) is
+    (older node.peer.epoch request.epoch.0 below) (older_step request node below due))
     (λ (most : node.peer.epoch ≤ request.epoch.0). refused-changes_nothing
-        script world name to node request made (NewEpoch (record { 0 = node.peer.epoch })) is
-        (newer node.peer.epoch request.epoch.0 (above-others node.peer.epoch request.epoch.0 is.another most))
-        (newer_step request node (above-others node.peer.epoch request.epoch.0 is.another most) due))
+    script world name to node request made (NewEpoch (record { 0 = node.peer.epoch })) is
+    (newer node.peer.epoch request.epoch.0 (above-others node.peer.epoch request.epoch.0 is.another most))
+    (newer_step request node (above-others node.peer.epoch request.epoch.0 is.another most) due))
     (cases_lt request.epoch.0 node.peer.epoch)
 
 pub run-changes_nothing : (script : List Statement) (all : List Event) (moment : Moment) → run_with_past script all ≡ Some moment
