@@ -1,10 +1,8 @@
 -- Requests and commands: the works that are open are those that they wait for, and commands keep what they were granted.
-use Rattle.std.specs.Prelude.{◌≡◌, ℕ, ◌<◌, Bool, true, false, List, [], ◌∷◌, slice_get, slice_index, Option, Some, None}
+use Rattle.std.specs.Prelude.{◌≡◌, ℕ, ◌<◌, true, false, List, slice_get, slice_index, Option, Some, None}
 use Rattle.std.specs.FinMap as tree
 use Rattle.object_id.specs.declared.oid.Vid.{Vid}
 use Rattle.object_id.specs.declared.entry.Entry.{Entry}
-use Rattle.object_id.specs.declared.entry.Entry.TheVariants.{Format, Join, Leave, Reweight, Recovered, Reserve, Publish, Clone, Snapshot, Delete, Lock, Unlock}
-use Rattle.object_id.specs.Oid.{inode_number}
 use Rattle.object_id.specs.Spec.{objects_of}
 use Rattle.inode.specs.Layout.{Content}
 use Rattle.vdi_directory.specs.declared.header.Header.{Header}
@@ -15,7 +13,6 @@ use Rattle.guest_driver.specs.declared.disk.Disk.{Disk}
 use Rattle.guest_driver.specs.Driver.{Driver}
 use Rattle.guest_driver.specs.Course as drivers
 use Rattle.guest_driver.specs.InodeLine as lines
-use Rattle.peer_proto.specs.declared.guest.DiskAsk.{DiskAsk}
 use Rattle.peer_proto.specs.declared.guest.VdiAsk.{VdiAsk}
 use Rattle.vdi_ops.specs.Tables.{table_in}
 use Rattle.vdi_ops.specs.Works.{read_inode, create_inode, write_back, write_tag}
@@ -24,8 +21,6 @@ use Rattle.sheep_node.specs.State.{Node, Session, Request, Course, Waiting, Driv
 use Rattle.overlap_law.specs.Attempts.{Attempt}
 use Rattle.overlap_law.specs.Reached.{Seats}
 use Rattle.overlap_law.specs.Each.{EachUp}
-use Rattle.overlap_law.specs.Fates.{IsCreated}
-use Rattle.overlap_law.specs.Tables.{AreAmong, candidates}
 use Rattle.overlap_law.specs.Writers.{MayWrite}
 use Rattle.vdi_directory.specs.declared.effect.Effect.{Effect}
 use Rattle.overlap_law.specs.Drafts.{IsDrawn}

@@ -1,5 +1,5 @@
 -- What is to be published: from where the table of its inode is, and that the inode was created.
-use Rattle.std.specs.Prelude.{◌≡◌, ℕ, ◌^◌, ◌<◌, Bool, true, false, List, [], ◌∷◌, slice_get, slice_index, is_some, Option, Some, None}
+use Rattle.std.specs.Prelude.{◌≡◌, ℕ, ◌^◌, ◌<◌, Bool, true, List, [], ◌∷◌, slice_get, slice_index, is_some, Option, Some, None}
 use Rattle.std.specs.FinMap as tree
 use Rattle.object_id.specs.declared.oid.Vid.{Vid}
 use Rattle.object_id.specs.declared.entry.Entry.{Entry}
@@ -7,26 +7,14 @@ use Rattle.object_id.specs.declared.entry.Entry.TheVariants.{Format, Join, Leave
 use Rattle.object_id.specs.Oid.{inode_number}
 use Rattle.object_id.specs.Spec.{objects_of}
 use Rattle.inode.specs.Layout.{Content}
-use Rattle.vdi_directory.specs.declared.header.Header.{Header}
-use Rattle.peer_proto.specs.declared.work.ObjWork.{ObjWork}
-use Rattle.gateway.specs.State.{Work}
-use Rattle.guest_driver.specs.declared.act.DriverAct.TheVariants as acts
-use Rattle.guest_driver.specs.declared.disk.Disk.{Disk}
-use Rattle.guest_driver.specs.Driver.{Driver}
-use Rattle.guest_driver.specs.Course as drivers
-use Rattle.guest_driver.specs.InodeLine as lines
-use Rattle.peer_proto.specs.declared.guest.DiskAsk.{DiskAsk}
 use Rattle.peer_proto.specs.declared.guest.VdiAsk.{VdiAsk}
-use Rattle.vdi_ops.specs.Tables.{table_in}
-use Rattle.vdi_ops.specs.Works.{read_inode, create_inode, write_back, write_tag}
-use Rattle.vdi_ops.specs.Op.{Task, Opening, WritingBack, Tagging, Copying, Making, Stage, Asked, Working, Publishing, Answered, Op}
-use Rattle.sheep_node.specs.State.{Node, Session, Request, Course, Waiting, Driving, Commanding}
+use Rattle.vdi_ops.specs.Op.{Publishing, Op}
+use Rattle.sheep_node.specs.State.{Request, Commanding}
 use Rattle.overlap_law.specs.Attempts.{Attempt}
 use Rattle.overlap_law.specs.Reached.{Seats}
 use Rattle.overlap_law.specs.Each.{EachUp}
 use Rattle.overlap_law.specs.Fates.{IsCreated}
 use Rattle.overlap_law.specs.Tables.{AreAmong, candidates}
-use Rattle.overlap_law.specs.Writers.{MayWrite}
 use Rattle.vdi_directory.specs.declared.effect.Effect.{Effect}
 use Rattle.vdi_directory.specs.Effects.{claims_of, claim_on}
 use Rattle.vdi_directory.specs.Bearers.{parent_of}
