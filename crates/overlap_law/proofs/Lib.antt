@@ -3,5 +3,8 @@ pub mod RunLemmas
 pub mod UnitLemmas
 pub mod BaseLemmas
 pub mod WholeLemmas
+pub mod RestEffects
+pub mod RestLemmas
+pub mod EpochLemmas
 pub mod WorkedCases
 pub mod OverlapLemmas

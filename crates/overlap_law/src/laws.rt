@@ -1,15 +1,19 @@
 //! Laws of the definitions, for the proofs of the layers above: each is the contract of a function that does nothing.
 ghost use Rattle.std.specs.Prelude.{◌≡◌, ◌≢◌, ℕ, ◌+◌, ◌-◌, true, false, List, [], length, slice_get, Some};
 ghost use Rattle.std.specs.List.{list_all, AllByRecursion};
+ghost use Rattle.std.specs.FinMap.{get};
 ghost use Rattle.std.specs.Option.{option_map};
 ghost use Rattle.object_id.specs.declared.node.NodeId.{NodeId};
 ghost use Rattle.object_id.specs.declared.oid.Kind.{Kind};
 ghost use Rattle.object_list.specs.Gathered.{has_node};
 ghost use Rattle.cluster_script.specs.declared.statement.Statement.{Statement};
 ghost use Rattle.sheep_node.specs.declared.event.Event.{Event};
+ghost use Rattle.sheep_node.specs.Step.{is_due};
 ghost use Rattle.sheep_world.specs.Run.{run};
+ghost use Rattle.sheep_world.specs.World.{Seat};
 ghost use Rattle.overlap_law.specs.Attempts.{Fate, Flying, Served, Attempt, has_message, marked_in};
 ghost use Rattle.overlap_law.specs.Words.{Seats, is_beyond, is_made, is_doomed, has_served, unit_start, unit_end, covers, base_of, own_base_of};
+ghost use Rattle.overlap_law.specs.Headline.{OtherEpochsChangeNothing};
 ghost use Rattle.overlap_law.specs.Past.{Moment, run_with_past, without_past};
 
 /// A made attempt isn't doomed, and whatever is told of a message leaves it made.
@@ -69,6 +73,15 @@ pub fn other_attempts_hear_nothing()
 pub fn the_past_follows_the_run()
     ensures { (script : List Statement) (events : List Event)
         → option_map without_past (run_with_past script events) ≡ run script events }
+{}
+
+/// The part of the headline on peers: in every run a peer's request of another epoch is refused with the node's own, and
+/// leaves the node as it was. For between events no node has a `Recovered` due, which such a step might put.
+pub fn peers_of_another_epoch_change_nothing()
+    ensures nothing { (script : List Statement) (events : List Event) (moment : Moment)
+        → run_with_past script events ≡ Some moment → OtherEpochsChangeNothing script moment.world }
+    ensures rested { (script : List Statement) (events : List Event) (moment : Moment) (n : ℕ) (seat : Seat)
+        → run_with_past script events ≡ Some moment → get moment.world.seats n ≡ Some seat → is_due seat.node ≡ false }
 {}
 
 /// Where every object was borne at every state, no read is left out.
