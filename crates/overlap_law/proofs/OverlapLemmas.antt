@@ -1,6 +1,6 @@
 -- What the invariant of the overlap gives at once.
-use Rattle.std.proofs.Common.{◌≡◌, ◌⊎◌, inl, inr, ⊎_elim, ℕ, zero, suc, ◌<◌, ◌≤◌, ◌==◌, ◌||◌, not, Bool, true, false, cond, List, [], ◌∷◌, length, filter, Option, Some, None, refl, sym, ap, subst, ◌∙◌, slice_get, Ok, arith}
-use Rattle.std.specs.List.{list_any, last_or}
+use Rattle.std.proofs.Common.{◌≡◌, ◌⊎◌, inl, inr, ⊎_elim, ℕ, zero, suc, ◌<◌, ◌==◌, ◌||◌, not, Bool, true, false, cond, List, [], ◌∷◌, length, filter, Option, Some, None, refl, subst, slice_get, Ok, arith}
+use Rattle.std.specs.List.{last_or}
 use Rattle.std.specs.FinMap as tree
 use Rattle.std.proofs.lemmas.Bool.{eqb-true, or_left, or_cases}
 use Rattle.object_id.specs.declared.node.NodeId.{NodeId}
@@ -12,10 +12,10 @@ use Rattle.epoch_log.proofs.GreatestLemmas.{greatest-passes}
 use Rattle.peer_proto.specs.declared.ask.PeerReq.{PeerReq}
 use Rattle.peer_proto.specs.Ask.{ask_in}
 use Rattle.sheep_world.specs.declared.name.MessageName.{MessageName}
-use Rattle.sheep_world.specs.World.{Seat, Request}
+use Rattle.sheep_world.specs.World.{Request}
 use Rattle.overlap_law.specs.Attempts.{Attempt, object_of, attempts_on}
 use Rattle.overlap_law.specs.Words.{is_made, base_of}
-use Rattle.overlap_law.specs.Reached.{Seats, has_finished, is_putting_in}
+use Rattle.overlap_law.specs.Reached.{Seats, is_putting_in}
 use Rattle.overlap_law.specs.Past.{Moment}
 use Rattle.overlap_law.specs.Facts.{CompleteLists, EachGood}
 use Rattle.overlap_law.specs.Headline.{IsLegalWhereBorne}
@@ -56,7 +56,7 @@ filter-passed : (passes : Attempt → Bool) (attempts : List Attempt) (k : ℕ) 
 filter-passed passes [] k found e = absurd (cc)
 filter-passed passes (attempt ∷ attempts) k found e = passed_if
     passes attempt attempts k found (passes attempt) refl (λ (i : ℕ) (there : slice_get (filter passes attempts) i ≡ Some found).
-        filter-passed passes attempts i found there) e
+    filter-passed passes attempts i found there) e
 
 -- a base is among the attempts, on the object, and made
 pub base-there : (oid : ℕ) (attempts : List Attempt) (base : Attempt) → base_of (attempts_on oid attempts) ≡ Some base
@@ -64,16 +64,16 @@ pub base-there : (oid : ℕ) (attempts : List Attempt) (base : Attempt) → base
 base-there oid attempts base h = ⊎_elim
     (λ (none : None ≡ Some base). absurd (cc (none)))
     (λ (r : (k : ℕ) × (slice_get (filter is_made (attempts_on oid attempts)) k ≡ Some base)).
-        let made = filter-passed is_made (attempts_on oid attempts) r.0 base r.1 in
-        let own = filter-passed (λ (attempt : Attempt). object_of attempt == oid) attempts made.place base made.there in
-        record {
-          place = own.place;
-          attempt = base;
-          there = own.there;
-          object = eqb-true (object_of base) oid own.passed;
-          made = made.passed;
-          before = omega arith;
-        })
+    let made = filter-passed is_made (attempts_on oid attempts) r.0 base r.1 in
+    let own = filter-passed (λ (attempt : Attempt). object_of attempt == oid) attempts made.place base made.there in
+    record {
+      place = own.place;
+      attempt = base;
+      there = own.there;
+      object = eqb-true (object_of base) oid own.passed;
+      made = made.passed;
+      before = omega arith;
+    })
     (last-there None (filter is_made (attempts_on oid attempts)) base h)
 
 pub gives-legal : (moment : Moment) → Overlap moment → IsLegalWhereBorne moment.past
@@ -115,7 +115,7 @@ none-missing recovered node (member ∷ members) none there = none_missing_if
     recovered node member members (filter (λ (other : Member). not (recovered other.node.0)) members) (recovered member.node.0)
     (is_node node member) refl refl none there
     (λ (fewer : (length (filter (λ (other : Member). not (recovered other.node.0)) members) == 0) ≡ true) (in' : is_member node members ≡ true).
-        none-missing recovered node members fewer in')
+    none-missing recovered node members fewer in')
 
 settled-complete : (log : List Entry) (epoch : ℕ) → 1 < epoch → is_settled log epoch ≡ true → (length (missing_in log epoch) == 0) ≡ true
 settled-complete log epoch above is = ⊎_elim
@@ -129,5 +129,5 @@ settled-recovered log seats = record {
       (has_recovered log (settled_of log) node.0)
       (is_putting_in (settled_of log) node.0 (tree.get seats node.0))
       (none-missing (has_recovered log (settled_of log)) node.0 (members_in log (settled_of log))
-          (settled-complete log (settled_of log) above (greatest-passes (is_settled log) (epoch_of log) (omega arith))) there);
+      (settled-complete log (settled_of log) above (greatest-passes (is_settled log) (epoch_of log) (omega arith))) there);
 }

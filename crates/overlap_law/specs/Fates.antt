@@ -6,6 +6,7 @@ use Rattle.object_id.specs.declared.entry.Entry.{Entry}
 use Rattle.object_id.specs.Oid.{kind_of, vid_of}
 use Rattle.object_id.specs.Policy.{wanted_of}
 use Rattle.epoch_log.specs.Epochs.{epoch_of}
+use Rattle.vdi_directory.specs.Decisions.{happened}
 use Rattle.peer_proto.specs.declared.work.ObjWork.{ObjWork}
 use Rattle.peer_proto.specs.declared.say.PeerRsp.{PeerRsp}
 use Rattle.peer_proto.specs.declared.say.PeerSay.TheVariants as says
@@ -20,7 +21,7 @@ use Rattle.sheep_node.specs.State.{Node}
 use Rattle.overlap_law.specs.Attempts.{Fate, Flying, Served, Doomed, Attempt, object_of}
 use Rattle.overlap_law.specs.Words.{Seats, is_made, is_mute, has_served}
 use Rattle.overlap_law.specs.Holders.{creates, is_among}
-use Rattle.overlap_law.specs.Each.{Placing, EachUp, EachAttempt, has_reached}
+use Rattle.overlap_law.specs.Each.{Placing, EachUp, EachAttempt, has_reached, policy_in}
 use Rattle.overlap_law.specs.Letters.{Wire, name_at, request_at, is_in_wire, is_request, IsAsking, IsAnswering, HasLetter, IsQuiet}
 use Rattle.overlap_law.specs.Grants.{reserved_in}
 
@@ -40,9 +41,10 @@ pub record FatesAreOfTheWire (wire : Wire) (attempts : List Attempt) : Type 0 wh
 pub record ServersReachedTheEpoch (seats : Seats) (attempts : List Attempt) : Type 0 where
   pub each : EachAttempt attempts (λ j attempt. (node : NodeId) → has_served node attempt ≡ true → has_reached seats attempt.epoch node ≡ true)
 
--- an attempt went to the targets of its epoch, as many as are wanted
+-- an attempt is to create or write by its object's policy, and went to the targets of its epoch, as many as are wanted
 pub record AttemptsAreShaped (T : Placing) (log : List Entry) (attempts : List Attempt) : Type 0 where
   pub making : EachAttempt attempts (λ j attempt. is_making attempt.work ≡ true)
+  pub policy : EachAttempt attempts (λ j attempt. policy_in (happened log) (object_of attempt) ≡ Some (policy_of attempt.work))
   pub targets : EachAttempt attempts (λ j attempt. attempt.targets ≡ T attempt.epoch (object_of attempt) (policy_of attempt.work))
   pub wanted : EachAttempt attempts (λ j attempt. length attempt.targets ≡ wanted_of (policy_of attempt.work) (kind_of (object_of attempt)))
   pub begun : EachAttempt attempts (λ j attempt. attempt.epoch ≤ epoch_of log)

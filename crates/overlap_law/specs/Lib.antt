@@ -24,4 +24,6 @@ pub mod Lists
 pub mod Searches
 pub mod Tables
 pub mod Written
+pub mod Drafts
+pub mod Courses
 pub mod Overlap

@@ -25,6 +25,8 @@ use Rattle.overlap_law.specs.Lists.{ListsComeFirst, TellersHaveCome, ListsAreWho
 use Rattle.overlap_law.specs.Searches.{SearchesAreOfTheFirst, LevelsAreAsked, ToldRowsAreTrue, ToldRowsAreSince, NoRowIsTrue, PassedLevelsLackRows, TheMadeIsNotMissing, ToldCopiesAreOfAttempts}
 use Rattle.overlap_law.specs.Tables.{EntriesAreMade, PublishedInodesAreMade, TablesAreTheInodes, SnapshotsAreFrozen, TablesAreMade}
 use Rattle.overlap_law.specs.Written.{BlocksAreWritten, StripsAreSound}
+use Rattle.overlap_law.specs.Drafts.{ReservedInodesAreDrawn, WhatIsPublishedIsCreated}
+use Rattle.overlap_law.specs.Courses.{WorksAreWaitedFor, CommandsKeepTheirGrants}
 
 -- the wire: numbers, letters, replies. It knows nothing of rows, nor of the history
 pub record FlightIsKept (log : List Entry) (seats : Seats) (wire : Wire) (attempts : List Attempt) : Type 0 where
@@ -117,6 +119,13 @@ pub record WrittenIsKept (ledger : Ledger) (effects : List Effect) (good_id : �
   pub written : BlocksAreWritten ledger effects good_id seats attempts
   pub sound : StripsAreSound ledger effects good_id seats attempts
 
+-- requests and commands
+pub record CoursesAreKept (log : List Entry) (effects : List Effect) (good_id : ℕ → Bool) (seats : Seats) (attempts : List Attempt) : Type 0 where
+  pub waited_for : WorksAreWaitedFor effects seats attempts
+  pub granted : CommandsKeepTheirGrants log seats
+  pub drawn : ReservedInodesAreDrawn effects good_id attempts
+  pub created : WhatIsPublishedIsCreated good_id seats attempts
+
 -- the whole: the groups, and that the replies so far are legal
 pub record Overlap (moment : Moment) : Type 0 where
   pub flight : FlightIsKept moment.world.log moment.world.seats moment.world.wire moment.past.attempts
@@ -132,6 +141,8 @@ pub record Overlap (moment : Moment) : Type 0 where
   pub tables : TablesAreKept moment.world.log (happened moment.world.log) (is_live moment.world.log moment.past.attempts)
       (is_borne_disk moment.world.log moment.past.unborne) moment.world.seats moment.past.attempts
   pub written : WrittenIsKept (ledger_of moment.past.history) (happened moment.world.log) (is_borne_disk moment.world.log moment.past.unborne)
+      moment.world.seats moment.past.attempts
+  pub courses : CoursesAreKept moment.world.log (happened moment.world.log) (is_borne_disk moment.world.log moment.past.unborne)
       moment.world.seats moment.past.attempts
   pub legal : IsLegalWhereBorne moment.past
 
