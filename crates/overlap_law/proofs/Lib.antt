@@ -1,0 +1,10 @@
+pub mod FateLemmas
+pub mod RunLemmas
+pub mod UnitLemmas
+pub mod BaseLemmas
+pub mod WholeLemmas
+pub mod RestEffects
+pub mod RestLemmas
+pub mod EpochLemmas
+pub mod WorkedCases
+pub mod OverlapLemmas

@@ -1,0 +1,150 @@
+-- Between events no node has a `Recovered` due, in every world of a run.
+use Rattle.std.proofs.Common.{◌≡◌, ℕ, Bool, true, false, cond, List, [], ◌∷◌, map, Option, Some, None, Ordering, Less, Equal, Greater, refl, sym, ◌∙◌, subst}
+use Rattle.std.specs.Option.{option_map, option_and_then}
+use Rattle.std.specs.Ordering.{is_eq, nat_cmp}
+use Rattle.std.specs.Cmp.{nat_cmp_total}
+use Rattle.std.specs.FinMap as tree
+use Rattle.std.proofs.lemmas.Option.{same_Some}
+use Rattle.object_id.specs.declared.entry.Member.{Member}
+use Rattle.cluster_script.specs.declared.statement.Statement.{Statement}
+use Rattle.cluster_script.specs.Settings.{tries_of, opening_members}
+use Rattle.sheep_node.specs.declared.input.Input.TheVariants as inputs
+use Rattle.sheep_node.specs.declared.event.Event.{Event}
+use Rattle.sheep_node.specs.declared.event.Event.TheVariants as events
+use Rattle.sheep_node.specs.State as nodes
+use Rattle.sheep_node.specs.State.{Node}
+use Rattle.sheep_node.specs.Step.{is_due}
+use Rattle.sheep_node.proofs.SoundSteps.{stepped_puts}
+use Rattle.sheep_world.specs.declared.name.MessageName.{MessageName}
+use Rattle.sheep_world.specs.World.{Seat, World, seat_at, node_at, message_at}
+use Rattle.sheep_world.specs.Opening as openings
+use Rattle.sheep_world.specs.Opening.{first_entry, first_seat, opening_node, opening_seat, before_phases, with_phase}
+use Rattle.sheep_world.specs.Stepped.{at_rest}
+use Rattle.sheep_world.specs.Conditions.{may_guest, may_deliver, may_lose_request, may_lose_reply, may_read, may_put, may_recover, may_retry, may_lose_node, may_leave, may_join, may_reweight, may_come_back, may_end_phase}
+use Rattle.sheep_world.specs.Effects.{guest_asked, next_entry, entry_read, with_entries, entry_put, recovery_ticked, retry_ticked}
+use Rattle.sheep_world.specs.Messages.{delivered, message_lost}
+use Rattle.sheep_world.specs.Changes.{failed, control_taken, without_replies, node_lost, node_left, join_of, node_joined, reweighted, last_weight, revived, rejoined, came_back, phase_ended}
+use Rattle.sheep_world.specs.Step.{Made, only, with_replies, guest_made, put_made, loss_made, step}
+use Rattle.overlap_law.specs.Past.{Moment, moment_after, run_on, first_moment, run_with_past}
+use Rattle.overlap_law.proofs.RestEffects.{AreRested, rested-insert, node-rested, if-rested, guest-rested, delivered-rested, lost-rested, changed-rested, opening-rested}
+
+node_lost-rested : (n : ℕ) (world : World) → AreRested world.seats → AreRested (node_lost n world).seats
+unfolding node_lost
+node_lost-rested n world rested = changed-rested
+    failed n (seat_at n world) world.seats (record (control_taken (at_rest world)) { wire = without_replies n world.wire })
+    refl refl (λ (seat : Seat). refl) rested
+
+joined-rested : (script : List Statement) (n : ℕ) (world : World) → AreRested world.seats → AreRested (node_joined script n world).seats
+unfolding node_joined
+joined-rested script n world rested = rested-insert
+    world.seats n (first_seat (nodes.opening (record { 0 = n }) (tries_of script))) rested
+    (opening-rested (record { 0 = n }) (tries_of script))
+
+back-rested : (script : List Statement) (n : ℕ) (world : World) → AreRested world.seats → AreRested (came_back script n world).seats
+unfolding came_back
+back-rested script n world rested =
+    let again = rejoined script n world in
+    node-rested script n (inputs.Back again.log) again
+    (changed-rested revived n (seat_at n world) world.seats
+    (with_entries (join_of script n (last_weight world.log n) ∷ []) (control_taken (at_rest world)))
+    refl refl (λ (seat : Seat). refl) rested)
+
+-- what is made where a test is true is this
+made-is : (P : Made → Type 0) (b : Bool) (one made : Made) → cond b (Some one) None ≡ Some made → P one → P made
+made-is P true one made e holds = subst P (same_Some one made e) holds
+made-is P false one made e holds = absurd (cc (e))
+
+abbrev LeavesRested : Made → Type 0
+LeavesRested made = AreRested made.world.seats
+
+pub event-rested : (script : List Statement) (event : Event) (world : World) (made : Made) → step script event world ≡ Some made
+    → AreRested world.seats → AreRested made.world.seats
+unfolding step entry_read entry_put recovery_ticked retry_ticked node_left reweighted phase_ended
+event-rested script (events.Guest session) world made e rested = made-is
+    LeavesRested (may_guest script session world) (guest_made script session world (guest_asked script session world)) made e
+    (guest-rested script session world rested)
+event-rested script (events.Deliver node number) world made e rested =
+    let name : MessageName = record { sender = node; number = number } in
+    made-is LeavesRested (may_deliver name world) (with_replies script world (delivered script name world)) made e
+    (delivered-rested script name (message_at name world) world rested)
+event-rested script (events.LoseRequest node number) world made e rested =
+    let name : MessageName = record { sender = node; number = number } in
+    made-is LeavesRested (may_lose_request name world) (with_replies script world (message_lost script name world)) made e
+    (lost-rested script name world rested)
+event-rested script (events.LoseReply node number) world made e rested =
+    let name : MessageName = record { sender = node; number = number } in
+    made-is LeavesRested (may_lose_reply name world) (with_replies script world (message_lost script name world)) made e
+    (lost-rested script name world rested)
+event-rested script (events.LogNext node) world made e rested = made-is
+    LeavesRested (may_read node.0 world) (with_replies script world (entry_read script node.0 world)) made e
+    (if-rested script node.0 (option_map (λ entry. inputs.LogEntry entry) (next_entry world.log (node_at node.0 world))) (at_rest world) rested)
+event-rested script (events.Put node) world made e rested = made-is
+    LeavesRested (may_put node.0 world) (put_made world (entry_put script node.0 world)) made e
+    (node-rested script node.0 inputs.Put (at_rest world) rested)
+event-rested script (events.RecoverTick node) world made e rested = made-is
+    LeavesRested (may_recover node.0 world) (with_replies script world (recovery_ticked script node.0 world)) made e
+    (node-rested script node.0 inputs.RecoverTick (at_rest world) rested)
+event-rested script (events.RetryTick node) world made e rested = made-is
+    LeavesRested (may_retry node.0 world) (with_replies script world (retry_ticked script node.0 world)) made e
+    (node-rested script node.0 inputs.RetryTick (at_rest world) rested)
+event-rested script (events.Lost node) world made e rested = made-is
+    LeavesRested (may_lose_node node.0 world) (loss_made script node.0 world (node_lost node.0 world)) made e
+    (node_lost-rested node.0 world rested)
+event-rested script (events.Leave node) world made e rested =
+    made-is LeavesRested (may_leave node.0 world) (only (node_left node.0 world)) made e rested
+event-rested script (events.Join node) world made e rested = made-is
+    LeavesRested (may_join node.0 world) (only (node_joined script node.0 world)) made e
+    (joined-rested script node.0 world rested)
+event-rested script (events.Reweight node) world made e rested =
+    made-is LeavesRested (may_reweight node.0 world) (only (reweighted node.0 world)) made e rested
+event-rested script (events.Back node) world made e rested = made-is
+    LeavesRested (may_come_back node.0 world) (only (came_back script node.0 world)) made e
+    (back-rested script node.0 world rested)
+event-rested script events.Phase world made e rested =
+    made-is LeavesRested (may_end_phase script world) (only (phase_ended script world)) made e rested
+
+-- in the opening world each member has just read the log's first entry
+found_if : (script : List Statement) (q : ℕ) (seat : Seat) (member : Member) (members : List Member) (o : Ordering)
+    → (tree.find nat_cmp q (map (opening_seat script) members) ≡ Some seat → is_due seat.node ≡ false)
+    → cond (is_eq o) (Some (first_seat (opening_node script member))) (tree.find nat_cmp q (map (opening_seat script) members)) ≡ Some seat
+    → is_due seat.node ≡ false
+found_if script q seat member members Less rest is = rest is
+found_if script q seat member members Equal rest is = subst
+    (λ (s : Seat). is_due s.node ≡ false) (same_Some (first_seat (opening_node script member)) seat is)
+    (stepped_puts (inputs.LogEntry (first_entry script)) (nodes.opening member.node (tries_of script)))
+found_if script q seat member members Greater rest is = rest is
+
+found-rested : (script : List Statement) (q : ℕ) (seat : Seat) (members : List Member)
+    → tree.find nat_cmp q (map (opening_seat script) members) ≡ Some seat → is_due seat.node ≡ false
+found-rested script q seat [] is = absurd (cc (is))
+found-rested script q seat (member ∷ members) is =
+    found_if script q seat member members (nat_cmp q member.node.0) (found-rested script q seat members) is
+
+opening_world-rested : (script : List Statement) → AreRested (openings.opening script).seats
+unfolding openings.opening
+opening_world-rested script q seat got = found-rested
+    script q seat (opening_members script)
+    (sym (tree.get-from_entries nat_cmp_total (map (opening_seat script) (opening_members script)) q) ∙ got)
+
+along-rested : (script : List Statement) (event : Event) (later : List Event) (first last : Moment) → AreRested first.world.seats
+    → ((next : Moment) → AreRested next.world.seats → run_on script next later ≡ Some last → AreRested last.world.seats)
+    → (o : Option Made) → step script event first.world ≡ o
+    → option_and_then (λ (next : Moment). run_on script next later) (option_map (moment_after script event first) o) ≡ Some last
+    → AreRested last.world.seats
+along-rested script event later first last rested rest None at e = absurd (cc)
+along-rested script event later first last rested rest (Some made) at e =
+    rest (moment_after script event first made) (event-rested script event first.world made at rested) e
+
+run_on-rested : (script : List Statement) (later : List Event) (first last : Moment) → AreRested first.world.seats
+    → run_on script first later ≡ Some last → AreRested last.world.seats
+unfolding run_on
+run_on-rested script [] first last rested e = subst (λ (m : Moment). AreRested m.world.seats) (same_Some first last e) rested
+run_on-rested script (event ∷ later) first last rested e = along-rested
+    script event later first last rested
+    (λ (next : Moment) (here : AreRested next.world.seats) (h : run_on script next later ≡ Some last). run_on-rested script later next last here h)
+    (step script event first.world) refl e
+
+pub run-rested : (script : List Statement) (all : List Event) (moment : Moment) → run_with_past script all ≡ Some moment
+    → AreRested moment.world.seats
+unfolding run_with_past
+run-rested script all moment e = run_on-rested script all (first_moment script) moment (opening_world-rested script) e

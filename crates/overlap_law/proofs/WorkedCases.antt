@@ -1,0 +1,113 @@
+-- Cases that are worked out by computing: an object of 1,024 bytes with two copies, of which three attempts are made or tried.
+use Rattle.std.proofs.Common.{◌≡◌, ℕ, ◌+◌, ◌^◌, true, false, List, [], ◌∷◌, replicate, Some, None, refl}
+use Rattle.object_id.specs.declared.node.NodeId.{NodeId}
+use Rattle.object_id.specs.declared.oid.Kind.TheVariants.{Block, Inode}
+use Rattle.object_id.specs.declared.policy.Policy.TheVariants.{Copies}
+use Rattle.peer_proto.specs.declared.work.ObjWork.{ObjWork}
+use Rattle.peer_proto.specs.declared.work.ObjWork.TheVariants.{Create, Write}
+use Rattle.overlap_law.specs.Attempts.{Fate, Flying, Served, Doomed, Attempt, marked}
+use Rattle.overlap_law.specs.Words.{is_made, is_mute, covers, unit_start, unit_size, unit_of, base_of, own_base_of, later_on, is_quiet, has_served}
+use Rattle.overlap_law.specs.Holders.{birth_of, born_objects}
+
+abbrev node : ℕ → NodeId
+node n = record { 0 = n }
+
+-- object 0 of disk 1
+abbrev object : ℕ
+object = 2 ^ 32
+
+-- an attempt of node 3 on the object, to nodes 4 and 7
+abbrev attempt : ObjWork → ℕ → ℕ → Fate → Fate → Attempt
+attempt work epoch first four seven = record {
+  req = 1;
+  session = 1;
+  gateway = node 3;
+  life = 1;
+  work = work;
+  epoch = epoch;
+  first = first;
+  targets = node 4 ∷ node 7 ∷ [];
+  fates = four ∷ seven ∷ [];
+}
+
+-- the object is created, its second block is written, and then its first one
+abbrev created : Attempt
+created = attempt (Create object (Copies 2) 1024 0 []) 1 10 Served Served
+
+abbrev written : Fate → Fate → Attempt
+written four seven = attempt (Write object (Copies 2) 512 (replicate 512 1)) 1 20 four seven
+
+abbrev tried : Attempt
+tried = attempt (Write object (Copies 2) 0 (replicate 512 2)) 2 30 Flying Doomed
+
+abbrev all : List Attempt
+all = created ∷ written Served Served ∷ tried ∷ []
+
+-- an attempt flies until both targets have served it
+one_served_isn't_made : is_made (written Served Flying) ≡ false
+one_served_isn't_made = refl
+
+both_served_is_made : is_made (written Served Served) ≡ true
+both_served_is_made = refl
+
+none_served_is_mute : is_mute tried ≡ true
+none_served_is_mute = refl
+
+-- message 21 of node 3 is the one to node 7
+a_message_is_found_by_its_number :
+    marked Served (node 3) 21 (created ∷ written Served Flying ∷ tried ∷ []) ≡ created ∷ written Served Served ∷ tried ∷ []
+unfolding marked
+a_message_is_found_by_its_number = refl
+
+-- what is known of a message stays
+a_fate_stays : marked Doomed (node 3) 20 all ≡ all
+unfolding marked
+a_fate_stays = refl
+
+another_sender's_number : marked Served (node 4) 30 all ≡ all
+unfolding marked
+another_sender's_number = refl
+
+node_4_served_the_write : has_served (node 4) (written Served Flying) ≡ true
+node_4_served_the_write = refl
+
+node_7_didn't : has_served (node 7) (written Served Flying) ≡ false
+node_7_didn't = refl
+
+-- the create covers both blocks and no third one, each write one
+what_a_create_covers : (covers 0 created ≡ true) × (covers 1 created ≡ true) × (covers 2 created ≡ false)
+what_a_create_covers = (refl, refl, refl)
+
+what_a_write_covers : (covers 0 (written Served Served) ≡ false) × (covers 1 (written Served Served) ≡ true)
+what_a_write_covers = (refl, refl)
+
+-- the base is the write that is made; the first block's own base is the create
+the_base : base_of all ≡ Some (written Served Served)
+the_base = refl
+
+own_bases : (own_base_of 0 all ≡ Some created) × (own_base_of 1 all ≡ Some (written Served Served))
+own_bases = (refl, refl)
+
+-- the first block isn't quiet, since a write of it was tried; the second one is
+what_is_quiet : (is_quiet 0 all ≡ false) × (is_quiet 1 all ≡ true)
+what_is_quiet = (refl, refl)
+
+later_attempts : later_on 0 all ≡ tried ∷ []
+later_attempts = refl
+
+-- an object is born with its first create
+the_birth : (birth_of object all ≡ Some 1) × (birth_of (object + 1) all ≡ None)
+the_birth = (refl, refl)
+
+who_is_born : born_objects all ≡ object ∷ []
+who_is_born = refl
+
+-- the table's entry 2 has the four bytes from 4,672 on
+an_entry : (unit_start Inode (4664 + 2) ≡ 4672) × (unit_size Inode (4664 + 2) ≡ 4) × (unit_of Inode 4675 ≡ 4664 + 2)
+an_entry = (refl, refl, refl)
+
+a_byte_of_the_header : (unit_start Inode 300 ≡ 300) × (unit_size Inode 300 ≡ 1) × (unit_of Inode 300 ≡ 300)
+a_byte_of_the_header = (refl, refl, refl)
+
+a_block : (unit_start Block 3 ≡ 1536) × (unit_of Block 2047 ≡ 3)
+a_block = (refl, refl)

@@ -1,0 +1,9 @@
+use Rattle.overlap_law.proofs.EpochLemmas.{run-changes_nothing}
+use Rattle.overlap_law.proofs.RestLemmas.{run-rested}
+use Rattle.overlap_law.proofs.laws.peers_of_another_epoch_change_nothing.Goals as goal
+
+pub returns : goal.returns
+returns c = record {
+  nothing = run-changes_nothing;
+  rested = λ script events moment n seat e got. run-rested script events moment e n seat got;
+}

@@ -1,0 +1,118 @@
+-- Requests and commands: the works that are open are those that they wait for, and commands keep what they were granted.
+use Rattle.std.specs.Prelude.{◌≡◌, ℕ, ◌<◌, true, false, List, slice_get, slice_index, Option, Some, None}
+use Rattle.std.specs.FinMap as tree
+use Rattle.object_id.specs.declared.oid.Vid.{Vid}
+use Rattle.object_id.specs.declared.entry.Entry.{Entry}
+use Rattle.object_id.specs.Spec.{objects_of}
+use Rattle.inode.specs.Layout.{Content}
+use Rattle.vdi_directory.specs.declared.header.Header.{Header}
+use Rattle.peer_proto.specs.declared.work.ObjWork.{ObjWork}
+use Rattle.gateway.specs.State.{Work}
+use Rattle.guest_driver.specs.declared.act.DriverAct.TheVariants as acts
+use Rattle.guest_driver.specs.declared.disk.Disk.{Disk}
+use Rattle.guest_driver.specs.Driver.{Driver}
+use Rattle.guest_driver.specs.Course as drivers
+use Rattle.guest_driver.specs.InodeLine as lines
+use Rattle.peer_proto.specs.declared.guest.VdiAsk.{VdiAsk}
+use Rattle.vdi_ops.specs.Tables.{table_in}
+use Rattle.vdi_ops.specs.Works.{read_inode, create_inode, write_back, write_tag}
+use Rattle.vdi_ops.specs.Op.{Task, Opening, WritingBack, Tagging, Copying, Making, Stage, Asked, Working, Publishing, Answered, Op}
+use Rattle.sheep_node.specs.State.{Node, Session, Request, Course, Waiting, Driving, Commanding}
+use Rattle.overlap_law.specs.Attempts.{Attempt}
+use Rattle.overlap_law.specs.Reached.{Seats}
+use Rattle.overlap_law.specs.Each.{EachUp}
+use Rattle.overlap_law.specs.Writers.{MayWrite}
+use Rattle.vdi_directory.specs.declared.effect.Effect.{Effect}
+use Rattle.overlap_law.specs.Drafts.{IsDrawn}
+
+-- what was read of an inode is written back, and is what the table is by
+pub record IsWrittenBack (inode : Content) (work : ObjWork) : Type 0 where
+  pub bytes : List ℕ
+  pub ids : List ℕ
+  pub work_of : work ≡ write_back inode bytes
+  pub table : inode.table ≡ table_in ids inode.spec bytes
+
+-- the open disk's inode gets a tag; the one that is to take its place has its table
+pub record IsTagged (open_disk : Option Disk) (old : Vid) (draft : Content) (work : ObjWork) : Type 0 where
+  pub disk : Disk
+  pub tag : List ℕ
+  pub there : open_disk ≡ Some disk
+  pub same : disk.inode.vid ≡ old.0
+  pub table : draft.table ≡ disk.inode.table
+  pub work_of : work ≡ write_tag disk.inode tag
+
+-- the inode of a clone's base is read
+pub record IsRead (parent : Option Vid) (header : Header) (work : ObjWork) : Type 0 where
+  pub vid : Vid
+  pub there : parent ≡ Some vid
+  pub work_of : work ≡ read_inode vid.0 header.spec
+
+-- an inode is created: that of the granted id, which is the one that the session then has open, if it has one by that; its
+-- table is drawn from what the id is reserved for
+pub record IsCreatedNow (effects : List Effect) (attempts : List Attempt) (vid : Vid) (opened : Option Content) (work : ObjWork) : Type 0 where
+  pub inode : Content
+  pub own : inode.vid ≡ vid.0
+  pub work_of : work ≡ create_inode inode
+  pub same : (content : Content) → opened ≡ Some content → content ≡ inode
+  pub drawn : (index : ℕ) → index < objects_of inode.spec → IsDrawn effects attempts vid.0 index (slice_index inode.table index)
+
+-- a work is that of a command's task
+abbrev pub IsOfTask : List Effect → List Attempt → Option Disk → Vid → Task → ObjWork → Type 0
+IsOfTask effects attempts disk vid (Opening snapshot ids header) work = work ≡ read_inode vid.0 header.spec
+IsOfTask effects attempts disk vid (WritingBack inode) work = IsWrittenBack inode work
+IsOfTask effects attempts disk vid (Tagging old inode) work = IsTagged disk old inode work
+IsOfTask effects attempts disk vid (Copying ids header) work = IsRead header.parent header work
+IsOfTask effects attempts disk vid (Making entry opened) work = IsCreatedNow effects attempts vid opened work
+
+-- the same by what a command waits for
+abbrev pub IsOfStage : List Effect → List Attempt → Option Disk → Stage → ObjWork → Type 0
+IsOfStage effects attempts disk (Asked entry ask old) work = ⊥
+IsOfStage effects attempts disk (Working vid task) work = IsOfTask effects attempts disk vid task work
+IsOfStage effects attempts disk (Publishing entry opened) work = ⊥
+IsOfStage effects attempts disk (Answered opened) work = ⊥
+
+-- a work is that of a read or write on the open disk
+pub record IsOfDriver (open_disk : Option Disk) (driver : Driver) (work : ObjWork) : Type 0 where
+  pub disk : Disk
+  pub there : open_disk ≡ Some disk
+  pub awaited : drivers.IsAwaited disk.inode driver (acts.Work work)
+
+-- a request waits for a work
+abbrev pub WaitsFor : List Effect → List Attempt → Option Disk → Course → ObjWork → Type 0
+WaitsFor effects attempts disk (Waiting ask) work = ⊥
+WaitsFor effects attempts disk (Driving driver) work = IsOfDriver disk driver work
+WaitsFor effects attempts disk (Commanding ask op) work = IsOfStage effects attempts disk op.stage work
+
+-- a node's request, with its session, waits for a work
+pub record IsWaitedFor (effects : List Effect) (attempts : List Attempt) (node : Node) (req : ℕ) (work : ObjWork) : Type 0 where
+  pub request : Request
+  pub session : Session
+  pub there : tree.get node.requests req ≡ Some request
+  pub of : tree.get node.sessions request.session ≡ Some session
+  pub waits : WaitsFor effects attempts session.disk request.course work
+
+-- works that are open, and those that wait for the inode, are what their requests wait for
+pub record WorksAreWaitedFor (effects : List Effect) (seats : Seats) (attempts : List Attempt) : Type 0 where
+  pub opened : EachUp seats (λ n node. (req : ℕ) (work : Work) → tree.get node.gateway.works req ≡ Some work → IsWaitedFor effects attempts node req work.work)
+  pub lined : EachUp seats (λ n node. (number place : ℕ) (session : Session) (waiting : lines.Waiting) → tree.get node.sessions number ≡ Some session
+      → slice_get session.line.waiting place ≡ Some waiting → IsWaitedFor effects attempts node waiting.req waiting.work)
+
+-- the id that a task works for under a grant; a snapshot that is opened is nobody's
+abbrev pub granted_by : Vid → Task → Option Vid
+granted_by vid (Opening true ids header) = None
+granted_by vid (Opening false ids header) = Some vid
+granted_by vid (WritingBack inode) = Some vid
+granted_by vid (Tagging old inode) = Some vid
+granted_by vid (Copying ids header) = Some vid
+granted_by vid (Making entry opened) = Some vid
+
+abbrev pub granted_at : Stage → Option Vid
+granted_at (Asked entry ask disk) = None
+granted_at (Working vid task) = granted_by vid task
+granted_at (Publishing entry opened) = None
+granted_at (Answered opened) = None
+
+-- a command that works for an id may write it
+pub record CommandsKeepTheirGrants (log : List Entry) (seats : Seats) : Type 0 where
+  pub each : EachUp seats (λ n node. (req : ℕ) (request : Request) (ask : VdiAsk) (op : Op) (vid : Vid) → tree.get node.requests req ≡ Some request
+      → request.course ≡ Commanding ask op → granted_at op.stage ≡ Some vid → MayWrite log n request.session vid.0 node)

@@ -1,0 +1,86 @@
+-- The forms in which the invariant speaks of each node, attempt and row, and the words that several of its groups share.
+use Rattle.std.specs.Prelude.{◌≡◌, ℕ, nat_le, Bool, false, ◌&&◌, List, slice_get, Option, Some, None}
+use Rattle.std.specs.Option.{option_map}
+use Rattle.std.specs.List.{list_any}
+use Rattle.std.specs.FinMap as tree
+use Rattle.object_id.specs.declared.node.NodeId.{NodeId}
+use Rattle.object_id.specs.declared.node.Epoch.{Epoch}
+use Rattle.object_id.specs.declared.entry.VdiSpec.{VdiSpec}
+use Rattle.object_id.specs.declared.policy.Policy.{Policy}
+use Rattle.object_id.specs.Oid.{vid_of, kind_of}
+use Rattle.vdi_directory.specs.declared.header.Header.{Header}
+use Rattle.vdi_directory.specs.declared.effect.Effect.{Effect}
+use Rattle.vdi_directory.specs.Effects.{header_of}
+use Rattle.object_store.specs.Store.{SeenRow, AllRows, rows_of}
+use Rattle.peer_service.specs.Epochs.{index_among}
+use Rattle.sheep_node.specs.State.{Node}
+use Rattle.sheep_world.specs.World.{Seat}
+use Rattle.overlap_law.specs.Attempts.{Attempt}
+use Rattle.overlap_law.specs.Words.{Seats}
+
+-- the target list of an epoch, an object and its policy
+abbrev pub Placing : Type 0
+Placing = ℕ → ℕ → Policy → List NodeId
+
+-- of each node that is there
+abbrev pub EachSeat : Seats → (ℕ → Seat → Type 0) → Type 0
+EachSeat seats P = (n : ℕ) (seat : Seat) → tree.get seats n ≡ Some seat → P n seat
+
+-- of each node that isn't lost
+abbrev pub EachUp : Seats → (ℕ → Node → Type 0) → Type 0
+EachUp seats P = (n : ℕ) (seat : Seat) → tree.get seats n ≡ Some seat → seat.is_lost ≡ false → P n seat.node
+
+-- of each attempt, with its place in the order in which they began
+abbrev pub EachAttempt : List Attempt → (ℕ → Attempt → Type 0) → Type 0
+EachAttempt attempts P = (j : ℕ) (attempt : Attempt) → slice_get attempts j ≡ Some attempt → P j attempt
+
+-- of some attempt
+abbrev pub SomeAttempt : List Attempt → (Attempt → Type 0) → Type 0
+SomeAttempt attempts P = (j : ℕ) × (attempt : Attempt) × (slice_get attempts j ≡ Some attempt) × P attempt
+
+-- of each row of an object in a store
+abbrev pub EachRowOf : AllRows → ℕ → (SeenRow → Type 0) → Type 0
+EachRowOf rows oid P = (i : ℕ) (row : SeenRow) → slice_get (rows_of rows oid) i ≡ Some row → P row
+
+-- of each row of each object at each node
+abbrev pub EachRow : Seats → (ℕ → Seat → ℕ → SeenRow → Type 0) → Type 0
+EachRow seats P = EachSeat seats (λ n seat. (oid : ℕ) → EachRowOf seat.node.peer.rows oid (P n seat oid))
+
+-- the epoch of a node, that of a lost one when it was lost
+abbrev pub epoch_in : Option Seat → ℕ
+epoch_in None = 0
+epoch_in (Some seat) = seat.node.peer.epoch
+
+-- whether a node came to an epoch
+abbrev pub has_reached : Seats → ℕ → NodeId → Bool
+has_reached seats epoch node = nat_le epoch (epoch_in (tree.get seats node.0))
+
+-- the last epoch that a row covers, at a node of an epoch: an open row covers that one
+abbrev pub end_of : ℕ → Option Epoch → ℕ
+end_of epoch None = epoch
+end_of epoch (Some to) = to.0
+
+-- whether a row covers a level, at a node of an epoch
+abbrev pub row_covers : ℕ → ℕ → SeenRow → Bool
+row_covers epoch level row = nat_le row.from.0 level && nat_le level (end_of epoch row.to)
+
+-- whether a row of the object does, in the store of a node of an epoch
+abbrev pub has_row_at : ℕ → AllRows → ℕ → ℕ → Bool
+has_row_at epoch rows oid level = list_any (row_covers epoch level) (rows_of rows oid)
+
+-- the same of a node
+abbrev pub holds_level : Option Seat → ℕ → ℕ → Bool
+holds_level None oid level = false
+holds_level (Some seat) oid level = has_row_at seat.node.peer.epoch seat.node.peer.rows oid level
+
+-- what the disk of an id was made with
+abbrev pub spec_in : List Effect → ℕ → Option VdiSpec
+spec_in effects vid = option_map (λ (header : Header). header.spec) (header_of effects vid)
+
+-- the policy of an object
+abbrev pub policy_in : List Effect → ℕ → Option Policy
+policy_in effects oid = option_map (λ (spec : VdiSpec). spec.policy) (spec_in effects (vid_of oid))
+
+-- the index of a node's part of an object in an epoch, if it is one of the targets
+abbrev pub index_in : Placing → ℕ → ℕ → Policy → NodeId → Option ℕ
+index_in T epoch oid policy node = index_among node (T epoch oid policy) policy (kind_of oid)

@@ -1,0 +1,103 @@
+-- The works and the open disks of sessions: they are apart, the disks are held, and reads come last.
+use Rattle.std.specs.Prelude.{◌≡◌, ◌≢◌, ◌⊎◌, ℕ, ◌≤◌, ◌<◌, Bool, true, false, List, slice_get, Some}
+use Rattle.std.specs.List.{list_any}
+use Rattle.std.specs.FinMap as tree
+use Rattle.object_id.specs.declared.node.NodeId.{NodeId}
+use Rattle.object_id.specs.declared.entry.Entry.{Entry}
+use Rattle.object_id.specs.declared.entry.Entry.TheVariants.{Snapshot, Unlock}
+use Rattle.vdi_directory.specs.Effects.{holder_of}
+use Rattle.vdi_directory.specs.Decisions.{happened}
+use Rattle.peer_proto.specs.Work.{oid_of}
+use Rattle.gateway.specs.Work.{is_making}
+use Rattle.gateway.specs.Attempt as gateways
+use Rattle.gateway.specs.State.{Open, Work}
+use Rattle.gateway_queue.specs.declared.queue.Queued.{Queued}
+use Rattle.gateway_queue.specs.Queue.{AreApart}
+use Rattle.guest_driver.specs.declared.disk.Disk.{Disk}
+use Rattle.guest_driver.specs.Driver.{Driver}
+use Rattle.guest_driver.specs.InodeLine.{is_on_inode}
+use Rattle.peer_proto.specs.declared.guest.VdiAsk.{VdiAsk}
+use Rattle.vdi_ops.specs.Op.{Op, entry_wanted}
+use Rattle.sheep_node.specs.State.{Node, Session, Request, Driving, Commanding}
+use Rattle.sheep_node.specs.Same.{is_same_entry}
+use Rattle.overlap_law.specs.Attempts.{Attempt, object_of}
+use Rattle.overlap_law.specs.Words.{Seats}
+use Rattle.overlap_law.specs.Each.{EachUp, EachAttempt}
+use Rattle.overlap_law.specs.Letters.{Wire, HasLetter}
+use Rattle.overlap_law.specs.Grants.{granted_in}
+use Rattle.overlap_law.specs.Writers.{session_of}
+
+-- whether an entry gives the open disk back, or turns it into a snapshot
+abbrev pub lets_go : Entry → Bool
+lets_go (Unlock by session vid) = true
+lets_go (Snapshot by old vid) = true
+lets_go _ = false
+
+-- two works that are open at a node
+pub record AreOpen (node : Node) (req : ℕ) (work : Work) (other : ℕ) (second : Work) : Type 0 where
+  pub first_one : tree.get node.gateway.works req ≡ Some work
+  pub second_one : tree.get node.gateway.works other ≡ Some second
+  pub apart : req ≢ other
+
+-- two requests of one session
+pub record AreOfOneSession (node : Node) (session : ℕ) (req : ℕ) (request : Request) (other : ℕ) (second : Request) : Type 0 where
+  pub first_one : tree.get node.requests req ≡ Some request
+  pub second_one : tree.get node.requests other ≡ Some second
+  pub first_of : request.session ≡ session
+  pub second_of : second.session ≡ session
+
+-- two reads or writes of one session that have begun, as they stand in its queue
+pub record HaveBegun (node : Node) (session : Session) (number : ℕ) (one two : Queued) : Type 0 where
+  pub place : ℕ
+  pub other : ℕ
+  pub there : slice_get session.queue place ≡ Some one
+  pub there_too : slice_get session.queue other ≡ Some two
+  pub apart : one.req ≢ two.req
+  pub first : Driver
+  pub second : Driver
+  pub driving : tree.get node.requests one.req ≡ Some (record { session = number; course = Driving first })
+  pub driving_too : tree.get node.requests two.req ≡ Some (record { session = number; course = Driving second })
+
+-- a node's open works are on different objects, but for reads; a session has one open on its inode; and what has begun of a
+-- session meets on no index
+pub record WorksAreApart (seats : Seats) : Type 0 where
+  pub objects : EachUp seats (λ n node. (req other : ℕ) (work second : Work) → AreOpen node req work other second
+      → oid_of work.work ≡ oid_of second.work → (is_making work.work ≡ false) × (is_making second.work ≡ false))
+  pub inodes : EachUp seats (λ n node. (session req other : ℕ) (work second : Work) (request another : Request) → AreOpen node req work other second
+      → AreOfOneSession node session req request other another → is_on_inode work.work ≡ true → is_on_inode second.work ≡ false)
+  pub indexes : EachUp seats (λ n node. (number : ℕ) (session : Session) (one two : Queued) → tree.get node.sessions number ≡ Some session
+      → HaveBegun node session number one two → AreApart one two)
+
+-- a session holds its disk by the whole log, and its node has read that
+pub record HoldsDisk (log : List Entry) (n session vid : ℕ) (node : Node) : Type 0 where
+  pub holder : holder_of (happened log) vid ≡ Some (session_of n session)
+  pub read : granted_in log vid ≤ node.peer.epoch
+
+-- a session's request waits for an entry by which the disk is let go, and that is in the log already
+pub record IsLettingGo (node : Node) (session : ℕ) : Type 0 where
+  pub req : ℕ
+  pub request : Request
+  pub ask : VdiAsk
+  pub op : Op
+  pub entry : Entry
+  pub there : tree.get node.requests req ≡ Some request
+  pub own : request.session ≡ session
+  pub command : request.course ≡ Commanding ask op
+  pub wanted : entry_wanted op ≡ Some entry
+  pub lets : lets_go entry ≡ true
+  pub put : list_any (is_same_entry entry) node.outbox ≡ false
+
+-- a session that has a working disk open holds it, or is letting it go
+pub record OpenDisksAreHeld (log : List Entry) (seats : Seats) : Type 0 where
+  pub each : EachUp seats (λ n node. (number : ℕ) (session : Session) (disk : Disk) → tree.get node.sessions number ≡ Some session
+      → session.disk ≡ Some disk → disk.snapshot ≡ false → HoldsDisk log n number disk.inode.vid node ⊎ IsLettingGo node number)
+
+-- no attempt on an object is of a later epoch than an open read, nor of the same while it has letters
+pub record ReadsAreLast (seats : Seats) (wire : Wire) (attempts : List Attempt) : Type 0 where
+  pub epochs : EachUp seats (λ n node. (req : ℕ) (work : Work) (current : gateways.Attempt) → tree.get node.gateway.works req ≡ Some work
+      → is_making work.work ≡ false → work.stage ≡ Open current
+      → EachAttempt attempts (λ j attempt. object_of attempt ≡ oid_of work.work → attempt.epoch ≤ current.epoch.0))
+  pub flying : EachUp seats (λ n node. (req : ℕ) (work : Work) (current : gateways.Attempt) → tree.get node.gateway.works req ≡ Some work
+      → is_making work.work ≡ false → work.stage ≡ Open current
+      → EachAttempt attempts (λ j attempt. object_of attempt ≡ oid_of work.work → (place : ℕ) (target : NodeId)
+      → HasLetter wire attempt place target → attempt.epoch < current.epoch.0))

@@ -1,0 +1,132 @@
+-- Inodes and tables: what the entries of inodes stand for, and that a session's table is what its inode has.
+use Rattle.std.specs.Prelude.{◌≡◌, ◌≢◌, ◌⊎◌, ℕ, ◌+◌, ◌*◌, ◌^◌, ◌<◌, ◌==◌, ◌&&◌, Bool, true, false, List, [], ◌∷◌, ◌++◌, map, fold, slice_get, slice_index, Option, Some, None, if◌then◌else◌}
+use Rattle.std.specs.Option.{option_map}
+use Rattle.std.specs.List.{list_any, list_all}
+use Rattle.std.specs.FinMap as tree
+use Rattle.object_id.specs.declared.entry.Entry.{Entry}
+use Rattle.object_id.specs.declared.entry.VdiSpec.{VdiSpec}
+use Rattle.object_id.specs.Oid.{inode_number, object_number}
+use Rattle.object_id.specs.Spec.{objects_of}
+use Rattle.object_id.specs.Fields.{u32_at}
+use Rattle.inode.specs.declared.layout.TheConstants.{INODE_HEADER_BYTES}
+use Rattle.vdi_directory.specs.declared.effect.Effect.{Effect}
+use Rattle.vdi_directory.specs.States.{State, Unused, Claimed, Working, Shot, Deleted, Freed, state_of, is_live_state}
+use Rattle.vdi_directory.specs.Dead.{is_above, is_dead}
+use Rattle.vdi_directory.specs.Decisions.{happened}
+use Rattle.peer_proto.specs.declared.work.ObjWork.{ObjWork}
+use Rattle.peer_proto.specs.declared.work.ObjWork.TheVariants.{Create, Write, Read}
+use Rattle.gateway.specs.State.{Work}
+use Rattle.guest_driver.specs.declared.disk.Disk.{Disk}
+use Rattle.guest_driver.specs.InodeLine.{Waiting}
+use Rattle.sheep_node.specs.State.{Node, Session}
+use Rattle.overlap_law.specs.Attempts.{Attempt, object_of, attempts_on}
+use Rattle.overlap_law.specs.Words.{Seats, is_made, is_mute, covers, bytes_by}
+use Rattle.overlap_law.specs.Each.{EachUp, EachAttempt, spec_in}
+use Rattle.overlap_law.specs.Grants.{published_in}
+use Rattle.overlap_law.specs.Fates.{IsCreated}
+
+-- the unit of an inode that is the table's entry of an index
+abbrev pub entry_unit : ℕ → ℕ
+entry_unit index = INODE_HEADER_BYTES + index
+
+-- the entry of an index that an attempt on an inode has
+abbrev pub entry_by : ℕ → Attempt → ℕ
+entry_by index attempt = u32_at 0 (bytes_by (entry_unit index) attempt.work)
+
+-- attempts that a unit may be read as: a made one that covers it alone, and with it each later one that isn't mute; nothing before
+-- the first made one
+abbrev pub candidates_after : ℕ → Option (List Attempt) → Attempt → Option (List Attempt)
+candidates_after unit now attempt =
+    if covers unit attempt then
+    (if is_made attempt then Some (attempt ∷ []) else
+    if is_mute attempt then now else option_map (λ before. before ++ attempt ∷ []) now)
+    else now
+
+abbrev pub candidates_of : ℕ → List Attempt → Option (List Attempt)
+candidates_of unit attempts = fold (candidates_after unit) None attempts
+
+-- the entries that may be read at an index of a disk's inode: that of its last made attempt there, and of the later ones that
+-- aren't mute; none where none is made
+unfoldable pub candidates : List Attempt → ℕ → ℕ → Option (List ℕ)
+candidates attempts vid index =
+    option_map (map (entry_by index)) (candidates_of (entry_unit index) (attempts_on (inode_number vid) attempts))
+
+-- each of these entries is one of those
+abbrev pub AreAmong : List ℕ → Option (List ℕ) → Type 0
+AreAmong those None = ⊥
+AreAmong those (Some entries) = list_all (λ entry. list_any (λ other. other == entry) those) entries ≡ true
+
+-- an entry stands for nothing, or for an object of the disk or of one in its chain that has a made create
+pub record StandsFor (effects : List Effect) (attempts : List Attempt) (vid index epoch entry : ℕ) : Type 0 where
+  pub chain : (entry ≡ vid) ⊎ (is_above effects entry vid ≡ true)
+  pub created : IsCreated attempts (object_number entry index) epoch
+
+-- the entries of an attempt on an inode stand for objects that were made by then
+pub record EntriesAreMade (effects : List Effect) (live : ℕ → Bool) (good_id : ℕ → Bool) (attempts : List Attempt) : Type 0 where
+  pub each : EachAttempt attempts (λ j attempt. (vid index : ℕ) → object_of attempt ≡ inode_number vid
+      → live (inode_number vid) ≡ true → good_id vid ≡ true → index < 2 ^ 20
+      → covers (entry_unit index) attempt ≡ true → entry_by index attempt ≢ 0
+      → StandsFor effects attempts vid index attempt.epoch (entry_by index attempt))
+
+-- the inode of an id that is published was made by then
+pub record PublishedInodesAreMade (log : List Entry) (live : ℕ → Bool) (good_id : ℕ → Bool) (attempts : List Attempt) : Type 0 where
+  pub each : (vid : ℕ) → is_live_state (state_of (happened log) vid) ≡ true → live (inode_number vid) ≡ true → good_id vid ≡ true
+      → IsCreated attempts (inode_number vid) (published_in log vid)
+
+-- whether a work writes the entry of an index into a disk's inode
+abbrev pub writes_entry : ℕ → ℕ → ObjWork → Bool
+writes_entry vid index (Create oid policy size offset bytes) = false
+writes_entry vid index (Write oid policy offset bytes) = oid == inode_number vid && offset == INODE_HEADER_BYTES + 4 * index
+writes_entry vid index (Read oid policy offset size) = false
+
+-- the entry write of an index is open
+pub record IsEntryOpen (node : Node) (vid index : ℕ) : Type 0 where
+  pub req : ℕ
+  pub work : Work
+  pub there : tree.get node.gateway.works req ≡ Some work
+  pub writes : writes_entry vid index work.work ≡ true
+
+-- or it waits in the session's line
+pub record IsEntryWaiting (session : Session) (vid index : ℕ) : Type 0 where
+  pub place : ℕ
+  pub waiting : Waiting
+  pub there : slice_get session.line.waiting place ≡ Some waiting
+  pub writes : writes_entry vid index waiting.work ≡ true
+
+-- the inode has the table's entry alone; or while the entry is being written that or the disk's own
+pub record IsOfTable (attempts : List Attempt) (node : Node) (session : Session) (disk : Disk) (index : ℕ) : Type 0 where
+  pub kept : AreAmong (slice_index disk.inode.table index ∷ disk.inode.vid ∷ []) (candidates attempts disk.inode.vid index)
+  pub alone : AreAmong (slice_index disk.inode.table index ∷ []) (candidates attempts disk.inode.vid index)
+      ⊎ ((disk.snapshot ≡ false) × (IsEntryOpen node disk.inode.vid index ⊎ IsEntryWaiting session disk.inode.vid index))
+
+-- a session's table is what the inode of its disk has
+pub record TablesAreTheInodes (effects : List Effect) (good_id : ℕ → Bool) (seats : Seats) (attempts : List Attempt) : Type 0 where
+  pub each : EachUp seats (λ n node. (number index : ℕ) (session : Session) (disk : Disk) → tree.get node.sessions number ≡ Some session
+      → session.disk ≡ Some disk → good_id disk.inode.vid ≡ true → is_dead effects disk.inode.vid ≡ false
+      → index < objects_of disk.inode.spec → IsOfTable attempts node session disk index)
+
+-- there is exactly one entry, told once or more
+abbrev pub IsOneEntry : Option (List ℕ) → Type 0
+IsOneEntry None = ⊥
+IsOneEntry (Some entries) = (entry : ℕ) × AreAmong (entry ∷ []) (Some entries)
+
+-- whether an id is a snapshot
+abbrev pub is_shot : State → Bool
+is_shot Unused = false
+is_shot (Claimed by) = false
+is_shot Working = false
+is_shot (Shot tag) = true
+is_shot Deleted = false
+is_shot Freed = false
+
+-- a snapshot's inode has one entry at each index
+pub record SnapshotsAreFrozen (effects : List Effect) (live : ℕ → Bool) (good_id : ℕ → Bool) (attempts : List Attempt) : Type 0 where
+  pub each : (vid index : ℕ) (spec : VdiSpec) → is_shot (state_of effects vid) ≡ true → live (inode_number vid) ≡ true → good_id vid ≡ true
+      → spec_in effects vid ≡ Some spec → index < objects_of spec → IsOneEntry (candidates attempts vid index)
+
+-- each entry of a session's table stands for an object that was made by the epoch of its node
+pub record TablesAreMade (effects : List Effect) (good_id : ℕ → Bool) (seats : Seats) (attempts : List Attempt) : Type 0 where
+  pub each : EachUp seats (λ n node. (number index : ℕ) (session : Session) (disk : Disk) → tree.get node.sessions number ≡ Some session
+      → session.disk ≡ Some disk → good_id disk.inode.vid ≡ true → is_dead effects disk.inode.vid ≡ false
+      → index < objects_of disk.inode.spec → slice_index disk.inode.table index ≢ 0
+      → IsCreated attempts (object_number (slice_index disk.inode.table index) index) node.peer.epoch)

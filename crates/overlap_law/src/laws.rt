@@ -1,0 +1,91 @@
+//! Laws of the definitions, for the proofs of the layers above: each is the contract of a function that does nothing.
+ghost use Rattle.std.specs.Prelude.{◌≡◌, ◌≢◌, ℕ, ◌+◌, ◌-◌, true, false, List, [], length, slice_get, Some};
+ghost use Rattle.std.specs.List.{list_all, AllByRecursion};
+ghost use Rattle.std.specs.FinMap.{get};
+ghost use Rattle.std.specs.Option.{option_map};
+ghost use Rattle.object_id.specs.declared.node.NodeId.{NodeId};
+ghost use Rattle.object_id.specs.declared.oid.Kind.{Kind};
+ghost use Rattle.object_list.specs.Gathered.{has_node};
+ghost use Rattle.cluster_script.specs.declared.statement.Statement.{Statement};
+ghost use Rattle.sheep_node.specs.declared.event.Event.{Event};
+ghost use Rattle.sheep_node.specs.Step.{is_due};
+ghost use Rattle.sheep_world.specs.Run.{run};
+ghost use Rattle.sheep_world.specs.World.{Seat};
+ghost use Rattle.overlap_law.specs.Attempts.{Fate, Flying, Served, Attempt, has_message, marked_in};
+ghost use Rattle.overlap_law.specs.Words.{Seats, is_beyond, is_made, is_doomed, has_served, unit_start, unit_end, covers, base_of, own_base_of};
+ghost use Rattle.overlap_law.specs.Headline.{OtherEpochsChangeNothing};
+ghost use Rattle.overlap_law.specs.Past.{Moment, run_with_past, without_past};
+
+/// A made attempt isn't doomed, and whatever is told of a message leaves it made.
+pub fn what_is_made_stays_made()
+    ensures apart { (seats : Seats) (attempt : Attempt) → is_made attempt ≡ true → is_doomed seats attempt ≡ false }
+    ensures stays { (told : Fate) (sender : NodeId) (number : ℕ) (attempt : Attempt) → is_made attempt ≡ true
+        → is_made (marked_in told sender number attempt) ≡ true }
+{}
+
+/// A doomed attempt stays doomed: when nodes go on, and when a message of it is lost, is refused, or is served by a
+/// target that isn't beyond its epoch.
+pub fn what_is_doomed_stays_doomed()
+    ensures goes_on { (old new : Seats) (attempt : Attempt)
+        → ((node : NodeId) → is_beyond old attempt.epoch node ≡ true → is_beyond new attempt.epoch node ≡ true)
+        → is_doomed old attempt ≡ true → is_doomed new attempt ≡ true }
+    ensures told { (seats : Seats) (told : Fate) (sender : NodeId) (number : ℕ) (attempt : Attempt) → told ≢ Flying
+        → ((target : NodeId) → slice_get attempt.targets (number - attempt.first) ≡ Some target → told ≡ Served
+        → is_beyond seats attempt.epoch target ≡ false)
+        → is_doomed seats attempt ≡ true → is_doomed seats (marked_in told sender number attempt) ≡ true }
+{}
+
+/// Once all targets of an attempt are beyond its epoch it is made or doomed, and a made one was served by each of them.
+pub fn what_becomes_of_an_attempt()
+    ensures doomed { (seats : Seats) (attempt : Attempt) → length attempt.fates ≡ length attempt.targets
+        → list_all (is_beyond seats attempt.epoch) attempt.targets ≡ true → is_made attempt ≡ false
+        → is_doomed seats attempt ≡ true }
+    ensures served { (node : NodeId) (attempt : Attempt) → length attempt.fates ≡ length attempt.targets
+        → is_made attempt ≡ true → has_node node attempt.targets ≡ true → has_served node attempt ≡ true }
+{}
+
+/// In every run each attempt has a fate for each of its targets.
+pub fn each_target_has_its_fate()
+    ensures { (script : List Statement) (events : List Event) (moment : Moment) → run_with_past script events ≡ Some moment
+        → AllByRecursion (λ (attempt : Attempt). length attempt.fates ≡ length attempt.targets) moment.past.attempts }
+{}
+
+/// A base is made, and a unit's own base covers it.
+pub fn a_base_is_made()
+    ensures made { (attempts : List Attempt) (base : Attempt) → base_of attempts ≡ Some base → is_made base ≡ true }
+    ensures covers { (unit : ℕ) (attempts : List Attempt) (own : Attempt) → own_base_of unit attempts ≡ Some own
+        → covers unit own ≡ true }
+{}
+
+/// The units of an object follow each other without a gap.
+pub fn units_follow_each_other()
+    ensures { (kind : Kind) (unit : ℕ) → unit_end kind unit ≡ unit_start kind (unit + 1) }
+{}
+
+/// What is told of a message says nothing of the attempts that it isn't of.
+pub fn other_attempts_hear_nothing()
+    ensures { (told : Fate) (sender : NodeId) (number : ℕ) (attempt : Attempt) → has_message sender number attempt ≡ false
+        → marked_in told sender number attempt ≡ attempt }
+{}
+
+/// The past stands beside a run and changes nothing of it: without it the same events lead to the same world, with the
+/// same history.
+pub fn the_past_follows_the_run()
+    ensures { (script : List Statement) (events : List Event)
+        → option_map without_past (run_with_past script events) ≡ run script events }
+{}
+
+/// The part of the headline on peers: in every run a peer's request of another epoch is refused with the node's own, and
+/// leaves the node as it was. For between events no node has a `Recovered` due, which such a step might put.
+pub fn peers_of_another_epoch_change_nothing()
+    ensures nothing { (script : List Statement) (events : List Event) (moment : Moment)
+        → run_with_past script events ≡ Some moment → OtherEpochsChangeNothing script moment.world }
+    ensures rested { (script : List Statement) (events : List Event) (moment : Moment) (n : ℕ) (seat : Seat)
+        → run_with_past script events ≡ Some moment → get moment.world.seats n ≡ Some seat → is_due seat.node ≡ false }
+{}
+
+/// Where every object was borne at every state, no read is left out.
+pub fn no_read_of_what_was_borne_is_left_out()
+    ensures { (script : List Statement) (events : List Event) (moment : Moment) → run_with_past script events ≡ Some moment
+        → moment.past.unborne ≡ [] → moment.past.borne_history ≡ moment.past.history }
+{}

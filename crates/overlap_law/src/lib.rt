@@ -1,0 +1,24 @@
+//! What the overlap of epochs keeps: while nodes are lost, leave, join and come back, and recoveries run, the replies of
+//! every run stay one legal history.
+//!
+//! The crate stands on `sheep_world` and on the crates below it. It has definitions, and laws of them. Beside the world stands
+//! the past of a run (`specs/Past.antt`): all attempts to create or write, with the fate of each message
+//! (`specs/Attempts.antt`), and what else later words need. Over it stand the words made, mute, doomed, covered and quiet
+//! (`specs/Words.antt`), live holders (`specs/Holders.antt`), the six facts on which the overlap rests
+//! (`specs/Contents.antt`, `specs/Facts.antt`), and the headline (`specs/Headline.antt`). The facts and the headline
+//! aren't proved here, but for its part on peers of another epoch; the laws of `laws.rt` say what the words mean.
+#![tactic(auto)]
+
+mod laws;
+mod overlap;
+
+pub use laws::{
+    a_base_is_made, each_target_has_its_fate, no_read_of_what_was_borne_is_left_out,
+    other_attempts_hear_nothing, peers_of_another_epoch_change_nothing, the_past_follows_the_run,
+    units_follow_each_other, what_becomes_of_an_attempt, what_is_doomed_stays_doomed,
+    what_is_made_stays_made,
+};
+pub use overlap::{
+    the_messages_of_the_gone_are_fenced, the_overlap_gives_complete_lists,
+    the_overlap_gives_legal_replies, the_settled_have_recovered,
+};

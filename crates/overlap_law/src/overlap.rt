@@ -1,0 +1,42 @@
+//! What the invariant of the overlap gives at once.
+ghost use Rattle.std.specs.Prelude.{◌≡◌, ℕ, ◌<◌, true, List, Some, Ok};
+ghost use Rattle.std.specs.FinMap as tree;
+ghost use Rattle.object_id.specs.declared.node.NodeId.{NodeId};
+ghost use Rattle.object_id.specs.declared.entry.Entry.{Entry};
+ghost use Rattle.peer_proto.specs.declared.ask.PeerReq.{PeerReq};
+ghost use Rattle.peer_proto.specs.Ask.{ask_in};
+ghost use Rattle.sheep_world.specs.declared.name.MessageName.{MessageName};
+ghost use Rattle.sheep_world.specs.World.{Request};
+ghost use Rattle.overlap_law.specs.Reached.{Seats};
+ghost use Rattle.overlap_law.specs.Past.{Moment};
+ghost use Rattle.overlap_law.specs.Facts.{CompleteLists, EachGood};
+ghost use Rattle.overlap_law.specs.Headline.{IsLegalWhereBorne};
+ghost use Rattle.overlap_law.specs.Each.{EachSeat};
+ghost use Rattle.overlap_law.specs.Grants.{leave_of};
+ghost use Rattle.overlap_law.specs.Letters.{Wire};
+ghost use Rattle.overlap_law.specs.Flight.{TheGoneAreFenced};
+ghost use Rattle.overlap_law.specs.Terms.{TheSettledHaveRecovered};
+ghost use Rattle.overlap_law.specs.Overlap.{Overlap};
+
+/// The replies are legal in each moment of which the invariant holds.
+pub fn the_overlap_gives_legal_replies()
+    ensures { (moment : Moment) → Overlap moment → IsLegalWhereBorne moment.past }
+{}
+
+/// The lists of recoveries are complete there, for each object that is good.
+pub fn the_overlap_gives_complete_lists()
+    ensures { (moment : Moment) → Overlap moment → EachGood moment.world moment.past (CompleteLists moment.past.listed moment.world.seats) }
+{}
+
+/// The messages of a lost gateway are of epochs below that of its `Leave`, as the facts say it.
+pub fn the_messages_of_the_gone_are_fenced()
+    ensures { (log : List Entry) (seats : Seats) (wire : Wire) → TheGoneAreFenced log seats wire
+        → EachSeat seats (λ n seat. (epoch : ℕ) (name : MessageName) (to : NodeId) (bytes : List ℕ) (request : PeerReq)
+        → seat.is_lost ≡ true → leave_of log n seat.life ≡ Some epoch → name.sender.0 ≡ n → tree.get wire name ≡ Some (Request to bytes)
+        → ask_in bytes ≡ Ok request → request.epoch.0 < epoch) }
+{}
+
+/// Each member of the settled epoch has recovered in it, by what settled means: no event has anything to show there.
+pub fn the_settled_have_recovered()
+    ensures { (log : List Entry) (seats : Seats) → TheSettledHaveRecovered log seats }
+{}
