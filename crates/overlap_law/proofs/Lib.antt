@@ -8,3 +8,4 @@ pub mod RestLemmas
 pub mod EpochLemmas
 pub mod WorkedCases
 pub mod OverlapLemmas
+pub mod HolderLemmas

@@ -58,23 +58,28 @@ filter-passed passes (attempt ∷ attempts) k found e = passed_if
     passes attempt attempts k found (passes attempt) refl (λ (i : ℕ) (there : slice_get (filter passes attempts) i ≡ Some found).
     filter-passed passes attempts i found there) e
 
--- a base is among the attempts, on the object, and made
-pub base-there : (oid : ℕ) (attempts : List Attempt) (base : Attempt) → base_of (attempts_on oid attempts) ≡ Some base
-    → IsMadeBy attempts oid base.epoch
-base-there oid attempts base h = ⊎_elim
+-- a base stands at a place among the attempts, on the object, and is made
+pub record IsBaseAt (attempts : List Attempt) (oid j : ℕ) (base : Attempt) : Type 0 where
+  pub there : slice_get attempts j ≡ Some base
+  pub object : object_of base ≡ oid
+  pub made : is_made base ≡ true
+
+pub base-at : (oid : ℕ) (attempts : List Attempt) (base : Attempt) → base_of (attempts_on oid attempts) ≡ Some base
+    → (j : ℕ) × IsBaseAt attempts oid j base
+base-at oid attempts base h = ⊎_elim
     (λ (none : None ≡ Some base). absurd (cc (none)))
     (λ (r : (k : ℕ) × (slice_get (filter is_made (attempts_on oid attempts)) k ≡ Some base)).
-    let made = filter-passed is_made (attempts_on oid attempts) r.0 base r.1 in
-    let own = filter-passed (λ (attempt : Attempt). object_of attempt == oid) attempts made.place base made.there in
-    record {
-      place = own.place;
-      attempt = base;
-      there = own.there;
-      object = eqb-true (object_of base) oid own.passed;
-      made = made.passed;
-      before = omega arith;
-    })
+        let made = filter-passed is_made (attempts_on oid attempts) r.0 base r.1 in
+        let own = filter-passed (λ (attempt : Attempt). object_of attempt == oid) attempts made.place base made.there in
+        (own.place, record { there = own.there; object = eqb-true (object_of base) oid own.passed; made = made.passed }))
     (last-there None (filter is_made (attempts_on oid attempts)) base h)
+
+-- so it is made by its own epoch
+base-there : (oid : ℕ) (attempts : List Attempt) (base : Attempt) → base_of (attempts_on oid attempts) ≡ Some base
+    → IsMadeBy attempts oid base.epoch
+base-there oid attempts base h =
+    let at = base-at oid attempts base h in
+    record { place = at.0; attempt = base; there = at.1.there; object = at.1.object; made = at.1.made; before = omega arith }
 
 pub gives-legal : (moment : Moment) → Overlap moment → IsLegalWhereBorne moment.past
 gives-legal moment o = o.legal

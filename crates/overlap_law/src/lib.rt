@@ -20,5 +20,5 @@ pub use laws::{
 };
 pub use overlap::{
     the_messages_of_the_gone_are_fenced, the_overlap_gives_complete_lists,
-    the_overlap_gives_legal_replies, the_settled_have_recovered,
+    the_overlap_gives_holders, the_overlap_gives_legal_replies, the_settled_have_recovered,
 };
