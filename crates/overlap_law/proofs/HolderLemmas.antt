@@ -1,24 +1,20 @@
 -- That the invariant gives the holders of a base: at its own epoch by what was served, at a later settled one by what was recovered.
-use Rattle.std.proofs.Common.{◌≡◌, ◌⊎◌, inl, inr, ⊎_elim, ℕ, zero, suc, ◌<◌, ◌≤◌, ◌==◌, ◌||◌, ◌&&◌, not, max, Bool, true, false, List, [], ◌∷◌, length, Option, Some, None, refl, sym, ap, subst, ◌∙◌, slice_get, slice_index_or, arith}
-use Rattle.std.specs.List.{list_any, Any, Contains}
+use Rattle.std.proofs.Common.{◌≡◌, ◌⊎◌, inl, inr, ⊎_elim, ℕ, zero, suc, ◌<◌, ◌≤◌, ◌==◌, not, max, Bool, true, false, List, [], ◌∷◌, length, Option, Some, None, refl, sym, ap, subst, ◌∙◌, slice_get, slice_index_or, arith}
 use Rattle.std.specs.Option.{option_map_or}
 use Rattle.std.specs.FinMap as tree
 use Rattle.std.proofs.lemmas.Bool.{eqb-true, eq-eqb, or_left, or_right, and_parts, cases_lt}
 use Rattle.std.proofs.lemmas.List.Folds.{Any-from_list_any, list_any-from_Any}
 use Rattle.object_id.specs.declared.node.NodeId.{NodeId}
 use Rattle.object_id.specs.declared.entry.Entry.{Entry}
-use Rattle.object_id.specs.declared.entry.Member.{Member}
 use Rattle.object_id.specs.declared.policy.Policy.{Policy}
 use Rattle.epoch_log.specs.Members.{is_node, is_member}
 use Rattle.epoch_log.specs.Epochs.{members_in, settled_of}
-use Rattle.hash_ring.specs.Placement.{targets_of}
 use Rattle.hash_ring.proofs.TargetLaws.{targets_are_members}
 use Rattle.object_list.specs.Gathered as lists
 use Rattle.peer_proto.specs.Work.{policy_of}
 use Rattle.sheep_world.specs.World.{Seat}
-use Rattle.overlap_law.specs.Attempts.{Attempt, object_of, attempts_on}
-use Rattle.overlap_law.specs.Reached.{Seats, has_finished}
-use Rattle.overlap_law.specs.Words.{is_made, has_served, base_of}
+use Rattle.overlap_law.specs.Attempts.{Attempt, object_of}
+use Rattle.overlap_law.specs.Words.{is_made}
 use Rattle.overlap_law.specs.Holders.{targets_by, is_live, is_good, is_among}
 use Rattle.overlap_law.specs.Past.{Moment, counts}
 use Rattle.overlap_law.specs.Facts.{HoldersOfTheBase, EachGood}
@@ -41,9 +37,14 @@ unfolding targets_by
 target-member log epoch oid policy node there =
     let found = Any-from_list_any (lists.is_node node) _ there in
     let member = targets_are_members (members_in log epoch) _ _ found.1 (found.0, found.2, found.3) in
-    list_any-from_Any (is_node node.0) (members_in log epoch)
-    (member.0, member.1, member.2, member.3, eq-eqb member.1.node.0 node.0
-        (ap (λ (other : NodeId). other.0) member.4 ∙ eqb-true found.1.0 node.0 found.4))
+    list_any-from_Any (is_node node.0) (members_in log epoch) (
+      member.0,
+      member.1,
+      member.2,
+      member.3,
+      eq-eqb member.1.node.0 node.0
+          (ap (λ (other : NodeId). other.0) member.4 ∙ eqb-true found.1.0 node.0 found.4),
+    )
 
 -- a node that counts is there
 seat-there : (test : Seat → Bool) (found : Option Seat) → option_map_or test found false ≡ true → (seat : Seat) × (found ≡ Some seat)
@@ -74,7 +75,7 @@ at-own moment o base j there made later target seat at good placed =
     (λ (h : has_row_at seat.node.peer.epoch seat.node.peer.rows (object_of base) base.epoch ≡ true). h)
     (λ (below : base.epoch < seat.node.peer.settled). absurd (omega arith))
     (o.rows.stays.each j base there target.0 seat at (good-live moment.world.log moment.past.attempts moment.past.unborne (object_of base) good)
-        (made-served target base whole made own))
+    (made-served target base whole made own))
 
 -- at a later settled epoch too
 at-settled : (moment : Moment) → Overlap moment → (base : Attempt) (j : ℕ) → slice_get moment.past.attempts j ≡ Some base → is_made base ≡ true
@@ -103,11 +104,11 @@ at-greater : (moment : Moment) → Overlap moment → (base : Attempt) (j : ℕ)
     → has_row_at seat.node.peer.epoch seat.node.peer.rows (object_of base) level ≡ true
 at-greater moment o base j there made level (inl own) target seat at good = subst
     (λ (l : ℕ). lists.has_node target (targets_by moment.world.log l (object_of base) (policy_of base.work)) ≡ true
-        → has_row_at seat.node.peer.epoch seat.node.peer.rows (object_of base) l ≡ true)
+    → has_row_at seat.node.peer.epoch seat.node.peer.rows (object_of base) l ≡ true)
     (sym own.0) (at-own moment o base j there made own.1 target seat at good)
 at-greater moment o base j there made level (inr settled) target seat at good = subst
     (λ (l : ℕ). lists.has_node target (targets_by moment.world.log l (object_of base) (policy_of base.work)) ≡ true
-        → has_row_at seat.node.peer.epoch seat.node.peer.rows (object_of base) l ≡ true)
+    → has_row_at seat.node.peer.epoch seat.node.peer.rows (object_of base) l ≡ true)
     (sym settled.0) (at-settled moment o base j there made settled.1 target seat at good)
 
 greater : (own settled : ℕ) → ((max own settled ≡ own) × (settled ≤ own)) ⊎ ((max own settled ≡ settled) × (own < settled))
@@ -124,8 +125,8 @@ at-object : (moment : Moment) → Overlap moment → (base : Attempt) (j : ℕ) 
     → has_row_at seat.node.peer.epoch seat.node.peer.rows oid (max base.epoch (settled_of moment.world.log)) ≡ true
 at-object moment o base j there made oid same target seat at = subst
     (λ (q : ℕ). is_good moment.world.log moment.past.attempts moment.past.unborne q ≡ true
-        → lists.has_node target (targets_by moment.world.log (max base.epoch (settled_of moment.world.log)) q (policy_of base.work)) ≡ true
-        → has_row_at seat.node.peer.epoch seat.node.peer.rows q (max base.epoch (settled_of moment.world.log)) ≡ true)
+    → lists.has_node target (targets_by moment.world.log (max base.epoch (settled_of moment.world.log)) q (policy_of base.work)) ≡ true
+    → has_row_at seat.node.peer.epoch seat.node.peer.rows q (max base.epoch (settled_of moment.world.log)) ≡ true)
     same
     (at-greater moment o base j there made (max base.epoch (settled_of moment.world.log)) (greater base.epoch (settled_of moment.world.log)) target seat at)
 

@@ -9,3 +9,4 @@ pub mod EpochLemmas
 pub mod WorkedCases
 pub mod OverlapLemmas
 pub mod HolderLemmas
+pub mod StandLemmas

@@ -11,6 +11,7 @@ ghost use Rattle.overlap_law.specs.Reached.{Seats};
 ghost use Rattle.epoch_log.specs.Epochs.{settled_of};
 ghost use Rattle.overlap_law.specs.Holders.{targets_by};
 ghost use Rattle.overlap_law.specs.Past.{Moment, counts};
+ghost use Rattle.overlap_law.specs.Contents.{AttemptsStand};
 ghost use Rattle.overlap_law.specs.Facts.{CompleteLists, HoldersOfTheBase, EachGood};
 ghost use Rattle.overlap_law.specs.Headline.{IsLegalWhereBorne};
 ghost use Rattle.overlap_law.specs.Each.{EachSeat};
@@ -28,6 +29,11 @@ pub fn the_overlap_gives_legal_replies()
 /// The lists of recoveries are complete there, for each object that is good.
 pub fn the_overlap_gives_complete_lists()
     ensures { (moment : Moment) → Overlap moment → EachGood moment.world moment.past (CompleteLists moment.past.listed moment.world.seats) }
+{}
+
+/// An attempt that isn't made is doomed, or each row that reaches beyond its epoch has it, for each object that is good.
+pub fn the_overlap_makes_attempts_stand()
+    ensures { (moment : Moment) → Overlap moment → EachGood moment.world moment.past (AttemptsStand moment.world.seats) }
 {}
 
 /// Each target of the base's epoch, or of a later settled one, that counts for it has a row that holds it, for each object
