@@ -10,3 +10,4 @@ pub mod WorkedCases
 pub mod OverlapLemmas
 pub mod HolderLemmas
 pub mod StandLemmas
+pub mod GrantCases
