@@ -8,3 +8,6 @@ pub mod RestLemmas
 pub mod EpochLemmas
 pub mod WorkedCases
 pub mod OverlapLemmas
+pub mod HolderLemmas
+pub mod StandLemmas
+pub mod GrantCases

@@ -37,10 +37,10 @@ last-there first (attempt ∷ attempts) found h = ⊎_elim
     (last-there (Some attempt) attempts found h)
 
 -- what a test lets through stands in the list, and passes
-record IsPassed (passes : Attempt → Bool) (attempts : List Attempt) (found : Attempt) : Type 0 where
-  place : ℕ
-  there : slice_get attempts place ≡ Some found
-  passed : passes found ≡ true
+pub record IsPassed (passes : Attempt → Bool) (attempts : List Attempt) (found : Attempt) : Type 0 where
+  pub place : ℕ
+  pub there : slice_get attempts place ≡ Some found
+  pub passed : passes found ≡ true
 
 passed_if : (passes : Attempt → Bool) (attempt : Attempt) (attempts : List Attempt) (k : ℕ) (found : Attempt) (b : Bool) → passes attempt ≡ b
     → ((i : ℕ) → slice_get (filter passes attempts) i ≡ Some found → IsPassed passes attempts found)
@@ -51,30 +51,35 @@ passed_if passes attempt attempts (suc k) found true is later e =
 passed_if passes attempt attempts k found false is later e =
     let rest = later k e in record { place = suc rest.place; there = rest.there; passed = rest.passed }
 
-filter-passed : (passes : Attempt → Bool) (attempts : List Attempt) (k : ℕ) (found : Attempt) → slice_get (filter passes attempts) k ≡ Some found
+pub filter-passed : (passes : Attempt → Bool) (attempts : List Attempt) (k : ℕ) (found : Attempt) → slice_get (filter passes attempts) k ≡ Some found
     → IsPassed passes attempts found
 filter-passed passes [] k found e = absurd (cc)
 filter-passed passes (attempt ∷ attempts) k found e = passed_if
     passes attempt attempts k found (passes attempt) refl (λ (i : ℕ) (there : slice_get (filter passes attempts) i ≡ Some found).
     filter-passed passes attempts i found there) e
 
--- a base is among the attempts, on the object, and made
-pub base-there : (oid : ℕ) (attempts : List Attempt) (base : Attempt) → base_of (attempts_on oid attempts) ≡ Some base
-    → IsMadeBy attempts oid base.epoch
-base-there oid attempts base h = ⊎_elim
+-- a base stands at a place among the attempts, on the object, and is made
+pub record IsBaseAt (attempts : List Attempt) (oid j : ℕ) (base : Attempt) : Type 0 where
+  pub there : slice_get attempts j ≡ Some base
+  pub object : object_of base ≡ oid
+  pub made : is_made base ≡ true
+
+pub base-at : (oid : ℕ) (attempts : List Attempt) (base : Attempt) → base_of (attempts_on oid attempts) ≡ Some base
+    → (j : ℕ) × IsBaseAt attempts oid j base
+base-at oid attempts base h = ⊎_elim
     (λ (none : None ≡ Some base). absurd (cc (none)))
     (λ (r : (k : ℕ) × (slice_get (filter is_made (attempts_on oid attempts)) k ≡ Some base)).
     let made = filter-passed is_made (attempts_on oid attempts) r.0 base r.1 in
     let own = filter-passed (λ (attempt : Attempt). object_of attempt == oid) attempts made.place base made.there in
-    record {
-      place = own.place;
-      attempt = base;
-      there = own.there;
-      object = eqb-true (object_of base) oid own.passed;
-      made = made.passed;
-      before = omega arith;
-    })
+    (own.place, record { there = own.there; object = eqb-true (object_of base) oid own.passed; made = made.passed }))
     (last-there None (filter is_made (attempts_on oid attempts)) base h)
+
+-- so it is made by its own epoch
+base-there : (oid : ℕ) (attempts : List Attempt) (base : Attempt) → base_of (attempts_on oid attempts) ≡ Some base
+    → IsMadeBy attempts oid base.epoch
+base-there oid attempts base h =
+    let at = base-at oid attempts base h in
+    record { place = at.0; attempt = base; there = at.1.there; object = at.1.object; made = at.1.made; before = omega arith }
 
 pub gives-legal : (moment : Moment) → Overlap moment → IsLegalWhereBorne moment.past
 gives-legal moment o = o.legal

@@ -14,6 +14,7 @@ pub mod Headline
 pub mod Letters
 pub mod Flight
 pub mod Fates
+pub mod Works
 pub mod Writers
 pub mod Sessions
 pub mod Terms
@@ -26,4 +27,5 @@ pub mod Tables
 pub mod Written
 pub mod Drafts
 pub mod Courses
+pub mod Groups
 pub mod Overlap

@@ -5,7 +5,8 @@
 //! the past of a run (`specs/Past.antt`): all attempts to create or write, with the fate of each message
 //! (`specs/Attempts.antt`), and what else later words need. Over it stand the words made, mute, doomed, covered and quiet
 //! (`specs/Words.antt`), live holders (`specs/Holders.antt`), the six facts on which the overlap rests
-//! (`specs/Contents.antt`, `specs/Facts.antt`), and the headline (`specs/Headline.antt`). The facts and the headline
+//! (`specs/Contents.antt`, `specs/Facts.antt`), the headline (`specs/Headline.antt`), and the invariant that is to carry
+//! them (`specs/Overlap.antt`); the laws of `overlap.rt` say what it gives at once. The facts and the headline
 //! aren't proved here, but for its part on peers of another epoch; the laws of `laws.rt` say what the words mean.
 #![tactic(auto)]
 
@@ -20,5 +21,6 @@ pub use laws::{
 };
 pub use overlap::{
     the_messages_of_the_gone_are_fenced, the_overlap_gives_complete_lists,
-    the_overlap_gives_legal_replies, the_settled_have_recovered,
+    the_overlap_gives_holders, the_overlap_gives_legal_replies, the_overlap_makes_attempts_stand,
+    the_settled_have_recovered,
 };

@@ -8,8 +8,11 @@ ghost use Rattle.peer_proto.specs.Ask.{ask_in};
 ghost use Rattle.sheep_world.specs.declared.name.MessageName.{MessageName};
 ghost use Rattle.sheep_world.specs.World.{Request};
 ghost use Rattle.overlap_law.specs.Reached.{Seats};
-ghost use Rattle.overlap_law.specs.Past.{Moment};
-ghost use Rattle.overlap_law.specs.Facts.{CompleteLists, EachGood};
+ghost use Rattle.epoch_log.specs.Epochs.{settled_of};
+ghost use Rattle.overlap_law.specs.Holders.{targets_by};
+ghost use Rattle.overlap_law.specs.Past.{Moment, counts};
+ghost use Rattle.overlap_law.specs.Contents.{AttemptsStand};
+ghost use Rattle.overlap_law.specs.Facts.{CompleteLists, HoldersOfTheBase, EachGood};
 ghost use Rattle.overlap_law.specs.Headline.{IsLegalWhereBorne};
 ghost use Rattle.overlap_law.specs.Each.{EachSeat};
 ghost use Rattle.overlap_law.specs.Grants.{leave_of};
@@ -26,6 +29,18 @@ pub fn the_overlap_gives_legal_replies()
 /// The lists of recoveries are complete there, for each object that is good.
 pub fn the_overlap_gives_complete_lists()
     ensures { (moment : Moment) → Overlap moment → EachGood moment.world moment.past (CompleteLists moment.past.listed moment.world.seats) }
+{}
+
+/// An attempt that isn't made is doomed, or each row that reaches beyond its epoch has it, for each object that is good.
+pub fn the_overlap_makes_attempts_stand()
+    ensures { (moment : Moment) → Overlap moment → EachGood moment.world moment.past (AttemptsStand moment.world.seats) }
+{}
+
+/// Each target of the base's epoch, or of a later settled one, that counts for it has a row that holds it, for each object
+/// that is good.
+pub fn the_overlap_gives_holders()
+    ensures { (moment : Moment) → Overlap moment → EachGood moment.world moment.past
+        (HoldersOfTheBase (targets_by moment.world.log) (counts moment.past.ended moment.world) (settled_of moment.world.log) moment.world.seats) }
 {}
 
 /// The messages of a lost gateway are of epochs below that of its `Leave`, as the facts say it.

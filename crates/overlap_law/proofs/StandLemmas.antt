@@ -1,0 +1,94 @@
+-- That the invariant makes attempts stand: one that isn't doomed is in each row that reaches beyond its epoch.
+use Rattle.std.proofs.Common.{◌≡◌, ◌⊎◌, inl, inr, ⊎_elim, ℕ, zero, suc, ◌+◌, ◌<◌, ◌≤◌, ◌==◌, ◌&&◌, Bool, true, false, List, [], ◌∷◌, drop, Some, refl, ap, subst, ◌∙◌, slice_get, arith}
+use Rattle.std.specs.List.{list_any}
+use Rattle.std.proofs.lemmas.Bool.{eqb-true, or_left, or_right, cases_eq, lt-ltb}
+use Rattle.object_id.specs.Oid.{kind_of}
+use Rattle.strip_coding.specs.Part.{is_in_strips}
+use Rattle.vdi_directory.specs.Decisions.{happened}
+use Rattle.peer_proto.specs.Work.{policy_of}
+use Rattle.overlap_law.specs.Attempts.{Attempt, object_of, attempts_on}
+use Rattle.overlap_law.specs.Units.{covers, part_by, row_bytes_at}
+use Rattle.overlap_law.specs.Words.{is_doomed, has_served}
+use Rattle.overlap_law.specs.Past.{Moment}
+use Rattle.overlap_law.specs.Contents.{AttemptsStand, is_covered_behind, IsHeld}
+use Rattle.overlap_law.specs.Facts.{EachGood}
+use Rattle.overlap_law.specs.Holders.{is_good}
+use Rattle.overlap_law.specs.Each.{end_of, policy_in}
+use Rattle.overlap_law.specs.Since.{reading_by}
+use Rattle.overlap_law.specs.Overlap.{Overlap}
+use Rattle.overlap_law.proofs.OverlapLemmas.{filter-passed}
+
+-- an attempt that covers a unit is found among those that do
+any-covers : (unit : ℕ) (attempts : List Attempt) (k : ℕ) (found : Attempt) → slice_get attempts k ≡ Some found → covers unit found ≡ true
+    → list_any (covers unit) attempts ≡ true
+any-covers unit [] k found e covering = absurd (cc)
+any-covers unit (attempt ∷ attempts) zero found e covering = or_left (covers unit attempt) (list_any (covers unit) attempts) (cc (e, covering))
+any-covers unit (attempt ∷ attempts) (suc k) found e covering =
+    or_right (covers unit attempt) (list_any (covers unit) attempts) (any-covers unit attempts k found e covering)
+
+-- also behind a place
+any-behind : (unit : ℕ) (attempts : List Attempt) (j k : ℕ) (found : Attempt) → j < k → slice_get attempts k ≡ Some found
+    → covers unit found ≡ true → list_any (covers unit) (drop (suc j) attempts) ≡ true
+any-behind unit [] j k found below e covering = absurd (cc)
+any-behind unit (attempt ∷ attempts) j zero found below e covering = absurd (omega arith)
+any-behind unit (attempt ∷ attempts) zero (suc k) found below e covering = any-covers unit attempts k found e covering
+any-behind unit (attempt ∷ attempts) (suc j) (suc k) found below e covering = any-behind unit attempts j k found (omega arith) e covering
+
+-- so none is there where it is said that none covers it
+none-behind : (unit : ℕ) (attempts : List Attempt) (j k : ℕ) (found : Attempt) → is_covered_behind j unit attempts ≡ false → j < k
+    → slice_get attempts k ≡ Some found → covers unit found ≡ true → ⊥
+none-behind unit attempts j k found none below e covering =
+    let next : suc j ≡ j + 1 = omega arith in
+    let some = subst (λ (n : ℕ). list_any (covers unit) (drop n attempts) ≡ true) next (any-behind unit attempts j k found below e covering) in
+    cc (some, none)
+
+-- what may be read as of the last attempt on a unit is its part
+read-last : (strips : Bool) (attempts : List Attempt) (unit j index : ℕ) (bytes : List ℕ) (attempt : Attempt)
+    → reading_by strips attempts unit j index bytes → slice_get attempts j ≡ Some attempt → is_covered_behind j unit attempts ≡ false
+    → bytes ≡ part_by index unit attempt.work
+read-last true attempts unit j index bytes attempt read there none =
+    read.own attempt there (record { each = λ k later at below covering. absurd (none-behind unit attempts j k later none below at covering) })
+read-last false attempts unit j index bytes attempt read there none = ⊎_elim
+    (λ (same : read.place ≡ j).
+    let there' = subst (λ (k : ℕ). slice_get attempts k ≡ Some read.attempt) same read.there in
+    let one : read.attempt ≡ attempt = cc (there', there) in
+    read.same ∙ ap (λ (a : Attempt). part_by index unit a.work) one)
+    (λ (other : ¬ (read.place ≡ j)). absurd (none-behind unit attempts j read.place read.attempt none (above other read.no_earlier) read.there read.covering))
+    (cases_eq read.place j)
+  where
+    above : {k : ℕ} → ¬ (k ≡ j) → j ≤ k → j < k
+    above other later = omega arith
+
+-- a row has the attempt, where it isn't doomed
+holds : (moment : Moment) → Overlap moment → (oid : ℕ) → is_good moment.world.log moment.past.attempts moment.past.unborne oid ≡ true
+    → (j : ℕ) (attempt : Attempt) → slice_get (attempts_on oid moment.past.attempts) j ≡ Some attempt
+    → is_doomed moment.world.seats attempt ≡ false → IsHeld moment.world.seats oid (attempts_on oid moment.past.attempts) j attempt
+holds moment o oid good j attempt there stands = record {
+  each = λ n seat at i row row_at reaches unit covering none.
+      let found = filter-passed (λ (a : Attempt). object_of a == oid) moment.past.attempts j attempt there in
+      let own = eqb-true (object_of attempt) oid found.passed in
+      let policy = subst (λ (q : ℕ). policy_in (happened moment.world.log) q ≡ Some (policy_of attempt.work)) own
+      (o.attempts.shape.policy found.place attempt found.there) in
+      let since = o.rows.since.each n seat at oid i row row_at (policy_of attempt.work) good policy in
+      let owed = or_left _ (has_served (record { 0 = n }) attempt && _) (lt-ltb attempt.epoch (end_of seat.node.peer.epoch row.to) reaches) in
+      ⊎_elim
+      (λ (doomed : is_doomed moment.world.seats attempt ≡ true). absurd (cc (doomed, stands)))
+      (λ (read : reading_by (is_in_strips (policy_of attempt.work) (kind_of oid)) (attempts_on oid moment.past.attempts) unit j row.index
+      (row_bytes_at (policy_of attempt.work) (kind_of oid) unit row.bytes)).
+      read-last (is_in_strips (policy_of attempt.work) (kind_of oid)) (attempts_on oid moment.past.attempts) unit j row.index
+      (row_bytes_at (policy_of attempt.work) (kind_of oid) unit row.bytes) attempt read there none)
+      (since.each j attempt there unit covering owed);
+}
+
+stands-or-doomed : (moment : Moment) → Overlap moment → (oid : ℕ)
+    → is_good moment.world.log moment.past.attempts moment.past.unborne oid ≡ true
+    → (j : ℕ) (attempt : Attempt) → slice_get (attempts_on oid moment.past.attempts) j ≡ Some attempt
+    → (b : Bool) → is_doomed moment.world.seats attempt ≡ b
+    → (is_doomed moment.world.seats attempt ≡ true) ⊎ IsHeld moment.world.seats oid (attempts_on oid moment.past.attempts) j attempt
+stands-or-doomed moment o oid good j attempt there true is = inl is
+stands-or-doomed moment o oid good j attempt there false is = inr (holds moment o oid good j attempt there is)
+
+pub gives-stand : (moment : Moment) → Overlap moment → EachGood moment.world moment.past (AttemptsStand moment.world.seats)
+gives-stand moment o oid good = record {
+  each = λ j attempt there unmade. stands-or-doomed moment o oid good j attempt there (is_doomed moment.world.seats attempt) refl;
+}
