@@ -12,7 +12,7 @@ use Rattle.vdi_directory.specs.declared.header.Header.{Header}
 use Rattle.vdi_directory.specs.declared.effect.Effect.{Effect}
 use Rattle.vdi_directory.specs.Effects.{header_of}
 use Rattle.object_store.specs.Store.{SeenRow, AllRows, rows_of}
-use Rattle.peer_service.specs.Epochs.{index_among}
+use Rattle.strip_coding.specs.Part.{index_among}
 use Rattle.sheep_node.specs.State.{Node}
 use Rattle.sheep_world.specs.World.{Seat}
 use Rattle.overlap_law.specs.Attempts.{Attempt}
