@@ -1,5 +1,5 @@
 use super::*;
-use object_id::{Bytes, Policy};
+use object_id::Policy;
 use std::alloc::Global;
 use std::test::*;
 
@@ -170,29 +170,6 @@ fn counts_to_the_limits(rt: HostRuntime) -> Result<(), Fail> {
             bad_line(rt.alloc(), OPENED, request, most + 1)?,
             Some((most + 5, 7))
         );
-    }
-    Ok(())
-}
-
-// A body that never finds memory would meet the contract.
-#[test]
-fn copies_a_statement(rt: HostRuntime) -> Result<(), Fail> {
-    let alloc = rt.alloc();
-    let delete = Statement::Delete {
-        session: 3,
-        name: Bytes::from_slice(alloc, b"vm")?,
-        tag: Some(Bytes::from_slice(alloc, b"old")?),
-    };
-    match &delete.copy(alloc)? {
-        Statement::Delete {
-            session: 3,
-            name,
-            tag: Some(tag),
-        } => {
-            assert_eq!(rt; name.as_slice(), b"vm".as_slice());
-            assert_eq!(rt; tag.as_slice(), b"old".as_slice());
-        }
-        _ => assert!(rt; false, "the copy is another statement"),
     }
     Ok(())
 }

@@ -16,6 +16,7 @@ use Rattle.vdi_ops.specs.Entries.{IsAsk}
 use Rattle.sheep_node.specs.declared.ask.Ask.{Ask}
 use Rattle.sheep_node.specs.declared.ask.Ask.TheVariants as asks
 use Rattle.sheep_node.specs.declared.input.Input.{Input}
+use Rattle.sheep_node.specs.declared.limits.TheConstants.{REQUESTS_AT_ONCE, SENDS_MAX}
 use Rattle.sheep_node.specs.declared.input.Input.TheVariants as inputs
 use Rattle.peer_proto.specs.declared.say.PeerRsp.{PeerRsp}
 use Rattle.sheep_node.specs.State.{Course, Waiting, Driving, Commanding, Request, Node}
@@ -24,7 +25,7 @@ use Rattle.sheep_node.specs.Reading.{is_member}
 
 -- whether the node has numbers left for the sends of a step
 abbrev pub has_numbers : Node → Bool
-has_numbers node = nat_le node.sends (2 ^ 32 - 1024)
+has_numbers node = nat_le node.sends SENDS_MAX
 
 -- whether it has an entry to put
 abbrev pub may_put : Node → Bool
@@ -70,9 +71,10 @@ asks_disk (asks.Vdi ask) = false
 abbrev pub are_on_disk : List Request → Ask → Bool
 are_on_disk requests ask = asks_disk ask && list_all (λ (request : Request). is_on_disk request.course) requests
 
--- whether there is room for one more beside these: fewer than 16, and all reads and writes with it, or none
+-- whether there is room for one more beside these: there are fewer than may be at once, and all are reads and writes with it,
+-- or there are none
 abbrev pub is_room : List Request → Ask → Bool
-is_room requests ask = nat_lt (length requests) 16 && (length requests == 0 || are_on_disk requests ask)
+is_room requests ask = nat_lt (length requests) REQUESTS_AT_ONCE && (length requests == 0 || are_on_disk requests ask)
 
 -- whether the session has room for a request
 abbrev pub may_ask : ℕ → Ask → Node → Bool

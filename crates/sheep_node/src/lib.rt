@@ -16,6 +16,7 @@ mod ask;
 mod event;
 mod input;
 mod laws;
+mod limits;
 mod outputs;
 mod replies;
 #[cfg(test)]
@@ -30,5 +31,6 @@ pub use laws::{
     other_epochs_are_refused, outputs_are_as_the_input, recovered_is_put_once, sends_are_numbered,
     what_is_put_leaves_the_outbox,
 };
+pub use limits::{REQUESTS_AT_ONCE, SENDS_MAX};
 pub use outputs::Outputs;
 pub use replies::ReplyList;

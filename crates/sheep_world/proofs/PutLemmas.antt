@@ -11,6 +11,7 @@ use Rattle.object_id.specs.declared.entry.Entry.{Entry}
 use Rattle.cluster_script.specs.declared.statement.Statement.{Statement}
 use Rattle.peer_proto.specs.declared.ask.PeerReq.{PeerReq}
 use Rattle.peer_proto.specs.declared.say.PeerRsp.{PeerRsp}
+use Rattle.sheep_node.specs.declared.limits.TheConstants.{SENDS_MAX}
 use Rattle.sheep_node.specs.declared.event.Event.TheVariants as events
 use Rattle.sheep_node.specs.declared.input.Input.TheVariants as inputs
 use Rattle.sheep_node.specs.State.{Node}
@@ -57,7 +58,7 @@ on_the_way_still wire old new alike way = subst
 
 up_still : (seat : Seat) (old new : Node) → new.sends ≡ old.sends → seat.node ≡ old → is_seat_up (next_seat seat new) ≡ is_seat_up seat
 up_still seat old new sends is =
-    (λ i. not seat.is_lost && nat_le (sends i) (2 ^ 32 - 1024)) ∙ ap (λ (node : Node). not seat.is_lost && has_numbers node) (sym is)
+    (λ i. not seat.is_lost && nat_le (sends i) SENDS_MAX) ∙ ap (λ (node : Node). not seat.is_lost && has_numbers node) (sym is)
 
 module _ (seats : tree.FinMap nat_cmp Seat) (wire : tree.FinMap name_cmp Letter) (n : ℕ) (seat : Seat) (node : Node) where
   given_still : tree.get seats n ≡ Some seat → Alike seat.node node → AreWired seats wire → (name : MessageName) (letter : Letter)

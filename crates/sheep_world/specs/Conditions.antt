@@ -8,6 +8,7 @@ use Rattle.cluster_script.specs.declared.statement.Statement.TheVariants as line
 use Rattle.cluster_script.specs.Asked.{is_disk_request, request_at, numbers_of_session}
 use Rattle.cluster_script.specs.Phases.{phases_of, phase_of_request}
 use Rattle.cluster_script.specs.Sessions.{Session, session_numbered, brings_back}
+use Rattle.sheep_node.specs.declared.limits.TheConstants.{REQUESTS_AT_ONCE}
 use Rattle.sheep_node.specs.State.{Node}
 use Rattle.sheep_node.specs.May as nodes
 use Rattle.sheep_node.specs.Reading as reading
@@ -30,12 +31,12 @@ next_request statements session world = slice_get (numbers_of_session statements
 abbrev pub is_on_disk : List Statement → ℕ → Bool
 is_on_disk statements req = option_map_or is_disk_request (request_at statements req) false
 
--- whether a request may begin beside those without reply: there are none; or fewer than 16, and they and it are all reads
+-- whether a request may begin beside those without reply: there are none; or fewer than may be at once, and they and it are all reads
 -- and writes
 abbrev pub fits_beside : List Statement → ℕ → List Started → Bool
 fits_beside statements req [] = true
 fits_beside statements req (first ∷ later) =
-    nat_lt (length (first ∷ later)) 16 && is_on_disk statements req
+    nat_lt (length (first ∷ later)) REQUESTS_AT_ONCE && is_on_disk statements req
     && list_all (λ (started : Started). is_on_disk statements started.req) (first ∷ later)
 
 -- whether a request may begin: it is of the present phase or an earlier one, and its session has room for it
