@@ -46,12 +46,14 @@ abbrev pub send_of : NodeId → Epoch → ObjWork → Message → NodeId × Peer
 send_of me epoch work message =
     (message.node, record { from = me; number = message.number; epoch = epoch; ask = ask_for work message.index })
 
+-- whether nothing came of a message yet
 abbrev pub is_unanswered : Status → Bool
 is_unanswered Unanswered = true
 is_unanswered (Succeeded bytes) = false
 is_unanswered (Refused refusal) = false
 is_unanswered Lost = false
 
+-- whether a message succeeded
 abbrev pub is_success : Status → Bool
 is_success Unanswered = false
 is_success (Succeeded bytes) = true
@@ -87,6 +89,7 @@ marked number status messages =
 abbrev pub is_over : List Message → Bool
 is_over messages = not (list_any (λ (message : Message). is_unanswered message.status) messages)
 
+-- the messages that succeeded, in the order of the targets
 abbrev pub successes : List Message → List Message
 successes messages = filter (λ (message : Message). is_success message.status) messages
 
@@ -96,6 +99,7 @@ is_done (Create oid policy size offset bytes) messages = list_all (λ (message :
 is_done (Write oid policy offset bytes) messages = list_all (λ (message : Message). is_success message.status) messages
 is_done (Read oid policy offset size) messages = nat_le (need_of policy (kind_of oid)) (length (successes messages))
 
+-- the bytes that a message gave
 abbrev pub bytes_in : Status → List ℕ
 bytes_in Unanswered = []
 bytes_in (Succeeded bytes) = bytes
@@ -130,6 +134,7 @@ failure work epoch node (Succeeded bytes) = None
 failure work epoch node (Refused refusal) = Some (cause_by work epoch node refusal)
 failure work epoch node Lost = Some (causes.Link node)
 
+-- the first of two causes that is there
 abbrev pub first_of : Option Cause → Option Cause → Option Cause
 first_of None later = later
 first_of (Some cause) later = Some cause

@@ -33,12 +33,15 @@ with_work req work gateway = record gateway { works = tree.insert gateway.works 
 abbrev pub without_work : ℕ → Gateway → Gateway
 without_work req gateway = record gateway { works = tree.remove gateway.works req }
 
+-- nothing is sent, and nothing told
 abbrev pub waiting : Gateway → Step
 waiting gateway = record { gateway = gateway; act = acts.Wait }
 
+-- the request's work ends, and the request is refused for a cause
 abbrev pub refused : Gateway → ℕ → Cause → Step
 refused gateway req cause = record { gateway = without_work req gateway; act = acts.Refused req cause }
 
+-- the request's work is done, and gave these bytes
 abbrev pub done : Gateway → ℕ → List ℕ → Step
 done gateway req bytes =
     record { gateway = without_work req gateway; act = acts.Done (record { req = req; bytes = bytes }) }

@@ -12,12 +12,15 @@ use Rattle.peer_proto.specs.declared.ask.PeerAsk.TheVariants as asks
 use Rattle.peer_proto.specs.declared.ask.PeerReq.{PeerReq}
 use Rattle.peer_service.specs.State.{Peer}
 
+-- the node of a number
 abbrev pub node : ℕ → NodeId
 node number = record { 0 = number }
 
+-- the same as a member
 abbrev pub member : ℕ → Member
 member number = record { node = node number; zone = 0; vnodes = 64 }
 
+-- what the log has by now
 abbrev pub log : List Entry
 log = Format (member 0 ∷ member 1 ∷ []) ∷ Join (node 2) 0 64 ∷ []
 
@@ -29,6 +32,7 @@ key = record { oid = 2 ^ 32; index = 0 }
 abbrev pub row : SeenRow
 row = record { index = 0; from = record { 0 = 1 }; to = None; bytes = 5 ∷ 6 ∷ 6 ∷ [] }
 
+-- the peer at first
 abbrev pub peer : Peer
 peer = record { epoch = 2; settled = 1; rows = tree.insert tree.empty key.oid (row ∷ []); pending = Some []; entries = log }
 

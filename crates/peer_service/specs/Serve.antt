@@ -85,11 +85,12 @@ MayServe peer (asks.Read key offset size) = EndsInside (offset + size) (open_row
 MayServe peer asks.List = Unit {0}
 MayServe peer (asks.RecoverRead oid level) = Unit {0}
 
--- the same as tests
+-- the same as a test
 abbrev pub ends_inside : ℕ → Option SeenRow → Bool
 ends_inside end None = true
 ends_inside end (Some row) = nat_le end (length row.bytes)
 
+-- whether a request meets what it must
 abbrev pub may_serve : Peer → PeerAsk → Bool
 may_serve peer (asks.Create key size offset bytes) = nat_le (offset + length bytes) size
 may_serve peer (asks.Write key offset bytes) = ends_inside (offset + length bytes) (open_row peer.rows key)

@@ -70,6 +70,7 @@ asked_level_2 = ticked 9 listed
 abbrev pub copy_with : ℕ → RowCopy
 copy_with byte = record { index = 0; from = record { 0 = 1 }; to = Some (record { 0 = 2 }); length = 2; bytes = byte ∷ [] }
 
+-- node 1 is heard first, then node 0
 abbrev pub found_at_both : State
 found_at_both = told 9 (Row (copy_with 5)) (told 10 (Row (copy_with 6)) asked_level_2)
 

@@ -9,7 +9,7 @@ use Rattle.peer_proto.specs.declared.say.PeerRsp.{PeerRsp}
 use Rattle.recovery.specs.Shown.{Shown, is_row_of}
 use Rattle.recovery.specs.State.{Message, State, all_unanswered, message_of}
 
--- whether a request asks for a list, and whether for a row
+-- whether a request asks for a list
 abbrev pub is_list : PeerAsk → Bool
 is_list (asks.Create key size offset bytes) = false
 is_list (asks.Write key offset bytes) = false
@@ -17,6 +17,7 @@ is_list (asks.Read key offset size) = false
 is_list asks.List = true
 is_list (asks.RecoverRead oid level) = false
 
+-- whether a request asks for a row
 abbrev pub is_recover_read : PeerAsk → Bool
 is_recover_read (asks.Create key size offset bytes) = false
 is_recover_read (asks.Write key offset bytes) = false

@@ -19,6 +19,7 @@ pub record Frame : Type 0 where
   pub size_of : ℕ → Option ℕ
   pub targets : ℕ → ℕ → Policy → List NodeId
 
+-- the frame of a state
 abbrev pub frame : State → Frame
 frame state = record {
   me = state.recovery.me;

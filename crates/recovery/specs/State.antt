@@ -27,6 +27,7 @@ pub record Search : Type 0 where
   pub answers : List Answer
   pub again : Bool
 
+-- the recovery of a node: its search, the objects that were named, and the messages that it waits for
 pub record Recovery : Type 0 where
   pub me : NodeId
   -- the epoch that is recovered, with its members. Epoch 1 needs no recovery, and stands before the first one

@@ -11,6 +11,7 @@ pub data Heard : Type 0 where
   Decided : Decision → Heard
   Given : List ℕ → Heard
 
+-- the step that a command makes on what it hears
 abbrev pub goes_on : List Effect → Op → Heard → Option Step
 goes_on known op (Decided decision) = on_decision known decision op
 goes_on known op (Given bytes) = on_done bytes op
