@@ -106,9 +106,9 @@ pub record SearchesAreKept (T : Placing) (log : List Entry) (effects : List Effe
 -- inodes and tables
 pub record TablesAreKept (log : List Entry) (effects : List Effect) (live good_id : ℕ → Bool) (seats : Seats) (attempts : List Attempt) : Type 0 where
   pub entries : EntriesAreMade effects live good_id attempts
-  pub published : PublishedInodesAreMade log live good_id attempts
+  pub published : PublishedInodesAreMade log good_id attempts
   pub table : TablesAreTheInodes effects good_id seats attempts
-  pub frozen : SnapshotsAreFrozen effects live good_id attempts
+  pub frozen : SnapshotsAreFrozen effects good_id attempts
   pub table_made : TablesAreMade effects good_id seats attempts
 
 -- the history against the attempts
@@ -118,7 +118,7 @@ pub record WrittenIsKept (ledger : Ledger) (effects : List Effect) (good_id : �
 
 -- requests and commands
 pub record CoursesAreKept (log : List Entry) (effects : List Effect) (good_id : ℕ → Bool) (seats : Seats) (attempts : List Attempt) : Type 0 where
-  pub waited_for : WorksAreWaitedFor effects seats attempts
+  pub waited_for : WorksAreWaitedFor effects good_id seats attempts
   pub granted : CommandsKeepTheirGrants log seats
   pub drawn : ReservedInodesAreDrawn effects good_id attempts
   pub created : WhatIsPublishedIsCreated good_id seats attempts

@@ -69,8 +69,8 @@ pub record EntriesAreMade (effects : List Effect) (live : ℕ → Bool) (good_id
       → StandsFor effects attempts vid index attempt.epoch (entry_by index attempt))
 
 -- the inode of an id that is published was made by then
-pub record PublishedInodesAreMade (log : List Entry) (live : ℕ → Bool) (good_id : ℕ → Bool) (attempts : List Attempt) : Type 0 where
-  pub each : (vid : ℕ) → is_live_state (state_of (happened log) vid) ≡ true → live (inode_number vid) ≡ true → good_id vid ≡ true
+pub record PublishedInodesAreMade (log : List Entry) (good_id : ℕ → Bool) (attempts : List Attempt) : Type 0 where
+  pub each : (vid : ℕ) → is_live_state (state_of (happened log) vid) ≡ true → good_id vid ≡ true
       → IsCreated attempts (inode_number vid) (published_in log vid)
 
 -- whether a work writes the entry of an index into a disk's inode
@@ -120,8 +120,8 @@ is_shot Deleted = false
 is_shot Freed = false
 
 -- a snapshot's inode has one entry at each index
-pub record SnapshotsAreFrozen (effects : List Effect) (live : ℕ → Bool) (good_id : ℕ → Bool) (attempts : List Attempt) : Type 0 where
-  pub each : (vid index : ℕ) (spec : VdiSpec) → is_shot (state_of effects vid) ≡ true → live (inode_number vid) ≡ true → good_id vid ≡ true
+pub record SnapshotsAreFrozen (effects : List Effect) (good_id : ℕ → Bool) (attempts : List Attempt) : Type 0 where
+  pub each : (vid index : ℕ) (spec : VdiSpec) → is_shot (state_of effects vid) ≡ true → good_id vid ≡ true
       → spec_in effects vid ≡ Some spec → index < objects_of spec → IsOneEntry (candidates attempts vid index)
 
 -- each entry of a session's table stands for an object that was made by the epoch of its node
