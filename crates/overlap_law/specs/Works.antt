@@ -12,6 +12,8 @@ use Rattle.gateway.specs.Work.{is_making}
 use Rattle.gateway.specs.Attempt as gateways
 use Rattle.gateway.specs.State.{Open, Work, is_touched}
 use Rattle.sheep_node.specs.State.{Node}
+use Rattle.sheep_world.specs.declared.name.MessageName.{MessageName}
+use Rattle.overlap_law.specs.Headline.{has_lost}
 use Rattle.overlap_law.specs.Attempts.{Fate, Flying, Served, Doomed, Attempt, object_of}
 use Rattle.overlap_law.specs.Words.{Seats, is_mute}
 use Rattle.overlap_law.specs.Holders.{is_among}
@@ -69,6 +71,11 @@ pub record ServedRequestsAreTouched (seats : Seats) (wire : Wire) (attempts : Li
   pub each : EachAble seats (λ n node. EachAttempt attempts (λ j attempt. attempt.gateway.0 ≡ n
       → tree.contains_key node.requests attempt.req ≡ true → is_mute attempt ≡ false
       → (is_touched attempt.req node.gateway ≡ true) ⊎ AreToldYet wire attempt))
+
+-- a request without reply of which a create or write message was lost, or the reply to one, is touched
+pub record LosersAreTouched (seats : Seats) (lost : List MessageName) (attempts : List Attempt) : Type 0 where
+  pub each : EachAble seats (λ n node. EachAttempt attempts (λ j attempt. attempt.gateway.0 ≡ n
+      → tree.contains_key node.requests attempt.req ≡ true → has_lost lost attempt ≡ true → is_touched attempt.req node.gateway ≡ true))
 
 -- no attempt of a refused request was served or will be
 pub record RefusedRequestsAreMute (wire : Wire) (refused : List ℕ) (attempts : List Attempt) : Type 0 where
