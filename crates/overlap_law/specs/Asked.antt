@@ -1,8 +1,10 @@
--- The requests at the gateways against the script: each is the one of its number, of a session of this life, with the disk on which
--- it began.
-use Rattle.std.specs.Prelude.{◌≡◌, ℕ, ◌<◌, true, false, List, length, ◌∷◌, ◌++◌, slice_get, Option, Some}
+-- The run against the script: each request at a gateway is the one of its number, of a session of this life, with the disk on which it
+-- began; each attempt is for such a one; and who is to join is new.
+use Rattle.std.specs.Prelude.{◌≡◌, ℕ, ◌<◌, true, false, List, length, ◌∷◌, ◌++◌, slice_get, Option, Some, ◌+◌, drop, flat_map, None}
 use Rattle.std.specs.FinMap as tree
 use Rattle.cluster_script.specs.declared.statement.Statement.{Statement}
+use Rattle.cluster_script.specs.declared.statement.Statement.TheVariants as lines
+use Rattle.cluster_script.specs.Phases.{Phase, phases_of}
 use Rattle.cluster_script.specs.Asked.{session_of, request_at, numbers_of_session}
 use Rattle.cluster_script.specs.Sessions.{Session, session_numbered}
 use Rattle.peer_proto.specs.declared.guest.DiskAsk.{DiskAsk}
@@ -94,3 +96,13 @@ pub record TheRefusedAreAnswered (script : List Statement) (world : World) (refu
       → is_among started.req refused ≡ false
   pub unanswered : (session place : ℕ) (started : Started) → slice_get (guest_at session world).unanswered place ≡ Some started
       → WasStarted script world started.req
+
+-- the controls that are still to come: those that are left, then those of the phases behind
+abbrev pub controls_to_come : List Statement → World → List Statement
+controls_to_come script world = world.controls ++ flat_map (λ (phase : Phase). phase.controls) (drop (world.phase + 1) (phases_of script))
+
+-- a node whose join is to come isn't there, and joins once
+pub record JoinsAreNew (script : List Statement) (world : World) : Type 0 where
+  pub absent : (place node : ℕ) → slice_get (controls_to_come script world) place ≡ Some (lines.Join node) → seat_at node world ≡ None
+  pub once : (place other node : ℕ) → slice_get (controls_to_come script world) place ≡ Some (lines.Join node)
+      → slice_get (controls_to_come script world) other ≡ Some (lines.Join node) → place ≡ other

@@ -9,7 +9,7 @@ use Rattle.overlap_law.specs.Past.{Moment, next_moment, first_moment}
 use Rattle.overlap_law.specs.Facts.{MeetsFacts}
 use Rattle.overlap_law.specs.Headline.{IsLegalWhereBorne, RefusedHaveNoItems, RefusedMakeNothing, ledger_of}
 use Rattle.overlap_law.specs.NoObjects.{NothingIsLacked, NoObjectIsMissing}
-use Rattle.overlap_law.specs.Asked.{RequestsAreTheScripts, AttemptsAreTheScripts, TheRefusedAreAnswered}
+use Rattle.overlap_law.specs.Asked.{RequestsAreTheScripts, AttemptsAreTheScripts, TheRefusedAreAnswered, JoinsAreNew}
 use Rattle.overlap_law.specs.Groups.{FlightIsKept, AttemptsAreKept, WritersAreKept, TermsAreKept, RowsAreKept, SearchesAreKept, TablesAreKept, WrittenIsKept, PiecesAreKept, CoursesAreKept}
 
 -- the whole: the groups, and that the replies so far are legal and refused requests change nothing
@@ -43,8 +43,9 @@ pub record OverlapOf (script : List Statement) (moment : Moment) : Type 0 where
   pub asked : RequestsAreTheScripts script moment.world
   pub began : AttemptsAreTheScripts script moment.past.attempts
   pub answered : TheRefusedAreAnswered script moment.world moment.past.refused
+  pub joins : JoinsAreNew script moment.world
 
--- owed: it holds of the moment that a script opens with
+-- owed of a script that may be read: it holds of the moment that the script opens with
 abbrev pub OpensWithOverlap : List Statement → Type 0
 OpensWithOverlap script = OverlapOf script (first_moment script)
 
