@@ -1,5 +1,5 @@
 -- Requests and commands: the works that are open are those that they wait for, and commands keep what they were granted.
-use Rattle.std.specs.Prelude.{◌≡◌, ℕ, ◌<◌, true, false, List, slice_get, slice_index, Option, Some, None}
+use Rattle.std.specs.Prelude.{◌≡◌, ℕ, ◌<◌, Bool, true, false, List, slice_get, slice_index, Option, Some, None}
 use Rattle.std.specs.FinMap as tree
 use Rattle.object_id.specs.declared.oid.Vid.{Vid}
 use Rattle.object_id.specs.declared.entry.Entry.{Entry}
@@ -48,28 +48,28 @@ pub record IsRead (parent : Option Vid) (header : Header) (work : ObjWork) : Typ
   pub work_of : work ≡ read_inode vid.0 header.spec
 
 -- an inode is created: that of the granted id, which is the one that the session then has open, if it has one by that; its
--- table is drawn from what the id is reserved for
-pub record IsCreatedNow (effects : List Effect) (attempts : List Attempt) (vid : Vid) (opened : Option Content) (work : ObjWork) : Type 0 where
+-- table is drawn from what the id is reserved for, where that was borne
+pub record IsCreatedNow (effects : List Effect) (good_id : ℕ → Bool) (attempts : List Attempt) (vid : Vid) (opened : Option Content) (work : ObjWork) : Type 0 where
   pub inode : Content
   pub own : inode.vid ≡ vid.0
   pub work_of : work ≡ create_inode inode
   pub same : (content : Content) → opened ≡ Some content → content ≡ inode
-  pub drawn : (index : ℕ) → index < objects_of inode.spec → IsDrawn effects attempts vid.0 index (slice_index inode.table index)
+  pub drawn : (index : ℕ) → good_id vid.0 ≡ true → index < objects_of inode.spec → IsDrawn effects attempts vid.0 index (slice_index inode.table index)
 
 -- a work is that of a command's task
-abbrev pub IsOfTask : List Effect → List Attempt → Option Disk → Vid → Task → ObjWork → Type 0
-IsOfTask effects attempts disk vid (Opening snapshot ids header) work = work ≡ read_inode vid.0 header.spec
-IsOfTask effects attempts disk vid (WritingBack inode) work = IsWrittenBack inode work
-IsOfTask effects attempts disk vid (Tagging old inode) work = IsTagged disk old inode work
-IsOfTask effects attempts disk vid (Copying ids header) work = IsRead header.parent header work
-IsOfTask effects attempts disk vid (Making entry opened) work = IsCreatedNow effects attempts vid opened work
+abbrev pub IsOfTask : List Effect → (ℕ → Bool) → List Attempt → Option Disk → Vid → Task → ObjWork → Type 0
+IsOfTask effects good_id attempts disk vid (Opening snapshot ids header) work = work ≡ read_inode vid.0 header.spec
+IsOfTask effects good_id attempts disk vid (WritingBack inode) work = IsWrittenBack inode work
+IsOfTask effects good_id attempts disk vid (Tagging old inode) work = IsTagged disk old inode work
+IsOfTask effects good_id attempts disk vid (Copying ids header) work = IsRead header.parent header work
+IsOfTask effects good_id attempts disk vid (Making entry opened) work = IsCreatedNow effects good_id attempts vid opened work
 
 -- the same by what a command waits for
-abbrev pub IsOfStage : List Effect → List Attempt → Option Disk → Stage → ObjWork → Type 0
-IsOfStage effects attempts disk (Asked entry ask old) work = ⊥
-IsOfStage effects attempts disk (Working vid task) work = IsOfTask effects attempts disk vid task work
-IsOfStage effects attempts disk (Publishing entry opened) work = ⊥
-IsOfStage effects attempts disk (Answered opened) work = ⊥
+abbrev pub IsOfStage : List Effect → (ℕ → Bool) → List Attempt → Option Disk → Stage → ObjWork → Type 0
+IsOfStage effects good_id attempts disk (Asked entry ask old) work = ⊥
+IsOfStage effects good_id attempts disk (Working vid task) work = IsOfTask effects good_id attempts disk vid task work
+IsOfStage effects good_id attempts disk (Publishing entry opened) work = ⊥
+IsOfStage effects good_id attempts disk (Answered opened) work = ⊥
 
 -- a work is that of a read or write on the open disk
 pub record IsOfDriver (open_disk : Option Disk) (driver : Driver) (work : ObjWork) : Type 0 where
@@ -78,24 +78,24 @@ pub record IsOfDriver (open_disk : Option Disk) (driver : Driver) (work : ObjWor
   pub awaited : drivers.IsAwaited disk.inode driver (acts.Work work)
 
 -- a request waits for a work
-abbrev pub WaitsFor : List Effect → List Attempt → Option Disk → Course → ObjWork → Type 0
-WaitsFor effects attempts disk (Waiting ask) work = ⊥
-WaitsFor effects attempts disk (Driving driver) work = IsOfDriver disk driver work
-WaitsFor effects attempts disk (Commanding ask op) work = IsOfStage effects attempts disk op.stage work
+abbrev pub WaitsFor : List Effect → (ℕ → Bool) → List Attempt → Option Disk → Course → ObjWork → Type 0
+WaitsFor effects good_id attempts disk (Waiting ask) work = ⊥
+WaitsFor effects good_id attempts disk (Driving driver) work = IsOfDriver disk driver work
+WaitsFor effects good_id attempts disk (Commanding ask op) work = IsOfStage effects good_id attempts disk op.stage work
 
 -- a node's request, with its session, waits for a work
-pub record IsWaitedFor (effects : List Effect) (attempts : List Attempt) (node : Node) (req : ℕ) (work : ObjWork) : Type 0 where
+pub record IsWaitedFor (effects : List Effect) (good_id : ℕ → Bool) (attempts : List Attempt) (node : Node) (req : ℕ) (work : ObjWork) : Type 0 where
   pub request : Request
   pub session : Session
   pub there : tree.get node.requests req ≡ Some request
   pub of : tree.get node.sessions request.session ≡ Some session
-  pub waits : WaitsFor effects attempts session.disk request.course work
+  pub waits : WaitsFor effects good_id attempts session.disk request.course work
 
 -- works that are open, and those that wait for the inode, are what their requests wait for
-pub record WorksAreWaitedFor (effects : List Effect) (seats : Seats) (attempts : List Attempt) : Type 0 where
-  pub opened : EachUp seats (λ n node. (req : ℕ) (work : Work) → tree.get node.gateway.works req ≡ Some work → IsWaitedFor effects attempts node req work.work)
+pub record WorksAreWaitedFor (effects : List Effect) (good_id : ℕ → Bool) (seats : Seats) (attempts : List Attempt) : Type 0 where
+  pub opened : EachUp seats (λ n node. (req : ℕ) (work : Work) → tree.get node.gateway.works req ≡ Some work → IsWaitedFor effects good_id attempts node req work.work)
   pub lined : EachUp seats (λ n node. (number place : ℕ) (session : Session) (waiting : lines.Waiting) → tree.get node.sessions number ≡ Some session
-      → slice_get session.line.waiting place ≡ Some waiting → IsWaitedFor effects attempts node waiting.req waiting.work)
+      → slice_get session.line.waiting place ≡ Some waiting → IsWaitedFor effects good_id attempts node waiting.req waiting.work)
 
 -- the id that a task works for under a grant; a snapshot that is opened is nobody's
 abbrev pub granted_by : Vid → Task → Option Vid

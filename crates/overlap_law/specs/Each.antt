@@ -1,5 +1,5 @@
 -- The forms in which the invariant speaks of each node, attempt and row, and the words that several of its groups share.
-use Rattle.std.specs.Prelude.{◌≡◌, ℕ, nat_le, Bool, false, ◌&&◌, List, slice_get, Option, Some, None}
+use Rattle.std.specs.Prelude.{◌≡◌, ℕ, nat_le, Bool, true, false, ◌&&◌, List, slice_get, Option, Some, None}
 use Rattle.std.specs.Option.{option_map}
 use Rattle.std.specs.List.{list_any}
 use Rattle.std.specs.FinMap as tree
@@ -14,7 +14,7 @@ use Rattle.vdi_directory.specs.Effects.{header_of}
 use Rattle.object_store.specs.Store.{SeenRow, AllRows, rows_of}
 use Rattle.strip_coding.specs.Part.{index_among}
 use Rattle.sheep_node.specs.State.{Node}
-use Rattle.sheep_world.specs.World.{Seat}
+use Rattle.sheep_world.specs.World.{Seat, is_seat_up}
 use Rattle.overlap_law.specs.Attempts.{Attempt}
 use Rattle.overlap_law.specs.Words.{Seats}
 
@@ -29,6 +29,10 @@ EachSeat seats P = (n : ℕ) (seat : Seat) → tree.get seats n ≡ Some seat �
 -- of each node that isn't lost
 abbrev pub EachUp : Seats → (ℕ → Node → Type 0) → Type 0
 EachUp seats P = (n : ℕ) (seat : Seat) → tree.get seats n ≡ Some seat → seat.is_lost ≡ false → P n seat.node
+
+-- of each node that may still step: it isn't lost, and has numbers left
+abbrev pub EachAble : Seats → (ℕ → Node → Type 0) → Type 0
+EachAble seats P = (n : ℕ) (seat : Seat) → tree.get seats n ≡ Some seat → is_seat_up seat ≡ true → P n seat.node
 
 -- of each attempt, with its place in the order in which they began
 abbrev pub EachAttempt : List Attempt → (ℕ → Attempt → Type 0) → Type 0

@@ -6,7 +6,7 @@ use Rattle.std.specs.FinMap as tree
 use Rattle.object_id.specs.declared.node.NodeId.{NodeId}
 use Rattle.object_id.specs.declared.entry.Entry.{Entry}
 use Rattle.object_id.specs.Fields.{u32_at}
-use Rattle.object_id.specs.Oid.{kind_of, vid_of, inode_number, object_number}
+use Rattle.object_id.specs.Oid.{IsVid, kind_of, vid_of, inode_number, object_number}
 use Rattle.disk_lock.specs.declared.holder.Holder.{Holder}
 use Rattle.epoch_log.specs.Epochs.{settled_of}
 use Rattle.vdi_directory.specs.Decisions.{happened}
@@ -113,4 +113,4 @@ pub record MeetsFacts (world : World) (past : Past) : Type 0 where
   pub holders : EachGood world past (HoldersOfTheBase (targets_by world.log) (counts past.ended world) (settled_of world.log) world.seats)
   pub lists : EachGood world past (CompleteLists past.listed world.seats)
   pub fenced : LostGatewaysAreFenced world.log world.seats world.wire past.attempts
-  pub entries : (vid : ℕ) → IsGood world.log past.attempts past.unborne (inode_number vid) → EntriesNameMadeObjects world.seats vid past.attempts
+  pub entries : (vid : ℕ) → IsVid vid → IsGood world.log past.attempts past.unborne (inode_number vid) → EntriesNameMadeObjects world.seats vid past.attempts

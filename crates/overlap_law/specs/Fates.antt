@@ -16,11 +16,12 @@ use Rattle.peer_service.specs.State.{object_size}
 use Rattle.overlap_law.specs.Units.{unit_start}
 use Rattle.peer_proto.specs.Work.{policy_of}
 use Rattle.gateway.specs.Work.{is_making}
+use Rattle.sheep_world.specs.World.{Seat}
 use Rattle.overlap_law.specs.Attempts.{Fate, Flying, Served, Doomed, Attempt, object_of}
 use Rattle.overlap_law.specs.Words.{Seats, is_made, has_served}
 use Rattle.overlap_law.specs.Holders.{creates}
 use Rattle.overlap_law.specs.Each.{Placing, EachAttempt, has_reached, spec_in, policy_in}
-use Rattle.overlap_law.specs.Letters.{Wire, name_at, request_at, is_request, IsAsking, HasLetter}
+use Rattle.overlap_law.specs.Letters.{Wire, IsQuiet, name_at, request_at, is_request, IsAsking, HasLetter}
 use Rattle.overlap_law.specs.Grants.{reserved_in}
 
 -- a message flies exactly where its request is in the wire
@@ -34,6 +35,17 @@ pub record FatesAreOfTheWire (wire : Wire) (attempts : List Attempt) : Type 0 wh
   pub whole : EachAttempt attempts (λ j attempt. length attempt.fates ≡ length attempt.targets)
   pub each : EachAttempt attempts (λ j attempt. (place : ℕ) (target : NodeId) (fate : Fate) → slice_get attempt.targets place ≡ Some target
       → slice_get attempt.fates place ≡ Some fate → IsFateIn wire attempt place target fate)
+
+-- an attempt is of a life of its gateway that began, and one of an earlier life has no letters; its gateway gave its numbers, and a
+-- later attempt of that gateway has later ones
+pub record AttemptsAreOfLives (seats : Seats) (wire : Wire) (attempts : List Attempt) : Type 0 where
+  pub began : EachAttempt attempts (λ j attempt. (seat : Seat) → tree.get seats attempt.gateway.0 ≡ Some seat → attempt.life ≤ seat.life)
+  pub earlier : EachAttempt attempts (λ j attempt. (seat : Seat) → tree.get seats attempt.gateway.0 ≡ Some seat → attempt.life < seat.life
+      → IsQuiet wire attempt)
+  pub given : EachAttempt attempts (λ j attempt. (seat : Seat) → tree.get seats attempt.gateway.0 ≡ Some seat
+      → attempt.first + length attempt.targets ≤ seat.node.sends)
+  pub apart : EachAttempt attempts (λ j first. EachAttempt attempts (λ k second. j < k → first.gateway.0 ≡ second.gateway.0
+      → first.first + length first.targets ≤ second.first))
 
 -- a node that served an attempt came to its epoch
 pub record ServersReachedTheEpoch (seats : Seats) (attempts : List Attempt) : Type 0 where

@@ -20,7 +20,7 @@ use Rattle.sheep_world.specs.World.{Letter}
 use Rattle.sheep_world.specs.Wired.{AreGiven, AreSpelled, AreNumbered, IsAllOnItsWay}
 use Rattle.overlap_law.specs.Attempts.{Served, Attempt}
 use Rattle.overlap_law.specs.Words.{Seats}
-use Rattle.overlap_law.specs.Each.{EachSeat, EachUp, EachAttempt, has_reached}
+use Rattle.overlap_law.specs.Each.{EachSeat, EachUp, EachAble, EachAttempt, has_reached}
 use Rattle.overlap_law.specs.Letters.{Wire, named, name_at, IsAsking, IsAnswering, IsAwaited, is_request}
 use Rattle.overlap_law.specs.Grants.{leave_of}
 
@@ -43,12 +43,12 @@ pub record MessagesAreOfTheRecovery (node : Node) : Type 0 where
   pub level : (place : ℕ) (message : Message) (search : Search) → slice_get node.recovery.unanswered place ≡ Some message
       → search_on (state_of node) ≡ Some search → IsAtLevel search message.request.ask
 
--- the letters of a node that isn't lost are those that it waits for, and only those: each as it was sent, or as a reply of the
--- node that it went to
+-- the letters of a node that isn't lost are some that it waits for, each as it was sent, or as a reply of the node that it went
+-- to; and all that a node waits for are there while it may step, for one without numbers isn't told of losses
 pub record LettersAreAwaited (seats : Seats) (wire : Wire) : Type 0 where
   pub spelled : AreSpelled wire
   pub numbered : AreNumbered seats
-  pub there : EachUp seats (λ n node. IsAllOnItsWay node wire)
+  pub there : EachAble seats (λ n node. IsAllOnItsWay node wire)
   pub awaited : EachUp seats (λ n node. (number : ℕ) (letter : Letter) → tree.get wire (named n number) ≡ Some letter → waits_for number node ≡ true)
   pub recovery : EachUp seats (λ n node. MessagesAreOfTheRecovery node)
 

@@ -4,14 +4,15 @@ use Rattle.object_id.specs.declared.entry.Entry.{Entry}
 use Rattle.disk_history.specs.Ledger.{Ledger}
 use Rattle.vdi_directory.specs.declared.effect.Effect.{Effect}
 use Rattle.vdi_directory.specs.Decisions.{happened}
+use Rattle.sheep_world.specs.declared.name.MessageName.{MessageName}
 use Rattle.overlap_law.specs.Attempts.{Attempt}
 use Rattle.overlap_law.specs.Words.{Seats}
 use Rattle.overlap_law.specs.Past.{Listed}
 use Rattle.overlap_law.specs.Each.{Placing}
 use Rattle.overlap_law.specs.Letters.{Wire}
 use Rattle.overlap_law.specs.Flight.{NumbersAreSent, LettersAreAwaited, NoReplyGoesToTheLost, RequestsAreOfThePast, RepliesAreOfTheirEpoch, FatesAreTold, TheGoneAreFenced}
-use Rattle.overlap_law.specs.Fates.{FatesAreOfTheWire, ServersReachedTheEpoch, AttemptsAreShaped, AttemptsAreWhole, IdsAreKnown, AttemptsAreOrdered, CreatesComeFirst}
-use Rattle.overlap_law.specs.Works.{OpenAttemptsAreLatest, WorksKnowTheirFates, ServedRequestsAreTouched, RefusedRequestsAreMute}
+use Rattle.overlap_law.specs.Fates.{FatesAreOfTheWire, AttemptsAreOfLives, ServersReachedTheEpoch, AttemptsAreShaped, AttemptsAreWhole, IdsAreKnown, AttemptsAreOrdered, CreatesComeFirst}
+use Rattle.overlap_law.specs.Works.{OpenAttemptsAreLatest, WorksKnowTheirFates, ServedRequestsAreTouched, LosersAreTouched, RefusedRequestsAreMute}
 use Rattle.overlap_law.specs.Writers.{OnlyTheWriterWrites, ThereIsOneWriter}
 use Rattle.overlap_law.specs.Sessions.{WorksAreApart, OpenDisksAreHeld, ReadsAreLast}
 use Rattle.overlap_law.specs.Terms.{TheUpAreMembers, TheUpHaveStayed, LeaversAreBeyond, NodesHaveRead, RecoveriesArePresent, AnswerersHaveCome, TheRecoveredHaveAll, TheUnfinishedAreUnsettled, SettledIsRead, TheSettledHaveRecovered}
@@ -19,9 +20,11 @@ use Rattle.overlap_law.specs.Rows.{RowsHaveEnds, OneRowIsOpen, RowsAreApart, Row
 use Rattle.overlap_law.specs.Since.{RowsAreSince, CopiesAreOfAttempts}
 use Rattle.overlap_law.specs.Lists.{ListsComeFirst, TellersHaveCome, ListsAreWhole, ListsAreComplete, PendingIsLacked, WhatIsNotPendingIsThere}
 use Rattle.overlap_law.specs.Searches.{SearchesAreOfTheFirst, LevelsAreAsked, ToldRowsAreTrue, ToldRowsAreSince, NoRowIsTrue, PassedLevelsLackRows, TheMadeIsNotMissing, ToldCopiesAreOfAttempts}
-use Rattle.overlap_law.specs.Tables.{EntriesAreMade, PublishedInodesAreMade, TablesAreTheInodes, SnapshotsAreFrozen, TablesAreMade}
+use Rattle.overlap_law.specs.Tables.{EntriesAreMade, OwnEntriesAreMade, TablesAreOfTheChain, PublishedInodesAreMade, TablesAreTheInodes, SnapshotsAreFrozen, TablesAreMade}
 use Rattle.overlap_law.specs.Written.{BlocksAreWritten, StripsAreSound}
 use Rattle.overlap_law.specs.Drafts.{ReservedInodesAreDrawn, WhatIsPublishedIsCreated}
+use Rattle.overlap_law.specs.ToDo.{WorksNameWhatIsMade, WorksMayBeMade}
+use Rattle.overlap_law.specs.Pieces.{WritesHaveItems, WhatIsWrittenIsAlone, WhatIsReadMayBeRead}
 use Rattle.overlap_law.specs.Courses.{WorksAreWaitedFor, CommandsKeepTheirGrants}
 
 -- the wire: numbers, letters, replies. It knows nothing of rows, nor of the history
@@ -36,8 +39,9 @@ pub record FlightIsKept (log : List Entry) (seats : Seats) (wire : Wire) (attemp
 
 -- attempts and works
 pub record AttemptsAreKept (T : Placing) (log : List Entry) (good_id : ℕ → Bool) (seats : Seats) (wire : Wire) (refused : List ℕ)
-    (attempts : List Attempt) : Type 0 where
+    (lost : List MessageName) (attempts : List Attempt) : Type 0 where
   pub fates : FatesAreOfTheWire wire attempts
+  pub lives : AttemptsAreOfLives seats wire attempts
   pub reached : ServersReachedTheEpoch seats attempts
   pub shape : AttemptsAreShaped T log attempts
   pub units : AttemptsAreWhole (happened log) attempts
@@ -46,6 +50,7 @@ pub record AttemptsAreKept (T : Placing) (log : List Entry) (good_id : ℕ → B
   pub latest : OpenAttemptsAreLatest seats attempts
   pub worked : WorksKnowTheirFates seats wire attempts
   pub touched : ServedRequestsAreTouched seats wire attempts
+  pub losers : LosersAreTouched seats lost attempts
   pub untouched : RefusedRequestsAreMute wire refused attempts
   pub create_first : CreatesComeFirst good_id attempts
 
@@ -106,9 +111,11 @@ pub record SearchesAreKept (T : Placing) (log : List Entry) (effects : List Effe
 -- inodes and tables
 pub record TablesAreKept (log : List Entry) (effects : List Effect) (live good_id : ℕ → Bool) (seats : Seats) (attempts : List Attempt) : Type 0 where
   pub entries : EntriesAreMade effects live good_id attempts
-  pub published : PublishedInodesAreMade log live good_id attempts
+  pub own : OwnEntriesAreMade live attempts
+  pub chains : TablesAreOfTheChain effects seats attempts
+  pub published : PublishedInodesAreMade log good_id attempts
   pub table : TablesAreTheInodes effects good_id seats attempts
-  pub frozen : SnapshotsAreFrozen effects live good_id attempts
+  pub frozen : SnapshotsAreFrozen effects good_id attempts
   pub table_made : TablesAreMade effects good_id seats attempts
 
 -- the history against the attempts
@@ -116,9 +123,17 @@ pub record WrittenIsKept (ledger : Ledger) (effects : List Effect) (good_id : �
   pub written : BlocksAreWritten ledger effects good_id seats attempts
   pub sound : StripsAreSound ledger effects good_id seats attempts
 
+-- reads and writes that are under way, against the history
+pub record PiecesAreKept (ledger : Ledger) (effects : List Effect) (good_id : ℕ → Bool) (seats : Seats) (attempts : List Attempt) : Type 0 where
+  pub named : WorksNameWhatIsMade effects good_id seats attempts
+  pub to_make : WorksMayBeMade ledger effects good_id seats
+  pub to_write : WritesHaveItems ledger seats
+  pub alone : WhatIsWrittenIsAlone ledger effects good_id seats attempts
+  pub read : WhatIsReadMayBeRead ledger effects good_id seats
+
 -- requests and commands
 pub record CoursesAreKept (log : List Entry) (effects : List Effect) (good_id : ℕ → Bool) (seats : Seats) (attempts : List Attempt) : Type 0 where
-  pub waited_for : WorksAreWaitedFor effects seats attempts
+  pub waited_for : WorksAreWaitedFor effects good_id seats attempts
   pub granted : CommandsKeepTheirGrants log seats
   pub drawn : ReservedInodesAreDrawn effects good_id attempts
   pub created : WhatIsPublishedIsCreated good_id seats attempts

@@ -27,5 +27,9 @@ pub mod Tables
 pub mod Written
 pub mod Drafts
 pub mod Courses
+pub mod NoObjects
+pub mod ToDo
+pub mod Pieces
+pub mod Asked
 pub mod Groups
 pub mod Overlap

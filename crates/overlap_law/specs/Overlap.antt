@@ -3,17 +3,20 @@ use Rattle.std.specs.Prelude.{◌≡◌, List, Some}
 use Rattle.vdi_directory.specs.Decisions.{happened}
 use Rattle.cluster_script.specs.declared.statement.Statement.{Statement}
 use Rattle.sheep_node.specs.declared.event.Event.{Event}
+use Rattle.sheep_world.specs.Step.{Made, step}
 use Rattle.overlap_law.specs.Holders.{targets_by, is_live, is_good, is_borne_disk}
 use Rattle.overlap_law.specs.Past.{Moment, next_moment, first_moment}
 use Rattle.overlap_law.specs.Facts.{MeetsFacts}
-use Rattle.overlap_law.specs.Headline.{IsLegalWhereBorne, ledger_of}
-use Rattle.overlap_law.specs.Groups.{FlightIsKept, AttemptsAreKept, WritersAreKept, TermsAreKept, RowsAreKept, SearchesAreKept, TablesAreKept, WrittenIsKept, CoursesAreKept}
+use Rattle.overlap_law.specs.Headline.{IsLegalWhereBorne, RefusedHaveNoItems, RefusedMakeNothing, ledger_of}
+use Rattle.overlap_law.specs.NoObjects.{NothingIsLacked, NoObjectIsMissing}
+use Rattle.overlap_law.specs.Asked.{RequestsAreTheScripts, AttemptsAreTheScripts, TheRefusedAreAnswered, JoinsAreNew}
+use Rattle.overlap_law.specs.Groups.{FlightIsKept, AttemptsAreKept, WritersAreKept, TermsAreKept, RowsAreKept, SearchesAreKept, TablesAreKept, WrittenIsKept, PiecesAreKept, CoursesAreKept}
 
--- the whole: the groups, and that the replies so far are legal
+-- the whole: the groups, and that the replies so far are legal and refused requests change nothing
 pub record Overlap (moment : Moment) : Type 0 where
   pub flight : FlightIsKept moment.world.log moment.world.seats moment.world.wire moment.past.attempts
   pub attempts : AttemptsAreKept (targets_by moment.world.log) moment.world.log (is_borne_disk moment.world.log moment.past.unborne)
-      moment.world.seats moment.world.wire moment.past.refused moment.past.attempts
+      moment.world.seats moment.world.wire moment.past.refused moment.past.lost moment.past.attempts
   pub writers : WritersAreKept moment.world.log moment.world.seats moment.world.wire moment.past.attempts
   pub terms : TermsAreKept moment.world.log moment.world.seats
   pub rows : RowsAreKept (targets_by moment.world.log) moment.world.log (happened moment.world.log) (is_live moment.world.log moment.past.attempts)
@@ -27,15 +30,29 @@ pub record Overlap (moment : Moment) : Type 0 where
       moment.world.seats moment.past.attempts
   pub courses : CoursesAreKept moment.world.log (happened moment.world.log) (is_borne_disk moment.world.log moment.past.unborne)
       moment.world.seats moment.past.attempts
+  pub pieces : PiecesAreKept (ledger_of moment.past.history) (happened moment.world.log) (is_borne_disk moment.world.log moment.past.unborne)
+      moment.world.seats moment.past.attempts
+  pub lacked : NothingIsLacked (happened moment.world.log) (is_borne_disk moment.world.log moment.past.unborne) moment.world.seats moment.world.wire
   pub legal : IsLegalWhereBorne moment.past
+  pub no_items : RefusedHaveNoItems moment.past.refused moment.past.history
+  pub nothing_made : RefusedMakeNothing moment.past.refused moment.past.lost moment.past.attempts
 
--- owed: it holds of the moment that a script opens with
+-- the same of a run of a script, whose requests the gateways have
+pub record OverlapOf (script : List Statement) (moment : Moment) : Type 0 where
+  pub overlap : Overlap moment
+  pub asked : RequestsAreTheScripts script moment.world
+  pub began : AttemptsAreTheScripts script moment.past.attempts
+  pub answered : TheRefusedAreAnswered script moment.world moment.past.refused
+  pub joins : JoinsAreNew script moment.world
+
+-- owed of a script that may be read: it holds of the moment that the script opens with
 abbrev pub OpensWithOverlap : List Statement → Type 0
-OpensWithOverlap script = Overlap (first_moment script)
+OpensWithOverlap script = OverlapOf script (first_moment script)
 
 -- owed: every event that may happen keeps it
 abbrev pub KeepsOverlap : List Statement → Event → Type 0
-KeepsOverlap script event = (before after : Moment) → Overlap before → next_moment script event before ≡ Some after → Overlap after
+KeepsOverlap script event = (before after : Moment) → OverlapOf script before → next_moment script event before ≡ Some after
+    → OverlapOf script after
 
 -- owed: it gives the six facts, and that the replies are legal
 pub record GivesFacts (moment : Moment) : Type 0 where
@@ -44,3 +61,8 @@ pub record GivesFacts (moment : Moment) : Type 0 where
 
 abbrev pub OverlapGivesFacts : Type 0
 OverlapGivesFacts = (moment : Moment) → Overlap moment → GivesFacts moment
+
+-- owed: it gives that no object is missing, at each event that may come next
+abbrev pub OverlapGivesObjects : List Statement → Type 0
+OverlapGivesObjects script = (before : Moment) (event : Event) (made : Made) → OverlapOf script before
+    → step script event before.world ≡ Some made → NoObjectIsMissing script before made

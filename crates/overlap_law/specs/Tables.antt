@@ -5,7 +5,7 @@ use Rattle.std.specs.List.{list_any, list_all}
 use Rattle.std.specs.FinMap as tree
 use Rattle.object_id.specs.declared.entry.Entry.{Entry}
 use Rattle.object_id.specs.declared.entry.VdiSpec.{VdiSpec}
-use Rattle.object_id.specs.Oid.{inode_number, object_number}
+use Rattle.object_id.specs.Oid.{IsVid, inode_number, object_number}
 use Rattle.object_id.specs.Spec.{objects_of}
 use Rattle.object_id.specs.Fields.{u32_at}
 use Rattle.inode.specs.declared.layout.TheConstants.{INODE_HEADER_BYTES}
@@ -68,9 +68,28 @@ pub record EntriesAreMade (effects : List Effect) (live : ℕ → Bool) (good_id
       → covers (entry_unit index) attempt ≡ true → entry_by index attempt ≢ 0
       → StandsFor effects attempts vid index attempt.epoch (entry_by index attempt))
 
+-- an entry that says "own" stands for an object that was made by then, also where the disk wasn't borne: the table of a disk is
+-- never had from elsewhere with its own id in it
+pub record OwnEntriesAreMade (live : ℕ → Bool) (attempts : List Attempt) : Type 0 where
+  pub each : EachAttempt attempts (λ j attempt. (vid index : ℕ) → IsVid vid → object_of attempt ≡ inode_number vid
+      → live (inode_number vid) ≡ true → index < 2 ^ 20
+      → covers (entry_unit index) attempt ≡ true → entry_by index attempt ≡ vid → IsCreated attempts (object_number vid index) attempt.epoch)
+
+-- an id is a hole, a disk's own, or one of its chain
+abbrev pub IsOfChain : List Effect → ℕ → ℕ → Type 0
+IsOfChain effects vid entry = (entry ≡ 0) ⊎ ((entry ≡ vid) ⊎ (is_above effects entry vid ≡ true))
+
+-- the table of a session has such entries alone, also where the disk wasn't borne; and its own ones stand for objects that were made
+pub record TablesAreOfTheChain (effects : List Effect) (seats : Seats) (attempts : List Attempt) : Type 0 where
+  pub chain : EachUp seats (λ n node. (number index : ℕ) (session : Session) (disk : Disk) → tree.get node.sessions number ≡ Some session
+      → session.disk ≡ Some disk → index < objects_of disk.inode.spec → IsOfChain effects disk.inode.vid (slice_index disk.inode.table index))
+  pub own : EachUp seats (λ n node. (number index : ℕ) (session : Session) (disk : Disk) → tree.get node.sessions number ≡ Some session
+      → session.disk ≡ Some disk → index < objects_of disk.inode.spec → slice_index disk.inode.table index ≡ disk.inode.vid
+      → is_dead effects disk.inode.vid ≡ false → IsCreated attempts (object_number disk.inode.vid index) node.peer.epoch)
+
 -- the inode of an id that is published was made by then
-pub record PublishedInodesAreMade (log : List Entry) (live : ℕ → Bool) (good_id : ℕ → Bool) (attempts : List Attempt) : Type 0 where
-  pub each : (vid : ℕ) → is_live_state (state_of (happened log) vid) ≡ true → live (inode_number vid) ≡ true → good_id vid ≡ true
+pub record PublishedInodesAreMade (log : List Entry) (good_id : ℕ → Bool) (attempts : List Attempt) : Type 0 where
+  pub each : (vid : ℕ) → is_live_state (state_of (happened log) vid) ≡ true → good_id vid ≡ true
       → IsCreated attempts (inode_number vid) (published_in log vid)
 
 -- whether a work writes the entry of an index into a disk's inode
@@ -120,8 +139,8 @@ is_shot Deleted = false
 is_shot Freed = false
 
 -- a snapshot's inode has one entry at each index
-pub record SnapshotsAreFrozen (effects : List Effect) (live : ℕ → Bool) (good_id : ℕ → Bool) (attempts : List Attempt) : Type 0 where
-  pub each : (vid index : ℕ) (spec : VdiSpec) → is_shot (state_of effects vid) ≡ true → live (inode_number vid) ≡ true → good_id vid ≡ true
+pub record SnapshotsAreFrozen (effects : List Effect) (good_id : ℕ → Bool) (attempts : List Attempt) : Type 0 where
+  pub each : (vid index : ℕ) (spec : VdiSpec) → is_shot (state_of effects vid) ≡ true → good_id vid ≡ true
       → spec_in effects vid ≡ Some spec → index < objects_of spec → IsOneEntry (candidates attempts vid index)
 
 -- each entry of a session's table stands for an object that was made by the epoch of its node

@@ -12,10 +12,12 @@ use Rattle.gateway.specs.Work.{is_making}
 use Rattle.gateway.specs.Attempt as gateways
 use Rattle.gateway.specs.State.{Open, Work, is_touched}
 use Rattle.sheep_node.specs.State.{Node}
+use Rattle.sheep_world.specs.declared.name.MessageName.{MessageName}
+use Rattle.overlap_law.specs.Headline.{has_lost}
 use Rattle.overlap_law.specs.Attempts.{Fate, Flying, Served, Doomed, Attempt, object_of}
 use Rattle.overlap_law.specs.Words.{Seats, is_mute}
 use Rattle.overlap_law.specs.Holders.{is_among}
-use Rattle.overlap_law.specs.Each.{EachUp, EachAttempt}
+use Rattle.overlap_law.specs.Each.{EachUp, EachAble, EachAttempt}
 use Rattle.overlap_law.specs.Letters.{Wire, name_at, is_in_wire, IsAnswering, IsQuiet}
 
 -- the attempt that a gateway has open is this one
@@ -52,9 +54,9 @@ IsStatusOf wire attempt place (Succeeded bytes) fate = fate ≡ Served
 IsStatusOf wire attempt place (Refused refusal) fate = fate ≡ Doomed
 IsStatusOf wire attempt place Lost fate = fate ≢ Flying
 
--- the open works know of their messages what became of them
+-- the open works of a node that may step know of their messages what became of them
 pub record WorksKnowTheirFates (seats : Seats) (wire : Wire) (attempts : List Attempt) : Type 0 where
-  pub each : EachUp seats (λ n node. EachAttempt attempts (λ j attempt.
+  pub each : EachAble seats (λ n node. EachAttempt attempts (λ j attempt.
       (req : ℕ) (work : Work) (current : gateways.Attempt) (place : ℕ) (message : Message) (fate : Fate)
       → IsOpenAs node req work current attempt → slice_get current.messages place ≡ Some message → slice_get attempt.fates place ≡ Some fate
       → IsStatusOf wire attempt place message.status fate))
@@ -64,11 +66,16 @@ pub record AreToldYet (wire : Wire) (attempt : Attempt) : Type 0 where
   pub each : (place : ℕ) (target : NodeId) → slice_get attempt.targets place ≡ Some target → slice_get attempt.fates place ≡ Some Served
       → (reply : PeerRsp) × (reply.say ≡ says.Success) × IsAnswering wire (name_at attempt place) target reply
 
--- a request without reply of which a message was served is touched, or its gateway has still to hear of it
+-- a request without reply of which a message was served is touched, or its gateway, which may step, has still to hear of it
 pub record ServedRequestsAreTouched (seats : Seats) (wire : Wire) (attempts : List Attempt) : Type 0 where
-  pub each : EachUp seats (λ n node. EachAttempt attempts (λ j attempt. attempt.gateway.0 ≡ n
+  pub each : EachAble seats (λ n node. EachAttempt attempts (λ j attempt. attempt.gateway.0 ≡ n
       → tree.contains_key node.requests attempt.req ≡ true → is_mute attempt ≡ false
       → (is_touched attempt.req node.gateway ≡ true) ⊎ AreToldYet wire attempt))
+
+-- a request without reply of which a create or write message was lost, or the reply to one, is touched
+pub record LosersAreTouched (seats : Seats) (lost : List MessageName) (attempts : List Attempt) : Type 0 where
+  pub each : EachAble seats (λ n node. EachAttempt attempts (λ j attempt. attempt.gateway.0 ≡ n
+      → tree.contains_key node.requests attempt.req ≡ true → has_lost lost attempt ≡ true → is_touched attempt.req node.gateway ≡ true))
 
 -- no attempt of a refused request was served or will be
 pub record RefusedRequestsAreMute (wire : Wire) (refused : List ℕ) (attempts : List Attempt) : Type 0 where

@@ -5,9 +5,10 @@
 //! the past of a run (`specs/Past.antt`): all attempts to create or write, with the fate of each message
 //! (`specs/Attempts.antt`), and what else later words need. Over it stand the words made, mute, doomed, covered and quiet
 //! (`specs/Words.antt`), live holders (`specs/Holders.antt`), the six facts on which the overlap rests
-//! (`specs/Contents.antt`, `specs/Facts.antt`), the headline (`specs/Headline.antt`), and the invariant that is to carry
-//! them (`specs/Overlap.antt`); the laws of `overlap.rt` say what it gives at once. The facts and the headline
-//! aren't proved here, but for its part on peers of another epoch; the laws of `laws.rt` say what the words mean.
+//! (`specs/Contents.antt`, `specs/Facts.antt`), the headline (`specs/Headline.antt`), beside it that no object is missing
+//! (`specs/NoObjects.antt`), and the invariant that is to carry them (`specs/Overlap.antt`); the laws of `overlap.rt` say
+//! what it gives at once. The facts, the headline and that no object is missing aren't proved here, but for the headline's
+//! part on peers of another epoch; the laws of `laws.rt` say what the words mean.
 #![tactic(auto)]
 
 mod laws;
