@@ -14,6 +14,7 @@ begun_in None new = []
 begun_in (Some old) None = []
 begun_in (Some old) (Some new) = begun_by old new
 
+-- the same of a node, by its number
 abbrev pub begun : ℕ → World → World → List Attempt
 begun node old new = begun_in (seat_at node old) (seat_at node new)
 

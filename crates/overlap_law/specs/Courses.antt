@@ -106,6 +106,7 @@ granted_by vid (Tagging old inode) = Some vid
 granted_by vid (Copying ids header) = Some vid
 granted_by vid (Making entry opened) = Some vid
 
+-- the same by what a command waits for
 abbrev pub granted_at : Stage → Option Vid
 granted_at (Asked entry ask disk) = None
 granted_at (Working vid task) = granted_by vid task

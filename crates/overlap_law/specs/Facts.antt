@@ -49,6 +49,7 @@ pub record CompleteLists (listed : List Listed) (seats : Seats) (oid : ℕ) (att
   pub each : (base : Attempt) → base_of attempts ≡ Some base → EachSeat seats (λ n seat. is_listed seat.node.recovery ≡ true
       → base.epoch < seat.node.recovery.epoch → is_in_list listed n seat.node.recovery oid ≡ true)
 
+-- whether a message is on its way
 abbrev pub is_flying : Fate → Bool
 is_flying Flying = true
 is_flying Served = false

@@ -22,6 +22,7 @@ use Rattle.overlap_law.specs.Attempts.{Attempt, object_of, attempts_on}
 unfoldable pub targets_by : List Entry → ℕ → ℕ → Policy → List NodeId
 targets_by log epoch oid policy = targets_of (members_in log epoch) (hash_of_object oid) (wanted_of policy (kind_of oid))
 
+-- whether a work creates its object
 abbrev pub is_create : ObjWork → Bool
 is_create (Create oid policy size offset bytes) = true
 is_create (Write oid policy offset bytes) = false
@@ -83,6 +84,7 @@ lacks_holders counts log attempts oid = not (is_dead_object log oid) && not (is_
 unfoldable pub unborne_in : (NodeId → ℕ → Bool) → List Entry → List Attempt → List ℕ
 unborne_in counts log attempts = filter (lacks_holders counts log attempts) (born_objects attempts)
 
+-- whether an object is among some
 abbrev pub is_among : ℕ → List ℕ → Bool
 is_among oid oids = list_any (λ other. other == oid) oids
 
@@ -94,6 +96,7 @@ is_live log attempts oid = is_among oid (born_objects attempts) && not (is_dead_
 abbrev pub is_good : List Entry → List Attempt → List ℕ → ℕ → Bool
 is_good log attempts unborne oid = is_live log attempts oid && not (is_among oid unborne)
 
+-- the same as a fact
 abbrev pub IsGood : List Entry → List Attempt → List ℕ → ℕ → Type 0
 IsGood log attempts unborne oid = IsTrue (is_good log attempts unborne oid)
 

@@ -40,6 +40,7 @@ pub record IsAnswering (wire : Wire) (name : MessageName) (from : NodeId) (reply
 abbrev pub is_in_wire : Wire → MessageName → Bool
 is_in_wire wire name = tree.contains_key wire name
 
+-- whether what is in the wire is a request
 abbrev pub is_request : Option Letter → Bool
 is_request None = false
 is_request (Some (Request to bytes)) = true

@@ -59,6 +59,7 @@ pub record GivesFacts (moment : Moment) : Type 0 where
   pub facts : MeetsFacts moment.world moment.past
   pub legal : IsLegalWhereBorne moment.past
 
+-- the invariant gives the facts and the legality of the replies
 abbrev pub OverlapGivesFacts : Type 0
 OverlapGivesFacts = (moment : Moment) → Overlap moment → GivesFacts moment
 

@@ -34,15 +34,18 @@ abbrev pub left_of_ask : ℕ → DiskAsk → List Piece
 left_of_ask shift (Read offset size) = []
 left_of_ask shift (Write offset payload) = pieces shift offset (length payload)
 
+-- the bytes that a request writes
 abbrev pub payload_in : DiskAsk → List ℕ
 payload_in (Read offset size) = []
 payload_in (Write offset payload) = payload
 
+-- the pieces that a driver has still to write
 abbrev pub left_of_driver : Driver → List Piece
 left_of_driver (Reads told piece rest) = []
 left_of_driver (Writes payload stage piece rest) = piece ∷ rest
 left_of_driver Answered = []
 
+-- the bytes that a driver writes
 abbrev pub payload_of : Driver → List ℕ
 payload_of (Reads told piece rest) = []
 payload_of (Writes payload stage piece rest) = payload
@@ -54,6 +57,7 @@ left_to_write shift (Waiting ask) = left_of_ask shift ask
 left_to_write shift (Driving driver) = left_of_driver driver
 left_to_write shift (Commanding ask op) = []
 
+-- the bytes that a request writes, by where it is
 abbrev pub payload_at : Course → List ℕ
 payload_at (Waiting ask) = payload_in ask
 payload_at (Driving driver) = payload_of driver

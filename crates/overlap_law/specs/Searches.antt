@@ -37,6 +37,7 @@ pub record SearchesAreOfTheFirst (seats : Seats) : Type 0 where
 abbrev pub is_awaited_of : ℕ → List Message → NodeId → Bool
 is_awaited_of oid messages node = list_any (λ message. is_of_search oid message && is_node node message.to) messages
 
+-- whether a node's answer is kept
 abbrev pub has_answered : List Answer → NodeId → Bool
 has_answered answers node = list_any (λ (answer : Answer). is_node node answer.from) answers
 

@@ -43,6 +43,7 @@ abbrev pub reading_by : Bool → Reading
 reading_by true = IsStripOf
 reading_by false = IsCopyFrom
 
+-- the reading of an object of a policy
 abbrev pub reading_of : Policy → ℕ → Reading
 reading_of policy oid = reading_by (is_in_strips policy (kind_of oid))
 

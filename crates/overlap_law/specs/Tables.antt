@@ -42,6 +42,7 @@ candidates_after unit now attempt =
     if is_mute attempt then now else option_map (λ before. before ++ attempt ∷ []) now)
     else now
 
+-- of some attempts those by which a unit may be read; none where no made one covers it
 abbrev pub candidates_of : ℕ → List Attempt → Option (List Attempt)
 candidates_of unit attempts = fold (candidates_after unit) None attempts
 

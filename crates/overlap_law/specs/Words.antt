@@ -6,6 +6,7 @@ use Rattle.overlap_law.specs.Attempts.{Fate, Flying, Served, Doomed, Attempt}
 pub use Rattle.overlap_law.specs.Reached.{Seats, has_come, is_beyond, has_entered, has_finished, is_dying}
 pub use Rattle.overlap_law.specs.Units.{unit_start, unit_size, unit_end, unit_of, bytes_at, row_bytes_at, covers, covering, laid_over_in_order, bytes_by, part_by}
 
+-- whether the target of a message has served it
 abbrev pub is_served : Fate → Bool
 is_served Flying = false
 is_served Served = true
@@ -44,6 +45,7 @@ is_served_by node (target ∷ targets) [] = false
 is_served_by node (target ∷ targets) (fate ∷ fates) =
     (target.0 == node.0 && is_served fate) || is_served_by node targets fates
 
+-- the same of an attempt
 abbrev pub has_served : NodeId → Attempt → Bool
 has_served node attempt = is_served_by node attempt.targets attempt.fates
 

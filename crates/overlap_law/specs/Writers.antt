@@ -51,6 +51,7 @@ abbrev pub bound_by : Option Holder → ℕ → ℕ → ℕ
 bound_by None newest granted = newest
 bound_by (Some holder) newest granted = granted
 
+-- the same of an id, by the log
 abbrev pub bound_of : List Entry → ℕ → ℕ
 bound_of log vid = bound_by (writer_of (happened log) vid) (epoch_of log) (granted_in log vid)
 

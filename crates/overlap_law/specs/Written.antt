@@ -32,6 +32,7 @@ abbrev pub outcomes_by : Seats → Bool → List Attempt → List Attempt → Op
 outcomes_by seats unmade all later (Some base) = base ∷ filter (may_come_out seats) later
 outcomes_by seats unmade all later None = if unmade then filter (λ attempt. not (is_doomed seats attempt)) all else []
 
+-- the same of the attempts on an object
 abbrev pub outcomes : Seats → Bool → ℕ → List Attempt → List Attempt
 outcomes seats unmade unit attempts =
     outcomes_by seats unmade (covering unit attempts) (later_on unit attempts) (own_base_of unit attempts)
