@@ -6,3 +6,4 @@ pub mod LineSteps
 pub mod WorkedCases
 pub mod PhaseLaws
 pub mod SessionLaws
+pub mod LanguageLaws

@@ -9,5 +9,7 @@ pub mod Words
 pub mod Numbers
 pub mod Requests
 pub mod Script
+pub mod Nodes
+pub mod Language
 pub mod Totals
 pub mod Causes

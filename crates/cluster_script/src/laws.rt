@@ -1,9 +1,13 @@
 //! Laws of the definitions, for the proofs of the layers above: each is the contract of a function that does nothing.
-ghost use Rattle.std.specs.Prelude.{◌≡◌, ℕ, ◌≤◌, List, length, flat_map, is_some};
+ghost use Rattle.std.specs.Prelude.{◌≡◌, ℕ, ◌≤◌, false, List, ◌∷◌, ◌++◌, length, flat_map, is_some};
 ghost use Rattle.std.specs.List.{range_with_len, AllPairs};
 ghost use Rattle.cluster_script.specs.declared.statement.Pattern.{Pattern};
 ghost use Rattle.cluster_script.specs.declared.statement.Statement.{Statement as Line};
+ghost use Rattle.cluster_script.specs.declared.statement.Statement.TheVariants as lines;
 ghost use Rattle.cluster_script.specs.Statements.{is_request, requests_of, declared};
+ghost use Rattle.cluster_script.specs.OneDisk.{IsOneDiskScript};
+ghost use Rattle.cluster_script.specs.Nodes.{is_used};
+ghost use Rattle.cluster_script.specs.Language.{MayStand, IsScript};
 ghost use Rattle.cluster_script.specs.Asked.{session_of, payload_of};
 ghost use Rattle.cluster_script.specs.Phases.{Phase, phases_of};
 ghost use Rattle.cluster_script.specs.Sessions.{Session, sessions_of, session_numbered};
@@ -24,4 +28,17 @@ pub fn each_request_is_of_a_phase()
 pub fn each_session_is_declared()
     ensures declared { (statements : List Line) (number : ℕ) → is_some (session_numbered statements number) ≡ declared number statements }
     ensures order { (statements : List Line) → AllPairs (λ (a b : Session). a.number ≤ b.number) (sessions_of statements) }
+{}
+
+/// A script of one disk is a script of the whole language.
+pub fn one_disk_scripts_are_scripts()
+    ensures { (statements : List Line) → IsOneDiskScript statements → IsScript statements }
+{}
+
+/// In a script each statement may stand after those before it: so the number of a join is new, and no session is declared twice.
+pub fn each_statement_stands()
+    ensures stands { (before rest : List Line) (s : Line) → IsScript (before ++ s ∷ rest) → MayStand before s }
+    ensures joined { (before rest : List Line) (node : ℕ) → IsScript (before ++ lines.Join node ∷ rest) → is_used node before ≡ false }
+    ensures sessions { (before rest : List Line) (session node : ℕ) → IsScript (before ++ lines.Session session node ∷ rest)
+        → declared session before ≡ false }
 {}

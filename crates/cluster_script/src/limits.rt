@@ -35,3 +35,21 @@ pub const VNODES_DEFAULT: u16 = 64;
 pub const TRIES_DEFAULT: u32 = 8;
 
 pub const LIMIT_DEFAULT: u32 = 1_000_000;
+
+/// The most nodes of a cluster, and the most zones; both are numbered from 0.
+pub const NODES_MAX: u32 = 64;
+
+/// The most virtual nodes of a node.
+pub const VNODES_MAX: u16 = 256;
+
+/// The most attempts of a request.
+pub const TRIES_MAX: u32 = 1_000;
+
+/// The most events of a run.
+pub const LIMIT_MAX: u32 = 1_000_000;
+
+/// The greatest session number of the whole language.
+pub const SESSIONS_MAX: u32 = 64;
+
+/// The most messages that may be lost in a phase.
+pub const LOSSES_MAX: u32 = 10_000;

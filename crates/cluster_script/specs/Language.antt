@@ -1,0 +1,87 @@
+-- Which lists of statements are scripts of the whole language.
+use Rattle.std.specs.Prelude.{◌≡◌, ℕ, ◌+◌, ◌^◌, ◌<◌, ◌≤◌, true, false, List, [], ◌∷◌, ◌++◌, Option, Some, None, is_some, count_by, sum_by, if◌then◌else◌}
+use Rattle.std.specs.List.{list_all}
+use Rattle.object_id.specs.Spec.{IsSpec}
+use Rattle.cluster_script.specs.declared.statement.Pattern.{Pattern}
+use Rattle.cluster_script.specs.declared.statement.Pattern.TheVariants as patterns
+use Rattle.cluster_script.specs.declared.statement.Statement.{Statement}
+use Rattle.cluster_script.specs.declared.statement.Statement.TheVariants.{Cluster, Vnodes, Tries, Limit, Session, Create, OpenDisk, Close, Read, Write, Snapshot, Clone, Delete, Fail, Join, Lose, Settle, ListNodes, ListVdis, ClusterInfo, Dump, Zone, Reweight, Back}
+use Rattle.cluster_script.specs.declared.limits.TheConstants.{NODES_MAX, VNODES_MAX, TRIES_MAX, LIMIT_MAX, SESSIONS_MAX, LOSSES_MAX, REQUESTS_MAX, READ_BYTES_MAX, WRITE_BYTES_MAX}
+use Rattle.cluster_script.specs.Statements.{is_setting, is_cluster, declared, is_request, read_bytes, write_bytes, has}
+use Rattle.cluster_script.specs.OneDisk.{IsName, IsSpan}
+use Rattle.cluster_script.specs.Settings.{nodes_set, vnodes_set, tries_set, limit_set, zone_set}
+use Rattle.cluster_script.specs.Phases.{is_barrier, losses_in}
+use Rattle.cluster_script.specs.Nodes.{is_used, is_failed, IsThere}
+
+-- a setting stands before every other statement, and nothing before it sets the same
+pub record MaySet (before : List Statement) (set : Statement → Option ℕ) : Type 0 where
+  pub first : list_all is_setting before ≡ true
+  pub once : has (λ s. is_some (set s)) before ≡ false
+
+-- every other statement stands behind a `cluster`
+abbrev pub HasCluster : List Statement → Type 0
+HasCluster before = has is_cluster before ≡ true
+
+-- one request more of a session that is declared, so behind a `cluster`
+pub record MayAsk (before : List Statement) (session : ℕ) : Type 0 where
+  pub declared : declared session before ≡ true
+  pub room : count_by is_request before < REQUESTS_MAX
+
+-- a tag, where one is given, is printed like a name
+abbrev pub IsTag : Option (List ℕ) → Type 0
+IsTag None = Unit {0}
+IsTag (Some tag) = IsName tag
+
+-- the byte that a pattern says is one
+abbrev pub IsByte : Pattern → Type 0
+IsByte (patterns.Fill byte) = byte < 2 ^ 8
+IsByte (patterns.Step byte) = byte < 2 ^ 8
+
+-- how many messages may be lost in the present phase after a statement
+abbrev pub losses_by : ℕ → Statement → ℕ
+losses_by sum s = if is_barrier s then 0 else sum + losses_in s
+
+-- how many after statements, one after another
+abbrev pub losses_from : ℕ → List Statement → ℕ
+losses_from sum [] = sum
+losses_from sum (s ∷ rest) = losses_from (losses_by sum s) rest
+
+-- a statement that may stand after the statements before it
+abbrev pub MayStand : List Statement → Statement → Type 0
+MayStand before (Cluster nodes) = MaySet before nodes_set × (1 ≤ nodes) × (nodes ≤ NODES_MAX)
+MayStand before (Vnodes vnodes) = MaySet before vnodes_set × (1 ≤ vnodes) × (vnodes ≤ VNODES_MAX)
+MayStand before (Tries tries) = MaySet before tries_set × (1 ≤ tries) × (tries ≤ TRIES_MAX)
+MayStand before (Limit limit) = MaySet before limit_set × (1 ≤ limit) × (limit ≤ LIMIT_MAX)
+MayStand before (Session session node) =
+    HasCluster before × (declared session before ≡ false) × (1 ≤ session) × (session ≤ SESSIONS_MAX) × IsThere node before
+MayStand before (Create session policy shift name size) =
+    MayAsk before session × IsName name × IsSpec (record { size = size; policy = policy; shift = shift })
+MayStand before (OpenDisk session name tag) = MayAsk before session × IsName name × IsTag tag
+MayStand before (Close session) = MayAsk before session
+MayStand before (Read session offset length) =
+    MayAsk before session × IsSpan offset length × (sum_by read_bytes before + length ≤ READ_BYTES_MAX)
+MayStand before (Write session offset length pattern) =
+    MayAsk before session × IsSpan offset length × IsByte pattern × (sum_by write_bytes before + length ≤ WRITE_BYTES_MAX)
+MayStand before (Snapshot session tag) = MayAsk before session × IsName tag
+MayStand before (Clone session base tag name) = MayAsk before session × IsName base × IsName tag × IsName name
+MayStand before (Delete session name tag) = MayAsk before session × IsName name × IsTag tag
+MayStand before (Fail node) = HasCluster before × IsThere node before
+MayStand before (Join node) = HasCluster before × (node < NODES_MAX) × (is_used node before ≡ false)
+MayStand before (Lose count) = HasCluster before × (losses_from 0 before + count ≤ LOSSES_MAX)
+MayStand before Settle = HasCluster before
+MayStand before ListNodes = HasCluster before
+MayStand before ListVdis = HasCluster before
+MayStand before ClusterInfo = HasCluster before
+MayStand before Dump = HasCluster before
+MayStand before (Zone node zone) = MaySet before (zone_set node) × (node < NODES_MAX) × (zone < NODES_MAX)
+MayStand before (Reweight node vnodes) = HasCluster before × IsThere node before × (1 ≤ vnodes) × (vnodes ≤ VNODES_MAX)
+MayStand before (Back node) = HasCluster before × (is_failed node before ≡ true)
+
+-- each statement may stand after those before it
+abbrev pub EachMayStand : List Statement → List Statement → Type 0
+EachMayStand before [] = Unit {0}
+EachMayStand before (s ∷ rest) = MayStand before s × EachMayStand (before ++ s ∷ []) rest
+
+-- the statements are a script
+abbrev pub IsScript : List Statement → Type 0
+IsScript statements = EachMayStand [] statements
