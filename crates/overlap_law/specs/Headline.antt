@@ -12,6 +12,7 @@ use Rattle.peer_proto.specs.declared.say.PeerSay.TheVariants as says
 use Rattle.peer_proto.specs.Ask.{ask_in}
 use Rattle.peer_service.specs.Fence.{refusal_at}
 use Rattle.cluster_script.specs.declared.statement.Statement.{Statement}
+use Rattle.cluster_script.specs.Language.{IsScript}
 use Rattle.sheep_node.specs.declared.event.Event.{Event}
 use Rattle.sheep_node.specs.declared.event.Event.TheVariants.{Deliver}
 use Rattle.sheep_node.specs.State.{Node}
@@ -87,4 +88,5 @@ pub record KeepsHeadline (script : List Statement) (moment : Moment) : Type 0 wh
 -- refused requests change nothing, peer requests of another epoch among them, while every epoch since the last finished recovery
 -- keeps enough live holders and no gateway dies within a coded write.
 abbrev pub Headline : List Statement → Type 0
-Headline script = (events : List Event) (moment : Moment) → run_with_past script events ≡ Some moment → KeepsHeadline script moment
+Headline script = IsScript script → (events : List Event) (moment : Moment) → run_with_past script events ≡ Some moment
+    → KeepsHeadline script moment

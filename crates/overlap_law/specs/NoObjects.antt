@@ -20,6 +20,7 @@ use Rattle.gateway.specs.Attempt as gateways
 use Rattle.gateway.specs.State.{Open, Work}
 use Rattle.guest_driver.specs.declared.disk.Disk.{Disk}
 use Rattle.cluster_script.specs.declared.statement.Statement.{Statement}
+use Rattle.cluster_script.specs.Language.{IsScript}
 use Rattle.sheep_node.specs.declared.event.Event.{Event}
 use Rattle.sheep_node.specs.State.{Node, Request, Course, Waiting, Driving, Commanding, session_at}
 use Rattle.sheep_world.specs.World.{World}
@@ -55,8 +56,8 @@ NoObjectIsMissing script before made = (req oid vid : ℕ) → RefusesForAnObjec
 -- No missing object. For every script and every run of it, no reply says that a node doesn't have an object, where the request is
 -- on a disk that is published, isn't deleted in the whole log, and was borne up to there.
 abbrev pub NoObjects : List Statement → Type 0
-NoObjects script = (events : List Event) (before : Moment) (event : Event) (made : Made) → run_with_past script events ≡ Some before
-    → step script event before.world ≡ Some made → NoObjectIsMissing script before made
+NoObjects script = IsScript script → (events : List Event) (before : Moment) (event : Event) (made : Made)
+    → run_with_past script events ≡ Some before → step script event before.world ≡ Some made → NoObjectIsMissing script before made
 
 -- the disk that a request's work is for, by its object: of a read or write the session's open one, of a command that of the inode
 abbrev pub disk_for : Option Disk → ℕ → Course → Option ℕ

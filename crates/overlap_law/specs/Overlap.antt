@@ -2,6 +2,7 @@
 use Rattle.std.specs.Prelude.{◌≡◌, List, Some}
 use Rattle.vdi_directory.specs.Decisions.{happened}
 use Rattle.cluster_script.specs.declared.statement.Statement.{Statement}
+use Rattle.cluster_script.specs.Language.{IsScript}
 use Rattle.sheep_node.specs.declared.event.Event.{Event}
 use Rattle.sheep_world.specs.Step.{Made, step}
 use Rattle.overlap_law.specs.Holders.{targets_by, is_live, is_good, is_borne_disk}
@@ -45,14 +46,14 @@ pub record OverlapOf (script : List Statement) (moment : Moment) : Type 0 where
   pub answered : TheRefusedAreAnswered script moment.world moment.past.refused
   pub joins : JoinsAreNew script moment.world
 
--- owed of a script that may be read: it holds of the moment that the script opens with
+-- owed of each script: it holds of the moment that the script opens with
 abbrev pub OpensWithOverlap : List Statement → Type 0
-OpensWithOverlap script = OverlapOf script (first_moment script)
+OpensWithOverlap script = IsScript script → OverlapOf script (first_moment script)
 
 -- owed: every event that may happen keeps it
 abbrev pub KeepsOverlap : List Statement → Event → Type 0
-KeepsOverlap script event = (before after : Moment) → OverlapOf script before → next_moment script event before ≡ Some after
-    → OverlapOf script after
+KeepsOverlap script event = IsScript script → (before after : Moment) → OverlapOf script before
+    → next_moment script event before ≡ Some after → OverlapOf script after
 
 -- owed: it gives the six facts, and that the replies are legal
 pub record GivesFacts (moment : Moment) : Type 0 where
