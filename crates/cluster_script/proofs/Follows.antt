@@ -14,7 +14,7 @@ use Rattle.cluster_script.specs.declared.statement.Statement.TheVariants.{Cluste
 use Rattle.cluster_script.specs.Statements.{is_setting, is_cluster, is_create, is_open, is_close, is_request, declared, has, requests_of, disk_name, disk_size}
 use Rattle.cluster_script.specs.OneDisk.{IsDiskOpen, MayFollow, EachMayFollow, IsOneDiskScript, IsName}
 use Rattle.cluster_script.specs.Words.{is_name, is_name_byte}
-use Rattle.cluster_script.specs.Requests.{is_disk_open, is_disk_named}
+use Rattle.cluster_script.specs.OneDiskRequests.{is_disk_open, is_disk_named}
 
 pub no_requests : (before : List Statement) → count_by is_request before ≡ 0 → requests_of before ≡ []
 no_requests before none = nil_from_length (requests_of before) (length-filter is_request before ∙ none)

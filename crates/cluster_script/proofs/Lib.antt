@@ -4,6 +4,15 @@ pub mod Pieces
 pub mod DigitLemmas
 pub mod LineSteps
 pub mod WorkedCases
+pub mod WorkedLines
 pub mod PhaseLaws
 pub mod SessionLaws
 pub mod LanguageLaws
+pub mod ReadingParts
+pub mod ReadLemmas
+pub mod ScriptFacts
+pub mod SpelledLemmas
+pub mod TextLaws
+pub mod PartLaws
+pub mod WritingLemmas
+pub mod WrittenLaws

@@ -1,4 +1,4 @@
--- Reading line by line, as a loop does.
+-- Reading line by line, as a loop does, whichever way a line is read.
 use Rattle.std.proofs.Common.{◌≡◌, ℕ, ◌+◌, ◌≤◌, ◌==◌, Bool, List, [], ◌∷◌, length, refl, sym, ap, subst, ◌∙◌, arith, inl, inr, Option, Some, None, Result, Ok, Err}
 use Rattle.std.specs.Prelude.{MatchResult, is_ok}
 use Rattle.std.specs.Str.{IsUtf8, is_utf8}
@@ -13,77 +13,78 @@ use Rattle.cluster_script.specs.declared.fault.ReadError.{ReadError}
 use Rattle.cluster_script.specs.declared.fault.ReadError.TheVariants as errors
 use Rattle.cluster_script.specs.Reading.{Fails}
 use Rattle.cluster_script.specs.Words.{lines_of}
-use Rattle.cluster_script.specs.Script.{words_read, line_at, added, script_of, IsTaken}
+use Rattle.cluster_script.specs.Script.{StatementReader, words_read, line_at, added, script_of, IsTaken}
 use Rattle.cluster_script.proofs.Pieces.{one_part}
 
 abbrev pub is_feed : ℕ → Bool
 is_feed byte = byte == 10
 
--- an empty line says nothing
-empty_line : (before : List Statement) → line_at before [] ≡ Ok None
-unfolding line_at words_read
-empty_line before = rw (is_utf8-from_IsUtf8 [] IsUtf8-nil) refl
-
--- where nothing is left the statements are those so far
-pub script_ends : (before : List Statement) (number : ℕ) → script_of before number (lines_of []) ≡ Ok before
-unfolding script_of
-script_ends before number = rw (empty_line before, script_of) refl
-
-no_line : (before : List Statement) (number : ℕ) → script_of before number [] ≡ Ok before
-unfolding script_of
-no_line before number = refl
-
-pub script_takes : (before : List Statement) (number : ℕ) (line : List ℕ) (lines : List (List ℕ)) (s : Option Statement)
-    → line_at before line ≡ Ok s → script_of before number (line ∷ lines) ≡ script_of (added before s) (number + 1) lines
-unfolding script_of
-script_takes before number line lines s taken = rw (taken, script_of) refl
-
-pub script_stops : (before : List Statement) (number : ℕ) (line : List ℕ) (lines : List (List ℕ)) (cause : LineCause)
-    → line_at before line ≡ Err cause → script_of before number (line ∷ lines) ≡ Err (number, cause)
-unfolding script_of
-script_stops before number line lines cause bad = rw (bad, script_of) refl
-
--- a text's first line and the lines after it, where a rest without line feed is the last line
-pub script_goes_on : (before : List Statement) (number : ℕ) (text : List ℕ) (s : Option Statement)
-    → line_at before (before_first is_feed text) ≡ Ok s
-    → script_of before number (lines_of text) ≡ script_of (added before s) (number + 1) (lines_of (after_first is_feed text))
-script_goes_on before number text s taken =
-    elim (cases_lt (position_or_len is_feed text) (length text)) [
-      | inl lt ↦
-          ap (script_of before number) (slice_split_first is_feed text 0 lt)
-          ∙ script_takes before number (before_first is_feed text) (lines_of (after_first is_feed text)) s taken
-      | inr past ↦
-          let one = one_part is_feed text past in
-          ap (script_of before number) (one.0 ∙ ap (λ (t : List ℕ). t ∷ []) (sym one.1))
-          ∙ script_takes before number (before_first is_feed text) [] s taken
-          ∙ no_line (added before s) (number + 1)
-          ∙ sym (script_ends (added before s) (number + 1))
-          ∙ ap (λ (t : List ℕ). script_of (added before s) (number + 1) (lines_of t)) (sym one.2)
-    ]
-
-pub script_is_bad : (before : List Statement) (number : ℕ) (text : List ℕ) (cause : LineCause)
-    → line_at before (before_first is_feed text) ≡ Err cause → script_of before number (lines_of text) ≡ Err (number, cause)
-script_is_bad before number text cause bad =
-    elim (cases_lt (position_or_len is_feed text) (length text)) [
-      | inl lt ↦
-          ap (script_of before number) (slice_split_first is_feed text 0 lt)
-          ∙ script_stops before number (before_first is_feed text) (lines_of (after_first is_feed text)) cause bad
-      | inr past ↦
-          let one = one_part is_feed text past in
-          ap (script_of before number) (one.0 ∙ ap (λ (t : List ℕ). t ∷ []) (sym one.1))
-          ∙ script_stops before number (before_first is_feed text) [] cause bad
-    ]
-
 length_added : (before : List Statement) (s : Option Statement) → length (added before s) ≤ length before + 1
 length_added before None = omega arith
 length_added before (Some s) = omega (arith, length-append before (s ∷ []))
 
--- what a line that was taken leaves to read
-pub script_after : (before after : List Statement) (number : ℕ) (text : List ℕ)
-    → IsTaken before after (line_at before (before_first is_feed text))
-    → (script_of before number (lines_of text) ≡ script_of after (number + 1) (lines_of (after_first is_feed text))) × (length after ≤ length before + 1)
-script_after before after number text taken =
-    (rw taken.2 (script_goes_on before number text taken.0 taken.1), rw taken.2 (length_added before taken.0))
+module _ (reader : StatementReader) where
+  -- an empty line says nothing
+  empty_line : (before : List Statement) → line_at reader before [] ≡ Ok None
+  unfolding line_at words_read
+  empty_line before = rw (is_utf8-from_IsUtf8 [] IsUtf8-nil) refl
+
+  -- where nothing is left the statements are those so far
+  pub script_ends : (before : List Statement) (number : ℕ) → script_of reader before number (lines_of []) ≡ Ok before
+  unfolding script_of
+  script_ends before number = rw (empty_line before, script_of) refl
+
+  no_line : (before : List Statement) (number : ℕ) → script_of reader before number [] ≡ Ok before
+  unfolding script_of
+  no_line before number = refl
+
+  pub script_takes : (before : List Statement) (number : ℕ) (line : List ℕ) (lines : List (List ℕ)) (s : Option Statement)
+      → line_at reader before line ≡ Ok s → script_of reader before number (line ∷ lines) ≡ script_of reader (added before s) (number + 1) lines
+  unfolding script_of
+  script_takes before number line lines s taken = rw (taken, script_of) refl
+
+  pub script_stops : (before : List Statement) (number : ℕ) (line : List ℕ) (lines : List (List ℕ)) (cause : LineCause)
+      → line_at reader before line ≡ Err cause → script_of reader before number (line ∷ lines) ≡ Err (number, cause)
+  unfolding script_of
+  script_stops before number line lines cause bad = rw (bad, script_of) refl
+
+  -- a text's first line and the lines after it, where a rest without line feed is the last line
+  pub script_goes_on : (before : List Statement) (number : ℕ) (text : List ℕ) (s : Option Statement)
+      → line_at reader before (before_first is_feed text) ≡ Ok s
+      → script_of reader before number (lines_of text) ≡ script_of reader (added before s) (number + 1) (lines_of (after_first is_feed text))
+  script_goes_on before number text s taken =
+      elim (cases_lt (position_or_len is_feed text) (length text)) [
+        | inl lt ↦
+            ap (script_of reader before number) (slice_split_first is_feed text 0 lt)
+            ∙ script_takes before number (before_first is_feed text) (lines_of (after_first is_feed text)) s taken
+        | inr past ↦
+            let one = one_part is_feed text past in
+            ap (script_of reader before number) (one.0 ∙ ap (λ (t : List ℕ). t ∷ []) (sym one.1))
+            ∙ script_takes before number (before_first is_feed text) [] s taken
+            ∙ no_line (added before s) (number + 1)
+            ∙ sym (script_ends (added before s) (number + 1))
+            ∙ ap (λ (t : List ℕ). script_of reader (added before s) (number + 1) (lines_of t)) (sym one.2)
+      ]
+
+  pub script_is_bad : (before : List Statement) (number : ℕ) (text : List ℕ) (cause : LineCause)
+      → line_at reader before (before_first is_feed text) ≡ Err cause → script_of reader before number (lines_of text) ≡ Err (number, cause)
+  script_is_bad before number text cause bad =
+      elim (cases_lt (position_or_len is_feed text) (length text)) [
+        | inl lt ↦
+            ap (script_of reader before number) (slice_split_first is_feed text 0 lt)
+            ∙ script_stops before number (before_first is_feed text) (lines_of (after_first is_feed text)) cause bad
+        | inr past ↦
+            let one = one_part is_feed text past in
+            ap (script_of reader before number) (one.0 ∙ ap (λ (t : List ℕ). t ∷ []) (sym one.1))
+            ∙ script_stops before number (before_first is_feed text) [] cause bad
+      ]
+
+  -- what a line that was taken leaves to read
+  pub script_after : (before after : List Statement) (number : ℕ) (text : List ℕ)
+      → IsTaken before after (line_at reader before (before_first is_feed text))
+      → (script_of reader before number (lines_of text) ≡ script_of reader after (number + 1) (lines_of (after_first is_feed text))) × (length after ≤ length before + 1)
+  script_after before after number text taken =
+      (rw taken.2 (script_goes_on before number text taken.0 taken.1), rw taken.2 (length_added before taken.0))
 
 -- a cause that stopped the reading of a line
 pub stopped_by : (error : ReadError) (cause : LineCause) (read : Result (Option Statement) LineCause) → error ≡ errors.Cause cause → Fails error read → read ≡ Err cause

@@ -9,7 +9,7 @@ use Rattle.std.proofs.lemmas.List.Sums.{fails_before_first}
 use Rattle.std.proofs.lemmas.List.Splits.{slice_split_none, slice_split_first}
 use Rattle.cluster_script.specs.Words.{has_bytes, words_of}
 
-abbrev is_space : ℕ → Bool
+abbrev pub is_space : ℕ → Bool
 is_space byte = byte == 32
 
 -- without a separator all is the first part, and nothing is after it
@@ -31,7 +31,7 @@ words_split line =
           rw (one.0, one.1, one.2) refl
     ]
 
-first_kept : (word : List ℕ) (words : List (List ℕ)) → has_bytes word ≡ true → filter has_bytes (word ∷ words) ≡ word ∷ filter has_bytes words
+pub first_kept : (word : List ℕ) (words : List (List ℕ)) → has_bytes word ≡ true → filter has_bytes (word ∷ words) ≡ word ∷ filter has_bytes words
 first_kept word words kept = rw kept refl
 
 pub first_word : (line : List ℕ) → has_bytes (before_first is_space line) ≡ true → words_of line ≡ before_first is_space line ∷ words_of (after_first is_space line)

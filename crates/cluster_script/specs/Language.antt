@@ -1,5 +1,5 @@
 -- Which lists of statements are scripts of the whole language.
-use Rattle.std.specs.Prelude.{◌≡◌, ℕ, ◌+◌, ◌^◌, ◌<◌, ◌≤◌, true, false, List, [], ◌∷◌, ◌++◌, Option, Some, None, is_some, count_by, sum_by, if◌then◌else◌}
+use Rattle.std.specs.Prelude.{◌≡◌, ℕ, ◌+◌, ◌^◌, ◌<◌, ◌≤◌, true, false, List, [], ◌∷◌, ◌++◌, Option, Some, None, count_by, sum_by}
 use Rattle.std.specs.List.{list_all}
 use Rattle.object_id.specs.Spec.{IsSpec}
 use Rattle.cluster_script.specs.declared.statement.Pattern.{Pattern}
@@ -9,14 +9,14 @@ use Rattle.cluster_script.specs.declared.statement.Statement.TheVariants.{Cluste
 use Rattle.cluster_script.specs.declared.limits.TheConstants.{NODES_MAX, VNODES_MAX, TRIES_MAX, LIMIT_MAX, SESSIONS_MAX, LOSSES_MAX, REQUESTS_MAX, READ_BYTES_MAX, WRITE_BYTES_MAX}
 use Rattle.cluster_script.specs.Statements.{is_setting, is_cluster, declared, is_request, read_bytes, write_bytes, has}
 use Rattle.cluster_script.specs.OneDisk.{IsName, IsSpan}
-use Rattle.cluster_script.specs.Settings.{nodes_set, vnodes_set, tries_set, limit_set, zone_set}
-use Rattle.cluster_script.specs.Phases.{is_barrier, losses_in}
+use Rattle.cluster_script.specs.Settings.{is_set, nodes_set, vnodes_set, tries_set, limit_set, zone_set}
+use Rattle.cluster_script.specs.Phases.{losses_from}
 use Rattle.cluster_script.specs.Nodes.{is_used, is_failed, IsThere}
 
 -- a setting stands before every other statement, and nothing before it sets the same
 pub record MaySet (before : List Statement) (set : Statement → Option ℕ) : Type 0 where
   pub first : list_all is_setting before ≡ true
-  pub once : has (λ s. is_some (set s)) before ≡ false
+  pub once : is_set set before ≡ false
 
 -- every other statement stands behind a `cluster`
 abbrev pub HasCluster : List Statement → Type 0
@@ -36,15 +36,6 @@ IsTag (Some tag) = IsName tag
 abbrev pub IsByte : Pattern → Type 0
 IsByte (patterns.Fill byte) = byte < 2 ^ 8
 IsByte (patterns.Step byte) = byte < 2 ^ 8
-
--- how many messages may be lost in the present phase after a statement
-abbrev pub losses_by : ℕ → Statement → ℕ
-losses_by sum s = if is_barrier s then 0 else sum + losses_in s
-
--- how many after statements, one after another
-abbrev pub losses_from : ℕ → List Statement → ℕ
-losses_from sum [] = sum
-losses_from sum (s ∷ rest) = losses_from (losses_by sum s) rest
 
 -- a statement that may stand after the statements before it
 abbrev pub MayStand : List Statement → Statement → Type 0

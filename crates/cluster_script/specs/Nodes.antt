@@ -1,5 +1,5 @@
 -- Which node numbers statements have used, and which of these nodes are failed after them.
-use Rattle.std.specs.Prelude.{◌≡◌, ℕ, ◌==◌, nat_lt, Bool, true, false, List, [], ◌∷◌, if◌then◌else◌}
+use Rattle.std.specs.Prelude.{◌≡◌, ℕ, ◌==◌, nat_lt, Bool, true, false, ◌&&◌, not, List, [], ◌∷◌, if◌then◌else◌}
 use Rattle.std.specs.List.{list_any}
 use Rattle.cluster_script.specs.declared.statement.Statement.{Statement}
 use Rattle.cluster_script.specs.declared.statement.Statement.TheVariants.{Cluster, Fail, Join, Back}
@@ -28,6 +28,10 @@ failed_from node was (s ∷ rest) = failed_from node (failed_by node was s) rest
 -- the last of the node's fail and back lines is fail
 abbrev pub is_failed : ℕ → List Statement → Bool
 is_failed node before = failed_from node false before
+
+-- whether a node is there
+abbrev pub is_there : ℕ → List Statement → Bool
+is_there node before = is_used node before && not (is_failed node before)
 
 -- a node that is there: it was used, and isn't failed
 pub record IsThere (node : ℕ) (before : List Statement) : Type 0 where

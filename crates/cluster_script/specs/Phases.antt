@@ -27,6 +27,15 @@ abbrev pub losses_in : Statement → ℕ
 losses_in (Lose count) = count
 losses_in s = 0
 
+-- how many messages may be lost in the present phase after a statement
+abbrev pub losses_by : ℕ → Statement → ℕ
+losses_by sum s = if is_barrier s then 0 else sum + losses_in s
+
+-- how many after statements, one after another
+abbrev pub losses_from : ℕ → List Statement → ℕ
+losses_from sum [] = sum
+losses_from sum (s ∷ rest) = losses_from (losses_by sum s) rest
+
 -- a phase: its controls in order, how many of its messages may be lost, the numbers of its requests, ascending, and its end
 pub record Phase : Type 0 where
   pub controls : List Statement

@@ -1,6 +1,6 @@
 -- The settings of a script: those of its statements, and a default where none sets one; and the members that it opens with.
-use Rattle.std.specs.Prelude.{ℕ, ◌==◌, List, [], ◌∷◌, map, Option, Some, None, unwrap_or, if◌then◌else◌}
-use Rattle.std.specs.List.{range_with_len}
+use Rattle.std.specs.Prelude.{ℕ, ◌==◌, Bool, List, [], ◌∷◌, map, Option, Some, None, is_some, unwrap_or, if◌then◌else◌}
+use Rattle.std.specs.List.{list_any, range_with_len}
 use Rattle.object_id.specs.declared.entry.Member.{Member}
 use Rattle.cluster_script.specs.declared.statement.Statement.{Statement}
 use Rattle.cluster_script.specs.declared.statement.Statement.TheVariants.{Cluster, Vnodes, Tries, Limit, Zone}
@@ -30,6 +30,10 @@ limit_set s = None
 abbrev pub zone_set : ℕ → Statement → Option ℕ
 zone_set node (Zone number zone) = if number == node then Some zone else None
 zone_set node s = None
+
+-- a statement among these sets it
+abbrev pub is_set : (Statement → Option ℕ) → List Statement → Bool
+is_set set before = list_any (λ s. is_some (set s)) before
 
 -- a setting is that of the first statement that sets it, or the default
 abbrev pub setting_of : (Statement → Option ℕ) → ℕ → List Statement → ℕ

@@ -1,5 +1,5 @@
 -- The lines of a text, the words of a line, and what is read from the front of its words.
-use Rattle.std.specs.Prelude.{ℕ, ◌==◌, Bool, true, ◌&&◌, not, nat_le, nat_eq, List, [], ◌∷◌, length, filter, bytes_eq, codes, Result, Ok, Err, if◌then◌else◌}
+use Rattle.std.specs.Prelude.{ℕ, ◌==◌, Bool, true, false, ◌&&◌, not, nat_le, nat_eq, List, [], ◌∷◌, length, filter, bytes_eq, codes, Result, Ok, Err, if◌then◌else◌}
 use Rattle.std.specs.List.{slice_split, list_all, starts_with}
 use Rattle.cluster_script.specs.declared.fault.LineCause.{LineCause}
 use Rattle.cluster_script.specs.declared.fault.LineCause.TheVariants as causes
@@ -37,6 +37,17 @@ unfoldable pub keyword_at : Word → List Word → Result (List Word) LineCause
 keyword_at expected words = do
   word ← word_at words
   if bytes_eq word.0 expected then Ok word.1 else Err causes.Word
+
+-- the next word is this very one
+abbrev pub is_next : Word → List Word → Bool
+is_next expected [] = false
+is_next expected (first ∷ rest) = bytes_eq first expected
+
+-- an option that may stand there: what is read behind its name, or else its default
+abbrev pub option_at : {A : Type 0} → Word → (List Word → Result (A × List Word) LineCause) → A → List Word → Result (A × List Word) LineCause
+option_at name read default words = if is_next name words then (do
+  rest ← keyword_at name words
+  read rest) else Ok (default, words)
 
 -- no word is left
 abbrev pub end_of : List Word → Result (Unit {0}) LineCause

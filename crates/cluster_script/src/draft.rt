@@ -3,7 +3,8 @@ ghost use Rattle.std.specs.List.{list_all};
 ghost use Rattle.std.specs.Option.{option_copied};
 ghost use Rattle.cluster_script.specs.Statements.{is_setting, is_cluster, is_create, is_open, is_request, read_bytes, write_bytes, has, requests_of, declares, declared, name_made, disk_name};
 ghost use Rattle.cluster_script.specs.OneDisk.{IsDiskOpen, MayFollow, IsOneDiskScript};
-ghost use Rattle.cluster_script.specs.Requests.{is_disk_open, is_disk_named, has_room};
+ghost use Rattle.cluster_script.specs.Requests.{has_room};
+ghost use Rattle.cluster_script.specs.OneDiskRequests.{is_disk_open, is_disk_named};
 ghost use Rattle.cluster_script.specs.Totals.{IsTotal, counted};
 
 use crate::limits::{READ_BYTES_MAX, REQUESTS_MAX, WRITE_BYTES_MAX};

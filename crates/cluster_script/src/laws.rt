@@ -1,5 +1,5 @@
 //! Laws of the definitions, for the proofs of the layers above: each is the contract of a function that does nothing.
-ghost use Rattle.std.specs.Prelude.{◌≡◌, ℕ, ◌≤◌, false, List, ◌∷◌, ◌++◌, length, flat_map, is_some};
+ghost use Rattle.std.specs.Prelude.{◌≡◌, ◌↔◌, ℕ, ◌≤◌, false, List, ◌∷◌, ◌++◌, length, flat_map, is_some, Ok, Err};
 ghost use Rattle.std.specs.List.{range_with_len, AllPairs};
 ghost use Rattle.cluster_script.specs.declared.statement.Pattern.{Pattern};
 ghost use Rattle.cluster_script.specs.declared.statement.Statement.{Statement as Line};
@@ -8,6 +8,12 @@ ghost use Rattle.cluster_script.specs.Statements.{is_request, requests_of, decla
 ghost use Rattle.cluster_script.specs.OneDisk.{IsOneDiskScript};
 ghost use Rattle.cluster_script.specs.Nodes.{is_used};
 ghost use Rattle.cluster_script.specs.Language.{MayStand, IsScript};
+ghost use Rattle.cluster_script.specs.declared.fault.LineCause.{LineCause};
+ghost use Rattle.cluster_script.specs.Words.{Word};
+ghost use Rattle.cluster_script.specs.Script.{statement_at, script_in};
+ghost use Rattle.cluster_script.specs.OneDiskLines as one_disk;
+ghost use Rattle.cluster_script.specs.Spelling.{IsSpelled, IsText, IsBadLine};
+ghost use Rattle.cluster_script.specs.Writing.{text_for};
 ghost use Rattle.cluster_script.specs.Asked.{session_of, payload_of};
 ghost use Rattle.cluster_script.specs.Phases.{Phase, phases_of};
 ghost use Rattle.cluster_script.specs.Sessions.{Session, sessions_of, session_numbered};
@@ -41,4 +47,28 @@ pub fn each_statement_stands()
     ensures joined { (before rest : List Line) (node : ℕ) → IsScript (before ++ lines.Join node ∷ rest) → is_used node before ≡ false }
     ensures sessions { (before rest : List Line) (session node : ℕ) → IsScript (before ++ lines.Session session node ∷ rest)
         → declared session before ≡ false }
+{}
+
+/// The words of a line are read as a statement where they spell it, and it may stand behind the statements before it.
+pub fn a_line_reads_as_it_is_spelled()
+    ensures spelled { (before : List Line) (first : Word) (rest : List Word) (s : Line) → statement_at before first rest ≡ Ok s
+        → IsSpelled s (first ∷ rest) × MayStand before s }
+    ensures read { (before : List Line) (first : Word) (rest : List Word) (s : Line) → IsScript before
+        → IsSpelled s (first ∷ rest) → MayStand before s → statement_at before first rest ≡ Ok s }
+{}
+
+/// A text is read as the script that its lines say; where they say none, its first bad line is found.
+pub fn a_text_reads_as_its_script()
+    ensures script { (text : List ℕ) (statements : List Line) → script_in text ≡ Ok statements ↔ IsScript statements × IsText text statements }
+    ensures bad { (text : List ℕ) (number : ℕ) (cause : LineCause) → script_in text ≡ Err (number, cause) ↔ IsBadLine text number cause }
+{}
+
+/// Each script has a text, which is read as it.
+pub fn every_script_can_be_written()
+    ensures { (statements : List Line) → IsScript statements → script_in (text_for statements) ≡ Ok statements }
+{}
+
+/// What is taken today as a script of one disk is read so in the whole language.
+pub fn one_disk_texts_read_the_same()
+    ensures { (text : List ℕ) (statements : List Line) → one_disk.script_in text ≡ Ok statements → script_in text ≡ Ok statements }
 {}

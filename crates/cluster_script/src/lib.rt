@@ -5,11 +5,13 @@
 //! of the statements so far. Want of memory is the one answer that the text doesn't decide.
 //!
 //! So far a text's script has one node, one session, and one disk with one copy. A definition apart from the grammar
-//! says which lists of statements are such scripts, and a [`Script`] keeps it; another one says which lists are
-//! scripts of the whole language, and the former are among them. The type of statements is that of the whole language
-//! too, and what a cluster takes from a script is defined over all of it: its settings and opening members, its
-//! requests by number and by session, its phases, and its sessions with the lives of their gateways. Of the workspace
-//! the crate stands on `object_id` alone.
+//! says which lists of statements are such scripts, and a [`Script`] keeps it.
+//!
+//! The whole language is defined too: its statements are the type [`Statement`], and definitions say which words spell
+//! each of them, which may stand after which, how a text is read, and with which cause it is refused. Laws tie these
+//! together, and what [`parse`] takes is read the same there. What a cluster takes from a script is defined over all of
+//! it: its settings and opening members, its requests by number and by session, its phases, and its sessions with the
+//! lives of their gateways. Of the workspace the crate stands on `object_id` alone.
 #![tactic(auto)]
 
 mod draft;
@@ -25,8 +27,9 @@ mod words;
 
 pub use fault::{LineCause, ScriptFault};
 pub use laws::{
-    each_request_is_of_a_phase, each_session_is_declared, each_statement_stands,
-    one_disk_scripts_are_scripts, what_is_asked,
+    a_line_reads_as_it_is_spelled, a_text_reads_as_its_script, each_request_is_of_a_phase,
+    each_session_is_declared, each_statement_stands, every_script_can_be_written,
+    one_disk_scripts_are_scripts, one_disk_texts_read_the_same, what_is_asked,
 };
 pub use limits::{
     LIMIT_MAX, LOSSES_MAX, NODES_MAX, SESSIONS_MAX, TEXT_BYTES_MAX, TRIES_MAX, VNODES_MAX,

@@ -1,10 +1,11 @@
-ghost use Rattle.std.specs.Prelude.{◌≡◌, true, IfOk, IfErr, IfSome, OnOk};
+ghost use Rattle.std.specs.Prelude.{◌≡◌, true, codes, IfOk, IfErr, IfSome, OnOk};
 ghost use Rattle.std.specs.Str.{is_utf8};
 ghost use Rattle.cluster_script.specs.Statements.{is_cluster, has, declared};
 ghost use Rattle.cluster_script.specs.OneDisk.{MayFollow};
 ghost use Rattle.cluster_script.specs.Reading.{Gives, Fails, GivesInMemory};
-ghost use Rattle.cluster_script.specs.Words.{words_of};
-ghost use Rattle.cluster_script.specs.Script.{cluster_at, session_at, session_of, asked_at, statement_at, words_read, line_at, asks_info, IsTaken};
+ghost use Rattle.cluster_script.specs.Words.{words_of, is_next};
+ghost use Rattle.cluster_script.specs.Script.{line_at, IsTaken};
+ghost use Rattle.cluster_script.specs.OneDiskLines.{cluster_at, session_at, asking, asked_at, statement_at};
 
 use crate::draft::Draft;
 use crate::fault::{LineCause, ReadError};
@@ -18,8 +19,8 @@ use std::str::from_utf8;
 
 /// Reads a line after the statements before it, and adds its statement, if it has one.
 pub fn take_line(alloc: Global, draft: &mut Draft, line: &[u8]) -> Result<(), ReadError>
-    ensures ok { OnOk result (IsTaken draft.old draft.new (line_at draft.old line.now)) }
-    ensures err { IfErr result (λ error. Fails error (line_at draft.old line.now)) }
+    ensures ok { OnOk result (IsTaken draft.old draft.new (line_at statement_at draft.old line.now)) }
+    ensures err { IfErr result (λ error. Fails error (line_at statement_at draft.old line.now)) }
 {
     if let Some(s) = statement_in(alloc, draft, line)? {
         draft.push(s)?;
@@ -30,7 +31,7 @@ pub fn take_line(alloc: Global, draft: &mut Draft, line: &[u8]) -> Result<(), Re
 /// The statement of a line after those before it; `None` where the line says nothing.
 #[tactic(auto, unfolding(crate::specs::Script::line_at, crate::specs::Script::words_read))]
 fn statement_in(alloc: Global, before: &Draft, line: &[u8]) -> Result<Option<Statement>, ReadError>
-    ensures line { GivesInMemory (λ s. s) result (line_at before.now line.now) }
+    ensures line { GivesInMemory (λ s. s) result (line_at statement_at before.now line.now) }
     ensures follows { IfOk result (λ s. IfSome s (MayFollow before.now)) }
 {
     if !is_text(line) {
@@ -51,7 +52,7 @@ fn is_text(line: &[u8]) -> bool
 }
 
 /// The statement that the first word begins.
-#[tactic(auto, unfolding(crate::specs::Script::statement_at))]
+#[tactic(auto, unfolding(crate::specs::OneDiskLines::statement_at))]
 fn statement(
     alloc: Global,
     before: &Draft,
@@ -77,7 +78,7 @@ fn statement(
 }
 
 /// `cluster N`. It stands first, and `cluster info` is no setting.
-#[tactic(auto, unfolding(crate::specs::Script::cluster_at))]
+#[tactic(auto, unfolding(crate::specs::OneDiskLines::cluster_at))]
 fn cluster(before: &Draft, line: &[u8]) -> Result<Statement, LineCause>
     ensures statement { Gives (λ s. s) result (cluster_at before.now (words_of line.now)) }
     ensures follows { IfOk result (MayFollow before.now) }
@@ -93,7 +94,7 @@ fn cluster(before: &Draft, line: &[u8]) -> Result<Statement, LineCause>
 }
 
 fn is_info(line: &[u8]) -> bool
-    ensures { result ≡ asks_info (words_of line.now) }
+    ensures { result ≡ is_next (codes "info") (words_of line.now) }
 {
     match next_word(line) {
         None => false,
@@ -102,7 +103,7 @@ fn is_info(line: &[u8]) -> bool
 }
 
 /// `session S node N`.
-#[tactic(auto, unfolding(crate::specs::Script::session_at))]
+#[tactic(auto, unfolding(crate::specs::OneDiskLines::session_at))]
 fn session(before: &Draft, line: &[u8]) -> Result<Statement, LineCause>
     requires { has is_cluster before.now ≡ true }
     ensures statement { Gives (λ s. s) result (session_at before.now (words_of line.now)) }
@@ -122,7 +123,7 @@ fn session(before: &Draft, line: &[u8]) -> Result<Statement, LineCause>
 }
 
 /// A request of the session that the first word names.
-#[tactic(auto, unfolding(crate::specs::Script::asked_at))]
+#[tactic(auto, unfolding(crate::specs::OneDiskLines::asked_at))]
 fn asked(alloc: Global, before: &Draft, first: &[u8], line: &[u8]) -> Result<Statement, ReadError>
     ensures statement { GivesInMemory (λ s. s) result (asked_at before.now first.now (words_of line.now)) }
     ensures follows { IfOk result (MayFollow before.now) }
@@ -132,9 +133,9 @@ fn asked(alloc: Global, before: &Draft, first: &[u8], line: &[u8]) -> Result<Sta
 }
 
 /// The number of a declared session.
-#[tactic(auto, unfolding(crate::specs::Script::session_of))]
+#[tactic(auto, unfolding(crate::specs::OneDiskLines::asking))]
 fn declared_session(before: &Draft, word: &[u8]) -> Result<u32, LineCause>
-    ensures session { result ≡ session_of before.now word.now }
+    ensures session { result ≡ asking before.now word.now }
     ensures declared { IfOk result (λ number. (declared number before.now ≡ true) × (number ≡ 1)) }
 {
     let number = number_in(word)?;

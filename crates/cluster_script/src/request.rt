@@ -3,7 +3,8 @@ ghost use Rattle.cluster_script.specs.Statements.{is_open, has, requests_of, dec
 ghost use Rattle.cluster_script.specs.OneDisk.{MayFollow, IsDiskOpen, IsSpan};
 ghost use Rattle.cluster_script.specs.Reading.{Gives, GivesInMemory};
 ghost use Rattle.cluster_script.specs.Words.{words_of};
-ghost use Rattle.cluster_script.specs.Requests.{create_at, open_at, close_at, span_at, read_at, write_at, disk_verb_at, verb_at, request_at};
+ghost use Rattle.cluster_script.specs.Requests.{close_at, span_at, read_at};
+ghost use Rattle.cluster_script.specs.OneDiskRequests.{create_at, open_at, write_at, disk_verb_at, verb_at, request_at};
 
 use crate::draft::Draft;
 use crate::fault::{LineCause, ReadError};
@@ -15,7 +16,7 @@ use object_id::{Bytes, Policy};
 use std::alloc::Global;
 
 /// A request of the session, from its word `vdi` on.
-#[tactic(auto, unfolding(crate::specs::Requests::request_at))]
+#[tactic(auto, unfolding(crate::specs::OneDiskRequests::request_at))]
 pub fn request(
     alloc: Global,
     before: &Draft,
@@ -33,7 +34,7 @@ pub fn request(
 }
 
 /// What the verb asks for. The first request is a create, and the second an open.
-#[tactic(auto, unfolding(crate::specs::Requests::verb_at))]
+#[tactic(auto, unfolding(crate::specs::OneDiskRequests::verb_at))]
 fn asked(
     alloc: Global,
     before: &Draft,
@@ -64,7 +65,7 @@ fn asked(
 }
 
 /// After the open the disk is read and written, and at last closed.
-#[tactic(auto, unfolding(crate::specs::Requests::disk_verb_at))]
+#[tactic(auto, unfolding(crate::specs::OneDiskRequests::disk_verb_at))]
 fn asked_of_open_disk(
     before: &Draft,
     session: u32,
@@ -92,7 +93,7 @@ fn asked_of_open_disk(
 }
 
 /// `-c 1 NAME SIZE`.
-#[tactic(auto, unfolding(crate::specs::Requests::create_at))]
+#[tactic(auto, unfolding(crate::specs::OneDiskRequests::create_at))]
 fn create(alloc: Global, before: &Draft, session: u32, line: &[u8]) -> Result<Statement, ReadError>
     requires one { session ≡ 1 }
     requires declared { declared session before.now ≡ true }
@@ -118,7 +119,7 @@ fn create(alloc: Global, before: &Draft, session: u32, line: &[u8]) -> Result<St
 }
 
 /// `NAME`, that of the disk that was made.
-#[tactic(auto, unfolding(crate::specs::Requests::open_at))]
+#[tactic(auto, unfolding(crate::specs::OneDiskRequests::open_at))]
 fn open_disk(
     alloc: Global,
     before: &Draft,
@@ -195,7 +196,7 @@ fn read(before: &Draft, session: u32, line: &[u8]) -> Result<Statement, LineCaus
 }
 
 /// `OFFSET LENGTH fill BYTE`.
-#[tactic(auto, unfolding(crate::specs::Requests::write_at))]
+#[tactic(auto, unfolding(crate::specs::OneDiskRequests::write_at))]
 fn write(before: &Draft, session: u32, line: &[u8]) -> Result<Statement, LineCause>
     requires one { session ≡ 1 }
     requires declared { declared session before.now ≡ true }

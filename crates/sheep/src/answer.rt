@@ -1,6 +1,5 @@
 ghost use Rattle.std.specs.Prelude.{◌≡◌, ◌+◌, ◌≤◌, [], length, IsSome, IfOk, IsErrOf};
-ghost use Rattle.cluster_script.specs.Words.{lines_of};
-ghost use Rattle.cluster_script.specs.Script.{script_of};
+ghost use Rattle.cluster_script.specs.OneDiskLines.{script_in};
 ghost use Rattle.sheep_base.specs.Fault.{Rose};
 ghost use Rattle.sheep.specs.Mode.{asked};
 ghost use Rattle.sheep.specs.Answer.{AnswersCall, MakesLegalHistory, TakesAtMost, bad_line_text, script_answer};
@@ -69,7 +68,7 @@ fn bad_line(alloc: Global, line: u32, cause: LineCause) -> Result<Answer, NoMemo
 /// Runs a script, or names the line for which a text isn't one.
 fn run_script(alloc: Global, input: &[u8]) -> Result<Answer, NoMemory>
     requires { length input.now ≤ INPUT_BYTES_MAX }
-    ensures answer { IfOk result (λ answer. answer ≡ script_answer (script_of [] 1 (lines_of input.now))) }
+    ensures answer { IfOk result (λ answer. answer ≡ script_answer (script_in input.now)) }
     ensures legal { IfOk result (λ _. MakesLegalHistory input.now) }
 {
     match parse(alloc, input) {

@@ -1,6 +1,5 @@
 ghost use Rattle.std.specs.Prelude.{◌≡◌, ◌⊎◌, ℕ, ◌+◌, ◌<◌, ◌≤◌, List, [], length, take, Some, None, IsSome, IsOk};
-ghost use Rattle.cluster_script.specs.Words.{lines_of};
-ghost use Rattle.cluster_script.specs.Script.{script_of};
+ghost use Rattle.cluster_script.specs.OneDiskLines.{script_in};
 ghost use Rattle.sheep_base.specs.Fault.{Rose};
 ghost use Rattle.sheep_base.specs.Sink.{Gains};
 ghost use Rattle.sheep.specs.declared.answer.Answer.{Answer as Ended};
@@ -50,7 +49,7 @@ pub fn sheep<S: Source, K: Sink>(
 
     // A script within the limit is run, unless memory runs out or a count rises.
     ensures complete { IsSome (asked words.now) → (input : List ℕ) → S.left source.old ≡ Some input
-        → length input ≤ INPUT_BYTES_MAX → IsOk (script_of [] 1 (lines_of input))
+        → length input ≤ INPUT_BYTES_MAX → IsOk (script_in input)
         → ¬ Rose (S.faults source.old) (S.faults source.new) → ¬ Rose (K.faults sink.old) (K.faults sink.new)
         → (result ≡ Status.Done) ⊎ (result ≡ Status.NoMemory) }
 {

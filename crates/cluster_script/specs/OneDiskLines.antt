@@ -1,0 +1,62 @@
+-- What `parse` takes today: the lines of scripts of one node, one session, and one disk with one copy.
+use Rattle.std.specs.Prelude.{ℕ, Bool, ◌&&◌, not, List, [], bytes_eq, codes, Result, Ok, Err, if◌then◌else◌}
+use Rattle.std.specs.List.{list_all}
+use Rattle.cluster_script.specs.declared.statement.Statement.{Statement}
+use Rattle.cluster_script.specs.declared.statement.Statement.TheVariants.{Cluster, Session}
+use Rattle.cluster_script.specs.declared.fault.LineCause.{LineCause}
+use Rattle.cluster_script.specs.declared.fault.LineCause.TheVariants as causes
+use Rattle.cluster_script.specs.declared.limits.TheConstants.{SESSION_MAX}
+use Rattle.cluster_script.specs.Statements.{is_setting, is_cluster, declared, has}
+use Rattle.cluster_script.specs.Reading.{◌>>=◌}
+use Rattle.cluster_script.specs.Words.{Word, lines_of, is_next, keyword_at, end_of}
+use Rattle.cluster_script.specs.Numbers.{is_digits, number_of, ranged, number_at}
+use Rattle.cluster_script.specs.Script.{script_of}
+use Rattle.cluster_script.specs.OneDiskRequests.{request_at}
+
+-- a setting stands before every other statement, and once
+abbrev pub may_set : (Statement → Bool) → List Statement → Bool
+may_set setting before = list_all is_setting before && not (has setting before)
+
+-- `cluster N`: one node; `cluster info` is no setting
+unfoldable pub cluster_at : List Statement → List Word → Result Statement LineCause
+cluster_at before words = do
+  turn ← if may_set is_cluster before && not (is_next (codes "info") words) then Ok words else Err causes.Word
+  nodes ← number_at 1 1 turn
+  end ← end_of nodes.1
+  Ok (Cluster nodes.0)
+
+-- `session S node N`: session 1 on node 0
+unfoldable pub session_at : List Statement → List Word → Result Statement LineCause
+session_at before words = do
+  session ← number_at 1 1 words
+  rest ← if declared session.0 before then Err causes.Twice else Ok session.1
+  place ← keyword_at (codes "node") rest
+  node ← number_at 0 0 place
+  end ← end_of node.1
+  Ok (Session session.0 node.0)
+
+-- the number of a declared session
+unfoldable pub asking : List Statement → Word → Result ℕ LineCause
+asking before word = do
+  number ← number_of word
+  session ← ranged 1 SESSION_MAX number
+  if declared session before then Ok session else Err causes.Unknown
+
+-- digits alone begin a request of the session of that number
+unfoldable pub asked_at : List Statement → Word → List Word → Result Statement LineCause
+asked_at before first words = do
+  session ← asking before first
+  request_at before session words
+
+-- the statement that the first word begins; without `cluster` no other may stand
+unfoldable pub statement_at : List Statement → Word → List Word → Result Statement LineCause
+statement_at before first words =
+    if bytes_eq first (codes "cluster") then cluster_at before words
+    else if not (has is_cluster before) then Err causes.Word
+    else if bytes_eq first (codes "session") then session_at before words
+    else if is_digits first then asked_at before first words
+    else Err causes.Word
+
+-- the script of one disk that a text is, or its first bad line, from 1, and the cause
+abbrev pub script_in : List ℕ → Result (List Statement) (ℕ × LineCause)
+script_in text = script_of statement_at [] 1 (lines_of text)
