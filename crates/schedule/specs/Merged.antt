@@ -1,5 +1,8 @@
--- The run into which kept steps of a live cluster are merged.
-use Rattle.std.specs.Prelude.{◌≡◌, ℕ, ◌+◌, nat_le, Bool, true, false, ◌&&◌, ◌||◌, List, [], ◌∷◌, ◌++◌, length, Option, Some, ◌==◌}
+-- The run into which the steps that a live cluster kept are merged.
+use Rattle.std.specs.Prelude.{◌≡◌, ℕ, ◌+◌, nat_le, Bool, true, false, ◌&&◌, ◌||◌, List, [], ◌∷◌, ◌++◌, length, flat_map, Option, Some, ◌==◌}
+use Rattle.std.specs.Ordering.{nat_cmp}
+use Rattle.std.specs.List.Sorted.{IsPermutation, IsSortedByKey, IsStableByKey}
+use Rattle.std.specs.FinMap as tree
 use Rattle.cluster_script.specs.declared.statement.Statement.{Statement}
 use Rattle.cluster_script.specs.Settings.{limit_of}
 use Rattle.sheep_node.specs.declared.event.Event.{Event}
@@ -13,11 +16,31 @@ use Rattle.sheep_world.specs.Enabled.{enabled}
 use Rattle.sheep_world.specs.Step.{Made, step}
 use Rattle.sheep_world.specs.Run.{Moment, run_from}
 
--- a step that was kept: its event, the input of the node that stepped, none where none did, and its outputs
+-- a step that was kept: its stamp, its event, the input of the node that stepped, none where none did, and its outputs
 pub record KeptStep : Type 0 where
+  pub stamp : ℕ
   pub event : Event
   pub input : Option Input
   pub outputs : Outputs
+
+-- what a live cluster kept: the steps of each node by its number, as it made them, and those at which no node stepped, as they were made
+pub record Kept : Type 0 where
+  pub cells : tree.FinMap nat_cmp (List KeptStep)
+  pub others : List KeptStep
+
+-- all that was kept: node by node, ascending, and then the other steps
+abbrev pub all_steps : Kept → List KeptStep
+all_steps kept = flat_map (λ (cell : ℕ × List KeptStep). cell.1) (tree.entries kept.cells) ++ kept.others
+
+-- the stamp that a step has
+abbrev pub stamp_of : KeptStep → ℕ
+stamp_of step = step.stamp
+
+-- all that was kept, by stamp; steps of equal stamps stay as they were
+pub record IsByStamp (kept : Kept) (steps : List KeptStep) : Type 0 where
+  pub same : IsPermutation (all_steps kept) steps
+  pub ascending : IsSortedByKey stamp_of nat_cmp steps
+  pub ties : IsStableByKey stamp_of nat_cmp (all_steps kept) steps
 
 -- whether Phase is due: a phase isn't ended, and nothing is enabled or as many other events were made as the limit allows
 abbrev pub is_phase_due : List Statement → World → ℕ → Bool
@@ -49,6 +72,10 @@ MergesFrom statements (event ∷ events) world taken steps =
 -- whether the steps of a script's cluster merge to these events
 abbrev pub Merges : List Statement → List KeptStep → List Event → Type 0
 Merges statements steps events = MergesFrom statements events (opening statements) 0 steps
+
+-- whether what a script's cluster kept merges to these events
+abbrev pub IsMergeOf : List Statement → Kept → List Event → Type 0
+IsMergeOf statements kept events = (steps : List KeptStep) × IsByStamp kept steps × Merges statements steps events
 
 -- where steps clash, from a moment of a run on: those before merge to events, after which Phase isn't due, and the step at the
 -- place, from 0, isn't enabled then or makes something else

@@ -9,7 +9,7 @@ ghost use Rattle.sheep_world.specs.Run.{Moment, IsRun, IsWholeRun};
 ghost use Rattle.schedule.specs.Schedule.{Draft, phase_chosen, choice, scheduled};
 ghost use Rattle.schedule.specs.Generated.{generated_lines};
 ghost use Rattle.schedule.specs.Stops.{stopped_at, IsStopAt};
-ghost use Rattle.schedule.specs.Merged.{KeptStep, MergesFrom, Merges, IsClashAt};
+ghost use Rattle.schedule.specs.Merged.{KeptStep, Kept, IsByStamp, MergesFrom, Merges, IsMergeOf, IsClashAt};
 
 /// The first two words of the generator with seed 0.
 pub fn the_first_words()
@@ -52,6 +52,16 @@ pub fn steps_merge_to_one_run()
         → Merges statements steps events → Merges statements steps others → events ≡ others }
     ensures clash { (statements : List Statement) (moment : Moment) (taken : ℕ) (steps : List KeptStep) (place : ℕ) (events : List Event)
         → IsClashAt statements moment taken steps place → MergesFrom statements events moment.world taken steps → ⊥ }
+{}
+
+/// What was kept stands by stamp in one order, and so merges to one list of events at most, a run of the script.
+pub fn what_is_kept_has_one_order()
+    ensures some { (kept : Kept) → (steps : List KeptStep) × IsByStamp kept steps }
+    ensures one { (kept : Kept) (steps others : List KeptStep) → IsByStamp kept steps → IsByStamp kept others → steps ≡ others }
+    ensures run { (statements : List Statement) (kept : Kept) (events : List Event) → IsMergeOf statements kept events
+        → IsRun statements events }
+    ensures merge { (statements : List Statement) (kept : Kept) (events others : List Event)
+        → IsMergeOf statements kept events → IsMergeOf statements kept others → events ≡ others }
 {}
 
 /// The script that the number 0 generates: where its parts stand, and some of its lines.

@@ -3,10 +3,10 @@
 //!
 //! The crate stands on `sheep_world` and what is below it, and takes its random words from `rand_xoshiro`. Here stand the
 //! faults of a run as a type, and as definitions the schedule (`specs/Schedule.antt`), the place at which events stop being
-//! enabled (`specs/Stops.antt`), which events steps merge to (`specs/Merged.antt`), and the script that a number generates
-//! (`specs/Generated.antt`). The laws of `laws.rt` say what these mean: a schedule is a whole run, in which Phase stands
-//! where nothing is enabled or the limit is reached; events stop at the first that isn't enabled; and steps merge to one run
-//! at most.
+//! enabled (`specs/Stops.antt`), in which order kept steps stand and which events they merge to (`specs/Merged.antt`), and the
+//! script that a number generates (`specs/Generated.antt`). The laws of `laws.rt` say what these mean: a schedule is a whole
+//! run, in which Phase stands where nothing is enabled or the limit is reached; events stop at the first that isn't enabled;
+//! and what was kept has one order, in which its steps merge to one run at most.
 #![tactic(auto)]
 
 mod fault;
@@ -15,5 +15,5 @@ mod laws;
 pub use fault::RunFault;
 pub use laws::{
     a_schedule_is_a_whole_run, a_script_generated, a_stop_is_the_first, phase_stands_last,
-    steps_merge_to_one_run, the_first_words,
+    steps_merge_to_one_run, the_first_words, what_is_kept_has_one_order,
 };
