@@ -134,15 +134,6 @@ pub enum Entry {
     },
 }
 
-fn copy_tag(alloc: Global, tag: &Option<Bytes>) -> Result<Option<Bytes>, NoMemory>
-    ensures { IfOk result (λ copy. copy ≡ tag.now) }
-{
-    match tag {
-        Some(tag) => Ok(Some(tag.copy(alloc)?)),
-        None => Ok(None),
-    }
-}
-
 impl Entry {
     pub fn copy(&self, alloc: Global) -> Result<Self, NoMemory>
         ensures { IfOk result (λ copy. copy ≡ self.now) }
@@ -192,7 +183,7 @@ impl Entry {
                 by: *by,
                 session: *session,
                 name: name.copy(alloc)?,
-                tag: copy_tag(alloc, tag)?,
+                tag: Bytes::copy_option(alloc, tag)?,
             },
             Entry::Lock {
                 by,
@@ -203,7 +194,7 @@ impl Entry {
                 by: *by,
                 session: *session,
                 name: name.copy(alloc)?,
-                tag: copy_tag(alloc, tag)?,
+                tag: Bytes::copy_option(alloc, tag)?,
             },
             Entry::Unlock { by, session, vid } => Entry::Unlock {
                 by: *by,
