@@ -142,20 +142,10 @@ impl Entry {
             Entry::Format { members } => Entry::Format {
                 members: members.copy(alloc)?,
             },
-            Entry::Join { node, zone, vnodes } => Entry::Join {
-                node: *node,
-                zone: *zone,
-                vnodes: *vnodes,
-            },
-            Entry::Leave { node } => Entry::Leave { node: *node },
-            Entry::Reweight { node, vnodes } => Entry::Reweight {
-                node: *node,
-                vnodes: *vnodes,
-            },
-            Entry::Recovered { node, epoch } => Entry::Recovered {
-                node: *node,
-                epoch: *epoch,
-            },
+            &Entry::Join { node, zone, vnodes } => Entry::Join { node, zone, vnodes },
+            &Entry::Leave { node } => Entry::Leave { node },
+            &Entry::Reweight { node, vnodes } => Entry::Reweight { node, vnodes },
+            &Entry::Recovered { node, epoch } => Entry::Recovered { node, epoch },
             Entry::Reserve {
                 by,
                 session,
@@ -167,13 +157,9 @@ impl Entry {
                 name: name.copy(alloc)?,
                 origin: origin.copy(alloc)?,
             },
-            Entry::Publish { by, vid } => Entry::Publish { by: *by, vid: *vid },
-            Entry::Clone { by, vid } => Entry::Clone { by: *by, vid: *vid },
-            Entry::Snapshot { by, old, vid } => Entry::Snapshot {
-                by: *by,
-                old: *old,
-                vid: *vid,
-            },
+            &Entry::Publish { by, vid } => Entry::Publish { by, vid },
+            &Entry::Clone { by, vid } => Entry::Clone { by, vid },
+            &Entry::Snapshot { by, old, vid } => Entry::Snapshot { by, old, vid },
             Entry::Delete {
                 by,
                 session,
@@ -196,11 +182,7 @@ impl Entry {
                 name: name.copy(alloc)?,
                 tag: Bytes::copy_option(alloc, tag)?,
             },
-            Entry::Unlock { by, session, vid } => Entry::Unlock {
-                by: *by,
-                session: *session,
-                vid: *vid,
-            },
+            &Entry::Unlock { by, session, vid } => Entry::Unlock { by, session, vid },
         })
     }
 }
