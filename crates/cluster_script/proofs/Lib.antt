@@ -3,6 +3,7 @@ pub mod Counting
 pub mod Pieces
 pub mod DigitLemmas
 pub mod LineSteps
+pub mod SettingLemmas
 pub mod WorkedCases
 pub mod WorkedLines
 pub mod PhaseLaws

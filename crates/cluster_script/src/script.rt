@@ -1,6 +1,6 @@
 ghost use Rattle.std.specs.Prelude.{◌≡◌, ◌≤◌, ◌<◌, [], length, IfOk};
 ghost use Rattle.cluster_script.specs.OneDisk.{IsOneDiskScript};
-ghost use Rattle.cluster_script.specs.Settings.{nodes_of, vnodes_of, tries_of, limit_of};
+ghost use Rattle.cluster_script.specs.Settings.{nodes_set, vnodes_set, tries_set, limit_set, nodes_of, vnodes_of, tries_of, limit_of};
 ghost use Rattle.cluster_script.specs.Script.{Answers};
 ghost use Rattle.cluster_script.specs.OneDiskLines.{script_in};
 
@@ -38,28 +38,40 @@ impl Script {
     pub fn nodes(&self) -> u32
         ensures { result ≡ nodes_of self.now }
     {
-        first_nodes(self.statements())
+        self.statements()
+            .iter()
+            .find_map(nodes_set)
+            .unwrap_or(NODES_DEFAULT)
     }
 
     /// How many virtual nodes each node has at first.
     pub fn vnodes(&self) -> u16
         ensures { result ≡ vnodes_of self.now }
     {
-        first_vnodes(self.statements())
+        self.statements()
+            .iter()
+            .find_map(vnodes_set)
+            .unwrap_or(VNODES_DEFAULT)
     }
 
     /// How many attempts a request has.
     pub fn tries(&self) -> u32
         ensures { result ≡ tries_of self.now }
     {
-        first_tries(self.statements())
+        self.statements()
+            .iter()
+            .find_map(tries_set)
+            .unwrap_or(TRIES_DEFAULT)
     }
 
     /// How many events a run may take.
     pub fn limit(&self) -> u32
         ensures { result ≡ limit_of self.now }
     {
-        first_limit(self.statements())
+        self.statements()
+            .iter()
+            .find_map(limit_set)
+            .unwrap_or(LIMIT_DEFAULT)
     }
 
     pub fn statements(&self) -> &[Statement]
@@ -71,52 +83,44 @@ impl Script {
     }
 }
 
-/// The number of opening members that the first setting of it gives, or the default.
-fn first_nodes(statements: &[Statement]) -> u32
-    ensures { result ≡ nodes_of statements.now }
+/// The number of opening members that a statement sets.
+fn nodes_set(statement: &Statement) -> Option<u32>
+    ensures { result ≡ nodes_set statement.now }
 {
-    for s in statements {
-        if let Statement::Cluster { nodes } = s {
-            return *nodes;
-        }
+    match statement {
+        Statement::Cluster { nodes } => Some(*nodes),
+        _ => None,
     }
-    NODES_DEFAULT
 }
 
-/// The number of virtual nodes that the first setting of it gives, or the default.
-fn first_vnodes(statements: &[Statement]) -> u16
-    ensures { result ≡ vnodes_of statements.now }
+/// The number of virtual nodes that it sets.
+fn vnodes_set(statement: &Statement) -> Option<u16>
+    ensures { result ≡ vnodes_set statement.now }
 {
-    for s in statements {
-        if let Statement::Vnodes { vnodes } = s {
-            return *vnodes;
-        }
+    match statement {
+        Statement::Vnodes { vnodes } => Some(*vnodes),
+        _ => None,
     }
-    VNODES_DEFAULT
 }
 
-/// The number of attempts that the first setting of it gives, or the default.
-fn first_tries(statements: &[Statement]) -> u32
-    ensures { result ≡ tries_of statements.now }
+/// The number of attempts that it sets.
+fn tries_set(statement: &Statement) -> Option<u32>
+    ensures { result ≡ tries_set statement.now }
 {
-    for s in statements {
-        if let Statement::Tries { tries } = s {
-            return *tries;
-        }
+    match statement {
+        Statement::Tries { tries } => Some(*tries),
+        _ => None,
     }
-    TRIES_DEFAULT
 }
 
-/// The number of events that the first setting of it gives, or the default.
-fn first_limit(statements: &[Statement]) -> u32
-    ensures { result ≡ limit_of statements.now }
+/// The number of events that it sets.
+fn limit_set(statement: &Statement) -> Option<u32>
+    ensures { result ≡ limit_set statement.now }
 {
-    for s in statements {
-        if let Statement::Limit { limit } = s {
-            return *limit;
-        }
+    match statement {
+        Statement::Limit { limit } => Some(*limit),
+        _ => None,
     }
-    LIMIT_DEFAULT
 }
 
 /// Reads a text. A script is answered as its statements; else the answer is the first bad line, from 1, and its cause.

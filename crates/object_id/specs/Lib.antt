@@ -4,3 +4,4 @@ pub mod Policy
 pub mod Spec
 pub mod Piece
 pub mod Fields
+pub mod Runs

@@ -71,4 +71,14 @@ impl Bytes {
     {
         Bytes::from_slice(alloc, self.as_slice())
     }
+
+    /// A copy of the bytes if there are any: `None` takes no memory.
+    pub fn copy_option(alloc: Global, bytes: &Option<Bytes>) -> Result<Option<Bytes>, NoMemory>
+        ensures { IfOk result (λ copy. copy ≡ bytes.now) }
+    {
+        match bytes {
+            Some(bytes) => Ok(Some(bytes.copy(alloc)?)),
+            None => Ok(None),
+        }
+    }
 }

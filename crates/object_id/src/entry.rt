@@ -134,15 +134,6 @@ pub enum Entry {
     },
 }
 
-fn copy_tag(alloc: Global, tag: &Option<Bytes>) -> Result<Option<Bytes>, NoMemory>
-    ensures { IfOk result (λ copy. copy ≡ tag.now) }
-{
-    match tag {
-        Some(tag) => Ok(Some(tag.copy(alloc)?)),
-        None => Ok(None),
-    }
-}
-
 impl Entry {
     pub fn copy(&self, alloc: Global) -> Result<Self, NoMemory>
         ensures { IfOk result (λ copy. copy ≡ self.now) }
@@ -151,20 +142,10 @@ impl Entry {
             Entry::Format { members } => Entry::Format {
                 members: members.copy(alloc)?,
             },
-            Entry::Join { node, zone, vnodes } => Entry::Join {
-                node: *node,
-                zone: *zone,
-                vnodes: *vnodes,
-            },
-            Entry::Leave { node } => Entry::Leave { node: *node },
-            Entry::Reweight { node, vnodes } => Entry::Reweight {
-                node: *node,
-                vnodes: *vnodes,
-            },
-            Entry::Recovered { node, epoch } => Entry::Recovered {
-                node: *node,
-                epoch: *epoch,
-            },
+            &Entry::Join { node, zone, vnodes } => Entry::Join { node, zone, vnodes },
+            &Entry::Leave { node } => Entry::Leave { node },
+            &Entry::Reweight { node, vnodes } => Entry::Reweight { node, vnodes },
+            &Entry::Recovered { node, epoch } => Entry::Recovered { node, epoch },
             Entry::Reserve {
                 by,
                 session,
@@ -176,13 +157,9 @@ impl Entry {
                 name: name.copy(alloc)?,
                 origin: origin.copy(alloc)?,
             },
-            Entry::Publish { by, vid } => Entry::Publish { by: *by, vid: *vid },
-            Entry::Clone { by, vid } => Entry::Clone { by: *by, vid: *vid },
-            Entry::Snapshot { by, old, vid } => Entry::Snapshot {
-                by: *by,
-                old: *old,
-                vid: *vid,
-            },
+            &Entry::Publish { by, vid } => Entry::Publish { by, vid },
+            &Entry::Clone { by, vid } => Entry::Clone { by, vid },
+            &Entry::Snapshot { by, old, vid } => Entry::Snapshot { by, old, vid },
             Entry::Delete {
                 by,
                 session,
@@ -192,7 +169,7 @@ impl Entry {
                 by: *by,
                 session: *session,
                 name: name.copy(alloc)?,
-                tag: copy_tag(alloc, tag)?,
+                tag: Bytes::copy_option(alloc, tag)?,
             },
             Entry::Lock {
                 by,
@@ -203,13 +180,9 @@ impl Entry {
                 by: *by,
                 session: *session,
                 name: name.copy(alloc)?,
-                tag: copy_tag(alloc, tag)?,
+                tag: Bytes::copy_option(alloc, tag)?,
             },
-            Entry::Unlock { by, session, vid } => Entry::Unlock {
-                by: *by,
-                session: *session,
-                vid: *vid,
-            },
+            &Entry::Unlock { by, session, vid } => Entry::Unlock { by, session, vid },
         })
     }
 }

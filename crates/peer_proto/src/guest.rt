@@ -54,15 +54,6 @@ pub enum VdiAsk {
     },
 }
 
-fn copy_tag(alloc: Global, tag: &Option<Bytes>) -> Result<Option<Bytes>, NoMemory>
-    ensures { IfOk result (λ copy. copy ≡ tag.now) }
-{
-    match tag {
-        Some(tag) => Ok(Some(tag.copy(alloc)?)),
-        None => Ok(None),
-    }
-}
-
 impl VdiAsk {
     pub fn copy(&self, alloc: Global) -> Result<Self, NoMemory>
         ensures { IfOk result (λ copy. copy ≡ self.now) }
@@ -74,7 +65,7 @@ impl VdiAsk {
             },
             VdiAsk::Attach { name, tag } => VdiAsk::Attach {
                 name: name.copy(alloc)?,
-                tag: copy_tag(alloc, tag)?,
+                tag: Bytes::copy_option(alloc, tag)?,
             },
             VdiAsk::Close => VdiAsk::Close,
             VdiAsk::Snapshot { tag } => VdiAsk::Snapshot {
@@ -87,7 +78,7 @@ impl VdiAsk {
             },
             VdiAsk::Delete { name, tag } => VdiAsk::Delete {
                 name: name.copy(alloc)?,
-                tag: copy_tag(alloc, tag)?,
+                tag: Bytes::copy_option(alloc, tag)?,
             },
         })
     }

@@ -6,6 +6,7 @@ use Rattle.std.specs.List.{range_with_len}
 use Rattle.std.proofs.lemmas.Bool.{le-leb, leb-true, lt-ltb}
 use Rattle.std.proofs.lemmas.Bool.Decides.{eqb_tells, leb_tells}
 use Rattle.std.proofs.lemmas.List.{length-replicate}
+use Rattle.object_id.specs.Hash.{own_vid}
 use Rattle.object_id.specs.declared.policy.Policy.{Policy}
 use Rattle.cluster_script.specs.declared.statement.Pattern.{Pattern}
 use Rattle.cluster_script.specs.declared.statement.Statement.{Statement}
@@ -20,7 +21,7 @@ use Rattle.disk_history.specs.Legal.{IsLegal, ledger_from, may_follow}
 use Rattle.disk_history.proofs.LegalLemmas.{ledger_from-append}
 use Rattle.sheep.specs.Blocks.{zeros, size_after, block_after, block_of, blocks_of, laid_on, fits, covers}
 use Rattle.sheep.specs.Report.{along, number_after}
-use Rattle.sheep.specs.History.{first_vid, vid_after, events_after, history_of}
+use Rattle.sheep.specs.History.{vid_after, events_after, history_of}
 use Rattle.sheep.proofs.AlongLemmas.{disk_size-snoc, disk_size-kept, disk_size-no_requests, disk_name-snoc, disk_name-kept, disk_name-no_requests, block_after-snoc, block_after-no_requests}
 use Rattle.sheep.proofs.ReportLemmas.{count_by-snoc}
 use Rattle.sheep.proofs.BlockLemmas.{block_filled}
@@ -72,7 +73,7 @@ settled_kept before s ledger no_size no_name nothing settled = record {
   none = λ is. settled.none (sym (disk_size-kept before s no_size) ∙ is);
   made = λ size is.
       let was = settled.made size (sym (disk_size-kept before s no_size) ∙ is) in
-      let same_vid : vid_after (before ++ s ∷ []) ≡ vid_after before = ap (λ name. first_vid (unwrap_or name [])) (disk_name-kept before s no_name) in
+      let same_vid : vid_after (before ++ s ∷ []) ≡ vid_after before = ap (λ name. own_vid (unwrap_or name [])) (disk_name-kept before s no_name) in
       record {
         disk = was.disk;
         there = ap ledger.disks same_vid ∙ was.there;
@@ -265,7 +266,7 @@ settled_next before s size next request no_size no_name is now later = record {
   made = λ other there.
       let size_kept : disk_size (before ++ s ∷ []) ≡ Some size = disk_size-kept before s no_size ∙ is in
       let same : size ≡ other = cc in
-      let vid_kept : vid_after before ≡ vid_after (before ++ s ∷ []) = ap (λ name. first_vid (unwrap_or name [])) (sym (disk_name-kept before s no_name)) in
+      let vid_kept : vid_after before ≡ vid_after (before ++ s ∷ []) = ap (λ name. own_vid (unwrap_or name [])) (sym (disk_name-kept before s no_name)) in
       subst (λ other. DiskIs (number_after (before ++ s ∷ [])) (other / 512) (block_after other (before ++ s ∷ [])) next (vid_after (before ++ s ∷ []))) same
       (subst (λ number. DiskIs number (size / 512) (block_after size (before ++ s ∷ [])) next (vid_after (before ++ s ∷ []))) (sym (number_after-request before s request))
       (subst (λ vid. DiskIs (number_after before + 1) (size / 512) (block_after size (before ++ s ∷ [])) next vid) vid_kept now));
@@ -363,13 +364,13 @@ read_continues before session offset count ledger size is settled = go (fits siz
 create_continues : (before : List Statement) (session : ℕ) (policy : Policy) (shift : ℕ) (name : List ℕ) (size : ℕ) (ledger : Ledger)
     → requests_of before ≡ [] → Settled before ledger → Continues before (Create session policy shift name size) ledger
 create_continues before session policy shift name size ledger first settled =
-    let vid : ℕ = first_vid name in
+    let vid : ℕ = own_vid name in
     let s : Statement = Create session policy shift name size in
     let next : Ledger = after ledger (events.Create vid (size / 512)) in
     let may : may_follow ledger (events.Create vid (size / 512)) ≡ true = rw (settled.none (disk_size-no_requests before first) vid) refl in
     let size_is : disk_size (before ++ s ∷ []) ≡ Some size = disk_size-snoc before s ∙ rw (disk_size-no_requests before first) refl in
     let name_is : disk_name (before ++ s ∷ []) ≡ Some name = disk_name-snoc before s ∙ rw (disk_name-no_requests before first) refl in
-    let vid_is : vid_after (before ++ s ∷ []) ≡ vid = ap (λ name. first_vid (unwrap_or name [])) name_is in
+    let vid_is : vid_after (before ++ s ∷ []) ≡ vid = ap (λ name. own_vid (unwrap_or name [])) name_is in
     let new_disk : Disk = record { blocks = size / 512; items = λ block. settled_item None zeros ∷ []; deleted = false } in
     let more = number_after-le before s in (
       next,

@@ -2,7 +2,7 @@
 use Rattle.std.proofs.Common.{◌≡◌, ◌≢◌, ℕ, zero, suc, ◌+◌, ◌<◌, List, [], ◌∷◌, ◌++◌, length, replicate, refl, ap, sym, ◌∙◌, slice_index, append_assoc, Bool, true, false, rules, arith}
 use Rattle.std.specs.Prelude.{◌==◌}
 use Rattle.std.specs.List.{flat_map}
-use Rattle.sheep.specs.Runs.{with_front, runs_of}
+use Rattle.object_id.specs.Runs.{with_front, runs_of}
 use Rattle.sheep.specs.Report.{run_text, runs_text}
 
 -- what stands in front begins the first run

@@ -1,6 +1,6 @@
 -- The history that a script's run makes.
-use Rattle.std.specs.Prelude.{ℕ, ◌/◌, ◌%◌, ◌^◌, ◌==◌, false, List, [], ◌∷◌, ◌++◌, map, if◌then◌else◌}
-use Rattle.object_id.specs.Hash.{fnv1a_of}
+use Rattle.std.specs.Prelude.{ℕ, ◌/◌, false, List, [], ◌∷◌, ◌++◌, map, if◌then◌else◌}
+use Rattle.object_id.specs.Hash.{own_vid}
 use Rattle.cluster_script.specs.declared.limits.TheConstants.{BLOCK}
 use Rattle.cluster_script.specs.declared.statement.Statement.{Statement}
 use Rattle.cluster_script.specs.declared.statement.Statement.TheVariants.{Create, Read, Write}
@@ -11,17 +11,13 @@ use Rattle.std.specs.Prelude.{unwrap_or}
 use Rattle.sheep.specs.Blocks.{size_after, fits, blocks_of, block_of, block_after}
 use Rattle.sheep.specs.Report.{along, number_after}
 
--- the id of the first disk of this name: the low 24 bits of the name's hash, and 1 where they are 0
-abbrev pub first_vid : List ℕ → ℕ
-first_vid name = if fnv1a_of name % 2 ^ 24 == 0 then 1 else fnv1a_of name % 2 ^ 24
-
--- the id of the script's disk
+-- the id of the script's disk, the first one of its name
 abbrev pub vid_after : List Statement → ℕ
-vid_after before = first_vid (unwrap_or (disk_name before) [])
+vid_after before = own_vid (unwrap_or (disk_name before) [])
 
 -- what a statement adds to the history: a disk, the writes and the end of a write request, or the blocks of a read
 abbrev pub events_after : List Statement → Statement → List HistEvent
-events_after before (Create session policy shift name size) = events.Create (first_vid name) (size / BLOCK) ∷ []
+events_after before (Create session policy shift name size) = events.Create (own_vid name) (size / BLOCK) ∷ []
 events_after before (Read session offset length) =
     if fits (size_after before) offset length
     then map (λ block. events.Read (vid_after before) block (block_after (size_after before) before block)) (blocks_of offset length)

@@ -2,7 +2,6 @@ pub mod Status
 pub mod Mode
 pub mod Blocks
 pub mod Stored
-pub mod Runs
 pub mod Report
 pub mod History
 pub mod Answer

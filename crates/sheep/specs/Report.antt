@@ -1,10 +1,10 @@
 -- The text of a script's run: a line for each request.
 use Rattle.std.specs.Prelude.{ℕ, ◌+◌, ◌/◌, ◌%◌, List, [], ◌∷◌, ◌++◌, flat_map, codes, decimal, slice_index, count_by, if◌then◌else◌}
+use Rattle.object_id.specs.Runs.{runs_of}
 use Rattle.cluster_script.specs.declared.statement.Statement.{Statement}
 use Rattle.cluster_script.specs.declared.statement.Statement.TheVariants.{Create, OpenDisk, Close, Read, Write}
 use Rattle.cluster_script.specs.Statements.{is_request}
 use Rattle.sheep.specs.Blocks.{size_after, fits, blocks_of, block_after}
-use Rattle.sheep.specs.Runs.{runs_of}
 
 -- the lists that each statement gives, told with those before it, in a row
 abbrev pub along : {X : Type 0} → (List Statement → Statement → List X) → List Statement → List Statement → List X

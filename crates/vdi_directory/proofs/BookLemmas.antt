@@ -3,7 +3,7 @@ use Rattle.std.proofs.Common.{◌≡◌, ℕ, ◌%◌, ◌^◌, ◌≤◌, ◌==
 use Rattle.std.proofs.lemmas.Bool.{eqb-false}
 use Rattle.std.proofs.lemmas.List.Sums.{fold-append}
 use Rattle.std.proofs.lemmas.List.Folds.{list_any-append}
-use Rattle.object_id.specs.Hash.{fnv1a_of}
+use Rattle.object_id.specs.Hash.{fnv1a_of, own_vid}
 use Rattle.object_id.specs.declared.oid.Vid.{Vid}
 use Rattle.object_id.specs.declared.node.NodeId.{NodeId}
 use Rattle.object_id.specs.declared.cause.Cause.{Cause}
@@ -24,7 +24,7 @@ use Rattle.vdi_directory.specs.declared.effect.Effect.{Effect}
 use Rattle.vdi_directory.specs.declared.effect.Effect.TheVariants as effects
 use Rattle.vdi_directory.specs.declared.decision.Outcome.{Outcome}
 use Rattle.vdi_directory.specs.declared.books.Books.{Books}
-use Rattle.vdi_directory.specs.Vids.{own_vid, VID_COUNT, free_id}
+use Rattle.vdi_directory.specs.Vids.{VID_COUNT, free_id}
 use Rattle.vdi_directory.specs.Names.{no_disk}
 use Rattle.vdi_directory.specs.Effects.{grants, is_used, header_after, header_of, name_after, name_of, claims_after, claims_of, claim_on, live_after, live_of, holder_after, holder_of}
 use Rattle.vdi_directory.specs.Decisions.{nothing, silent, granted, refused, outcome, happens, happened, or_full, grant_of, with_spec, reserved, reserved_snapshot, reserved_clone, reservation, publication, replacement, snapshot, deletion, lock, target, held_disk, is_held_by, is_claimed_by, is_taken}

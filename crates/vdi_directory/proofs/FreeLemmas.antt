@@ -1,8 +1,9 @@
 -- The free id is the first one that is not used, and there is none exactly where every id is used.
 use Rattle.std.proofs.Common.{◌≡◌, ◌≢◌, ◌⊎◌, inl, inr, ℕ, zero, suc, ◌+◌, ◌-◌, ◌<◌, ◌≤◌, Bool, true, false, cond, List, Some, None, refl, ap, sym, ◌∙◌, arith}
 use Rattle.std.proofs.lemmas.Bool.{cases_eq, cases_lt}
+use Rattle.object_id.specs.Hash.{own_vid}
 use Rattle.vdi_directory.specs.declared.vid_range.TheConstants.{VID_MAX}
-use Rattle.vdi_directory.specs.Vids.{own_vid, next_vid, first_unused, VID_COUNT, free_id}
+use Rattle.vdi_directory.specs.Vids.{next_vid, first_unused, VID_COUNT, free_id}
 use Rattle.vdi_directory.proofs.VidLemmas.{VID_COUNT-is, next-within, wrapped}
 use Rattle.vdi_directory.proofs.BookLemmas.{own_vid-is, free_id-is}
 

@@ -1,15 +1,11 @@
 -- Ids of disks: which one a new disk of a name gets, and ranges of ids.
-use Rattle.std.specs.Prelude.{ℕ, zero, suc, ◌+◌, ◌-◌, ◌%◌, ◌^◌, ◌≤◌, ◌==◌, ◌&&◌, nat_le, Bool, List, [], ◌∷◌, Option, Some, None, Result, Ok, Err, if◌then◌else◌}
+use Rattle.std.specs.Prelude.{ℕ, zero, suc, ◌+◌, ◌-◌, ◌^◌, ◌≤◌, ◌==◌, ◌&&◌, nat_le, Bool, List, [], ◌∷◌, Option, Some, None, Result, Ok, Err, if◌then◌else◌}
 use Rattle.std.specs.List.{list_any}
-use Rattle.object_id.specs.Hash.{fnv1a_of}
+use Rattle.object_id.specs.Hash.{own_vid}
 use Rattle.object_id.specs.declared.oid.Vid.{Vid}
 use Rattle.vdi_directory.specs.declared.vid_range.VidRange.{VidRange}
 use Rattle.vdi_directory.specs.declared.vid_range.FullVdi.{FullVdi}
 use Rattle.vdi_directory.specs.declared.vid_range.TheConstants.{VID_MAX}
-
--- the id that a name's hash gives: its low 24 bits, and 1 where these are 0, which is no id
-abbrev pub own_vid : List ℕ → ℕ
-own_vid name = if fnv1a_of name % 2 ^ 24 == 0 then 1 else fnv1a_of name % 2 ^ 24
 
 -- the id after this one; behind the last comes the first
 abbrev pub next_vid : ℕ → ℕ

@@ -3,6 +3,7 @@ ghost use Rattle.std.specs.Prelude.{◌≡◌, ◌↔◌, ◌⊎◌, ℕ, ◌<�
 ghost use Rattle.std.specs.List.{list_any};
 ghost use Rattle.std.specs.FinMap as tree;
 ghost use Rattle.std.specs.List.Sorted.{IsStrictlyIncreasing};
+ghost use Rattle.object_id.specs.Hash.{own_vid};
 ghost use Rattle.object_id.specs.Oid.{IsVid};
 ghost use Rattle.object_id.specs.declared.oid.Vid.{Vid};
 ghost use Rattle.object_id.specs.declared.node.NodeId.{NodeId};
@@ -18,7 +19,7 @@ ghost use Rattle.vdi_directory.specs.declared.effect.Effect.{Effect};
 ghost use Rattle.vdi_directory.specs.declared.effect.Effect.TheVariants as effects;
 ghost use Rattle.vdi_directory.specs.declared.decision.Decision.TheVariants as decisions;
 ghost use Rattle.vdi_directory.specs.declared.vid_range.TheConstants.{VID_MAX};
-ghost use Rattle.vdi_directory.specs.Vids.{own_vid, free_id};
+ghost use Rattle.vdi_directory.specs.Vids.{free_id};
 ghost use Rattle.vdi_directory.specs.Sources.{is_for, tag_for};
 ghost use Rattle.vdi_directory.specs.Effects.{is_used, header_of, name_of, claims_of, claim_on, live_of, holder_of};
 ghost use Rattle.vdi_directory.specs.Decisions.{outcome, happened, nothing, decision_after, found, held_disk};

@@ -1,6 +1,7 @@
 ghost use Rattle.std.specs.Prelude.{◌≡◌, ℕ, ◌<◌, ◌≤◌, length, slice_index_or};
+ghost use Rattle.object_id.specs.Hash.{own_vid};
 ghost use Rattle.vdi_directory.specs.declared.vid_range.VidRange.{VidRange};
-ghost use Rattle.vdi_directory.specs.Vids.{own_vid, free_id, as_vid, is_in, AreRanges};
+ghost use Rattle.vdi_directory.specs.Vids.{free_id, as_vid, is_in, AreRanges};
 
 use object_id::{Vid, fnv1a};
 

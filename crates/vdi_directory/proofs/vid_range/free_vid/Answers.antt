@@ -1,6 +1,7 @@
 use Rattle.std.proofs.Common.{◌≡◌, ◌<◌, inl, inr, ℕ, List, Option, ap, sym, ◌∙◌, arith}
+use Rattle.object_id.specs.Hash.{own_vid}
 use Rattle.vdi_directory.specs.declared.vid_range.VidRange.{VidRange}
-use Rattle.vdi_directory.specs.Vids.{VID_COUNT, first_unused, own_vid, free_id, as_vid, is_in}
+use Rattle.vdi_directory.specs.Vids.{VID_COUNT, first_unused, free_id, as_vid, is_in}
 use Rattle.vdi_directory.proofs.VidLemmas.{range-same, own-found, next-found, first-found, behind-first-found, none-found}
 use Rattle.vdi_directory.proofs.vid_range.free_vid.Goals as goal
 use Rattle.vdi_directory.proofs.vid_range.free_vid.Goals.{then-place-used-via-then-place-used, then-place-used-via-else-place-used+then-own-used}
