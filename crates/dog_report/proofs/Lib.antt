@@ -1,3 +1,4 @@
 pub mod ReportLaws
+pub mod FateLaws
 pub mod ExampleLemmas
 pub mod CountLaws

@@ -41,6 +41,10 @@ at_log world = record world { log = example_log }
 abbrev pub row_to : Option Epoch → SeenRow
 row_to to = record { index = 0; from = record { 0 = 2 }; to = to; bytes = 97 ∷ 0 ∷ [] }
 
+-- the same of an index, from an epoch on
+abbrev pub row_from : ℕ → ℕ → SeenRow
+row_from index from = record (row_to None) { index = index; from = record { 0 = from } }
+
 -- an id is reserved
 abbrev pub reserved : ℕ → List ℕ → Source → Option Vid → VdiSpec → Effect
 reserved id name source parent spec = Reserved (record {

@@ -1,26 +1,50 @@
 //! Laws of the definitions, for the proofs of the layers above: each is the contract of a function that does nothing.
-ghost use Rattle.std.specs.Prelude.{◌≡◌, ℕ, ◌+◌, true, List, [], ◌∷◌, ◌++◌, codes, replicate, length, map, Some, None};
+ghost use Rattle.std.specs.Prelude.{◌≡◌, ℕ, ◌+◌, nat_le, true, false, List, [], ◌∷◌, ◌++◌, codes, replicate, length, take, map, Some, None};
 ghost use Rattle.std.specs.List.{range_with_len};
 ghost use Rattle.std.specs.List.Sorted.{IsPermutation};
+ghost use Rattle.std.specs.FinMap.{get};
 ghost use Rattle.object_id.specs.declared.cause.Cause.TheVariants as causes;
+ghost use Rattle.peer_proto.specs.declared.guest.GuestRsp.{GuestRsp};
 ghost use Rattle.peer_proto.specs.declared.guest.GuestRsp.TheVariants as replies;
 ghost use Rattle.cluster_script.specs.declared.statement.Statement.{Statement};
 ghost use Rattle.cluster_script.specs.Statements.{requests_of};
+ghost use Rattle.cluster_script.specs.Phases.{phase_of_request};
 ghost use Rattle.sheep_node.specs.declared.event.Event.{Event};
 ghost use Rattle.sheep_node.specs.State.{opening};
 ghost use Rattle.sheep_world.specs.World.{Seat, World};
 ghost use Rattle.sheep_world.specs.Opening.{first_seat};
 ghost use Rattle.dog_report.specs.Words.{spaced};
 ghost use Rattle.dog_report.specs.Fates.{Answered, Gone, Pending, Unsent, Line, Told, line_words, numbers_told};
-ghost use Rattle.dog_report.specs.Lists.{seat_words, pending_word, vdis_words, cluster_info, row_words};
-ghost use Rattle.dog_report.specs.Report.{report_of};
+ghost use Rattle.dog_report.specs.Lists.{seat_words, pending_word, vdis_words, cluster_info, row_words, in_order};
+ghost use Rattle.dog_report.specs.Report.{Report, is_lost_request, is_begun, fate_of, fate_due, last_fate, report_of};
 ghost use Rattle.dog_report.specs.Counts.{count_of, is_ok, is_refused, is_gone, is_pending, is_unsent, generated_words};
-ghost use Rattle.dog_report.specs.Example.{node, member, at_log, example_effects, row_to};
+ghost use Rattle.dog_report.specs.Example.{node, member, example_log, at_log, example_effects, row_to, row_from};
 
 /// A report has exactly one line for each request of its script.
 pub fn each_request_has_one_line()
     ensures { (statements : List Statement) (events : List Event)
         → IsPermutation (range_with_len 1 (length (requests_of statements))) (numbers_told (report_of statements events)) }
+{}
+
+/// What became of a request in the end: its reply, where it has one, or else that the life of its gateway is lost, that it
+/// was started, or that it never was.
+pub fn what_became_of_a_request()
+    ensures answered { (statements : List Statement) (report : Report) (req : ℕ) (rsp : GuestRsp)
+        → get report.replies req ≡ Some rsp → last_fate statements report req ≡ Answered rsp }
+    ensures gone { (statements : List Statement) (report : Report) (req : ℕ) → get report.replies req ≡ None
+        → is_lost_request statements req report.world ≡ true → last_fate statements report req ≡ Gone }
+    ensures pending { (statements : List Statement) (report : Report) (req : ℕ) → get report.replies req ≡ None
+        → is_lost_request statements req report.world ≡ false → is_begun statements req report.world ≡ true
+        → last_fate statements report req ≡ Pending }
+    ensures unsent { (statements : List Statement) (report : Report) (req : ℕ) → get report.replies req ≡ None
+        → is_lost_request statements req report.world ≡ false → is_begun statements req report.world ≡ false
+        → last_fate statements report req ≡ Unsent }
+    // At the end of a phase it is told where it is settled by then and the request's own phase has begun.
+    ensures due { (statements : List Statement) (report : Report) (req : ℕ)
+        → nat_le (phase_of_request statements req) report.world.phase ≡ true
+        → fate_due statements report req ≡ fate_of statements report req }
+    ensures later { (statements : List Statement) (report : Report) (req : ℕ)
+        → nat_le (phase_of_request statements req) report.world.phase ≡ false → fate_due statements report req ≡ None }
 {}
 
 /// Each line of a request tells of it in one of the five ways.
@@ -76,6 +100,9 @@ pub fn requests_lines_spelled_out()
 /// How the lines of lists are spelled, of a log of two members and a third that joins, and of a disk with a snapshot.
 pub fn lists_spelled_out()
     ensures cluster { (world : World) → map spaced (cluster_info (at_log world)) ≡ codes "cluster epoch 2 settled 2 members 0 1 2" ∷ [] }
+    // Before anyone has recovered in epoch 2, epoch 1 is the settled one.
+    ensures unsettled { (world : World) → map spaced (cluster_info (record world { log = take 2 example_log }))
+        ≡ codes "cluster epoch 2 settled 1 members 0 1 2" ∷ [] }
     ensures vdis { map spaced (vdis_words example_effects)
         ≡ codes "vdi 01ec8c a t1 1048576 3 22 000000 snapshot" ∷ codes "vdi 01ec8d a - 1048576 3 22 01ec8c session 1"
         ∷ codes "vdi 01f1a5 b - 8388608 4:2 20 000000 free" ∷ [] }
@@ -87,4 +114,6 @@ pub fn lists_spelled_out()
     ensures open_row { spaced (row_words 3 0x0001ec8c00000000 (row_to None)) ≡ codes "row 3 0001ec8c00000000 0 2 - af63dc4c8601ec8c" }
     ensures closed_row { spaced (row_words 3 0x0001ec8c00000000 (row_to (Some (record { 0 = 5 }))))
         ≡ codes "row 3 0001ec8c00000000 0 2 5 af63dc4c8601ec8c" }
+    // The rows of an object by index, and then by their first epochs.
+    ensures order { in_order (row_from 1 2 ∷ row_from 0 3 ∷ row_from 0 2 ∷ []) ≡ row_from 0 2 ∷ row_from 0 3 ∷ row_from 1 2 ∷ [] }
 {}

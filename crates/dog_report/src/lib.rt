@@ -12,4 +12,5 @@ mod laws;
 
 pub use laws::{
     each_request_has_one_line, lists_spelled_out, requests_lines_spelled_out, the_counts_add_up,
+    what_became_of_a_request,
 };

@@ -1,13 +1,25 @@
 -- Cases that are worked out by computing: an object of 1,024 bytes with two copies, of which three attempts are made or tried.
-use Rattle.std.proofs.Common.{◌≡◌, ℕ, ◌+◌, ◌^◌, true, false, List, [], ◌∷◌, replicate, Some, None, refl}
+use Rattle.std.proofs.Common.{◌≡◌, ℕ, ◌+◌, ◌^◌, ◌==◌, true, false, List, [], ◌∷◌, replicate, Some, None, refl}
 use Rattle.object_id.specs.declared.node.NodeId.{NodeId}
+use Rattle.object_id.specs.declared.entry.Entry.TheVariants.{Format}
 use Rattle.object_id.specs.declared.oid.Kind.TheVariants.{Block, Inode}
 use Rattle.object_id.specs.declared.policy.Policy.TheVariants.{Copies}
+use Rattle.disk_history.specs.declared.event.HistEvent.TheVariants as acts
+use Rattle.vdi_directory.specs.Dead.{is_above}
+use Rattle.vdi_directory.specs.Decisions.{happened}
 use Rattle.peer_proto.specs.declared.work.ObjWork.{ObjWork}
 use Rattle.peer_proto.specs.declared.work.ObjWork.TheVariants.{Create, Write}
-use Rattle.overlap_law.specs.Attempts.{Fate, Flying, Served, Doomed, Attempt, marked}
+use Rattle.peer_proto.specs.declared.say.PeerSay.TheVariants as says
+use Rattle.peer_proto.specs.declared.say.Refusal.TheVariants as refusals
+use Rattle.cluster_script.specs.declared.statement.Statement.{Statement}
+use Rattle.sheep_node.specs.declared.event.Event.TheVariants.{LoseRequest}
+use Rattle.sheep_world.specs.World.{Seat, World}
+use Rattle.overlap_law.specs.Attempts.{Fate, Flying, Served, Doomed, Attempt, marked, fate_said}
+use Rattle.overlap_law.specs.Begun.{begun, attempts_after}
+use Rattle.overlap_law.specs.Reached.{has_come_in}
+use Rattle.overlap_law.specs.Added.{is_counted}
 use Rattle.overlap_law.specs.Words.{is_made, is_mute, covers, unit_start, unit_size, unit_of, base_of, own_base_of, later_on, is_quiet, has_served}
-use Rattle.overlap_law.specs.Holders.{birth_of, born_objects}
+use Rattle.overlap_law.specs.Holders.{has_enough, is_borne_since, birth_of, is_borne_disk, born_objects}
 
 abbrev node : ℕ → NodeId
 node n = record { 0 = n }
@@ -67,6 +79,34 @@ a_fate_stays = refl
 another_sender's_number : marked Served (node 4) 30 all ≡ all
 unfolding marked
 another_sender's_number = refl
+
+-- an attempt whose request to node 4 is lost isn't made any more; what the node then begins stands behind it
+a_lost_request_dooms : (script : List Statement) (old new : World)
+    → attempts_after script (LoseRequest (node 3) 20) old new (written Flying Flying ∷ []) ≡ written Doomed Flying ∷ begun 3 old new
+unfolding attempts_after marked
+a_lost_request_dooms script old new = refl
+
+-- only Success says that the target has served it
+what_answers_tell : (fate_said says.Success ≡ Served) × (fate_said says.NoRow ≡ Doomed) × (fate_said (says.Refused refusals.Recovery) ≡ Doomed)
+what_answers_tell = (refl, refl, refl)
+
+-- whoever is lost is beyond each epoch
+the_lost_are_beyond : (epoch : ℕ) (seat : Seat) → has_come_in epoch (Some (record seat { is_lost = true })) ≡ true
+the_lost_are_beyond epoch seat = refl
+
+-- of two targets of which one counts there is enough for a copy, and not for two strips
+one_of_two : (has_enough (λ target epoch. target.0 == 4) 1 (node 4 ∷ node 7 ∷ []) 1 ≡ true)
+    × (has_enough (λ target epoch. target.0 == 4) 2 (node 4 ∷ node 7 ∷ []) 1 ≡ false)
+one_of_two = (refl, refl)
+
+-- in epoch 1 no holders are asked of an object that is born with epoch 2
+before_the_birth : is_borne_since (λ target epoch. false) (Format [] ∷ []) object (Copies 2) 2 ≡ true
+before_the_birth = refl
+
+-- a read of disk 1 is left out where its object wasn't borne, and one of disk 2 is not
+which_reads_are_left_out : (is_counted [] (object ∷ []) (acts.Read 1 0 []) ≡ false) × (is_counted [] (object ∷ []) (acts.Read 2 0 []) ≡ true)
+unfolding is_borne_disk happened is_above
+which_reads_are_left_out = (refl, refl)
 
 node_4_served_the_write : has_served (node 4) (written Served Flying) ≡ true
 node_4_served_the_write = refl

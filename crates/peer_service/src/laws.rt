@@ -8,7 +8,7 @@ ghost use Rattle.object_id.specs.declared.oid.Kind.TheVariants.{Block, Inode};
 ghost use Rattle.object_id.specs.declared.policy.Policy.{Policy};
 ghost use Rattle.object_id.specs.declared.policy.Policy.TheVariants.{Copies, Coded};
 ghost use Rattle.object_id.specs.Piece.{laid_over};
-ghost use Rattle.epoch_log.specs.Epochs.{settled_of};
+ghost use Rattle.epoch_log.specs.Epochs.{epoch_of, settled_of};
 ghost use Rattle.object_store.specs.declared.key.Key.{Key};
 ghost use Rattle.object_store.specs.Bytes.{zeros};
 ghost use Rattle.object_store.specs.Rows.{is_open, is_open_at, closed_all, advanced, purged, ended_before};
@@ -20,10 +20,10 @@ ghost use Rattle.peer_proto.specs.declared.ask.PeerReq.{PeerReq};
 ghost use Rattle.peer_proto.specs.declared.say.Refusal.{Refusal};
 ghost use Rattle.peer_proto.specs.declared.say.Refusal.TheVariants as refusals;
 ghost use Rattle.peer_proto.specs.declared.say.PeerSay.TheVariants as says;
-ghost use Rattle.peer_service.specs.State.{Peer, is_dead_object, row_size, is_waiting};
+ghost use Rattle.peer_service.specs.State.{Peer, policy_of, is_dead_object, row_size, is_waiting};
 ghost use Rattle.peer_service.specs.Pending.{list_started, row_put};
 ghost use Rattle.peer_service.specs.Fence.{admitted};
-ghost use Rattle.peer_service.specs.Serve.{refused, row_or_none, answered, served, MayServe, may_serve};
+ghost use Rattle.peer_service.specs.Serve.{refused, row_or_none, answered, served, reply_to, MayServe, may_serve};
 ghost use Rattle.peer_service.specs.Epochs.{has_at, stays_open, row_entering, entered, AreKept, settled_to};
 ghost use Rattle.peer_service.specs.Reading.{dies, read_entry};
 ghost use Rattle.peer_service.specs.Back.{come_back};
@@ -38,6 +38,9 @@ pub fn other_epochs_are_refused()
     // One of the node's own epoch goes by what it asks.
     ensures own { (peer : Peer) (request : PeerReq) → request.epoch.0 ≡ peer.epoch → served peer request ≡ answered request.ask peer }
     ensures admitted { (own requested : ℕ) → (admitted own requested ≡ Ok (tt {0})) ↔ (requested ≡ own) }
+    // The reply has the node's own epoch.
+    ensures reply { (peer : Peer) (request : PeerReq) → reply_to peer request
+        ≡ record { number = request.number; epoch = record { 0 = peer.epoch }; say = (served peer request).say } }
 {}
 
 /// A refusal changes nothing, and neither does an answer that only tells.
@@ -103,8 +106,11 @@ pub fn conditions_are_tests()
     ensures { (peer : Peer) (ask : PeerAsk) → IsTrue (may_serve peer ask) ↔ MayServe peer ask }
 {}
 
-/// Going to the next epoch closes rows and drops none: open are those that were and that stay.
+/// Going to the next epoch closes rows and drops none: open are those that were and that stay, by the targets there.
 pub fn entering_drops_no_row()
+    ensures next { (me : NodeId) (targets : ℕ → ℕ → Policy → List NodeId) (peer : Peer) → (entered me targets peer).epoch ≡ peer.epoch + 1 }
+    ensures stays { (me : NodeId) (targets : ℕ → ℕ → Policy → List NodeId) (peer : Peer) (oid index : ℕ)
+        → stays_open me targets peer oid index ≡ has_at me targets (peer.epoch + 1) oid index (policy_of peer oid) }
     ensures rows { (me : NodeId) (targets : ℕ → ℕ → Policy → List NodeId) (peer : Peer) (oid : ℕ)
         → rows_of (entered me targets peer).rows oid ≡ map (row_entering me targets peer oid) (rows_of peer.rows oid) }
     ensures opened { (me : NodeId) (targets : ℕ → ℕ → Policy → List NodeId) (peer : Peer) (oid : ℕ)
@@ -117,6 +123,7 @@ pub fn entering_drops_no_row()
 
 /// Settling drops only closed rows, and of these only those that ended below the settled epoch.
 pub fn settling_drops_closed_rows()
+    ensures settled { (settled : ℕ) (peer : Peer) → (settled_to settled peer).settled ≡ settled }
     ensures opened { (settled : ℕ) (peer : Peer) (oid : ℕ)
         → filter is_open (rows_of (settled_to settled peer).rows oid) ≡ filter is_open (rows_of peer.rows oid) }
     ensures stays { (settled : ℕ) (peer : Peer) (oid : ℕ) (row : SeenRow) → ended_before settled row.to ≡ false
@@ -137,8 +144,11 @@ pub fn rows_go_with_their_disk()
     ensures dead_before { (entry : Entry) (peer : Peer) (oid : ℕ) → is_dead_object peer oid ≡ true → dies entry peer oid ≡ false }
 {}
 
-/// Who comes back has no open row, and of the closed ones those that are not too old and whose id isn't dead.
+/// Who comes back is in the last epoch of the log that it is given, has no open row, and of the closed ones those that
+/// are not too old and whose id isn't dead.
 pub fn who_comes_back_has_closed_rows()
+    ensures epochs { (entries : List Entry) (peer : Peer)
+        → ((come_back entries peer).epoch ≡ epoch_of entries) × ((come_back entries peer).settled ≡ settled_of entries) }
     ensures rows { (entries : List Entry) (peer : Peer) (oid : ℕ) → rows_of (come_back entries peer).rows oid
         ≡ (if is_dead_object (come_back entries peer) oid then [] else purged (settled_of entries) (closed_all peer.epoch (rows_of peer.rows oid))) }
     ensures opened { (entries : List Entry) (peer : Peer) (oid : ℕ) → filter is_open (rows_of (come_back entries peer).rows oid) ≡ [] }

@@ -1,5 +1,5 @@
 -- The rows that are taken at a level, and the part that is made by them.
-use Rattle.std.proofs.Common.{◌≡◌, ℕ, ◌+◌, ◌-◌, ◌≤◌, ◌==◌, nat_lt, Bool, true, false, cond, List, [], ◌∷◌, ◌++◌, length, drop, map, fold, refl, ap, ap₂, sym, ◌∙◌, arith, zero-add, append-nil, length-append}
+use Rattle.std.proofs.Common.{◌≡◌, ℕ, ◌+◌, ◌-◌, ◌≤◌, ◌==◌, nat_lt, Bool, true, false, cond, List, [], ◌∷◌, ◌++◌, length, drop, map, fold, Option, Some, unwrap_or, refl, ap, ap₂, sym, ◌∙◌, arith, zero-add, append-nil, length-append}
 use Rattle.std.specs.List.{AllByRecursion}
 use Rattle.std.specs.FinMap as tree
 use Rattle.std.proofs.lemmas.List.{length-map, length-replicate, drop-replicate}
@@ -16,8 +16,9 @@ use Rattle.object_store.specs.Bytes.{zeros}
 use Rattle.object_store.specs.Rows.{created}
 use Rattle.object_store.specs.Store.{rows_of, bytes_of}
 use Rattle.object_list.specs.Union.{with_id, union}
-use Rattle.recovery.specs.Shown.{Shown, given_up, with_row}
-use Rattle.recovery.specs.Level.{put_by_index, by_index, indexes_of, part_by}
+use Rattle.recovery.specs.Shown.{Shown, index_in, given_up, with_row}
+use Rattle.recovery.specs.State.{Search, State}
+use Rattle.recovery.specs.Level.{put_by_index, by_index, indexes_of, part_by, own_index}
 
 parts_of : (policy : Policy) (kind : Kind) (bytes : List ℕ) (rows : List RowCopy)
     → AllByRecursion (λ (row : RowCopy). bytes_of row ≡ part policy kind row.index bytes) rows
@@ -35,6 +36,10 @@ part_of_same_bytes policy kind index bytes rows is octets whole points count are
     let counted : length (indexes_of rows) ≡ need_of policy kind = length-map rows (λ (row : RowCopy). row.index) ∙ count in
     ap (λ (parts : List (List ℕ)). part policy kind index (bytes_of_parts policy kind (indexes_of rows) parts)) (parts_of policy kind bytes rows are)
     ∙ ap (part policy kind index) (bytes_of_parts-part policy kind (indexes_of rows) bytes is points counted octets whole)
+
+pub index_of_recovered_epoch : (policy : Policy) (search : Search) (state : State) (index : ℕ)
+    → index_in state.shown state.recovery.epoch search.oid policy state.recovery.me ≡ Some index → own_index policy search state ≡ index
+index_of_recovered_epoch policy search state index is = ap (λ (found : Option ℕ). unwrap_or found 0) is
 
 -- a piece that is laid over zeros from the front on
 over_zeros : (n : ℕ) (bytes : List ℕ) → laid_over (zeros n) 0 bytes ≡ bytes ++ zeros (n - length bytes)

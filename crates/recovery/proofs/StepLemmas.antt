@@ -14,13 +14,14 @@ use Rattle.peer_proto.specs.declared.ask.PeerAsk.{PeerAsk}
 use Rattle.peer_proto.specs.declared.ask.PeerAsk.TheVariants as asks
 use Rattle.peer_proto.specs.declared.say.PeerSay.{PeerSay}
 use Rattle.peer_proto.specs.declared.say.PeerSay.TheVariants as says
+use Rattle.peer_proto.specs.declared.say.Refusal.{Refusal}
 use Rattle.object_store.specs.Store.{create_in}
 use Rattle.recovery.specs.Shown.{live_policy, is_among, with_pending}
-use Rattle.recovery.specs.State.{Message, Search, Recovery, State, search_at, is_missing, is_listed, message_of, still_on, search_on}
+use Rattle.recovery.specs.State.{Message, Search, Recovery, State, search_at, is_missing, is_listed, all_unanswered, message_of, still_on, search_on}
 use Rattle.recovery.specs.Level.{found, missed, to_ask, one_lower, not_found, own_index, own_part, rows_found, are_enough, judged_of, judged, is_of_search, searching}
 use Rattle.recovery.specs.Tick.{messages_to, lists_asked, level_asked, level_messages, asked_of, next_search, with_messages, searching_on, tick_messages, ticked}
 use Rattle.recovery.specs.Kept.{frame}
-use Rattle.recovery.specs.Steps.{to_recover, when_listed, without_message, heard, after_list, after_read, after_ask, after_message, ended}
+use Rattle.recovery.specs.Steps.{to_recover, when_listed, at_start, begun, without_message, heard, after_list, after_read, after_ask, after_message, ended}
 
 -- what holds of both holds of the one that is chosen
 pub either : {A : Type 0} (P : A → Type 0) (b : Bool) (x y : A) → P x → P y → P (cond b x y)
@@ -41,10 +42,7 @@ judged_each P search state same there gone again = of_policy (live_policy state.
         (found search.oid (own_index policy search state) (own_part policy search (rows_found state policy search) state) state)
         (not_found search state)
         (there (own_index policy search state) (own_part policy search (rows_found state policy search) state))
-        (either P search.again (to_ask search.oid search.level state) (one_lower search state)
-        (again search.level)
-        (either P (nat_lt (search.level - 1) state.shown.settled) (missed search.oid state) (to_ask search.oid (search.level - 1) state)
-        gone (again (search.level - 1))))
+        (either P _ _ _ (again _) (either P _ _ _ gone (again _)))
 
 abbrev SameFrame : State → State → Type 0
 SameFrame old new = frame new ≡ frame old
@@ -143,6 +141,30 @@ frame_of_end number said state =
     after_message_frame (message_of number state.recovery.unanswered) said (without_message number state)
 
 -- messages of older recoveries, and of searches that have ended
+
+pub begun_hears_nothing : (epoch : ℕ) (members : List NodeId) (state : State)
+    → ((begun epoch members state).recovery.unanswered ≡ []) × ((begun epoch members state).recovery.older ≡ all_unanswered state.recovery)
+unfolding begun
+begun_hears_nothing epoch members state =
+    let start : State = at_start epoch members state in
+    either (λ (s : State). (s.recovery.unanswered ≡ []) × (s.recovery.older ≡ all_unanswered state.recovery)) (is_listed start.recovery)
+    (record start { shown = with_pending (to_recover start) start.shown }) start
+    (refl, refl) (refl, refl)
+
+-- what comes of a List that nobody answers
+end_of_list : (number : ℕ) (said : Option PeerSay) (state : State) (message : Message)
+    → message_of number state.recovery.unanswered ≡ Some message → message.request.ask ≡ asks.List
+    → ended number said state ≡ after_list message.to said (without_message number state)
+end_of_list number said state message there ask =
+    ap (λ (m : Option Message). after_message m said (without_message number state)) there
+    ∙ ap (λ (a : PeerAsk). after_ask a message.to said (without_message number state)) ask
+
+pub refused_lists_are_not_named : (number : ℕ) (refusal : Refusal) (state : State) (message : Message)
+    → message_of number state.recovery.unanswered ≡ Some message → message.request.ask ≡ asks.List
+    → (ended number None state ≡ without_message number state)
+    × (ended number (Some (says.Refused refusal)) state ≡ without_message number state)
+refused_lists_are_not_named number refusal state message there ask =
+    (end_of_list number None state message there ask, end_of_list number (Some (says.Refused refusal)) state message there ask)
 
 pub end_of_older : (number : ℕ) (said : Option PeerSay) (state : State) → message_of number state.recovery.unanswered ≡ None
     → ended number said state ≡ without_message number state

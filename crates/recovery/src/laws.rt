@@ -1,13 +1,14 @@
 //! Laws of the definitions, for the proofs of the layers above: each is the contract of a function that does nothing.
-ghost use Rattle.std.specs.Prelude.{◌≡◌, ◌≢◌, ◌↔◌, ◌⊎◌, Contains, ℕ, ◌-◌, ◌<◌, ◌≤◌, true, false, List, [], ◌∷◌, length, map, Option, Some, None};
+ghost use Rattle.std.specs.Prelude.{◌≡◌, ◌≢◌, ◌↔◌, ◌⊎◌, Contains, ℕ, ◌-◌, ◌<◌, ◌≤◌, true, false, List, [], ◌∷◌, length, take, map, Option, Some, None};
 ghost use Rattle.std.specs.FinMap as tree;
 ghost use Rattle.std.specs.List.Sorted.{IsStrictlyIncreasing};
 ghost use Rattle.std.specs.List.{list_any, AllByRecursion, range_with_len};
 ghost use Rattle.object_id.specs.declared.node.Epoch.{Epoch};
 ghost use Rattle.object_id.specs.declared.node.NodeId.{NodeId};
 ghost use Rattle.object_id.specs.declared.oid.Kind.{Kind};
+ghost use Rattle.object_id.specs.declared.oid.Kind.TheVariants.{Block};
 ghost use Rattle.object_id.specs.declared.policy.Policy.{Policy};
-ghost use Rattle.object_id.specs.declared.policy.Policy.TheVariants.{Copies};
+ghost use Rattle.object_id.specs.declared.policy.Policy.TheVariants.{Copies, Coded};
 ghost use Rattle.object_id.specs.Policy.{IsPolicy, need_of};
 ghost use Rattle.gf256.specs.Polynomial.{AreBytes, ArePoints};
 ghost use Rattle.strip_coding.specs.Part.{IsAligned, part};
@@ -17,12 +18,14 @@ ghost use Rattle.object_store.specs.Store.{rows_of, bytes_of};
 ghost use Rattle.object_list.specs.Union.{union};
 ghost use Rattle.peer_proto.specs.declared.ask.PeerAsk.TheVariants as asks;
 ghost use Rattle.peer_proto.specs.declared.say.PeerSay.{PeerSay};
-ghost use Rattle.recovery.specs.Shown.{Shown, live_policy, own_row, with_row, is_among, is_to_recover};
-ghost use Rattle.recovery.specs.State.{Message, Search, State, search_at, is_finished, is_missing, message_of};
-ghost use Rattle.recovery.specs.Level.{row_of, by_index, taken, indexes_of, part_by, rows_found, are_enough, judged, is_of_search, searching};
+ghost use Rattle.peer_proto.specs.declared.say.PeerSay.TheVariants as says;
+ghost use Rattle.peer_proto.specs.declared.say.Refusal.{Refusal};
+ghost use Rattle.recovery.specs.Shown.{Shown, live_policy, index_in, own_row, with_row, is_among, is_to_recover};
+ghost use Rattle.recovery.specs.State.{Message, Search, State, search_at, is_finished, is_missing, all_unanswered, message_of};
+ghost use Rattle.recovery.specs.Level.{row_of, by_index, taken, indexes_of, part_by, own_index, rows_found, are_enough, judged, is_of_search, searching};
 ghost use Rattle.recovery.specs.Tick.{with_messages, tick_messages, tick_sends, ticked};
 ghost use Rattle.recovery.specs.Kept.{frame, WaitsForLists};
-ghost use Rattle.recovery.specs.Steps.{to_recover, begun, without_message, ended};
+ghost use Rattle.recovery.specs.Steps.{to_recover, begun, without_message, heard, ended};
 ghost use Rattle.recovery.specs.Example.{object, request, entered, named, listed, found_at_both, half_heard, heard_of_none, none_at_all};
 
 /// Once each other member has named its objects, pending are, in ascending order, those of the named objects and of the
@@ -40,10 +43,18 @@ pub fn lists_come_before_searches()
     ensures tick { (first : ℕ) (state : State) → WaitsForLists state → WaitsForLists (ticked first state) }
     ensures end { (number : ℕ) (said : Option PeerSay) (state : State) → WaitsForLists state
         → WaitsForLists (ended number said state) }
+    // A member whose list is refused or lost hasn't named its objects.
+    ensures refused { (number : ℕ) (refusal : Refusal) (state : State) (message : Message)
+        → message_of number state.recovery.unanswered ≡ Some message → message.request.ask ≡ asks.List
+        → (ended number None state ≡ without_message number state)
+        × (ended number (Some (says.Refused refusal)) state ≡ without_message number state) }
 {}
 
 /// Of an older recovery, or of a search that has ended, an answer or a loss only makes its message answered.
 pub fn old_messages_only_become_answered()
+    // As a recovery begins, all unanswered messages are of older ones.
+    ensures begin { (epoch : ℕ) (members : List NodeId) (state : State) → ((begun epoch members state).recovery.unanswered ≡ [])
+        × ((begun epoch members state).recovery.older ≡ all_unanswered state.recovery) }
     ensures older { (number : ℕ) (said : Option PeerSay) (state : State)
         → message_of number state.recovery.unanswered ≡ None
         → ended number said state ≡ without_message number state }
@@ -70,6 +81,9 @@ pub fn levels_are_left_after_all_answers()
     // While a message of it is unanswered, the search goes on as it is.
     ensures waits { (search : Search) (state : State) → list_any (is_of_search search.oid) state.recovery.unanswered ≡ true
         → searching search state ≡ record state { recovery = record state.recovery { search = Some search } } }
+    // A refusal or a loss counts as no answer: the level is asked anew.
+    ensures again { (from : NodeId) (refusal : Refusal) (search : Search) → (heard from None search ≡ record search { again = true })
+        × (heard from (Some (says.Refused refusal)) search ≡ record search { again = true }) }
     // A search that goes on is at the same level after a refusal or a loss, and else one lower, and not below the settled epoch.
     ensures next { (policy : Policy) (search : Search) (state : State) (next : Search)
         → live_policy state.shown search.oid ≡ Some policy → (judged search state).recovery.search ≡ Some next
@@ -95,6 +109,8 @@ pub fn taken_rows_are_of_the_level()
         → Contains (taken policy kind rows) row → Contains rows row }
     ensures count { (policy : Policy) (kind : Kind) (rows : List RowCopy) → are_enough policy kind rows ≡ true
         → length (taken policy kind rows) ≡ need_of policy kind }
+    // Strips are taken of different indexes.
+    ensures strips { (d p : ℕ) (rows : List RowCopy) → taken (Coded d p) Block rows ≡ take d (by_index rows) }
 {}
 
 /// Where the taken rows have parts of some bytes, the part that is made by them is of the same bytes.
@@ -104,6 +120,9 @@ pub fn parts_are_of_the_same_bytes()
         → ArePoints (indexes_of rows) → length rows ≡ need_of policy kind
         → AllByRecursion (λ (row : RowCopy). bytes_of row ≡ part policy kind row.index bytes) rows
         → part_by policy kind index rows ≡ part policy kind index bytes }
+    // It is the part of the node's index in the recovered epoch.
+    ensures own { (policy : Policy) (search : Search) (state : State) (index : ℕ)
+        → index_in state.shown state.recovery.epoch search.oid policy state.recovery.me ≡ Some index → own_index policy search state ≡ index }
     // Of whole copies the first is taken, of strips each index once, ascending.
     ensures copies { (copies : ℕ) (kind : Kind) (row : RowCopy) (rows : List RowCopy)
         → taken (Copies copies) kind (row ∷ rows) ≡ row ∷ [] }

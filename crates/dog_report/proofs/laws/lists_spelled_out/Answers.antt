@@ -9,10 +9,12 @@ pub returns : goal.returns
 unfolding digits live_of holder_of state_of header_of
 returns c = record {
   cluster = λ world. refl;
+  unsettled = λ world. refl;
   vdis = refl;
   lost = λ seat. refl;
   joined = joined-listed;
   unfinished = refl;
   open_row = refl;
   closed_row = refl;
+  order = refl;
 }
