@@ -5,6 +5,9 @@ pub mod RunLemmas
 pub mod WireLemmas
 pub mod OpeningLemmas
 pub mod PutLemmas
+pub mod SendLemmas
+pub mod RecoverLemmas
+pub mod EndLemmas
 pub mod MeetLemmas
 pub mod AskLemmas
 pub mod BackLemmas

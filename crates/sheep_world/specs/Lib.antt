@@ -13,5 +13,6 @@ pub mod Run
 pub mod Enabled
 pub mod Lives
 pub mod Wired
+pub mod Ranges
 pub mod Meets
 pub mod Example

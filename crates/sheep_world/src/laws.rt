@@ -1,5 +1,5 @@
 //! Laws of the definitions, for the proofs of the layers above: each is the contract of a function that does nothing.
-ghost use Rattle.std.specs.Prelude.{◌≡◌, ◌≢◌, ℕ, true, List, [], ◌∷◌, ◌++◌, Contains, Some, None, Ok, is_some};
+ghost use Rattle.std.specs.Prelude.{◌≡◌, ◌≢◌, ℕ, true, false, List, [], ◌∷◌, ◌++◌, Contains, Some, None, Ok, is_some};
 ghost use Rattle.object_id.specs.declared.node.NodeId.{NodeId};
 ghost use Rattle.object_id.specs.declared.entry.Entry.{Entry};
 ghost use Rattle.object_id.specs.declared.entry.Entry.TheVariants as entries;
@@ -25,7 +25,8 @@ ghost use Rattle.sheep_world.specs.Example.{lived, small};
 ghost use Rattle.sheep_world.specs.Step.{Made, step};
 ghost use Rattle.sheep_world.specs.Run.{Moment, run_from};
 ghost use Rattle.sheep_world.specs.Enabled.{is_enabled, enabled};
-ghost use Rattle.sheep_world.specs.Wired.{IsWired};
+ghost use Rattle.sheep_world.specs.Wired.{is_of_work, IsWired};
+ghost use Rattle.sheep_world.specs.Ranges.{RecoveriesAreInRange};
 
 /// An event makes something exactly where it may happen.
 pub fn what_may_happen_is_made()
@@ -75,6 +76,21 @@ pub fn nodes_and_wire_stay_together()
         → step statements (events.Lost node) world ≡ Some made → IsWired world → IsWired made.world }
     ensures back { (statements : List Statement) (world : World) (made : Made) (node : NodeId)
         → step statements (events.Back node) world ≡ Some made → IsWired world → IsWired made.world }
+    // What a recovery asks is read where all that it knows of is in range; and that it stays.
+    ensures recover { (statements : List Statement) (world : World) (made : Made) (node : NodeId)
+        → step statements (events.RecoverTick node) world ≡ Some made → RecoveriesAreInRange world → IsWired world
+        → IsWired made.world × RecoveriesAreInRange made.world }
+    // A message that no work of an up node waits for is a recovery's, or of a node that isn't up.
+    ensures lose_request { (statements : List Statement) (world : World) (made : Made) (node : NodeId) (number : ℕ)
+        → step statements (events.LoseRequest node number) world ≡ Some made
+        → is_of_work (record { sender = node; number = number }) world ≡ false → IsWired world → IsWired made.world }
+    ensures lose_reply { (statements : List Statement) (world : World) (made : Made) (node : NodeId) (number : ℕ)
+        → step statements (events.LoseReply node number) world ≡ Some made
+        → is_of_work (record { sender = node; number = number }) world ≡ false → IsWired world → IsWired made.world }
+    ensures deliver_reply { (statements : List Statement) (world : World) (made : Made) (node : NodeId) (number : ℕ) (from : NodeId) (bytes : List ℕ)
+        → step statements (events.Deliver node number) world ≡ Some made
+        → message_at (record { sender = node; number = number }) world ≡ Some (Reply from bytes)
+        → is_of_work (record { sender = node; number = number }) world ≡ false → IsWired world → IsWired made.world }
 {}
 
 /// A node steps only on what it may. So a loss that it is told is of a message that it waits for, and so is a reply, which

@@ -9,7 +9,7 @@
 //! (`specs/Enabled.antt`), and the lives of nodes (`specs/Lives.antt`).
 //! The laws of `laws.rt` say what these mean: what may happen is what is made, and the enabled list has it all but Phase;
 //! runs are cut anywhere and histories only grow; and for the events that are proved so far, what is in the wire
-//! (`specs/Wired.antt`) can be read and is what up nodes wait for.
+//! (`specs/Wired.antt`) can be read and is what up nodes wait for, as long as what they ask is in range (`specs/Ranges.antt`).
 #![tactic(auto)]
 
 mod fault;

@@ -2,6 +2,8 @@ use Rattle.sheep_world.proofs.WireLemmas.{wired-phase, wired-leave, wired-reweig
 use Rattle.sheep_world.proofs.OpeningLemmas.{opening-wired}
 use Rattle.sheep_world.proofs.PutLemmas.{wired-put}
 use Rattle.sheep_world.proofs.BackLemmas.{wired-back}
+use Rattle.sheep_world.proofs.RecoverLemmas.{wired-recover}
+use Rattle.sheep_world.proofs.EndLemmas.{wired-lose_request, wired-lose_reply, wired-deliver_reply}
 use Rattle.sheep_world.proofs.laws.nodes_and_wire_stay_together.Goals as goal
 
 pub returns : goal.returns
@@ -14,4 +16,8 @@ returns c = record {
   join = wired-join;
   lost = wired-lost;
   back = wired-back;
+  recover = wired-recover;
+  lose_request = wired-lose_request;
+  lose_reply = wired-lose_reply;
+  deliver_reply = wired-deliver_reply;
 }
