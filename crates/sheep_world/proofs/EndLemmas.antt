@@ -178,7 +178,7 @@ same_row one other wanted (asks.RecoverRead oid level) row same =
     ap (λ (size_of : ℕ → Option ℕ). is_row_of level.0 wanted (size_of oid) row) same
 
 -- what fits depends on the lengths of rows alone
-same_fit : (one other : Shown) (message : Option Message) (say : PeerSay) → one.size_of ≡ other.size_of
+pub same_fit : (one other : Shown) (message : Option Message) (say : PeerSay) → one.size_of ≡ other.size_of
     → recovery_fits.fits_message one message say ≡ recovery_fits.fits_message other message say
 same_fit one other None say same = refl
 same_fit one other (Some message) says.Success same = refl
@@ -242,7 +242,7 @@ module _ (node : Node) (number : ℕ) (said : Option PeerSay) (none : gateways.w
             ∙ ap is_some (same_message number q (recoveries.all_unanswered node.recovery) apart) ∙ waited))
             (or_cases (gateways.waits_for q node.gateway) (recoveries.waits_for q node.recovery) waits);
         waits_too = λ send there. has-none send there;
-        fits_on = λ rsp apart fit. ⊎_elim
+        fits_on = λ rsp below apart fit. ⊎_elim
             (λ (held : gateways.fits rsp node.gateway ≡ true).
             or_left (gateways.fits rsp node.gateway) (recovery_fits.fits rsp (state_of (recovery_stepped state (at_first node)).node)) held)
             (λ (fitted : recovery_fits.fits rsp (state_of node) ≡ true).

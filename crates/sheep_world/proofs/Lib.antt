@@ -8,6 +8,9 @@ pub mod PutLemmas
 pub mod SendLemmas
 pub mod RecoverLemmas
 pub mod EndLemmas
+pub mod GatewayLemmas
+pub mod DrivenLemmas
+pub mod RetryLemmas
 pub mod MeetLemmas
 pub mod AskLemmas
 pub mod BackLemmas

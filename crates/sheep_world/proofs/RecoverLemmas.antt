@@ -45,7 +45,7 @@ use Rattle.sheep_world.proofs.PutLemmas.{next_seat}
 use Rattle.sheep_world.proofs.SendLemmas.{Sends, Asking, Leaves, wired_asking}
 
 -- all numbers
-abbrev Any : ℕ → Type 0
+abbrev pub Any : ℕ → Type 0
 Any number = Unit {0}
 
 -- what the last act of a step, `Recovered`, leaves
@@ -174,7 +174,7 @@ module _ (node : Node) (may : may_tick node ≡ true) where
         waits_too = λ send there.
             or_right (gateways.waits_for send.1.number node.gateway) (recoveries.waits_for send.1.number (ticked node.sends state).recovery)
             (waited_now send there);
-        fits_on = λ rsp stays fit.
+        fits_on = λ rsp below stays fit.
             or_left (gateways.fits rsp node.gateway) (recovery_fits.fits rsp (state_of (steps.recovery_ticked (at_first node)).node))
             (or_first (gateways.fits rsp node.gateway) (recovery_fits.fits rsp state) (fitted_never rsp) fit);
       }

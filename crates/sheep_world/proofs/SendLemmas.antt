@@ -158,7 +158,7 @@ pub record Asking (Stays : ℕ → Type 0) (old new : Node) (sends : Sends) : Ty
   pub asked : (send : NodeId × PeerReq) → Contains (asked_by new) send → (Contains (asked_by old) send × Stays send.1.number) ⊎ Contains sends send
   pub waits_on : (number : ℕ) → waits_for number old ≡ true → Stays number → waits_for number new ≡ true
   pub waits_too : (send : NodeId × PeerReq) → Contains sends send → waits_for send.1.number new ≡ true
-  pub fits_on : (rsp : PeerRsp) → Stays rsp.number → fits rsp old ≡ true → fits rsp new ≡ true
+  pub fits_on : (rsp : PeerRsp) → rsp.number < old.sends → Stays rsp.number → fits rsp old ≡ true → fits rsp new ≡ true
 
 -- what leaves the wire before a node sends: of other nodes nothing, and of the node only what doesn't stay
 pub record Leaves (Stays : ℕ → Type 0) (n : ℕ) (wire left : Wire) : Type 0 where
@@ -251,11 +251,12 @@ module _ (Stays : ℕ → Type 0) (seats : tree.FinMap nat_cmp Seat) (wire left 
       ∙ leaves.kept name own stays
 
   -- what a reply in the wire fits, it fits still
-  same_way : (send : NodeId × PeerReq) (o : Option Letter) → Stays send.1.number → IsOnItsWay seat.node send o → IsOnItsWay node send o
-  same_way send None stays way = way
-  same_way send (Some (Request to bytes)) stays way = way
-  same_way send (Some (Reply from bytes)) stays (from_so, (rsp, said, number, fit)) =
-      (from_so, (rsp, said, number, asking.fits_on rsp (subst Stays (sym number) stays) fit))
+  same_way : (send : NodeId × PeerReq) (letter : Letter) → send.1.number < seat.node.sends → Stays send.1.number
+      → IsOnItsWay seat.node send (Some letter) → IsOnItsWay node send (Some letter)
+  same_way send (Request to bytes) below stays way = way
+  same_way send (Reply from bytes) below stays (from_so, (rsp, said, number, fit)) =
+      let given : rsp.number < seat.node.sends = subst (λ (q : ℕ). q < seat.node.sends) (sym number) below in
+      (from_so, (rsp, said, number, asking.fits_on rsp given (subst Stays (sym number) stays) fit))
 
   old_way : (send : NodeId × PeerReq) (o : Option Letter) → tree.get wire (own_name seat.node send) ≡ o → Stays send.1.number
       → IsOnItsWay seat.node send o → IsOnItsWay node send (tree.get (fold sent left sends) (own_name node send))
@@ -263,7 +264,8 @@ module _ (Stays : ℕ → Type 0) (seats : tree.FinMap nat_cmp Seat) (wire left 
   old_way send (Some letter) got stays way = subst
       (λ (me : NodeId). IsOnItsWay node send (tree.get (fold sent left sends) (record { sender = me; number = send.1.number })))
       (sym asking.me_so)
-      (subst (IsOnItsWay node send) (sym (stays_after send.1.number letter got stays ∙ got)) (same_way send (Some letter) stays way))
+      (subst (IsOnItsWay node send) (sym (stays_after send.1.number letter got stays ∙ got))
+      (same_way send letter (given_before (own_name seat.node send) letter got (wired.numbered n seat there)) stays way))
 
   new_way : (send : NodeId × PeerReq) → Contains sends send → IsOnItsWay node send (tree.get (fold sent left sends) (own_name node send))
   new_way send sending = subst

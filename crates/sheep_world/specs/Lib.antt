@@ -14,5 +14,6 @@ pub mod Enabled
 pub mod Lives
 pub mod Wired
 pub mod Ranges
+pub mod Driven
 pub mod Meets
 pub mod Example

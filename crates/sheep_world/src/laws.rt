@@ -27,6 +27,7 @@ ghost use Rattle.sheep_world.specs.Run.{Moment, run_from};
 ghost use Rattle.sheep_world.specs.Enabled.{is_enabled, enabled};
 ghost use Rattle.sheep_world.specs.Wired.{is_of_work, IsWired};
 ghost use Rattle.sheep_world.specs.Ranges.{RecoveriesAreInRange};
+ghost use Rattle.sheep_world.specs.Driven.{NodesAreDriven, IsSentInRange};
 
 /// An event makes something exactly where it may happen.
 pub fn what_may_happen_is_made()
@@ -80,6 +81,11 @@ pub fn nodes_and_wire_stay_together()
     ensures recover { (statements : List Statement) (world : World) (made : Made) (node : NodeId)
         → step statements (events.RecoverTick node) world ≡ Some made → RecoveriesAreInRange world → IsWired world
         → IsWired made.world × RecoveriesAreInRange made.world }
+    // What a work asks when it is tried again, and what then begins in its place, is read where it is in range. At most one work of
+    // a request is open, and that stays so.
+    ensures retry { (statements : List Statement) (world : World) (made : Made) (node : NodeId)
+        → step statements (events.RetryTick node) world ≡ Some made → IsSentInRange made.world → NodesAreDriven world → IsWired world
+        → IsWired made.world × NodesAreDriven made.world }
     // A message that no work of an up node waits for is a recovery's, or of a node that isn't up.
     ensures lose_request { (statements : List Statement) (world : World) (made : Made) (node : NodeId) (number : ℕ)
         → step statements (events.LoseRequest node number) world ≡ Some made

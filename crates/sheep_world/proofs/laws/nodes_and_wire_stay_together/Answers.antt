@@ -3,6 +3,7 @@ use Rattle.sheep_world.proofs.OpeningLemmas.{opening-wired}
 use Rattle.sheep_world.proofs.PutLemmas.{wired-put}
 use Rattle.sheep_world.proofs.BackLemmas.{wired-back}
 use Rattle.sheep_world.proofs.RecoverLemmas.{wired-recover}
+use Rattle.sheep_world.proofs.RetryLemmas.{wired-retry}
 use Rattle.sheep_world.proofs.EndLemmas.{wired-lose_request, wired-lose_reply, wired-deliver_reply}
 use Rattle.sheep_world.proofs.laws.nodes_and_wire_stay_together.Goals as goal
 
@@ -17,6 +18,7 @@ returns c = record {
   lost = wired-lost;
   back = wired-back;
   recover = wired-recover;
+  retry = wired-retry;
   lose_request = wired-lose_request;
   lose_reply = wired-lose_reply;
   deliver_reply = wired-deliver_reply;
