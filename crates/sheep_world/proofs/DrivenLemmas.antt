@@ -124,7 +124,7 @@ driven_session works requests sessions number session same driven =
       apart = λ q. subst AreApart (sym (so q)) (driven.apart q);
     }
 
-free_session : (req : ℕ) (works : Works) (sessions : Sessions) (number : ℕ) (session : Session)
+pub free_session : (req : ℕ) (works : Works) (sessions : Sessions) (number : ℕ) (session : Session)
     → session.line.waiting ≡ waiting_in number sessions → IsFree req works sessions → IsFree req works (tree.insert sessions number session)
 free_session req works sessions number session same free = record {
   idle = free.idle;
@@ -132,7 +132,7 @@ free_session req works sessions number session same free = record {
       free.out q waiting (subst (λ (list : List lines.Waiting). Contains list waiting) (same_waiting sessions number session same q) there);
 }
 
-good_session : (old : Node) (number : ℕ) (session : Session) (turn : Turn) → session.line.waiting ≡ (session_in number turn).line.waiting
+pub good_session : (old : Node) (number : ℕ) (session : Session) (turn : Turn) → session.line.waiting ≡ (session_in number turn).line.waiting
     → IsGood old turn → IsGood old (with_session number session turn)
 good_session old number session turn same good = record {
   going = good.going;
@@ -142,7 +142,7 @@ good_session old number session turn same good = record {
 -- ---- requests
 
 -- a request without a work is there, in whatever course
-good_course : (old : Node) (number req : ℕ) (course : Course) (turn : Turn) → IsFreeIn req turn → IsGood old turn
+pub good_course : (old : Node) (number req : ℕ) (course : Course) (turn : Turn) → IsFreeIn req turn → IsGood old turn
     → IsGood old (with_course number req course turn)
 good_course old number req course turn free good =
     let request : Request = record { session = number; course = course } in
@@ -179,7 +179,7 @@ good_gone old req turn free good = record {
   apart = good.driven.apart;
 }
 
-ended_good : (old : Node) (number req : ℕ) (reply : GuestRsp) (turn : Turn) → IsFreeIn req turn → IsGood old turn
+pub ended_good : (old : Node) (number req : ℕ) (reply : GuestRsp) (turn : Turn) → IsFreeIn req turn → IsGood old turn
     → IsGood old (ended number req reply turn)
 unfolding ended
 ended_good old number req reply turn free good = record {
@@ -359,7 +359,7 @@ began_waiting : (line : Line) (req : ℕ) (work : ObjWork) → (began line req w
 began_waiting line req work =
     either (λ (after : Line). after.waiting ≡ line.waiting) (is_on_inode work) (record line { current = Some req }) line refl refl
 
-work_asked_good : (old : Node) (number req : ℕ) (work : ObjWork) (turn : Turn) → IsFreeIn req turn → MayWorkIn number req turn → IsGood old turn
+pub work_asked_good : (old : Node) (number req : ℕ) (work : ObjWork) (turn : Turn) → IsFreeIn req turn → MayWorkIn number req turn → IsGood old turn
     → IsGood old (work_asked number req work turn)
 unfolding work_asked
 work_asked_good old number req work turn free may good =
@@ -411,7 +411,7 @@ course_begun_good old number req (Driving driver) turn free good = good
 course_begun_good old number req (Commanding ask op) turn free good = good
 
 -- a request that may have no work has none
-free_of : (old : Node) (req : ℕ) (request : Request) (turn : Turn) → tree.get turn.node.requests req ≡ Some request → may_work request.course ≡ false
+pub free_of : (old : Node) (req : ℕ) (request : Request) (turn : Turn) → tree.get turn.node.requests req ≡ Some request → may_work request.course ≡ false
     → IsGood old turn → IsFreeIn req turn
 free_of old req request turn there never good = record {
   idle = by_work (tree.get turn.node.gateway.works req) refl;

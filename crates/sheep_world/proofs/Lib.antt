@@ -11,6 +11,7 @@ pub mod EndLemmas
 pub mod GatewayLemmas
 pub mod DrivenLemmas
 pub mod RetryLemmas
+pub mod GuestLemmas
 pub mod MeetLemmas
 pub mod AskLemmas
 pub mod BackLemmas

@@ -5,6 +5,8 @@ use Rattle.std.specs.Ordering.{nat_cmp}
 use Rattle.std.specs.Option.{option_map_or}
 use Rattle.std.specs.FinMap as tree
 use Rattle.object_id.specs.declared.node.NodeId.{NodeId}
+use Rattle.cluster_script.specs.declared.statement.Statement.{Statement}
+use Rattle.cluster_script.specs.Sessions.{Session as ScriptSession, session_numbered}
 use Rattle.peer_proto.specs.declared.ask.PeerReq.{PeerReq}
 use Rattle.peer_proto.specs.Ask.{IsRequest}
 use Rattle.gateway.specs.State.{Work}
@@ -12,6 +14,7 @@ use Rattle.guest_driver.specs.InodeLine as lines
 use Rattle.vdi_ops.specs.Op.{entry_wanted}
 use Rattle.sheep_node.specs.State.{Course, Waiting, Driving, Commanding, Request, Session, Node, new_session}
 use Rattle.sheep_world.specs.World.{Seat, World}
+use Rattle.sheep_world.specs.Conditions.{next_request}
 
 -- whether a request may have a work: a read or write that began, or a command that waits for no entry
 abbrev pub may_work : Course → Bool
@@ -58,3 +61,8 @@ NodesAreDriven world = (number : ℕ) (seat : Seat) → tree.get world.seats num
 -- what the last step sent can be spelled
 abbrev pub IsSentInRange : World → Type 0
 IsSentInRange world = All (λ (send : NodeId × PeerReq). IsRequest send.1) world.outputs.sends
+
+-- the next request of a session is new to its gateway
+abbrev pub IsNewRequest : List Statement → ℕ → World → Type 0
+IsNewRequest statements number world = (session : ScriptSession) (req : ℕ) (seat : Seat) → session_numbered statements number ≡ Some session
+    → next_request statements number world ≡ Some req → tree.get world.seats session.node ≡ Some seat → tree.get seat.node.requests req ≡ None

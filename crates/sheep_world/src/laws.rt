@@ -27,7 +27,7 @@ ghost use Rattle.sheep_world.specs.Run.{Moment, run_from};
 ghost use Rattle.sheep_world.specs.Enabled.{is_enabled, enabled};
 ghost use Rattle.sheep_world.specs.Wired.{is_of_work, IsWired};
 ghost use Rattle.sheep_world.specs.Ranges.{RecoveriesAreInRange};
-ghost use Rattle.sheep_world.specs.Driven.{NodesAreDriven, IsSentInRange};
+ghost use Rattle.sheep_world.specs.Driven.{NodesAreDriven, IsSentInRange, IsNewRequest};
 
 /// An event makes something exactly where it may happen.
 pub fn what_may_happen_is_made()
@@ -86,6 +86,10 @@ pub fn nodes_and_wire_stay_together()
     ensures retry { (statements : List Statement) (world : World) (made : Made) (node : NodeId)
         → step statements (events.RetryTick node) world ≡ Some made → IsSentInRange made.world → NodesAreDriven world → IsWired world
         → IsWired made.world × NodesAreDriven made.world }
+    // The same of what a guest's request lets begin, where the request is new to its gateway.
+    ensures guest { (statements : List Statement) (world : World) (made : Made) (session : ℕ)
+        → step statements (events.Guest session) world ≡ Some made → IsNewRequest statements session world → IsSentInRange made.world
+        → NodesAreDriven world → IsWired world → IsWired made.world × NodesAreDriven made.world }
     // A message that no work of an up node waits for is a recovery's, or of a node that isn't up.
     ensures lose_request { (statements : List Statement) (world : World) (made : Made) (node : NodeId) (number : ℕ)
         → step statements (events.LoseRequest node number) world ≡ Some made
