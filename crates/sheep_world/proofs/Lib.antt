@@ -12,6 +12,7 @@ pub mod GatewayLemmas
 pub mod DrivenLemmas
 pub mod RetryLemmas
 pub mod GuestLemmas
+pub mod ReadLemmas
 pub mod MeetLemmas
 pub mod AskLemmas
 pub mod BackLemmas

@@ -1,5 +1,5 @@
 -- A work that is tried again leaves nodes and wire together, and each request with one open work at most.
-use Rattle.std.proofs.Common.{◌≡◌, ◌≢◌, ◌⊎◌, inl, inr, ℕ, nat_lt, Bool, true, false, not, ◌&&◌, ◌||◌, cond, T, List, [], ◌∷◌, flat_map, All, Contains, Option, Some, None, is_some, Ordering, Less, Equal, Greater, refl, sym, ap, subst, ◌∙◌, ⊎_elim}
+use Rattle.std.proofs.Common.{◌≡◌, ◌≢◌, ◌⊎◌, inl, inr, ℕ, nat_lt, Bool, true, false, not, ◌&&◌, ◌||◌, cond, T, List, [], ◌∷◌, flat_map, All, Contains, Option, Some, None, is_some, Ordering, Less, Equal, Greater, refl, sym, ap, subst, ◌∙◌, ⊎_elim, ◌+◌, length}
 use native.Mathlib.Omega.{arith}
 use Rattle.std.specs.Ordering.{nat_cmp, is_eq, is_lt, eq_by_cmp}
 use Rattle.std.specs.Cmp.{nat_cmp_total}
@@ -24,6 +24,7 @@ use Rattle.peer_proto.specs.Ask.{IsRequest}
 use Rattle.peer_proto.specs.Work.{oid_of, policy_of}
 use Rattle.peer_proto.proofs.AskLemmas.{ask-again}
 use Rattle.peer_service.specs.State.{Peer, length_of_rows}
+use Rattle.gateway.specs.Told.{AreNumberedFrom}
 use Rattle.gateway.specs.Work.{zones_for}
 use Rattle.gateway.specs.State as gateways
 use Rattle.gateway.specs.State.{Stage, Open, Ended, Short, Work, is_touched, is_awaited_in, fits_asker, may_try, next_try}
@@ -64,10 +65,10 @@ use Rattle.sheep_world.proofs.DrivenLemmas.{Requests, Sessions, same_or_not, got
 
 -- ---- the entries of a map
 
-less_all : (x : ℕ) (es : List (ℕ × Work)) (e : ℕ × Work) → T (below_all nat_cmp x es) → Contains es e → T (is_lt (nat_cmp x e.0))
+less_all : {X : Type 0} (x : ℕ) (es : List (ℕ × X)) (e : ℕ × X) → T (below_all nat_cmp x es) → Contains es e → T (is_lt (nat_cmp x e.0))
 less_all x [] e below there = has-none e there
-less_all x (f ∷ es) e below there = ⊎_elim
-    (λ (same : f ≡ e). subst (λ (g : ℕ × Work). T (is_lt (nat_cmp x g.0))) same (first (is_lt (nat_cmp x f.0)) (below_all nat_cmp x es) below))
+less_all {X} x (f ∷ es) e below there = ⊎_elim
+    (λ (same : f ≡ e). subst (λ (g : ℕ × X). T (is_lt (nat_cmp x g.0))) same (first (is_lt (nat_cmp x f.0)) (below_all nat_cmp x es) below))
     (λ (later : Contains es e). less_all x es e (second (is_lt (nat_cmp x f.0)) (below_all nat_cmp x es) below) later)
     (has_cases f e es there)
   where
@@ -82,10 +83,10 @@ less_all x (f ∷ es) e below there = ⊎_elim
 not_less : (x : ℕ) → T (is_lt (nat_cmp x x)) → ⊥
 not_less x less = subst (λ (o : Ordering). T (is_lt o)) (tied_itself nat_cmp_total x) less
 
-entry_found : (es : List (ℕ × Work)) (e : ℕ × Work) → T (is_sorted nat_cmp es) → Contains es e → tree.find nat_cmp e.0 es ≡ Some e.1
+entry_found : {X : Type 0} (es : List (ℕ × X)) (e : ℕ × X) → T (is_sorted nat_cmp es) → Contains es e → tree.find nat_cmp e.0 es ≡ Some e.1
 entry_found [] e sorted there = has-none e there
-entry_found (f ∷ es) e sorted there = ⊎_elim
-    (λ (same : f ≡ e). subst (λ (g : ℕ × Work). tree.find nat_cmp g.0 (f ∷ es) ≡ Some g.1) same
+entry_found {X} (f ∷ es) e sorted there = ⊎_elim
+    (λ (same : f ≡ e). subst (λ (g : ℕ × X). tree.find nat_cmp g.0 (f ∷ es) ≡ Some g.1) same
     (ap (λ (o : Ordering). cond (is_eq o) (Some f.1) (tree.find nat_cmp f.0 es)) (tied_itself nat_cmp_total f.0)))
     (λ (later : Contains es e).
     by_tie (nat_cmp e.0 f.0) refl (less_all f.0 es e (first (below_all nat_cmp f.0 es) (is_sorted nat_cmp es) sorted) later)
@@ -108,7 +109,7 @@ entry_found (f ∷ es) e sorted there = ⊎_elim
     by_tie Greater tie less rest = rest
 
 -- what is among the entries is got
-pub got_entry : (m : Works) (e : ℕ × Work) → Contains (tree.entries m) e → tree.get m e.0 ≡ Some e.1
+pub got_entry : {X : Type 0} (m : tree.FinMap nat_cmp X) (e : ℕ × X) → Contains (tree.entries m) e → tree.get m e.0 ≡ Some e.1
 got_entry m e there = tree.get-entries m e.0 ∙ entry_found (tree.entries m) e (tree.entries_sorted m) there
 
 -- the keys but one
@@ -258,16 +259,15 @@ or_right true b is = refl
 or_right false b is = is
 
 -- a good step asks what its node waits for, where what it sends can be spelled
-pub good_asks : (input : Input) (node : Node) → IsGood node (stepped input node)
-    → All (λ (send : NodeId × PeerReq). IsRequest send.1) (stepped input node).outputs.sends
-    → Asking Any node (stepped input node).node (stepped input node).outputs.sends
-good_asks input node good requests =
-    let turn = stepped input node in
+pub good_turn_asks : (node : Node) (turn : Turn) → AreNumberedFrom node.sends turn.outputs.sends
+    → turn.node.sends ≡ node.sends + length turn.outputs.sends → IsGood node turn
+    → All (λ (send : NodeId × PeerReq). IsRequest send.1) turn.outputs.sends → Asking Any node turn.node turn.outputs.sends
+good_turn_asks node turn numbers counts good requests =
     let going = good.going in
     record {
       me_so = going.me_so;
-      count_so = stepped_counts input node;
-      numbers = stepped_numbers input node;
+      count_so = counts;
+      numbers = numbers;
       own = going.own;
       read = λ send there. ask-again send.1 (All-contains (λ (send : NodeId × PeerReq). IsRequest send.1) turn.outputs.sends send requests there);
       asked = λ send there. ⊎_elim
@@ -304,6 +304,12 @@ good_asks input node good requests =
           ∙ recovers))
           (or_cases (gateways.fits rsp node.gateway) (recovery_fits.fits rsp (state_of node)) fit);
     }
+
+pub good_asks : (input : Input) (node : Node) → IsGood node (stepped input node)
+    → All (λ (send : NodeId × PeerReq). IsRequest send.1) (stepped input node).outputs.sends
+    → Asking Any node (stepped input node).node (stepped input node).outputs.sends
+good_asks input node good requests =
+    good_turn_asks node (stepped input node) (stepped_numbers input node) (stepped_counts input node) good requests
 
 pub good_driven : (old : Node) (turn : Turn) → IsGood old turn → IsDriven turn.node
 good_driven old turn good = record { own = good.going.own_so ∙ sym good.going.me_so; driven = good.driven }

@@ -90,6 +90,10 @@ pub fn nodes_and_wire_stay_together()
     ensures guest { (statements : List Statement) (world : World) (made : Made) (session : ℕ)
         → step statements (events.Guest session) world ≡ Some made → IsNewRequest statements session world → IsSentInRange made.world
         → NodesAreDriven world → IsWired world → IsWired made.world × NodesAreDriven made.world }
+    // And of what the decision on an entry lets begin.
+    ensures log_next { (statements : List Statement) (world : World) (made : Made) (node : NodeId)
+        → step statements (events.LogNext node) world ≡ Some made → IsSentInRange made.world → NodesAreDriven world → IsWired world
+        → IsWired made.world × NodesAreDriven made.world }
     // A message that no work of an up node waits for is a recovery's, or of a node that isn't up.
     ensures lose_request { (statements : List Statement) (world : World) (made : Made) (node : NodeId) (number : ℕ)
         → step statements (events.LoseRequest node number) world ≡ Some made

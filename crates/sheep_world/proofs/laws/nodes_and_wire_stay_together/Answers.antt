@@ -5,6 +5,7 @@ use Rattle.sheep_world.proofs.BackLemmas.{wired-back}
 use Rattle.sheep_world.proofs.RecoverLemmas.{wired-recover}
 use Rattle.sheep_world.proofs.RetryLemmas.{wired-retry}
 use Rattle.sheep_world.proofs.GuestLemmas.{wired-guest}
+use Rattle.sheep_world.proofs.ReadLemmas.{wired-log_next}
 use Rattle.sheep_world.proofs.EndLemmas.{wired-lose_request, wired-lose_reply, wired-deliver_reply}
 use Rattle.sheep_world.proofs.laws.nodes_and_wire_stay_together.Goals as goal
 
@@ -21,6 +22,7 @@ returns c = record {
   recover = wired-recover;
   retry = wired-retry;
   guest = wired-guest;
+  log_next = wired-log_next;
   lose_request = wired-lose_request;
   lose_reply = wired-lose_reply;
   deliver_reply = wired-deliver_reply;
