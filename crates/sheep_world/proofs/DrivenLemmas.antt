@@ -383,7 +383,7 @@ driver_acted_good : (old : Node) (number req : ℕ) (act : DriverAct) (turn : Tu
 driver_acted_good old number req (driver_acts.Work work) turn free may good = work_asked_good old number req work turn free may good
 driver_acted_good old number req (driver_acts.Reply reply) turn free may good = ended_good old number req reply turn free good
 
-driver_stepped_good : (old : Node) (number req : ℕ) (disk : Disk) (step : drivers.Step) (turn : Turn) → IsFreeIn req turn → IsGood old turn
+pub driver_stepped_good : (old : Node) (number req : ℕ) (disk : Disk) (step : drivers.Step) (turn : Turn) → IsFreeIn req turn → IsGood old turn
     → IsGood old (driver_stepped number req disk step turn)
 unfolding driver_stepped
 driver_stepped_good old number req disk step turn free good =
@@ -537,11 +537,11 @@ let_begin_good old number turn good =
     all_begun_good old number (tree.keys turn.node.requests) (next_begun number (next_work (session_in number turn).line) turn)
     (next_begun_good old number turn good)
 
-left_by_good : (old : Node) (number : ℕ) (work : Option Work) (turn : Turn) → IsGood old turn → IsGood old (left_by number work turn)
+pub left_by_good : (old : Node) (number : ℕ) (work : Option Work) (turn : Turn) → IsGood old turn → IsGood old (left_by number work turn)
 left_by_good old number None turn good = good
 left_by_good old number (Some work) turn good = left_good old number work.work turn good
 
-left_by_free : (req number : ℕ) (work : Option Work) (turn : Turn) → IsFreeIn req turn → IsFreeIn req (left_by number work turn)
+pub left_by_free : (req number : ℕ) (work : Option Work) (turn : Turn) → IsFreeIn req turn → IsFreeIn req (left_by number work turn)
 left_by_free req number None turn free = free
 left_by_free req number (Some work) turn free = left_free req number work.work turn free
 

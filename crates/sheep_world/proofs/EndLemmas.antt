@@ -59,7 +59,7 @@ Other number q = q ≢ number
 -- ---- a gateway waits for what it asks
 
 -- the messages of an attempt that aren't answered
-abbrev open_of : List Sent → List Sent
+abbrev pub open_of : List Sent → List Sent
 open_of messages = filter (λ (message : Sent). is_unanswered message.status) messages
 
 awaited_among : (me : NodeId) (work : Work) (epoch : Epoch) (messages : List Sent) (send : NodeId × PeerReq)
@@ -88,7 +88,7 @@ awaited_among me work epoch (message ∷ messages) send there =
         (has_cases (send_of me epoch work.work message) send (map (send_of me epoch work.work) (open_of messages)) there)
     by_status false answered later there = behind (is_awaited send.1.number message) (later there)
 
-awaited_at : (me : NodeId) (work : Work) (stage : Stage) (send : NodeId × PeerReq) → Contains (unanswered_in me work stage) send
+pub awaited_at : (me : NodeId) (work : Work) (stage : Stage) (send : NodeId × PeerReq) → Contains (unanswered_in me work stage) send
     → list_any (is_awaited send.1.number) (open_messages stage) ≡ true
 awaited_at me work (Open attempt) send there = awaited_among me work attempt.epoch attempt.messages send there
 awaited_at me work Ended send there = has-none send there
@@ -373,20 +373,20 @@ lost_wired statements name world none wired = by_letter (message_at name world)
         either (λ (w : World). IsWired (loss_told statements name (without_message name w))) (are_ends_up name letter (at_rest world)) fewer (at_rest world)
         (told_wired statements name fewer wired none) (told_wired statements name (at_rest world) wired none)
 
-pub wired-lose_request : (statements : List Statement) (world : World) (made : Made) (node : NodeId) (number : ℕ)
+pub wired-lose_idle_request : (statements : List Statement) (world : World) (made : Made) (node : NodeId) (number : ℕ)
     → step statements (events.LoseRequest node number) world ≡ Some made → is_of_work (record { sender = node; number = number }) world ≡ false
     → IsWired world → IsWired made.world
 unfolding step
-wired-lose_request statements world made node number is none wired =
+wired-lose_idle_request statements world made node number is none wired =
     let name : MessageName = record { sender = node; number = number } in
     let t = cond_some (may_lose_request name world) (with_replies statements world (message_lost statements name world)) made is in
     subst (λ (made : Made). IsWired made.world) t.1 (lost_wired statements name world none wired)
 
-pub wired-lose_reply : (statements : List Statement) (world : World) (made : Made) (node : NodeId) (number : ℕ)
+pub wired-lose_idle_reply : (statements : List Statement) (world : World) (made : Made) (node : NodeId) (number : ℕ)
     → step statements (events.LoseReply node number) world ≡ Some made → is_of_work (record { sender = node; number = number }) world ≡ false
     → IsWired world → IsWired made.world
 unfolding step
-wired-lose_reply statements world made node number is none wired =
+wired-lose_idle_reply statements world made node number is none wired =
     let name : MessageName = record { sender = node; number = number } in
     let t = cond_some (may_lose_reply name world) (with_replies statements world (message_lost statements name world)) made is in
     subst (λ (made : Made). IsWired made.world) t.1 (lost_wired statements name world none wired)
@@ -395,7 +395,7 @@ said_or : PeerRsp → Result PeerRsp PeerFault → PeerRsp
 said_or none (Ok rsp) = rsp
 said_or none (Err fault) = none
 
-same_said : (one other : PeerRsp) → ◌≡◌ {A = Result PeerRsp PeerFault} (Ok one) (Ok other) → one ≡ other
+pub same_said : (one other : PeerRsp) → ◌≡◌ {A = Result PeerRsp PeerFault} (Ok one) (Ok other) → one ≡ other
 unfolding said_or
 same_said one other same = ap (said_or one) same
 
@@ -425,12 +425,12 @@ module _ (statements : List Statement) (name : MessageName) (world : World) (wir
       got_at rsp (seat_at name.sender.0 world) (ap (λ (rsp : PeerRsp). rsp.number) (sym same) ∙ number) refl none up
   got_wired from bytes (Err fault) says got none up = wired
 
-pub wired-deliver_reply : (statements : List Statement) (world : World) (made : Made) (node : NodeId) (number : ℕ) (from : NodeId) (bytes : List ℕ)
+pub wired-deliver_idle_reply : (statements : List Statement) (world : World) (made : Made) (node : NodeId) (number : ℕ) (from : NodeId) (bytes : List ℕ)
     → step statements (events.Deliver node number) world ≡ Some made
     → message_at (record { sender = node; number = number }) world ≡ Some (Reply from bytes)
     → is_of_work (record { sender = node; number = number }) world ≡ false → IsWired world → IsWired made.world
 unfolding step reply_delivered
-wired-deliver_reply statements world made node number from bytes is got none wired =
+wired-deliver_idle_reply statements world made node number from bytes is got none wired =
     let name : MessageName = record { sender = node; number = number } in
     let t = cond_some (may_deliver name world) (with_replies statements world (delivered statements name world)) made is in
     let up : is_up node.0 world ≡ true

@@ -13,6 +13,10 @@ pub mod DrivenLemmas
 pub mod RetryLemmas
 pub mod GuestLemmas
 pub mod ReadLemmas
+pub mod AnswerLemmas
+pub mod MarkLemmas
+pub mod SettleLemmas
+pub mod LossLemmas
 pub mod MeetLemmas
 pub mod AskLemmas
 pub mod BackLemmas

@@ -91,7 +91,7 @@ or_first true b none is = refl
 or_first false b none is = absurd (cc (none, is))
 
 -- the message of a number that is among some is found
-numbered_there : (messages : List Message) (send : NodeId × PeerReq)
+pub numbered_there : (messages : List Message) (send : NodeId × PeerReq)
     → Contains (map (λ (message : Message). (message.to, message.request)) messages) send
     → is_some (recoveries.message_of send.1.number messages) ≡ true
 numbered_there [] send there = has-none send there

@@ -27,6 +27,7 @@ ghost use Rattle.sheep_world.specs.Run.{Moment, run_from};
 ghost use Rattle.sheep_world.specs.Enabled.{is_enabled, enabled};
 ghost use Rattle.sheep_world.specs.Wired.{is_of_work, IsWired};
 ghost use Rattle.sheep_world.specs.Ranges.{RecoveriesAreInRange};
+ghost use Rattle.sheep_world.specs.Once.{NodesWaitOnce};
 ghost use Rattle.sheep_world.specs.Driven.{NodesAreDriven, IsSentInRange, IsNewRequest};
 
 /// An event makes something exactly where it may happen.
@@ -94,14 +95,25 @@ pub fn nodes_and_wire_stay_together()
     ensures log_next { (statements : List Statement) (world : World) (made : Made) (node : NodeId)
         → step statements (events.LogNext node) world ≡ Some made → IsSentInRange made.world → NodesAreDriven world → IsWired world
         → IsWired made.world × NodesAreDriven made.world }
-    // A message that no work of an up node waits for is a recovery's, or of a node that isn't up.
+    // And of what a loss or a reply lets begin, where a number that a node waits for is of one message.
     ensures lose_request { (statements : List Statement) (world : World) (made : Made) (node : NodeId) (number : ℕ)
+        → step statements (events.LoseRequest node number) world ≡ Some made → IsSentInRange made.world → NodesWaitOnce world
+        → NodesAreDriven world → IsWired world → IsWired made.world × NodesAreDriven made.world }
+    ensures lose_reply { (statements : List Statement) (world : World) (made : Made) (node : NodeId) (number : ℕ)
+        → step statements (events.LoseReply node number) world ≡ Some made → IsSentInRange made.world → NodesWaitOnce world
+        → NodesAreDriven world → IsWired world → IsWired made.world × NodesAreDriven made.world }
+    ensures deliver_reply { (statements : List Statement) (world : World) (made : Made) (node : NodeId) (number : ℕ) (from : NodeId) (bytes : List ℕ)
+        → step statements (events.Deliver node number) world ≡ Some made
+        → message_at (record { sender = node; number = number }) world ≡ Some (Reply from bytes) → IsSentInRange made.world
+        → NodesWaitOnce world → NodesAreDriven world → IsWired world → IsWired made.world × NodesAreDriven made.world }
+    // A message that no work of an up node waits for, as one of a recovery, lets nothing begin.
+    ensures lose_idle_request { (statements : List Statement) (world : World) (made : Made) (node : NodeId) (number : ℕ)
         → step statements (events.LoseRequest node number) world ≡ Some made
         → is_of_work (record { sender = node; number = number }) world ≡ false → IsWired world → IsWired made.world }
-    ensures lose_reply { (statements : List Statement) (world : World) (made : Made) (node : NodeId) (number : ℕ)
+    ensures lose_idle_reply { (statements : List Statement) (world : World) (made : Made) (node : NodeId) (number : ℕ)
         → step statements (events.LoseReply node number) world ≡ Some made
         → is_of_work (record { sender = node; number = number }) world ≡ false → IsWired world → IsWired made.world }
-    ensures deliver_reply { (statements : List Statement) (world : World) (made : Made) (node : NodeId) (number : ℕ) (from : NodeId) (bytes : List ℕ)
+    ensures deliver_idle_reply { (statements : List Statement) (world : World) (made : Made) (node : NodeId) (number : ℕ) (from : NodeId) (bytes : List ℕ)
         → step statements (events.Deliver node number) world ≡ Some made
         → message_at (record { sender = node; number = number }) world ≡ Some (Reply from bytes)
         → is_of_work (record { sender = node; number = number }) world ≡ false → IsWired world → IsWired made.world }

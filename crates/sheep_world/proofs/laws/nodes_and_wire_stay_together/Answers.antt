@@ -6,7 +6,8 @@ use Rattle.sheep_world.proofs.RecoverLemmas.{wired-recover}
 use Rattle.sheep_world.proofs.RetryLemmas.{wired-retry}
 use Rattle.sheep_world.proofs.GuestLemmas.{wired-guest}
 use Rattle.sheep_world.proofs.ReadLemmas.{wired-log_next}
-use Rattle.sheep_world.proofs.EndLemmas.{wired-lose_request, wired-lose_reply, wired-deliver_reply}
+use Rattle.sheep_world.proofs.LossLemmas.{wired-lose_request, wired-lose_reply, wired-deliver_reply}
+use Rattle.sheep_world.proofs.EndLemmas.{wired-lose_idle_request, wired-lose_idle_reply, wired-deliver_idle_reply}
 use Rattle.sheep_world.proofs.laws.nodes_and_wire_stay_together.Goals as goal
 
 pub returns : goal.returns
@@ -26,4 +27,7 @@ returns c = record {
   lose_request = wired-lose_request;
   lose_reply = wired-lose_reply;
   deliver_reply = wired-deliver_reply;
+  lose_idle_request = wired-lose_idle_request;
+  lose_idle_reply = wired-lose_idle_reply;
+  deliver_idle_reply = wired-deliver_idle_reply;
 }
