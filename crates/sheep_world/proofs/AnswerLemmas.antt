@@ -1,5 +1,5 @@
 -- A message of a work that is lost or answered leaves the wire, and its gateway waits for it no more: they stay together.
-use Rattle.std.proofs.Common.{◌≡◌, ◌≢◌, ◌⊎◌, inl, inr, ℕ, ◌==◌, Bool, true, false, not, ◌||◌, cond, List, [], ◌∷◌, map, flat_map, Contains, Option, Some, None, is_some, refl, sym, ap, subst, ◌∙◌, ⊎_elim}
+use Rattle.std.proofs.Common.{◌≡◌, ◌≢◌, ◌⊎◌, inl, inr, ℕ, ◌==◌, Bool, true, false, not, ◌||◌, cond, List, [], ◌∷◌, map, flat_map, Contains, Some, refl, sym, ap, subst, ◌∙◌, ⊎_elim}
 use Rattle.std.specs.List.{list_any}
 use Rattle.std.specs.FinMap as tree
 use Rattle.std.proofs.lemmas.Bool.{eqb-true, eqb-false}
@@ -10,13 +10,12 @@ use Rattle.peer_proto.specs.declared.ask.PeerReq.{PeerReq}
 use Rattle.gateway.specs.declared.message.Message.{Message}
 use Rattle.gateway.specs.declared.message.Status.{Status}
 use Rattle.gateway.specs.Attempt.{is_unanswered, is_awaited, is_over, marked, send_of}
-use Rattle.gateway.specs.State.{Work, is_awaited_in}
-use Rattle.gateway.proofs.TryLaws.{found-passes}
+use Rattle.gateway.specs.State.{Work}
 use Rattle.sheep_world.specs.Wired.{unanswered_in}
-use Rattle.sheep_world.proofs.ListTools.{has-here, has-later, has-none, has_cases, has-found, has-flat_map}
+use Rattle.sheep_world.proofs.ListTools.{has-here, has-later, has-none, has_cases, has-flat_map}
 use Rattle.sheep_world.proofs.NameTools.{entries-got}
 use Rattle.sheep_world.proofs.EndLemmas.{open_of}
-use Rattle.sheep_world.proofs.GatewayLemmas.{Works, found_by, asked_in}
+use Rattle.sheep_world.proofs.GatewayLemmas.{Works, asked_in}
 use Rattle.sheep_world.proofs.RetryLemmas.{got_entry}
 
 -- ---- the messages of an attempt, of which one is marked
@@ -142,40 +141,6 @@ over_none q (message ∷ messages) over =
         ap (λ (b : Bool). cond (message.number == q) b false || list_any (is_awaited q) messages) status
         ∙ ap (λ (b : Bool). b || list_any (is_awaited q) messages) (none (message.number == q))
         ∙ rest over
-
--- ---- the works that await a number
-
--- a work that awaits a number is found
-pub found_got : (q : ℕ) (m : Works) (found : ℕ × Work) → found_by (is_awaited_in q) (tree.entries m) ≡ Some found
-    → (tree.get m found.0 ≡ Some found.1) × (is_awaited_in q found.1 ≡ true)
-found_got q m found is = (
-  got_entry m found (has-found (λ (entry : ℕ × Work). is_awaited_in q entry.1) (tree.entries m) found is),
-  found-passes (λ (entry : ℕ × Work). is_awaited_in q entry.1) (tree.entries m) found is,
-)
-
-any_found : (q : ℕ) (es : List (ℕ × Work)) (e : ℕ × Work) → Contains es e → is_awaited_in q e.1 ≡ true → is_some (found_by (is_awaited_in q) es) ≡ true
-any_found q [] e there awaited = has-none e there
-any_found q (f ∷ es) e there awaited = ⊎_elim
-    (λ (same : f ≡ e). here (is_awaited_in q f.1) (ap (λ (g : ℕ × Work). is_awaited_in q g.1) same ∙ awaited))
-    (λ (later : Contains es e). behind (is_awaited_in q f.1) (any_found q es e later awaited))
-    (has_cases f e es there)
-  where
-    here : (b : Bool) → b ≡ true → is_some (cond b (Some f) (found_by (is_awaited_in q) es)) ≡ true
-    here true is = refl
-    here false is = absurd (cc (is))
-
-    behind : (b : Bool) → is_some (found_by (is_awaited_in q) es) ≡ true → is_some (cond b (Some f) (found_by (is_awaited_in q) es)) ≡ true
-    behind true is = refl
-    behind false is = is
-
-pub got_found : (q : ℕ) (m : Works) (req : ℕ) (work : Work) → tree.get m req ≡ Some work → is_awaited_in q work ≡ true
-    → is_some (found_by (is_awaited_in q) (tree.entries m)) ≡ true
-got_found q m req work there awaited =
-    any_found q (tree.entries m) (req, work) (entries-got tree.nat_cmp-IsAntisymmetric m req work there) awaited
-
-pub some_of : {X : Type 0} (o : Option X) → is_some o ≡ true → (x : X) × (o ≡ Some x)
-some_of None is = absurd (cc (is))
-some_of (Some x) is = (x, refl)
 
 asked_among : (me : NodeId) (es : List (ℕ × Work)) (send : NodeId × PeerReq)
     → Contains (flat_map (λ (entry : ℕ × Work). unanswered_in me entry.1 entry.1.stage) es) send

@@ -1,9 +1,8 @@
 -- The works that begin in a step leave what a node waited for, and begin only where none is open.
 use Rattle.std.proofs.Common.{◌≡◌, ◌≢◌, ◌⊎◌, inl, inr, ℕ, ◌==◌, nat_lt, Bool, true, false, ◌&&◌, cond, List, [], ◌∷◌, ◌++◌, fold, Contains, Option, Some, None, is_none, unwrap_or, refl, sym, ap, subst, ◌∙◌, ⊎_elim}
 use Rattle.std.specs.Ordering.{nat_cmp}
-use Rattle.std.specs.Cmp.{nat_cmp_total, unsigned_tied}
 use Rattle.std.specs.FinMap as tree
-use Rattle.std.proofs.lemmas.Bool.{eqb-true, eqb-false, eq-eqb, ne_eqb, and_parts}
+use Rattle.std.proofs.lemmas.Bool.{eqb-true, eq-eqb, and_parts}
 use Rattle.std.proofs.lemmas.List.Elements.{Contains-push_cases}
 use Rattle.object_id.specs.declared.cause.Cause.{Cause}
 use Rattle.object_id.specs.declared.cause.Cause.TheVariants.{Halt}
@@ -37,6 +36,7 @@ use Rattle.sheep_node.specs.Works.{command_refused, course_refused, request_refu
 use Rattle.sheep_node.specs.Courses.{driver_acted, driver_stepped, disk_begun}
 use Rattle.sheep_node.specs.Waiting.{next_begun, course_begun, request_begun, begun_if_may, passed_over, let_begin, left_by, work_refused}
 use Rattle.sheep_world.specs.Driven.{may_work, may_work_at, may_work_of, waiting_in, AreApart, AreDriven}
+use Rattle.sheep_world.proofs.NumberTools.{same_or_not, got_own, got_other, got_left, removed_none}
 use Rattle.sheep_world.proofs.ListTools.{has-here, has-later, has-none}
 use Rattle.sheep_world.proofs.GatewayLemmas.{Works, Going, IsIdle, going_opened, going_short}
 
@@ -45,42 +45,6 @@ Requests = tree.FinMap nat_cmp Request
 
 abbrev pub Sessions : Type 0
 Sessions = tree.FinMap nat_cmp Session
-
--- ---- maps by number
-
-module _ {X : Type 0} (m : tree.FinMap nat_cmp X) (k : ℕ) where
-  pub got_own : (x : X) → tree.get (tree.insert m k x) k ≡ Some x
-  got_own x = tree.get-insert nat_cmp_total m k x k ∙ ap (λ b. cond b (Some x) (tree.get m k)) (unsigned_tied k k ∙ eq-eqb k k refl)
-
-  pub got_other : (x : X) (q : ℕ) → q ≢ k → tree.get (tree.insert m k x) q ≡ tree.get m q
-  got_other x q apart = tree.get-insert nat_cmp_total m k x q ∙ ap (λ b. cond b (Some x) (tree.get m q)) (unsigned_tied q k ∙ ne_eqb q k apart)
-
-  pub got_removed : tree.get (tree.remove m k) k ≡ None
-  got_removed = tree.get-remove nat_cmp_total m k k ∙ ap (λ b. cond b None (tree.get m k)) (unsigned_tied k k ∙ eq-eqb k k refl)
-
-  pub got_left : (q : ℕ) → q ≢ k → tree.get (tree.remove m k) q ≡ tree.get m q
-  got_left q apart = tree.get-remove nat_cmp_total m k q ∙ ap (λ b. cond b None (tree.get m q)) (unsigned_tied q k ∙ ne_eqb q k apart)
-
-  -- where nothing is at a number, nothing goes with it
-  pub removed_none : tree.get m k ≡ None → tree.remove m k ≡ m
-  removed_none none = tree.same_map nat_cmp_total tree.nat_cmp-IsAntisymmetric (tree.remove m k) m (λ (q : ℕ). by_tie q (q == k) refl)
-    where
-      by_tie : (q : ℕ) (b : Bool) → (q == k) ≡ b → tree.get (tree.remove m k) q ≡ tree.get m q
-      by_tie q true tie =
-          let same : q ≡ k = eqb-true q k tie in
-          ap (tree.get (tree.remove m k)) same ∙ got_removed ∙ sym none ∙ ap (tree.get m) (sym same)
-      by_tie q false tie = got_left q (eqb-false q k tie)
-
--- a number is another one or the same
-abbrev pub Same : ℕ → ℕ → Type 0
-Same q k = (q ≡ k) ⊎ (q ≢ k)
-
-pub same_or_not : (q k : ℕ) → Same q k
-same_or_not q k = by_tie (q == k) refl
-  where
-    by_tie : (b : Bool) → (q == k) ≡ b → Same q k
-    by_tie true tie = inl (eqb-true q k tie)
-    by_tie false tie = inr (eqb-false q k tie)
 
 -- ---- a step in the making
 

@@ -202,7 +202,7 @@ or_right false b is = is
 -- ---- the end of a recovery's message
 
 module _ (node : Node) (number : ℕ) (said : Option PeerSay) (none : gateways.waits_for number node.gateway ≡ false) where
-  left_now : recoveries.all_unanswered (ended number said (state_of node)).recovery ≡ without number (recoveries.all_unanswered node.recovery)
+  pub left_now : recoveries.all_unanswered (ended number said (state_of node)).recovery ≡ without number (recoveries.all_unanswered node.recovery)
   left_now =
       let frame = frame_of_end number said (state_of node) in
       (λ i. (frame i).unanswered ++ (frame i).older)

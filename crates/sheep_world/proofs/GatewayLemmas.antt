@@ -1,12 +1,13 @@
 -- What a gateway asks, waits for and takes as fitting, once a work of it begins, waits or ends.
-use Rattle.std.proofs.Common.{◌≡◌, ◌⊎◌, inl, inr, ℕ, ◌+◌, ◌<◌, ◌≤◌, Bool, true, false, ◌||◌, cond, List, [], ◌∷◌, ◌++◌, length, map, filter, flat_map, find, Contains, Option, Some, None, is_some, Ordering, Less, Equal, Greater, refl, sym, ap, subst, ◌∙◌, ⊎_elim}
+use Rattle.std.proofs.Common.{◌≡◌, ◌≢◌, ◌==◌, ◌⊎◌, inl, inr, ℕ, ◌+◌, ◌<◌, ◌≤◌, Bool, true, false, ◌||◌, cond, List, [], ◌∷◌, ◌++◌, length, map, filter, flat_map, find, Contains, Option, Some, None, is_some, Ordering, Less, Equal, Greater, refl, sym, ap, subst, ◌∙◌, ⊎_elim}
 use native.Mathlib.Omega.{arith}
 use Rattle.std.specs.Ordering.{nat_cmp, is_eq}
 use Rattle.std.specs.Cmp.{nat_cmp_total}
 use Rattle.std.specs.List.{list_any, enumerate_from}
 use Rattle.std.specs.FinMap as tree
 use Rattle.std.specs.FinMap.Entries.{by_order}
-use Rattle.std.proofs.lemmas.Bool.{eq-eqb, ne_eqb}
+use Rattle.std.proofs.lemmas.Bool.{eqb-true, eq-eqb, ne_eqb}
+use Rattle.std.proofs.lemmas.Option.{same_Some}
 use Rattle.std.proofs.lemmas.List.Elements.{Contains-append_left, Contains-append_right, Contains-append_cases}
 use Rattle.object_id.specs.declared.node.Epoch.{Epoch}
 use Rattle.object_id.specs.declared.node.NodeId.{NodeId}
@@ -22,6 +23,8 @@ use Rattle.gateway.specs.Step.{next_attempt}
 use Rattle.recovery.specs.State.{Recovery}
 use Rattle.sheep_node.specs.State.{Node}
 use Rattle.sheep_world.specs.Wired.{unanswered_in}
+use Rattle.sheep_world.specs.Driven.{IsOnceIn, IsGivenIn}
+use Rattle.sheep_world.proofs.NumberTools.{same_or_not, below_or_not, got_own, got_other}
 use Rattle.sheep_world.proofs.ListTools.{has-here, has-later, has-none, has_cases}
 use Rattle.sheep_world.proofs.SendLemmas.{Sends}
 
@@ -165,6 +168,22 @@ module _ (me : NodeId) (epoch : Epoch) (work : ObjWork) where
       (ap (λ (b : Bool). cond b true false) (ne_eqb first number (λ (same : first ≡ number). omega (arith, below, same))))
       (fresh_apart (first + 1) targets number later)
 
+  fresh_below : (first : ℕ) (targets : List (ℕ × NodeId)) (number : ℕ)
+      → list_any (is_awaited number) (map (message_to work) (enumerate_from first targets)) ≡ true
+      → number < first + length (map (send_of me epoch work) (map (message_to work) (enumerate_from first targets)))
+  fresh_below first [] number awaited = absurd (cc (awaited))
+  fresh_below first (target ∷ targets) number awaited = by_tie (first == number) refl (fresh_below (first + 1) targets number) awaited
+    where
+      by_tie : (b : Bool) → (first == number) ≡ b
+          → (list_any (is_awaited number) (map (message_to work) (enumerate_from (first + 1) targets)) ≡ true
+          → number < (first + 1) + length (map (send_of me epoch work) (map (message_to work) (enumerate_from (first + 1) targets))))
+          → (cond b true false || list_any (is_awaited number) (map (message_to work) (enumerate_from (first + 1) targets))) ≡ true
+          → number < first + length (map (send_of me epoch work) (map (message_to work) (enumerate_from first (target ∷ targets))))
+      by_tie true tie rest is = let same : first ≡ number = eqb-true first number tie in omega (arith, same)
+      by_tie false tie rest is =
+          let later : number < (first + 1) + length (map (send_of me epoch work) (map (message_to work) (enumerate_from (first + 1) targets))) = rest is in
+          omega (arith, later)
+
   fresh_own : (messages : List Message) (send : NodeId × PeerReq) → Contains (map (send_of me epoch work) messages) send → send.1.from ≡ me
   fresh_own [] send there = has-none send there
   fresh_own (message ∷ messages) send there = ⊎_elim
@@ -196,6 +215,10 @@ module _ (me : NodeId) (epoch : Epoch) (work : ObjWork) where
 
 -- ---- a step that sends
 
+-- a work waited for a number
+abbrev pub WaitedBefore : ℕ → Works → Type 0
+WaitedBefore number m = (req : ℕ) × (work : Work) × (tree.get m req ≡ Some work) × (is_awaited_in number work ≡ true)
+
 -- what the works of a step in the making ask, beside what the node asked before it; the rest of what it waits for is as it was
 pub record Going (old : Node) (me own_me : NodeId) (works : Works) (count : ℕ) (recovery : Recovery) (peer : Peer) (sends : Sends) : Type 0 where
   pub me_so : me ≡ old.me
@@ -210,6 +233,11 @@ pub record Going (old : Node) (me own_me : NodeId) (works : Works) (count : ℕ)
   pub waits_too : (send : NodeId × PeerReq) → Contains sends send → is_some (found_by (is_awaited_in send.1.number) (tree.entries works)) ≡ true
   pub fits_on : (rsp : PeerRsp) → rsp.number < old.sends → fits_asker (found_by (is_awaited_in rsp.number) (tree.entries old.gateway.works)) rsp.say ≡ true
       → fits_asker (found_by (is_awaited_in rsp.number) (tree.entries works)) rsp.say ≡ true
+  -- a number is of one work, was given, and is new where no work waited for it before
+  pub once : IsOnceIn works
+  pub given : IsGivenIn count works
+  pub news : (number req : ℕ) (work : Work) → tree.get works req ≡ Some work → is_awaited_in number work ≡ true
+      → WaitedBefore number old.gateway.works ⊎ (old.sends ≤ number)
 
 -- a work of which no message is unanswered
 abbrev pub IsIdle : Work → Type 0
@@ -222,6 +250,53 @@ module _ (old : Node) (me own_me : NodeId) (m : Works) (count : ℕ) (recovery :
     (req : ℕ) (idle : (w : Work) → tree.get m req ≡ Some w → IsIdle w) (going : Going old me own_me m count recovery peer sends) where
   idle_at : (number : ℕ) (w : Work) → tree.get m req ≡ Some w → is_awaited_in number w ≡ false
   idle_at number w there = idle_number w number (idle w there)
+
+  -- a work in the place of an idle one, whose numbers are new
+  module _ (now : Work) (fresh : (number : ℕ) → number < count → is_awaited_in number now ≡ false) where
+    not_new : {P : Type 0} (number other : ℕ) (work : Work) → tree.get m other ≡ Some work → is_awaited_in number work ≡ true
+        → is_awaited_in number now ≡ true → P
+    not_new number other work got awaited new =
+        let none = fresh number (going.given number other work got awaited) in
+        absurd (cc (new, none))
+
+    own_now : (q : ℕ) (work : Work) → q ≡ req → tree.get (tree.insert m req now) q ≡ Some work → now ≡ work
+    own_now q work own got = same_Some now work (sym (ap (tree.get (tree.insert m req now)) own ∙ got_own m req now) ∙ got)
+
+    once_now : IsOnceIn (tree.insert m req now)
+    once_now number one other work later got_one got_two awaits_one awaits_two = ⊎_elim
+        (λ (own : one ≡ req). ⊎_elim
+        (λ (own_too : other ≡ req). own ∙ sym own_too)
+        (λ (apart : other ≢ req). not_new number other later (sym (got_other m req now other apart) ∙ got_two) awaits_two
+        (ap (is_awaited_in number) (own_now one work own got_one) ∙ awaits_one))
+        (same_or_not other req))
+        (λ (apart : one ≢ req). ⊎_elim
+        (λ (own_too : other ≡ req). not_new number one work (sym (got_other m req now one apart) ∙ got_one) awaits_one
+        (ap (is_awaited_in number) (own_now other later own_too got_two) ∙ awaits_two))
+        (λ (apart_too : other ≢ req). going.once number one other work later (sym (got_other m req now one apart) ∙ got_one)
+        (sym (got_other m req now other apart_too) ∙ got_two) awaits_one awaits_two)
+        (same_or_not other req))
+        (same_or_not one req)
+
+    given_now : (last : ℕ) → count ≤ last → ((number : ℕ) → is_awaited_in number now ≡ true → number < last) → IsGivenIn last (tree.insert m req now)
+    given_now last more below number q work got awaited = ⊎_elim
+        (λ (own : q ≡ req). below number (ap (is_awaited_in number) (own_now q work own got) ∙ awaited))
+        (λ (apart : q ≢ req).
+        let before : number < count = going.given number q work (sym (got_other m req now q apart) ∙ got) awaited in
+        omega (arith, before, more))
+        (same_or_not q req)
+
+    news_now : (number q : ℕ) (work : Work) → tree.get (tree.insert m req now) q ≡ Some work → is_awaited_in number work ≡ true
+        → WaitedBefore number old.gateway.works ⊎ (old.sends ≤ number)
+    news_now number q work got awaited = ⊎_elim
+        (λ (own : q ≡ req). ⊎_elim
+        (λ (less : number < count).
+        let none = fresh number less in
+        let new : is_awaited_in number now ≡ true = ap (is_awaited_in number) (own_now q work own got) ∙ awaited in
+        absurd (cc (new, none)))
+        (λ (more : count ≤ number). let first : old.sends ≤ count = going.counted in inr (omega (arith, first, more)))
+        (below_or_not number count))
+        (λ (apart : q ≢ req). going.news number q work (sym (got_other m req now q apart) ∙ got) awaited)
+        (same_or_not q req)
 
   -- a work's attempt begins
   pub going_opened : (work : Work) (epoch : Epoch) (targets : List NodeId)
@@ -267,6 +342,10 @@ module _ (old : Node) (me own_me : NodeId) (m : Works) (count : ℕ) (recovery :
             ap (λ (o : Option (ℕ × Work)). fits_asker o rsp.say)
             (found_after (is_awaited_in rsp.number) m req (idle_at rsp.number) now (fresh_apart own_me epoch work.work count places rsp.number under))
             ∙ going.fits_on rsp below fit;
+        once = once_now now (λ number under. fresh_apart own_me epoch work.work count places number under);
+        given = given_now now (λ number under. fresh_apart own_me epoch work.work count places number under) (count + length new) (omega arith)
+            (λ number awaited. fresh_below own_me epoch work.work count places number awaited);
+        news = news_now now (λ number under. fresh_apart own_me epoch work.work count places number under);
       }
 
   -- a work waits for members
@@ -289,4 +368,7 @@ module _ (old : Node) (me own_me : NodeId) (m : Works) (count : ℕ) (recovery :
         fits_on = λ rsp below fit.
             ap (λ (o : Option (ℕ × Work)). fits_asker o rsp.say) (found_after (is_awaited_in rsp.number) m req (idle_at rsp.number) now refl)
             ∙ going.fits_on rsp below fit;
+        once = once_now now (λ number under. refl);
+        given = given_now now (λ number under. refl) count (omega arith) (λ number awaited. absurd (cc (awaited)));
+        news = news_now now (λ number under. refl);
       }

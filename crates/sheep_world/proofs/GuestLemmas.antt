@@ -44,7 +44,8 @@ use Rattle.sheep_world.proofs.EnabledLemmas.{looked_up}
 use Rattle.sheep_world.proofs.PutLemmas.{next_seat}
 use Rattle.sheep_world.proofs.SendLemmas.{wired_asking}
 use Rattle.sheep_world.proofs.RecoverLemmas.{Any, nothing_leaves}
-use Rattle.sheep_world.proofs.DrivenLemmas.{got_own, IsGood, IsFreeIn, free_session, good_session, good_course, ended_good, work_asked_good, course_begun_good}
+use Rattle.sheep_world.proofs.NumberTools.{got_own}
+use Rattle.sheep_world.proofs.DrivenLemmas.{IsGood, IsFreeIn, free_session, good_session, good_course, ended_good, work_asked_good, course_begun_good}
 use Rattle.sheep_world.proofs.RetryLemmas.{good_first, good_at_end, good_asks, good_driven, driven_after}
 
 -- ---- a command goes on
@@ -154,7 +155,7 @@ good_step statements world n input (Some seat) at good driven wired requests =
     let turn = stepped input seat.node in (
       wired_asking Any world.seats world.wire world.wire n seat turn.node turn.outputs.sends at up wired
           (good_asks input seat.node well requests) (nothing_leaves n world.wire),
-      driven_after world n (next_seat seat turn.node) (good_driven seat.node turn well) driven,
+      driven_after world n (next_seat seat turn.node) (good_driven seat.node turn (driven n seat at) well) driven,
     )
 
 -- a node steps well on an input, if there is one

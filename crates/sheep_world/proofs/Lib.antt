@@ -8,6 +8,7 @@ pub mod PutLemmas
 pub mod SendLemmas
 pub mod RecoverLemmas
 pub mod EndLemmas
+pub mod NumberTools
 pub mod GatewayLemmas
 pub mod DrivenLemmas
 pub mod RetryLemmas
@@ -17,6 +18,7 @@ pub mod AnswerLemmas
 pub mod MarkLemmas
 pub mod SettleLemmas
 pub mod LossLemmas
+pub mod KeptLemmas
 pub mod MeetLemmas
 pub mod AskLemmas
 pub mod BackLemmas

@@ -19,14 +19,14 @@ use Rattle.sheep_node.specs.State.{Node}
 use Rattle.sheep_node.specs.Shown.{state_of}
 use Rattle.sheep_world.specs.Wired.{unanswered_in, asked_by_recovery}
 use Rattle.sheep_world.specs.Driven.{IsDriven}
-use Rattle.sheep_world.specs.Once.{WaitsOnce}
 use Rattle.sheep_world.proofs.ListTools.{has-none}
 use Rattle.sheep_world.proofs.SendLemmas.{Asking}
 use Rattle.sheep_world.proofs.RecoverLemmas.{numbered_there}
 use Rattle.sheep_world.proofs.EndLemmas.{Other, awaited_at}
 use Rattle.sheep_world.proofs.GatewayLemmas.{Works, found_by, asked_in}
-use Rattle.sheep_world.proofs.DrivenLemmas.{same_or_not, got_own, got_other, got_removed, got_left}
-use Rattle.sheep_world.proofs.AnswerLemmas.{all_before, all_still, marked_sends, over_none, found_got, got_found, some_of, asked_at, asked_of}
+use Rattle.sheep_world.proofs.NumberTools.{same_or_not, got_own, got_other, got_removed, got_left}
+use Rattle.sheep_world.proofs.RetryLemmas.{found_got, got_found, some_of}
+use Rattle.sheep_world.proofs.AnswerLemmas.{all_before, all_still, marked_sends, over_none, asked_at, asked_of}
 
 -- what a work is after one message is known, by what it was: the same but for that number
 pub record WasWork (number : ℕ) (now work : Work) : Type 0 where
@@ -144,7 +144,7 @@ or_right : (a b : Bool) → b ≡ true → (a || b) ≡ true
 or_right true b is = refl
 or_right false b is = is
 
-module _ (node : Node) (gateway : Gateway) (number : ℕ) (marks : Marks number node.gateway.works gateway.works) (once : WaitsOnce node)
+module _ (node : Node) (gateway : Gateway) (number : ℕ) (marks : Marks number node.gateway.works gateway.works) (once : IsDriven node)
     (waits : gateways.waits_for number node.gateway ≡ true) where
   waits_still : (q : ℕ) → q ≢ number → gateways.waits_for q node.gateway ≡ true → gateways.waits_for q gateway ≡ true
   waits_still q apart waited =
@@ -166,7 +166,7 @@ module _ (node : Node) (gateway : Gateway) (number : ℕ) (marks : Marks number 
           (got_found rsp.number gateway.works found.0 now there awaits) in
           let (new_got, new_awaited) = found_got rsp.number gateway.works new new_is in
           let (work, work_got, so) = marks.was new.0 new.1 new_got in
-          let own : new.0 ≡ found.0 = once.works rsp.number new.0 found.0 work found.1 work_got got (so.awaited rsp.number new_awaited) awaited in
+          let own : new.0 ≡ found.0 = once.once rsp.number new.0 found.0 work found.1 work_got got (so.awaited rsp.number new_awaited) awaited in
           let same : work ≡ found.1 = same_Some work found.1 (sym work_got ∙ ap (tree.get node.gateway.works) own ∙ got) in
           ap (λ (o : Option (ℕ × Work)). fits_asker o rsp.say) new_is
           ∙ (λ i. fits_work (so.same i) rsp.say)
@@ -216,17 +216,30 @@ module _ (node : Node) (gateway : Gateway) (number : ℕ) (marks : Marks number 
             (or_cases (gateways.fits rsp node.gateway) (recovery_fits.fits rsp (state_of node)) fit);
       }
 
-  pub marked_driven : gateway.me ≡ node.gateway.me → IsDriven node → IsDriven (record node { gateway = gateway })
-  marked_driven me driven = record {
-    own = me ∙ driven.own;
+  pub marked_driven : gateway.me ≡ node.gateway.me → IsDriven (record node { gateway = gateway })
+  marked_driven me = record {
+    own = me ∙ once.own;
     driven = record {
       works_so = λ req now got.
           let (work, was, so) = marks.was req now got in
-          driven.driven.works_so req work was;
-      lines_so = driven.driven.lines_so;
-      lines_free = λ line waiting there. by_work waiting.req (tree.get gateway.works waiting.req) refl (driven.driven.lines_free line waiting there);
-      apart = driven.driven.apart;
+          once.driven.works_so req work was;
+      lines_so = once.driven.lines_so;
+      lines_free = λ line waiting there. by_work waiting.req (tree.get gateway.works waiting.req) refl (once.driven.lines_free line waiting there);
+      apart = once.driven.apart;
     };
+    once = λ q one other now later got_one got_two awaits_one awaits_two.
+        let (work, was, so) = marks.was one now got_one in
+        let (older, were, same) = marks.was other later got_two in
+        once.once q one other work older was were (so.awaited q awaits_one) (same.awaited q awaits_two);
+    given = λ q req now got awaited.
+        let (work, was, so) = marks.was req now got in
+        once.given q req work was (so.awaited q awaited);
+    recovers = λ q waited.
+        let (found, is) = some_of (found_by (is_awaited_in q) (tree.entries gateway.works)) waited in
+        let (got, awaited) = found_got q gateway.works found is in
+        let (work, was, so) = marks.was found.0 found.1 got in
+        once.recovers q (got_found q node.gateway.works found.0 work was (so.awaited q awaited));
+    recovering = once.recovering;
   }
     where
       by_work : (req : ℕ) (o : Option Work) → tree.get gateway.works req ≡ o → tree.get node.gateway.works req ≡ None → tree.get gateway.works req ≡ None

@@ -67,7 +67,7 @@ use Rattle.sheep_world.specs.Stepped.{seat_stepped, node_stepped, node_stepped_i
 use Rattle.sheep_world.specs.Effects.{next_entry, entry_read}
 use Rattle.sheep_world.specs.Step.{Made, step, with_replies}
 use Rattle.sheep_world.specs.Wired.{asked_by, asked_by_gateway, IsWired}
-use Rattle.sheep_world.specs.Driven.{may_work, AreDriven, IsDriven, NodesAreDriven, IsSentInRange}
+use Rattle.sheep_world.specs.Driven.{may_work, AreDriven, IsOnceIn, IsGivenIn, IsDriven, NodesAreDriven, IsSentInRange}
 use Rattle.sheep_world.proofs.ListTools.{has-none, has-found}
 use Rattle.sheep_world.proofs.PutLemmas.{next_seat}
 use Rattle.sheep_world.proofs.SendLemmas.{Sends, Asking, wired_asking}
@@ -171,7 +171,7 @@ record Keeps (old new : Node) : Type 0 where
   sends_so : new.sends ≡ old.sends
   messages_so : recoveries.all_unanswered new.recovery ≡ recoveries.all_unanswered old.recovery
 
-begun_same : (epoch : ℕ) (members : List NodeId) (state : recoveries.State)
+pub begun_same : (epoch : ℕ) (members : List NodeId) (state : recoveries.State)
     → recoveries.all_unanswered (begun epoch members state).recovery ≡ recoveries.all_unanswered state.recovery
 unfolding begun
 begun_same epoch members state =
@@ -283,6 +283,15 @@ read_driven entry node driven =
           (sym kept.gateway_so)
           (subst (λ (requests : Requests). AreDriven node.gateway.works requests (nodes.entry_read entry node).sessions) (sym kept.requests_so)
           (subst (λ (sessions : Sessions). AreDriven node.gateway.works node.requests sessions) (sym kept.sessions_so) driven.driven));
+      once = subst (λ (gateway : Gateway). IsOnceIn gateway.works) (sym kept.gateway_so) driven.once;
+      given = subst (λ (gateway : Gateway). IsGivenIn (nodes.entry_read entry node).sends gateway.works) (sym kept.gateway_so)
+          (subst (λ (count : ℕ). IsGivenIn count node.gateway.works) (sym kept.sends_so) driven.given);
+      recovers = λ number waits.
+          ap (λ (messages : List Message). is_some (recoveries.message_of number messages)) kept.messages_so
+          ∙ driven.recovers number (sym (ap (λ (gateway : Gateway). gateways.waits_for number gateway) kept.gateway_so) ∙ waits);
+      recovering = λ number waits.
+          subst (λ (count : ℕ). number < count) (sym kept.sends_so)
+          (driven.recovering number (sym (ap (λ (messages : List Message). is_some (recoveries.message_of number messages)) kept.messages_so) ∙ waits));
     }
 
 -- what is asked on one way, and then on another
@@ -356,7 +365,7 @@ pub record DoesWell (input : Input) (node : Node) : Type 0 where
       → Asking Any node (stepped input node).node (stepped input node).outputs.sends
   pub driven : IsDriven (stepped input node).node
 
-reads_well : (entry : Entry) (node : Node) → IsDriven node → DoesWell (inputs.LogEntry entry) node
+pub reads_well : (entry : Entry) (node : Node) → IsDriven node → DoesWell (inputs.LogEntry entry) node
 unfolding stepped taken_in
 reads_well entry node driven =
     let after = nodes.entry_read entry node in
@@ -370,7 +379,7 @@ reads_well entry node driven =
           (subst (λ (n : ℕ). AreNumberedFrom n turn.outputs.sends) (sym same) (stepped_numbers (inputs.LogEntry entry) node))
           (stepped_counts (inputs.LogEntry entry) node ∙ ap (λ (n : ℕ). n + length turn.outputs.sends) (sym same))
           good requests);
-      driven = good_driven after turn good;
+      driven = good_driven after turn (read_driven entry node driven) good;
     }
 
 pub step_together : (statements : List Statement) (world : World) (n : ℕ) (input : Input) (o : Option Seat) → seat_at n world ≡ o

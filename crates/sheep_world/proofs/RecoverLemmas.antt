@@ -120,7 +120,7 @@ module _ (node : Node) (may : may_tick node ≡ true) where
       (eqb-true (length (recoveries.all_unanswered node.recovery)) 0
       (and_parts (not (recoveries.is_finished (state_of node))) (length (recoveries.all_unanswered node.recovery) == 0) may).1)
 
-  asked_now : recoveries.all_unanswered (ticked node.sends (state_of node)).recovery ≡ tick_messages node.sends (state_of node)
+  pub asked_now : recoveries.all_unanswered (ticked node.sends (state_of node)).recovery ≡ tick_messages node.sends (state_of node)
   asked_now =
       let none = none_both node.recovery.unanswered node.recovery.older none_asked in
       let frame = frame_of_tick node.sends (state_of node) in

@@ -1,5 +1,5 @@
 -- A work that is tried again leaves nodes and wire together, and each request with one open work at most.
-use Rattle.std.proofs.Common.{◌≡◌, ◌≢◌, ◌⊎◌, inl, inr, ℕ, nat_lt, Bool, true, false, not, ◌&&◌, ◌||◌, cond, T, List, [], ◌∷◌, flat_map, All, Contains, Option, Some, None, is_some, Ordering, Less, Equal, Greater, refl, sym, ap, subst, ◌∙◌, ⊎_elim, ◌+◌, length}
+use Rattle.std.proofs.Common.{◌≡◌, ◌<◌, ◌≤◌, ◌≢◌, ◌⊎◌, inl, inr, ℕ, nat_lt, Bool, true, false, not, ◌&&◌, ◌||◌, cond, T, List, [], ◌∷◌, flat_map, All, Contains, Option, Some, None, is_some, Ordering, Less, Equal, Greater, refl, sym, ap, subst, ◌∙◌, ⊎_elim, ◌+◌, length}
 use native.Mathlib.Omega.{arith}
 use Rattle.std.specs.Ordering.{nat_cmp, is_eq, is_lt, eq_by_cmp}
 use Rattle.std.specs.Cmp.{nat_cmp_total}
@@ -55,13 +55,15 @@ use Rattle.sheep_world.specs.Step.{Made, step, with_replies}
 use Rattle.sheep_world.specs.Wired.{unanswered_in, asked_by_recovery, IsWired}
 use Rattle.sheep_world.specs.Driven.{may_work_at, waiting_in, AreDriven, IsDriven, NodesAreDriven, IsSentInRange}
 use Rattle.sheep_world.proofs.ListTools.{has-here, has-none, has-later, has_cases, has-found}
+use Rattle.sheep_world.proofs.NameTools.{entries-got}
 use Rattle.sheep_world.proofs.WireLemmas.{got_insert}
 use Rattle.sheep_world.proofs.PutLemmas.{next_seat}
 use Rattle.sheep_world.proofs.SendLemmas.{Sends, Asking, wired_asking}
 use Rattle.sheep_world.proofs.RecoverLemmas.{Any, nothing_leaves}
 use Rattle.sheep_world.proofs.EndLemmas.{same_fit}
-use Rattle.sheep_world.proofs.GatewayLemmas.{Works, found_by, asked_in, Going, IsIdle, idle_number, going_opened, going_short}
-use Rattle.sheep_world.proofs.DrivenLemmas.{Requests, Sessions, same_or_not, got_removed, got_left, IsGood, driven_insert, work_refused_good}
+use Rattle.sheep_world.proofs.GatewayLemmas.{Works, WaitedBefore, found_by, asked_in, Going, IsIdle, idle_number, going_opened, going_short}
+use Rattle.sheep_world.proofs.NumberTools.{same_or_not, got_removed, got_left}
+use Rattle.sheep_world.proofs.DrivenLemmas.{Requests, Sessions, IsGood, driven_insert, work_refused_good}
 
 -- ---- the entries of a map
 
@@ -111,6 +113,40 @@ entry_found {X} (f ∷ es) e sorted there = ⊎_elim
 -- what is among the entries is got
 pub got_entry : {X : Type 0} (m : tree.FinMap nat_cmp X) (e : ℕ × X) → Contains (tree.entries m) e → tree.get m e.0 ≡ Some e.1
 got_entry m e there = tree.get-entries m e.0 ∙ entry_found (tree.entries m) e (tree.entries_sorted m) there
+
+-- ---- the works that await a number
+
+-- a work that awaits a number is found
+pub found_got : (q : ℕ) (m : Works) (found : ℕ × Work) → found_by (is_awaited_in q) (tree.entries m) ≡ Some found
+    → (tree.get m found.0 ≡ Some found.1) × (is_awaited_in q found.1 ≡ true)
+found_got q m found is = (
+  got_entry m found (has-found (λ (entry : ℕ × Work). is_awaited_in q entry.1) (tree.entries m) found is),
+  found-passes (λ (entry : ℕ × Work). is_awaited_in q entry.1) (tree.entries m) found is,
+)
+
+any_found : (q : ℕ) (es : List (ℕ × Work)) (e : ℕ × Work) → Contains es e → is_awaited_in q e.1 ≡ true → is_some (found_by (is_awaited_in q) es) ≡ true
+any_found q [] e there awaited = has-none e there
+any_found q (f ∷ es) e there awaited = ⊎_elim
+    (λ (same : f ≡ e). here (is_awaited_in q f.1) (ap (λ (g : ℕ × Work). is_awaited_in q g.1) same ∙ awaited))
+    (λ (later : Contains es e). behind (is_awaited_in q f.1) (any_found q es e later awaited))
+    (has_cases f e es there)
+  where
+    here : (b : Bool) → b ≡ true → is_some (cond b (Some f) (found_by (is_awaited_in q) es)) ≡ true
+    here true is = refl
+    here false is = absurd (cc (is))
+
+    behind : (b : Bool) → is_some (found_by (is_awaited_in q) es) ≡ true → is_some (cond b (Some f) (found_by (is_awaited_in q) es)) ≡ true
+    behind true is = refl
+    behind false is = is
+
+pub got_found : (q : ℕ) (m : Works) (req : ℕ) (work : Work) → tree.get m req ≡ Some work → is_awaited_in q work ≡ true
+    → is_some (found_by (is_awaited_in q) (tree.entries m)) ≡ true
+got_found q m req work there awaited =
+    any_found q (tree.entries m) (req, work) (entries-got tree.nat_cmp-IsAntisymmetric m req work there) awaited
+
+pub some_of : {X : Type 0} (o : Option X) → is_some o ≡ true → (x : X) × (o ≡ Some x)
+some_of None is = absurd (cc (is))
+some_of (Some x) is = (x, refl)
 
 -- the keys but one
 abbrev not_at : ℕ → ℕ → Bool
@@ -185,6 +221,14 @@ module _ (m : Works) (req : ℕ) (idle : (w : Work) → tree.get m req ≡ Some 
       at_own {k} Equal tie gone = tree.nat_cmp-IsAntisymmetric req k tie
       at_own Greater tie gone = absurd (cc (gone))
 
+  left_got : (q : ℕ) (work : Work) → tree.get (tree.remove m req) q ≡ Some work → tree.get m q ≡ Some work
+  left_got q work got = ⊎_elim
+      (λ (own : q ≡ req).
+      let none : tree.get (tree.remove m req) q ≡ None = ap (tree.get (tree.remove m req)) own ∙ got_removed m req in
+      absurd (cc (got, none)))
+      (λ (apart : q ≢ req). sym (got_left m req q apart) ∙ got)
+      (same_or_not q req)
+
   pub going_removed : (old : Node) (me own_me : NodeId) (count : ℕ) (recovery : Recovery) (peer : Peer) (sends : Sends)
       → Going old me own_me m count recovery peer sends → Going old me own_me (tree.remove m req) count recovery peer sends
   going_removed old me own_me count recovery peer sends going = record {
@@ -202,6 +246,10 @@ module _ (m : Works) (req : ℕ) (idle : (w : Work) → tree.get m req ≡ Some 
     waits_too = λ send there. ap is_some (found_without send.1.number) ∙ going.waits_too send there;
     fits_on = λ rsp below fit.
         ap (λ (o : Option (ℕ × Work)). fits_asker o rsp.say) (found_without rsp.number) ∙ going.fits_on rsp below fit;
+    once = λ number one other work later got_one got_two awaits_one awaits_two.
+        going.once number one other work later (left_got one work got_one) (left_got other later got_two) awaits_one awaits_two;
+    given = λ number q work got awaited. going.given number q work (left_got q work got) awaited;
+    news = λ number q work got awaited. going.news number q work (left_got q work got) awaited;
   }
 
 -- requests keep their works but for the one that ends
@@ -238,6 +286,9 @@ good_first node driven = record {
     waits_on = λ number waits. waits;
     waits_too = λ send there. has-none send there;
     fits_on = λ rsp below fit. fit;
+    once = driven.once;
+    given = driven.given;
+    news = λ number req work got awaited. inl (req, work, got, awaited);
   };
   driven = driven.driven;
 }
@@ -311,8 +362,36 @@ pub good_asks : (input : Input) (node : Node) → IsGood node (stepped input nod
 good_asks input node good requests =
     good_turn_asks node (stepped input node) (stepped_numbers input node) (stepped_counts input node) good requests
 
-pub good_driven : (old : Node) (turn : Turn) → IsGood old turn → IsDriven turn.node
-good_driven old turn good = record { own = good.going.own_so ∙ sym good.going.me_so; driven = good.driven }
+-- what a good step drives its node to
+pub good_driven : (old : Node) (turn : Turn) → IsDriven old → IsGood old turn → IsDriven turn.node
+good_driven old turn before good =
+    let going = good.going in
+    record {
+      own = going.own_so ∙ sym going.me_so;
+      driven = good.driven;
+      once = going.once;
+      given = going.given;
+      recovers = λ number waits.
+          let (found, is) = some_of (found_by (is_awaited_in number) (tree.entries turn.node.gateway.works)) waits in
+          let (got, awaited) = found_got number turn.node.gateway.works found is in
+          ap (λ (recovery : Recovery). recoveries.waits_for number recovery) going.recovery_so
+          ∙ ⊎_elim
+          (λ (waited : WaitedBefore number old.gateway.works).
+          let (req, work, there, so) = waited in
+          before.recovers number (got_found number old.gateway.works req work there so))
+          (λ (new : old.sends ≤ number). not_recovering number new (recoveries.waits_for number old.recovery) refl)
+          (going.news number found.0 found.1 got awaited);
+      recovering = λ number waits.
+          let given : number < old.sends
+          = before.recovering number (sym (ap (λ (recovery : Recovery). recoveries.waits_for number recovery) going.recovery_so) ∙ waits) in
+          let more : old.sends ≤ turn.node.sends = going.counted in
+          omega (arith, given, more);
+    }
+  where
+    not_recovering : (number : ℕ) → old.sends ≤ number → (b : Bool) → recoveries.waits_for number old.recovery ≡ b
+        → recoveries.waits_for number old.recovery ≡ false
+    not_recovering number new true waits = let given : number < old.sends = before.recovering number waits in absurd (omega (arith, new, given))
+    not_recovering number new false waits = waits
 
 -- the other nodes are as they were
 pub driven_after : (world : World) (n : ℕ) (seat : Seat) → IsDriven seat.node → NodesAreDriven world
@@ -414,7 +493,7 @@ wired_again statements world n (Some seat) at may requests driven wired =
     let good = retry_good seat.node (driven n seat at) in (
       wired_asking Any world.seats world.wire world.wire n seat turn.node turn.outputs.sends at up wired
           (good_asks inputs.RetryTick seat.node good requests) (nothing_leaves n world.wire),
-      driven_after world n (next_seat seat turn.node) (good_driven seat.node turn good) driven,
+      driven_after world n (next_seat seat turn.node) (good_driven seat.node turn (driven n seat at) good) driven,
     )
 
 pub wired-retry : (statements : List Statement) (world : World) (made : Made) (node : NodeId)

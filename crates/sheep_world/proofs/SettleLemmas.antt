@@ -1,5 +1,5 @@
 -- What a gateway does once it knows of one more message leaves nodes and wire together.
-use Rattle.std.proofs.Common.{◌≡◌, ◌⊎◌, inl, inr, ℕ, ◌+◌, ◌<◌, Bool, true, false, ◌&&◌, ◌||◌, cond, List, [], length, All, Contains, Option, Some, None, is_some, refl, sym, ap, subst, ◌∙◌, ⊎_elim}
+use Rattle.std.proofs.Common.{◌≡◌, ◌==◌, not, ◌∷◌, ◌⊎◌, inl, inr, ℕ, ◌+◌, ◌<◌, Bool, true, false, ◌&&◌, ◌||◌, cond, List, [], length, All, Contains, Option, Some, None, is_some, refl, sym, ap, subst, ◌∙◌, ⊎_elim}
 use native.Mathlib.Omega.{arith}
 use Rattle.std.specs.Ordering.{nat_cmp}
 use Rattle.std.specs.List.{list_any}
@@ -44,15 +44,14 @@ use Rattle.sheep_node.specs.Step.{recovery_stepped, taken_in, is_due, with_recov
 use Rattle.sheep_node.proofs.SoundSteps.{stepped_numbers, stepped_counts}
 use Rattle.sheep_world.specs.Wired.{asked_by}
 use Rattle.sheep_world.specs.Driven.{IsDriven}
-use Rattle.sheep_world.specs.Once.{WaitsOnce}
 use Rattle.sheep_world.proofs.ListTools.{has-none}
 use Rattle.sheep_world.proofs.SendLemmas.{Sends, Asking}
 use Rattle.sheep_world.proofs.RecoverLemmas.{Any}
-use Rattle.sheep_world.proofs.EndLemmas.{Other, lost_asks, replied_asks}
-use Rattle.sheep_world.proofs.DrivenLemmas.{got_removed, IsGood, IsFree, IsFreeIn, driver_stepped_good, let_begin_good, left_by_good, left_by_free, work_refused_good}
-use Rattle.sheep_world.proofs.RetryLemmas.{good_first, good_at_end, good_turn_asks, good_driven}
+use Rattle.sheep_world.proofs.EndLemmas.{Other, left_now, lost_asks, replied_asks}
+use Rattle.sheep_world.proofs.NumberTools.{got_removed}
+use Rattle.sheep_world.proofs.DrivenLemmas.{IsGood, IsFree, IsFreeIn, driver_stepped_good, let_begin_good, left_by_good, left_by_free, work_refused_good}
+use Rattle.sheep_world.proofs.RetryLemmas.{found_got, some_of, good_first, good_at_end, good_turn_asks, good_driven}
 use Rattle.sheep_world.proofs.GuestLemmas.{command_went_on_good}
-use Rattle.sheep_world.proofs.AnswerLemmas.{found_got, some_of}
 use Rattle.sheep_world.proofs.MarkLemmas.{Marks, marks_open, marks_ended, marks_removed, marked_asks, marked_driven}
 
 -- ---- a request goes on with what its work gave
@@ -94,10 +93,10 @@ record Settles (node : Node) (number : ℕ) (step : gateway_steps.Step) : Type 0
   good : IsDriven (record node { gateway = step.gateway })
       → IsGood (record node { gateway = step.gateway }) (acted node.gateway step.act (with_gateway step.gateway (at_first node)))
 
-module _ (node : Node) (driven : IsDriven node) (once : WaitsOnce node) (number : ℕ) (status : Status) (settled : is_unanswered status ≡ false)
+module _ (node : Node) (driven : IsDriven node) (number : ℕ) (status : Status) (settled : is_unanswered status ≡ false)
     (req : ℕ) (work : Work) (there : tree.get node.gateway.works req ≡ Some work) (awaited : is_awaited_in number work ≡ true) where
   one_work : (other : ℕ) (later : Work) → tree.get node.gateway.works other ≡ Some later → is_awaited_in number later ≡ true → other ≡ req
-  one_work other later got waits = once.works number other req later work got there waits awaited
+  one_work other later got waits = driven.once number other req later work got there waits awaited
 
   -- without its work the request is free
   free_without : (touched : set.FinSet nat_cmp) → IsFree req (tree.remove node.gateway.works req) node.sessions
@@ -176,7 +175,7 @@ module _ (node : Node) (driven : IsDriven node) (once : WaitsOnce node) (number 
       let none : is_awaited_in number work ≡ false = ap (λ (stage : Stage). list_any (is_awaited number) (open_messages stage)) is in
       absurd (cc (awaited, none))
 
-module _ (node : Node) (driven : IsDriven node) (once : WaitsOnce node) (number : ℕ) (status : Status) (settled : is_unanswered status ≡ false)
+module _ (node : Node) (driven : IsDriven node) (number : ℕ) (status : Status) (settled : is_unanswered status ≡ false)
     (waits : gateways.waits_for number node.gateway ≡ true) where
   answered_so : Settles node number (answered node.gateway number status)
   unfolding answered
@@ -184,7 +183,7 @@ module _ (node : Node) (driven : IsDriven node) (once : WaitsOnce node) (number 
       let (found, is) = some_of (asker number node.gateway) waits in
       let (there, awaited) = found_got number node.gateway.works found is in
       subst (λ (o : Option (ℕ × Work)). Settles node number (known_by node.gateway number status o)) (sym is)
-      (known_so node driven once number status settled found.0 found.1 there awaited found.1.stage refl)
+      (known_so node driven number status settled found.0 found.1 there awaited found.1.stage refl)
 
   -- what a node waits for after that, and what it is driven to
   pub settled_good : IsGood (record node { gateway = (answered node.gateway number status).gateway })
@@ -192,10 +191,14 @@ module _ (node : Node) (driven : IsDriven node) (once : WaitsOnce node) (number 
   unfolding gateway_stepped
   settled_good =
       answered_so.good
-      (marked_driven node (answered node.gateway number status).gateway number answered_so.marks once waits answered_so.me_so driven)
+      (marked_driven node (answered node.gateway number status).gateway number answered_so.marks driven waits answered_so.me_so)
+
+  pub settled_driven : IsDriven (record node { gateway = (answered node.gateway number status).gateway })
+  settled_driven =
+      marked_driven node (answered node.gateway number status).gateway number answered_so.marks driven waits answered_so.me_so
 
   pub settled_asks : Asking (Other number) node (record node { gateway = (answered node.gateway number status).gateway }) []
-  settled_asks = marked_asks node (answered node.gateway number status).gateway number answered_so.marks once waits
+  settled_asks = marked_asks node (answered node.gateway number status).gateway number answered_so.marks driven waits
 
 -- what is asked on one way, and then on another
 pub asks_after : (Stays : ℕ → Type 0) (one two three : Node) (sends : Sends) → Asking Stays one two [] → Asking Any two three sends
@@ -232,8 +235,8 @@ pub record EndsWell (number : ℕ) (input : Input) (node : Node) : Type 0 where
 
 -- a step that a gateway makes so
 ends_by : (number : ℕ) (input : Input) (node between : Node) (turn : Turn) → stepped input node ≡ recovered_put turn → between.sends ≡ node.sends
-    → Asking (Other number) node between [] → IsGood between turn → EndsWell number input node
-ends_by number input node between turn is same first good =
+    → Asking (Other number) node between [] → IsDriven between → IsGood between turn → EndsWell number input node
+ends_by number input node between turn is same first there good =
     let last : IsGood between (stepped input node) = subst (IsGood between) (sym is) (good_at_end between turn good) in
     record {
       asks = λ requests.
@@ -242,20 +245,62 @@ ends_by number input node between turn is same first good =
           (subst (λ (n : ℕ). AreNumberedFrom n (stepped input node).outputs.sends) (sym same) (stepped_numbers input node))
           (stepped_counts input node ∙ ap (λ (n : ℕ). n + length (stepped input node).outputs.sends) (sym same))
           last requests);
-      driven = good_driven between (stepped input node) last;
+      driven = good_driven between (stepped input node) there last;
     }
 
--- the end of a recovery's message drives nothing
-recovery_driven : (node : Node) (state : recoveries.State) → IsDriven node → IsDriven (recovered_put (recovery_stepped state (at_first node))).node
-unfolding recovered_put
-recovery_driven node state driven =
-    let turn = recovery_stepped state (at_first node) in
-    either (λ (turn : Turn). IsDriven turn.node) (is_due turn.node) (with_recovered turn) turn
-    (record { own = driven.own; driven = driven.driven }) (record { own = driven.own; driven = driven.driven })
+-- a message that is found among some was found among all
+found_before : (number q : ℕ) (messages : List recoveries.Message) → is_some (recoveries.message_of q (recovery_steps.without number messages)) ≡ true
+    → is_some (recoveries.message_of q messages) ≡ true
+found_before number q [] is = is
+found_before number q (message ∷ messages) is = by_tie (message.request.number == number) (found_before number q messages) is
+  where
+    later : (b : Bool) → is_some (recoveries.message_of q messages) ≡ true → is_some (cond b (Some message) (recoveries.message_of q messages)) ≡ true
+    later true found = refl
+    later false found = found
 
-pub lost_well : (node : Node) (number : ℕ) → IsDriven node → WaitsOnce node → EndsWell number (inputs.Lost number) node
+    kept : (b : Bool) → (is_some (recoveries.message_of q (recovery_steps.without number messages)) ≡ true → is_some (recoveries.message_of q messages) ≡ true)
+        → is_some (cond b (Some message) (recoveries.message_of q (recovery_steps.without number messages))) ≡ true
+        → is_some (cond b (Some message) (recoveries.message_of q messages)) ≡ true
+    kept true rest is = refl
+    kept false rest is = rest is
+
+    by_tie : (b : Bool) → (is_some (recoveries.message_of q (recovery_steps.without number messages)) ≡ true → is_some (recoveries.message_of q messages) ≡ true)
+        → is_some (recoveries.message_of q (cond (not b) (message ∷ recovery_steps.without number messages) (recovery_steps.without number messages))) ≡ true
+        → is_some (cond (message.request.number == q) (Some message) (recoveries.message_of q messages)) ≡ true
+    by_tie true rest is = later (message.request.number == q) (rest is)
+    by_tie false rest is = kept (message.request.number == q) rest is
+
+-- the end of a recovery's message drives nothing
+recovery_driven : (node : Node) (number : ℕ) (said : Option PeerSay) → gateways.waits_for number node.gateway ≡ false → IsDriven node
+    → IsDriven (recovered_put (recovery_stepped (recovery_steps.ended number said (state_of node)) (at_first node))).node
+unfolding recovered_put
+recovery_driven node number said none driven =
+    let turn = recovery_stepped (recovery_steps.ended number said (state_of node)) (at_first node) in
+    either (λ (turn : Turn). IsDriven turn.node) (is_due turn.node) (with_recovered turn) turn
+    (record { own = driven.own; driven = driven.driven; once = driven.once; given = driven.given; recovers = λ q waits. apart q waits; recovering = λ q waits. below q waits })
+    (record { own = driven.own; driven = driven.driven; once = driven.once; given = driven.given; recovers = λ q waits. apart q waits; recovering = λ q waits. below q waits })
+  where
+    was : (q : ℕ) → recoveries.waits_for q (recovery_steps.ended number said (state_of node)).recovery ≡ true → recoveries.waits_for q node.recovery ≡ true
+    was q waits =
+        found_before number q (recoveries.all_unanswered node.recovery)
+        (sym (ap (λ (messages : List recoveries.Message). is_some (recoveries.message_of q messages)) (left_now node number said none)) ∙ waits)
+
+    below : (q : ℕ) → recoveries.waits_for q (recovery_steps.ended number said (state_of node)).recovery ≡ true → q < node.sends
+    below q waits = driven.recovering q (was q waits)
+
+    by_wait : (q : ℕ) → recoveries.waits_for q node.recovery ≡ false → (b : Bool)
+        → recoveries.waits_for q (recovery_steps.ended number said (state_of node)).recovery ≡ b
+        → recoveries.waits_for q (recovery_steps.ended number said (state_of node)).recovery ≡ false
+    by_wait q none true waits = let waited = was q waits in absurd (cc (waited, none))
+    by_wait q none false waits = waits
+
+    apart : (q : ℕ) → gateways.waits_for q node.gateway ≡ true → recoveries.waits_for q (recovery_steps.ended number said (state_of node)).recovery ≡ false
+    apart q waits =
+        by_wait q (driven.recovers q waits) (recoveries.waits_for q (recovery_steps.ended number said (state_of node)).recovery) refl
+
+pub lost_well : (node : Node) (number : ℕ) → IsDriven node → EndsWell number (inputs.Lost number) node
 unfolding stepped taken_in steps.lost recovery_steps.lost
-lost_well node number driven once = by_waits (gateways.waits_for number node.gateway) refl
+lost_well node number driven = by_waits (gateways.waits_for number node.gateway) refl
   where
     by_waits : (b : Bool) → gateways.waits_for number node.gateway ≡ b → EndsWell number (inputs.Lost number) node
     by_waits true waits =
@@ -263,13 +308,13 @@ lost_well node number driven once = by_waits (gateways.waits_for number node.gat
         (gateway_stepped (answered node.gateway number Lost) (at_first node))
         (ap (λ (b : Bool). recovered_put (cond b (gateway_stepped (answered node.gateway number Lost) (at_first node))
         (recovery_stepped (recovery_steps.lost number (state_of node)) (at_first node)))) waits)
-        refl (settled_asks node driven once number Lost refl waits) (settled_good node driven once number Lost refl waits)
+        refl (settled_asks node driven number Lost refl waits) (settled_driven node driven number Lost refl waits) (settled_good node driven number Lost refl waits)
     by_waits false none = record {
       asks = λ requests. lost_asks node number none;
       driven = subst (λ (turn : Turn). IsDriven turn.node)
           (sym (ap (λ (b : Bool). recovered_put (cond b (gateway_stepped (answered node.gateway number Lost) (at_first node))
           (recovery_stepped (recovery_steps.lost number (state_of node)) (at_first node)))) none))
-          (recovery_driven node (recovery_steps.lost number (state_of node)) driven);
+          (recovery_driven node number None none driven);
     }
 
 -- what a reply that fits says of its message is settled
@@ -285,12 +330,12 @@ or_cases : (a b : Bool) → (a || b) ≡ true → (a ≡ true) ⊎ (b ≡ true)
 or_cases true b is = inl refl
 or_cases false b is = inr is
 
-fits_settled : (node : Node) (rsp : PeerRsp) → WaitsOnce node → gateways.waits_for rsp.number node.gateway ≡ true → fits rsp node ≡ true
+fits_settled : (node : Node) (rsp : PeerRsp) → IsDriven node → gateways.waits_for rsp.number node.gateway ≡ true → fits rsp node ≡ true
     → is_unanswered (status_by rsp.say) ≡ false
-fits_settled node rsp once waits fit = ⊎_elim
+fits_settled node rsp driven waits fit = ⊎_elim
     (λ (works : gateways.fits rsp node.gateway ≡ true). by_asker (asker rsp.number node.gateway) works)
     (λ (recovers : recovery_fits.fits rsp (state_of node) ≡ true).
-    by_message (recoveries.message_of rsp.number (recoveries.all_unanswered node.recovery)) (once.recovers rsp.number waits) recovers)
+    by_message (recoveries.message_of rsp.number (recoveries.all_unanswered node.recovery)) (driven.recovers rsp.number waits) recovers)
     (or_cases (gateways.fits rsp node.gateway) (recovery_fits.fits rsp (state_of node)) fit)
   where
     by_asker : (o : Option (ℕ × Work)) → fits_asker o rsp.say ≡ true → is_unanswered (status_by rsp.say) ≡ false
@@ -302,23 +347,23 @@ fits_settled node rsp once waits fit = ⊎_elim
     by_message None none fit = absurd (cc (fit))
     by_message (Some message) none fit = absurd (cc (none))
 
-pub replied_well : (node : Node) (rsp : PeerRsp) → IsDriven node → WaitsOnce node → fits rsp node ≡ true → EndsWell rsp.number (inputs.Reply rsp) node
+pub replied_well : (node : Node) (rsp : PeerRsp) → IsDriven node → fits rsp node ≡ true → EndsWell rsp.number (inputs.Reply rsp) node
 unfolding stepped taken_in steps.answered recovery_steps.replied
-replied_well node rsp driven once fit = by_waits (gateways.waits_for rsp.number node.gateway) refl
+replied_well node rsp driven fit = by_waits (gateways.waits_for rsp.number node.gateway) refl
   where
     by_waits : (b : Bool) → gateways.waits_for rsp.number node.gateway ≡ b → EndsWell rsp.number (inputs.Reply rsp) node
     by_waits true waits =
         let status = status_by rsp.say in
-        let settled = fits_settled node rsp once waits fit in
+        let settled = fits_settled node rsp driven waits fit in
         ends_by rsp.number (inputs.Reply rsp) node (record node { gateway = (answered node.gateway rsp.number status).gateway })
         (gateway_stepped (answered node.gateway rsp.number status) (at_first node))
         (ap (λ (b : Bool). recovered_put (cond b (gateway_stepped (answered node.gateway rsp.number status) (at_first node))
         (recovery_stepped (recovery_steps.replied rsp (state_of node)) (at_first node)))) waits)
-        refl (settled_asks node driven once rsp.number status settled waits) (settled_good node driven once rsp.number status settled waits)
+        refl (settled_asks node driven rsp.number status settled waits) (settled_driven node driven rsp.number status settled waits) (settled_good node driven rsp.number status settled waits)
     by_waits false none = record {
       asks = λ requests. replied_asks node rsp none;
       driven = subst (λ (turn : Turn). IsDriven turn.node)
           (sym (ap (λ (b : Bool). recovered_put (cond b (gateway_stepped (answered node.gateway rsp.number (status_by rsp.say)) (at_first node))
           (recovery_stepped (recovery_steps.replied rsp (state_of node)) (at_first node)))) none))
-          (recovery_driven node (recovery_steps.replied rsp (state_of node)) driven);
+          (recovery_driven node rsp.number (Some rsp.say) none driven);
     }

@@ -1,6 +1,6 @@
--- Which requests may have an open work: what holds of each node in every world of a run, by which a work begins only where its
--- request has none.
-use Rattle.std.specs.Prelude.{◌≡◌, ◌≢◌, ℕ, ◌==◌, Bool, true, false, ◌&&◌, List, [], ◌∷◌, Contains, All, Option, Some, None, is_none, unwrap_or}
+-- Which requests may have an open work, and which numbers are waited for: what holds of each node in every world of a run, by which a
+-- work begins only where its request has none, and an answer or a loss is of one message.
+use Rattle.std.specs.Prelude.{◌≡◌, ◌≢◌, ℕ, ◌<◌, ◌==◌, Bool, true, false, ◌&&◌, List, [], ◌∷◌, Contains, All, Option, Some, None, is_none, unwrap_or}
 use Rattle.std.specs.Ordering.{nat_cmp}
 use Rattle.std.specs.Option.{option_map_or}
 use Rattle.std.specs.FinMap as tree
@@ -9,7 +9,9 @@ use Rattle.cluster_script.specs.declared.statement.Statement.{Statement}
 use Rattle.cluster_script.specs.Sessions.{Session as ScriptSession, session_numbered}
 use Rattle.peer_proto.specs.declared.ask.PeerReq.{PeerReq}
 use Rattle.peer_proto.specs.Ask.{IsRequest}
-use Rattle.gateway.specs.State.{Work}
+use Rattle.gateway.specs.State as gateways
+use Rattle.gateway.specs.State.{Work, is_awaited_in}
+use Rattle.recovery.specs.State as recoveries
 use Rattle.guest_driver.specs.InodeLine as lines
 use Rattle.vdi_ops.specs.Op.{entry_wanted}
 use Rattle.sheep_node.specs.State.{Course, Waiting, Driving, Commanding, Request, Session, Node, new_session}
@@ -49,10 +51,23 @@ pub record AreDriven (works : tree.FinMap nat_cmp Work) (requests : tree.FinMap 
   pub lines_free : (number : ℕ) (waiting : lines.Waiting) → Contains (waiting_in number sessions) waiting → tree.get works waiting.req ≡ None
   pub apart : (number : ℕ) → AreApart (waiting_in number sessions)
 
--- the same of a node, whose gateway asks in its name
+-- a number is of one work at most
+abbrev pub IsOnceIn : tree.FinMap nat_cmp Work → Type 0
+IsOnceIn works = (number one other : ℕ) (work later : Work) → tree.get works one ≡ Some work → tree.get works other ≡ Some later
+    → is_awaited_in number work ≡ true → is_awaited_in number later ≡ true → one ≡ other
+
+-- each number is below a count
+abbrev pub IsGivenIn : ℕ → tree.FinMap nat_cmp Work → Type 0
+IsGivenIn count works = (number req : ℕ) (work : Work) → tree.get works req ≡ Some work → is_awaited_in number work ≡ true → number < count
+
+-- the same of a node, whose gateway asks in its name; each number that it waits for it gave, to one work or to recoveries
 pub record IsDriven (node : Node) : Type 0 where
   pub own : node.gateway.me ≡ node.me
   pub driven : AreDriven node.gateway.works node.requests node.sessions
+  pub once : IsOnceIn node.gateway.works
+  pub given : IsGivenIn node.sends node.gateway.works
+  pub recovers : (number : ℕ) → gateways.waits_for number node.gateway ≡ true → recoveries.waits_for number node.recovery ≡ false
+  pub recovering : (number : ℕ) → recoveries.waits_for number node.recovery ≡ true → number < node.sends
 
 -- the same of each node of a world
 abbrev pub NodesAreDriven : World → Type 0

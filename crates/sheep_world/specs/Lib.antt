@@ -15,6 +15,5 @@ pub mod Lives
 pub mod Wired
 pub mod Ranges
 pub mod Driven
-pub mod Once
 pub mod Meets
 pub mod Example
