@@ -4,3 +4,4 @@ pub mod ExampleLemmas
 pub mod PendingLemmas
 pub mod ListingLemmas
 pub mod TakenLemmas
+pub mod RangeLemmas

@@ -5,4 +5,5 @@ pub mod Level
 pub mod Tick
 pub mod Steps
 pub mod Kept
+pub mod Range
 pub mod Example

@@ -1,6 +1,7 @@
 //! Laws of the definitions, for the proofs of the layers above: each is the contract of a function that does nothing.
-ghost use Rattle.std.specs.Prelude.{◌≡◌, ◌≢◌, ◌↔◌, ◌⊎◌, Contains, ℕ, ◌-◌, ◌<◌, ◌≤◌, true, false, List, [], ◌∷◌, length, take, map, Option, Some, None};
+ghost use Rattle.std.specs.Prelude.{◌≡◌, ◌≢◌, ◌↔◌, ◌⊎◌, Contains, ℕ, ◌-◌, ◌<◌, ◌≤◌, true, false, List, [], ◌∷◌, length, take, map, Option, Some, None, ◌^◌, All};
 ghost use Rattle.std.specs.FinMap as tree;
+ghost use Rattle.std.specs.Option.{IfSome};
 ghost use Rattle.std.specs.List.Sorted.{IsStrictlyIncreasing};
 ghost use Rattle.std.specs.List.{list_any, AllByRecursion, range_with_len};
 ghost use Rattle.object_id.specs.declared.node.Epoch.{Epoch};
@@ -17,15 +18,18 @@ ghost use Rattle.object_store.specs.declared.row.RowCopy.{RowCopy};
 ghost use Rattle.object_store.specs.Store.{rows_of, bytes_of};
 ghost use Rattle.object_list.specs.Union.{union};
 ghost use Rattle.peer_proto.specs.declared.ask.PeerAsk.TheVariants as asks;
+ghost use Rattle.peer_proto.specs.declared.ask.PeerReq.{PeerReq};
 ghost use Rattle.peer_proto.specs.declared.say.PeerSay.{PeerSay};
 ghost use Rattle.peer_proto.specs.declared.say.PeerSay.TheVariants as says;
 ghost use Rattle.peer_proto.specs.declared.say.Refusal.{Refusal};
 ghost use Rattle.recovery.specs.Shown.{Shown, live_policy, index_in, own_row, with_row, is_among, is_to_recover};
-ghost use Rattle.recovery.specs.State.{Message, Search, State, search_at, is_finished, is_missing, all_unanswered, message_of};
+ghost use Rattle.recovery.specs.State.{Message, Search, State, search_at, is_finished, is_missing, all_unanswered, message_of, MayBegin, MayTick};
 ghost use Rattle.recovery.specs.Level.{row_of, by_index, taken, indexes_of, part_by, own_index, rows_found, are_enough, judged, is_of_search, searching};
 ghost use Rattle.recovery.specs.Tick.{with_messages, tick_messages, tick_sends, ticked};
 ghost use Rattle.recovery.specs.Kept.{frame, WaitsForLists};
 ghost use Rattle.recovery.specs.Steps.{to_recover, begun, without_message, heard, ended};
+ghost use Rattle.peer_proto.specs.Ask.{IsRequest};
+ghost use Rattle.recovery.specs.Range.{IsInRange, NamesIds};
 ghost use Rattle.recovery.specs.Example.{object, request, entered, named, listed, found_at_both, half_heard, heard_of_none, none_at_all};
 
 /// Once each other member has named its objects, pending are, in ascending order, those of the named objects and of the
@@ -74,6 +78,20 @@ pub fn messages_are_unanswered_until_they_end()
     ensures tick { (first : ℕ) (state : State) → frame (ticked first state) ≡ frame (with_messages (tick_messages first state) state) }
     ensures end { (number : ℕ) (said : Option PeerSay) (state : State)
         → frame (ended number said state) ≡ frame (without_message number state) }
+{}
+
+/// All that a tick asks, it asks in its node's name, and it can be spelled where the recovery is in range. That stays in range
+/// at each step, as long as its epochs have 32 bits and it is told no other ids than those of objects.
+pub fn what_is_asked_can_be_spelled()
+    ensures own { (first : ℕ) (state : State)
+        → All (λ (send : NodeId × PeerReq). send.1.from ≡ state.recovery.me) (tick_sends first state) }
+    ensures asked { (first : ℕ) (state : State) → MayTick first state → IsInRange state
+        → All (λ (send : NodeId × PeerReq). IsRequest send.1) (tick_sends first state) }
+    ensures begin { (epoch : ℕ) (members : List NodeId) (state : State) → MayBegin epoch members state → epoch < 2 ^ 32
+        → IsInRange state → IsInRange (begun epoch members state) }
+    ensures tick { (first : ℕ) (state : State) → MayTick first state → IsInRange state → IsInRange (ticked first state) }
+    ensures end { (number : ℕ) (said : Option PeerSay) (state : State) → IfSome said NamesIds → IsInRange state
+        → IsInRange (ended number said state) }
 {}
 
 /// A level is left only once each of its messages is answered, none by a refusal or a loss.

@@ -5,8 +5,9 @@
 //! `gf256`. Here stand what a recovery needs of its node, as the trait [`Rows`], and as definitions all that it does: what
 //! it sees of the node (`specs/Shown.antt`), what it is (`specs/State.antt`), which replies fit what it asked
 //! (`specs/Fits.antt`), when a level of a search is over and what comes of it (`specs/Level.antt`), what a tick asks of
-//! whom (`specs/Tick.antt`), and how it begins and hears answers and losses (`specs/Steps.antt`). The laws of `laws.rt`
-//! say what these mean, and work one recovery out step by step (`specs/Example.antt`).
+//! whom (`specs/Tick.antt`), how it begins and hears answers and losses (`specs/Steps.antt`), and by what range of its numbers
+//! all that it asks can be spelled (`specs/Range.antt`). The laws of `laws.rt` say what these mean, and work one recovery out
+//! step by step (`specs/Example.antt`).
 #![tactic(auto)]
 
 mod laws;
@@ -16,7 +17,8 @@ mod sends;
 pub use laws::{
     a_recovery_worked_out, levels_are_left_after_all_answers, lists_come_before_searches,
     messages_are_unanswered_until_they_end, old_messages_only_become_answered,
-    parts_are_of_the_same_bytes, taken_rows_are_of_the_level, what_is_pending,
+    parts_are_of_the_same_bytes, taken_rows_are_of_the_level, what_is_asked_can_be_spelled,
+    what_is_pending,
 };
 pub use rows::Rows;
 pub use sends::RecoverSends;

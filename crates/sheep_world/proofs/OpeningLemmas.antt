@@ -85,14 +85,13 @@ stepped_idle me tries members =
 
 -- a seat of the opening world is that of a member
 module _ (statements : List Statement) where
-  FoundSeat : ℕ → Seat → Type 0
+  abbrev pub FoundSeat : ℕ → Seat → Type 0
   FoundSeat q seat = (member : Member) × (q ≡ member.node.0) × (first_seat (opening_node statements member) ≡ seat)
 
   found_if : (q : ℕ) (seat : Seat) (member : Member) (members : List Member) (o : Ordering) → nat_cmp q member.node.0 ≡ o
       → (tree.find nat_cmp q (map (opening_seat statements) members) ≡ Some seat → FoundSeat q seat)
       → cond (is_eq o) (Some (first_seat (opening_node statements member))) (tree.find nat_cmp q (map (opening_seat statements) members)) ≡ Some seat
       → FoundSeat q seat
-  unfolding FoundSeat
   found_if q seat member members Less tie rest is = rest is
   found_if q seat member members Equal tie rest is =
       (member, tree.nat_cmp-IsAntisymmetric q member.node.0 tie, same_Some (first_seat (opening_node statements member)) seat is)
@@ -104,8 +103,8 @@ module _ (statements : List Statement) where
   found_seat q seat (member ∷ members) is =
       found_if q seat member members (nat_cmp q member.node.0) refl (found_seat q seat members) is
 
-  there : (q : ℕ) (seat : Seat) → tree.get (before_phases statements).seats q ≡ Some seat → FoundSeat q seat
-  there q seat got =
+  pub opening_found : (q : ℕ) (seat : Seat) → tree.get (before_phases statements).seats q ≡ Some seat → FoundSeat q seat
+  opening_found q seat got =
       found_seat q seat (opening_members statements)
       (sym (tree.get-from_entries nat_cmp_total (map (opening_seat statements) (opening_members statements)) q) ∙ got)
 
@@ -114,17 +113,17 @@ module _ (statements : List Statement) where
 
   -- in the opening world nodes and wire go together
   pub opening-wired : IsWired (worlds.opening statements)
-  unfolding worlds.opening FoundSeat
+  unfolding worlds.opening
   opening-wired = record {
     spelled = λ name letter got. no_message name letter got;
     given = λ name letter got. no_message name letter got;
     numbered = λ q seat got.
-        let (member, own, is) = there q seat got in
+        let (member, own, is) = opening_found q seat got in
         ap (λ (seat : Seat). seat.node.me.0) (sym is)
         ∙ ap (λ (me : NodeId). me.0) (stepped_own (inputs.LogEntry (first_entry statements)) (nodes.opening member.node (tries_of statements)))
         ∙ sym own;
     on_the_way = λ q seat got up.
-        let (member, own, is) = there q seat got in
+        let (member, own, is) = opening_found q seat got in
         let node = opening_node statements member in
         let idle : asked_by node ≡ []
         = asked_by-idle member.node (tries_of statements) node (stepped_idle member.node (tries_of statements) (opening_members statements)) in

@@ -13,5 +13,7 @@ pub mod Run
 pub mod Enabled
 pub mod Lives
 pub mod Wired
+pub mod Ranges
+pub mod Driven
 pub mod Meets
 pub mod Example

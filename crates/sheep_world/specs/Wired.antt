@@ -1,5 +1,6 @@
 -- What holds of the wire in every world of a run: what is in it can be read, and it has each message that a node waits for.
-use Rattle.std.specs.Prelude.{◌≡◌, ℕ, ◌<◌, true, List, [], ◌++◌, map, flat_map, filter, All, Option, Some, None, Ok, IsTrue}
+use Rattle.std.specs.Prelude.{◌≡◌, ℕ, ◌<◌, Bool, true, false, ◌&&◌, List, [], ◌++◌, map, flat_map, filter, All, Option, Some, None, Ok, IsTrue}
+use Rattle.std.specs.Option.{option_map_or}
 use Rattle.std.specs.Ordering.{nat_cmp}
 use Rattle.std.specs.FinMap as tree
 use Rattle.object_id.specs.declared.node.NodeId.{NodeId}
@@ -15,7 +16,7 @@ use Rattle.recovery.specs.State as recoveries
 use Rattle.sheep_node.specs.State.{Node}
 use Rattle.sheep_node.specs.May.{waits_for, fits}
 use Rattle.sheep_world.specs.declared.name.MessageName.{MessageName}
-use Rattle.sheep_world.specs.World.{name_cmp, Letter, Request, Reply, Seat, World, is_seat_up}
+use Rattle.sheep_world.specs.World.{name_cmp, Letter, Request, Reply, Seat, World, seat_at, is_seat_up}
 use Rattle.sheep_world.specs.Stepped.{name_of}
 
 -- the requests of an attempt that aren't answered, each with the node that it goes to
@@ -87,6 +88,11 @@ AreOnTheirWay seats wire = (number : ℕ) (seat : Seat) → tree.get seats numbe
 abbrev pub AreAwaited : tree.FinMap nat_cmp Seat → tree.FinMap name_cmp Letter → Type 0
 AreAwaited seats wire = (name : MessageName) (letter : Letter) (seat : Seat) → tree.get wire name ≡ Some letter
     → tree.get seats name.sender.0 ≡ Some seat → is_seat_up seat ≡ true → waits_for name.number seat.node ≡ true
+
+-- whether a work of an up node waits for the message of a name
+abbrev pub is_of_work : MessageName → World → Bool
+is_of_work name world =
+    option_map_or (λ (seat : Seat). is_seat_up seat && gateways.waits_for name.number seat.node.gateway) (seat_at name.sender.0 world) false
 
 -- the nodes and the wire go together
 pub record AreWired (seats : tree.FinMap nat_cmp Seat) (wire : tree.FinMap name_cmp Letter) : Type 0 where

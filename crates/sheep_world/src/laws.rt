@@ -1,5 +1,5 @@
 //! Laws of the definitions, for the proofs of the layers above: each is the contract of a function that does nothing.
-ghost use Rattle.std.specs.Prelude.{◌≡◌, ◌≢◌, ℕ, true, List, [], ◌∷◌, ◌++◌, Contains, Some, None, Ok, is_some};
+ghost use Rattle.std.specs.Prelude.{◌≡◌, ◌≢◌, ℕ, true, false, List, [], ◌∷◌, ◌++◌, Contains, Some, None, Ok, is_some};
 ghost use Rattle.object_id.specs.declared.node.NodeId.{NodeId};
 ghost use Rattle.object_id.specs.declared.entry.Entry.{Entry};
 ghost use Rattle.object_id.specs.declared.entry.Entry.TheVariants as entries;
@@ -13,7 +13,7 @@ ghost use Rattle.sheep_node.specs.declared.event.Event.TheVariants as events;
 ghost use Rattle.sheep_node.specs.declared.ask.Ask.{Ask};
 ghost use Rattle.sheep_node.specs.declared.input.Input.TheVariants as inputs;
 ghost use Rattle.sheep_world.specs.declared.name.MessageName.{MessageName};
-ghost use Rattle.sheep_world.specs.World.{Letter, Reply, World, seat_at, message_at, is_up};
+ghost use Rattle.sheep_world.specs.World.{Letter, Request, Reply, World, seat_at, message_at, is_up};
 ghost use Rattle.sheep_world.specs.Opening.{opening};
 ghost use Rattle.sheep_world.specs.Conditions.{may_put, may_recover, may_retry};
 ghost use Rattle.sheep_world.specs.Asking.{input_of, session_asking};
@@ -25,7 +25,9 @@ ghost use Rattle.sheep_world.specs.Example.{lived, small};
 ghost use Rattle.sheep_world.specs.Step.{Made, step};
 ghost use Rattle.sheep_world.specs.Run.{Moment, run_from};
 ghost use Rattle.sheep_world.specs.Enabled.{is_enabled, enabled};
-ghost use Rattle.sheep_world.specs.Wired.{IsWired};
+ghost use Rattle.sheep_world.specs.Wired.{is_of_work, IsWired};
+ghost use Rattle.sheep_world.specs.Ranges.{RecoveriesAreInRange};
+ghost use Rattle.sheep_world.specs.Driven.{NodesAreDriven, IsSentInRange, IsNewRequest};
 
 /// An event makes something exactly where it may happen.
 pub fn what_may_happen_is_made()
@@ -75,6 +77,70 @@ pub fn nodes_and_wire_stay_together()
         → step statements (events.Lost node) world ≡ Some made → IsWired world → IsWired made.world }
     ensures back { (statements : List Statement) (world : World) (made : Made) (node : NodeId)
         → step statements (events.Back node) world ≡ Some made → IsWired world → IsWired made.world }
+    // What a recovery asks is read where all that it knows of is in range; and that it stays.
+    ensures recover { (statements : List Statement) (world : World) (made : Made) (node : NodeId)
+        → step statements (events.RecoverTick node) world ≡ Some made → RecoveriesAreInRange world → IsWired world
+        → IsWired made.world × RecoveriesAreInRange made.world }
+    // What a work asks when it is tried again, and what then begins in its place, is read where it is in range. Each open work is
+    // of a request that may have it, and that stays so.
+    ensures retry { (statements : List Statement) (world : World) (made : Made) (node : NodeId)
+        → step statements (events.RetryTick node) world ≡ Some made → IsSentInRange made.world → NodesAreDriven world → IsWired world
+        → IsWired made.world × NodesAreDriven made.world }
+    // The same of what a guest's request lets begin, where the request is new to its gateway.
+    ensures guest { (statements : List Statement) (world : World) (made : Made) (session : ℕ)
+        → step statements (events.Guest session) world ≡ Some made → IsNewRequest statements session world → IsSentInRange made.world
+        → NodesAreDriven world → IsWired world → IsWired made.world × NodesAreDriven made.world }
+    // And of what the decision on an entry lets begin.
+    ensures log_next { (statements : List Statement) (world : World) (made : Made) (node : NodeId)
+        → step statements (events.LogNext node) world ≡ Some made → IsSentInRange made.world → NodesAreDriven world → IsWired world
+        → IsWired made.world × NodesAreDriven made.world }
+    // And of what a loss or a reply lets begin.
+    ensures lose_request { (statements : List Statement) (world : World) (made : Made) (node : NodeId) (number : ℕ)
+        → step statements (events.LoseRequest node number) world ≡ Some made → IsSentInRange made.world → NodesAreDriven world → IsWired world → IsWired made.world × NodesAreDriven made.world }
+    ensures lose_reply { (statements : List Statement) (world : World) (made : Made) (node : NodeId) (number : ℕ)
+        → step statements (events.LoseReply node number) world ≡ Some made → IsSentInRange made.world → NodesAreDriven world → IsWired world → IsWired made.world × NodesAreDriven made.world }
+    ensures deliver_reply { (statements : List Statement) (world : World) (made : Made) (node : NodeId) (number : ℕ) (from : NodeId) (bytes : List ℕ)
+        → step statements (events.Deliver node number) world ≡ Some made
+        → message_at (record { sender = node; number = number }) world ≡ Some (Reply from bytes) → IsSentInRange made.world
+        → NodesAreDriven world → IsWired world → IsWired made.world × NodesAreDriven made.world }
+    // A message that no work of an up node waits for, as one of a recovery, lets nothing begin.
+    ensures lose_idle_request { (statements : List Statement) (world : World) (made : Made) (node : NodeId) (number : ℕ)
+        → step statements (events.LoseRequest node number) world ≡ Some made
+        → is_of_work (record { sender = node; number = number }) world ≡ false → IsWired world → IsWired made.world }
+    ensures lose_idle_reply { (statements : List Statement) (world : World) (made : Made) (node : NodeId) (number : ℕ)
+        → step statements (events.LoseReply node number) world ≡ Some made
+        → is_of_work (record { sender = node; number = number }) world ≡ false → IsWired world → IsWired made.world }
+    ensures deliver_idle_reply { (statements : List Statement) (world : World) (made : Made) (node : NodeId) (number : ℕ) (from : NodeId) (bytes : List ℕ)
+        → step statements (events.Deliver node number) world ≡ Some made
+        → message_at (record { sender = node; number = number }) world ≡ Some (Reply from bytes)
+        → is_of_work (record { sender = node; number = number }) world ≡ false → IsWired world → IsWired made.world }
+{}
+
+/// Open works go with the requests that may have them, at most one of each, and a number that a node waits for is of one work or
+/// else of recoveries. So it is at first, and so it stays at the events at which no work begins; of the others it is part of
+/// `nodes_and_wire_stay_together`.
+pub fn works_go_with_their_requests()
+    ensures opening { (statements : List Statement) → NodesAreDriven (opening statements) }
+    ensures deliver_request { (statements : List Statement) (world : World) (made : Made) (node : NodeId) (number : ℕ) (to : NodeId) (bytes : List ℕ)
+        → step statements (events.Deliver node number) world ≡ Some made
+        → message_at (record { sender = node; number = number }) world ≡ Some (Request to bytes) → NodesAreDriven world
+        → NodesAreDriven made.world }
+    ensures phase { (statements : List Statement) (world : World) (made : Made)
+        → step statements events.Phase world ≡ Some made → NodesAreDriven world → NodesAreDriven made.world }
+    ensures put { (statements : List Statement) (world : World) (made : Made) (node : NodeId)
+        → step statements (events.Put node) world ≡ Some made → NodesAreDriven world → NodesAreDriven made.world }
+    ensures recover { (statements : List Statement) (world : World) (made : Made) (node : NodeId)
+        → step statements (events.RecoverTick node) world ≡ Some made → NodesAreDriven world → NodesAreDriven made.world }
+    ensures lost { (statements : List Statement) (world : World) (made : Made) (node : NodeId)
+        → step statements (events.Lost node) world ≡ Some made → NodesAreDriven world → NodesAreDriven made.world }
+    ensures leave { (statements : List Statement) (world : World) (made : Made) (node : NodeId)
+        → step statements (events.Leave node) world ≡ Some made → NodesAreDriven world → NodesAreDriven made.world }
+    ensures join { (statements : List Statement) (world : World) (made : Made) (node : NodeId)
+        → step statements (events.Join node) world ≡ Some made → NodesAreDriven world → NodesAreDriven made.world }
+    ensures reweight { (statements : List Statement) (world : World) (made : Made) (node : NodeId)
+        → step statements (events.Reweight node) world ≡ Some made → NodesAreDriven world → NodesAreDriven made.world }
+    ensures back { (statements : List Statement) (world : World) (made : Made) (node : NodeId)
+        → step statements (events.Back node) world ≡ Some made → NodesAreDriven world → NodesAreDriven made.world }
 {}
 
 /// A node steps only on what it may. So a loss that it is told is of a message that it waits for, and so is a reply, which

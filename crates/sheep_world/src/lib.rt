@@ -9,7 +9,8 @@
 //! (`specs/Enabled.antt`), and the lives of nodes (`specs/Lives.antt`).
 //! The laws of `laws.rt` say what these mean: what may happen is what is made, and the enabled list has it all but Phase;
 //! runs are cut anywhere and histories only grow; and for the events that are proved so far, what is in the wire
-//! (`specs/Wired.antt`) can be read and is what up nodes wait for.
+//! (`specs/Wired.antt`) can be read and is what up nodes wait for, as long as what they ask is in range (`specs/Ranges.antt`)
+//! and their works go with their requests (`specs/Driven.antt`).
 #![tactic(auto)]
 
 mod fault;
@@ -21,5 +22,6 @@ pub use laws::{
     a_history_only_grows, a_run_is_cut_anywhere, a_small_world_worked_out, lives_worked_out,
     members_make_no_disk, nodes_and_wire_stay_together, nodes_step_on_what_they_may,
     requests_have_inputs, the_enabled_list_has_what_may_happen, what_may_happen_is_made,
+    works_go_with_their_requests,
 };
 pub use name::MessageName;

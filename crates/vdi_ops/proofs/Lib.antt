@@ -1,4 +1,4 @@
 mod ChainLemmas
-mod StepLemmas
+pub mod StepLemmas
 mod TableLemmas
 mod CourseLemmas

@@ -2,6 +2,12 @@ use Rattle.sheep_world.proofs.WireLemmas.{wired-phase, wired-leave, wired-reweig
 use Rattle.sheep_world.proofs.OpeningLemmas.{opening-wired}
 use Rattle.sheep_world.proofs.PutLemmas.{wired-put}
 use Rattle.sheep_world.proofs.BackLemmas.{wired-back}
+use Rattle.sheep_world.proofs.RecoverLemmas.{wired-recover}
+use Rattle.sheep_world.proofs.RetryLemmas.{wired-retry}
+use Rattle.sheep_world.proofs.GuestLemmas.{wired-guest}
+use Rattle.sheep_world.proofs.ReadLemmas.{wired-log_next}
+use Rattle.sheep_world.proofs.LossLemmas.{wired-lose_request, wired-lose_reply, wired-deliver_reply}
+use Rattle.sheep_world.proofs.EndLemmas.{wired-lose_idle_request, wired-lose_idle_reply, wired-deliver_idle_reply}
 use Rattle.sheep_world.proofs.laws.nodes_and_wire_stay_together.Goals as goal
 
 pub returns : goal.returns
@@ -14,4 +20,14 @@ returns c = record {
   join = wired-join;
   lost = wired-lost;
   back = wired-back;
+  recover = wired-recover;
+  retry = wired-retry;
+  guest = wired-guest;
+  log_next = wired-log_next;
+  lose_request = wired-lose_request;
+  lose_reply = wired-lose_reply;
+  deliver_reply = wired-deliver_reply;
+  lose_idle_request = wired-lose_idle_request;
+  lose_idle_reply = wired-lose_idle_reply;
+  deliver_idle_reply = wired-deliver_idle_reply;
 }

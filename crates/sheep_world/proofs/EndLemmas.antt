@@ -1,0 +1,440 @@
+-- A message of a recovery that is lost or answered leaves the wire, and its node waits for it no more: they stay together.
+use Rattle.std.proofs.Common.{◌≡◌, ◌≢◌, ◌⊎◌, inl, inr, ℕ, ◌+◌, ◌-◌, ◌==◌, Bool, true, false, not, ◌&&◌, ◌||◌, cond, List, [], ◌∷◌, ◌++◌, map, filter, flat_map, find, Contains, Option, Some, None, is_some, Result, Ok, Err, refl, sym, ap, subst, ◌∙◌, ⊎_elim}
+use native.Mathlib.Omega.{arith}
+use Rattle.std.specs.Ordering.{nat_cmp, eq_by_cmp}
+use Rattle.std.specs.Option.{option_map_or}
+use Rattle.std.specs.List.{list_any}
+use Rattle.std.specs.FinMap as tree
+use Rattle.std.proofs.lemmas.Bool.{eq-eqb, eqb-true, eqb-false, cond-false}
+use Rattle.std.proofs.lemmas.Option.{cond_some}
+use Rattle.std.proofs.lemmas.List.Elements.{All-weaker, Contains-append_left, Contains-append_right, Contains-append_cases, filter-append}
+use Rattle.object_id.specs.declared.node.Epoch.{Epoch}
+use Rattle.object_id.specs.declared.node.NodeId.{NodeId}
+use Rattle.object_store.specs.declared.row.RowCopy.{RowCopy}
+use Rattle.cluster_script.specs.declared.statement.Statement.{Statement}
+use Rattle.peer_proto.specs.declared.ask.PeerAsk.{PeerAsk}
+use Rattle.peer_proto.specs.declared.ask.PeerAsk.TheVariants as asks
+use Rattle.peer_proto.specs.declared.ask.PeerReq.{PeerReq}
+use Rattle.peer_proto.specs.declared.say.PeerSay.{PeerSay}
+use Rattle.peer_proto.specs.declared.say.PeerSay.TheVariants as says
+use Rattle.peer_proto.specs.declared.say.PeerRsp.{PeerRsp}
+use Rattle.gateway.specs.declared.message.Message.{Message as Sent}
+use Rattle.gateway.specs.Attempt.{is_unanswered, is_awaited, send_of}
+use Rattle.gateway.specs.Step as gateway_steps
+use Rattle.gateway.specs.State as gateways
+use Rattle.gateway.specs.State.{Work, Stage, Open, Ended, Short, open_messages, is_awaited_in}
+use Rattle.recovery.specs.Shown.{Shown, is_row_of}
+use Rattle.recovery.specs.State as recoveries
+use Rattle.recovery.specs.State.{Message}
+use Rattle.recovery.specs.Fits as recovery_fits
+use Rattle.recovery.specs.Steps as recovery_steps
+use Rattle.recovery.specs.Steps.{without, ended}
+use Rattle.recovery.proofs.StepLemmas.{either, frame_of_end}
+use Rattle.sheep_node.specs.declared.event.Event.TheVariants as events
+use Rattle.sheep_node.specs.declared.input.Input.TheVariants as inputs
+use Rattle.sheep_node.specs.State.{Node}
+use Rattle.sheep_node.specs.Shown.{state_of}
+use Rattle.sheep_node.specs.Turn.{at_first}
+use Rattle.sheep_node.specs.Waiting.{gateway_stepped}
+use Rattle.sheep_node.specs.Step as steps
+use Rattle.sheep_node.specs.Step.{recovery_stepped, taken_in, stepped}
+use Rattle.sheep_world.specs.declared.name.MessageName.{MessageName}
+use Rattle.peer_proto.specs.declared.fault.PeerFault.{PeerFault}
+use Rattle.peer_proto.specs.Say.{say_in}
+use Rattle.sheep_world.specs.World.{name_cmp, Letter, Reply, Seat, World, seat_at, is_seat_up, is_up, message_at, receiver_of, are_ends_up}
+use Rattle.sheep_world.specs.Conditions.{may_deliver, may_lose_request, may_lose_reply}
+use Rattle.sheep_world.specs.Stepped.{seat_stepped, node_stepped, at_rest}
+use Rattle.sheep_world.specs.Messages.{without_message, loss_used, loss_told, message_lost, reply_got, reply_delivered, delivered_as, delivered}
+use Rattle.sheep_world.specs.Step.{Made, step, with_replies}
+use Rattle.sheep_world.specs.Wired.{unanswered_in, asked_by, asked_by_gateway, asked_by_recovery, own_name, IsOnItsWay, is_of_work, AreWired, IsWired}
+use Rattle.sheep_world.proofs.NameTools.{name_cmp_total}
+use Rattle.sheep_world.proofs.ListTools.{has-here, has-later, has-none, has_cases}
+use Rattle.sheep_world.proofs.SendLemmas.{Sends, Wire, Leaves, wired_asking, name_apart, name_itself}
+use Rattle.sheep_world.proofs.RecoverLemmas.{AsksFrom, asks_at_end}
+
+-- every number but one
+abbrev pub Other : ℕ → ℕ → Type 0
+Other number q = q ≢ number
+
+-- ---- a gateway waits for what it asks
+
+-- the messages of an attempt that aren't answered
+abbrev pub open_of : List Sent → List Sent
+open_of messages = filter (λ (message : Sent). is_unanswered message.status) messages
+
+awaited_among : (me : NodeId) (work : Work) (epoch : Epoch) (messages : List Sent) (send : NodeId × PeerReq)
+    → Contains (map (send_of me epoch work.work) (open_of messages)) send
+    → list_any (is_awaited send.1.number) messages ≡ true
+awaited_among me work epoch [] send there = has-none send there
+awaited_among me work epoch (message ∷ messages) send there =
+    by_status (is_unanswered message.status) refl (awaited_among me work epoch messages send) there
+  where
+    here : (b : Bool) → b ≡ true → is_unanswered message.status ≡ true → (cond b (is_unanswered message.status) false || list_any (is_awaited send.1.number) messages) ≡ true
+    here true same unanswered = ap (λ (b : Bool). b || list_any (is_awaited send.1.number) messages) unanswered
+    here false same unanswered = absurd (cc (same))
+
+    behind : (b : Bool) → list_any (is_awaited send.1.number) messages ≡ true → (b || list_any (is_awaited send.1.number) messages) ≡ true
+    behind true is = refl
+    behind false is = is
+
+    by_status : (b : Bool) → is_unanswered message.status ≡ b
+        → (Contains (map (send_of me epoch work.work) (open_of messages)) send → list_any (is_awaited send.1.number) messages ≡ true)
+        → Contains (map (send_of me epoch work.work) (cond b (message ∷ open_of messages) (open_of messages))) send
+        → (is_awaited send.1.number message || list_any (is_awaited send.1.number) messages) ≡ true
+    by_status true unanswered later there = ⊎_elim
+        (λ (same : send_of me epoch work.work message ≡ send).
+        here (message.number == send.1.number) (eq-eqb message.number send.1.number (ap (λ (s : NodeId × PeerReq). s.1.number) same)) unanswered)
+        (λ (behind_it : Contains (map (send_of me epoch work.work) (open_of messages)) send). behind (is_awaited send.1.number message) (later behind_it))
+        (has_cases (send_of me epoch work.work message) send (map (send_of me epoch work.work) (open_of messages)) there)
+    by_status false answered later there = behind (is_awaited send.1.number message) (later there)
+
+pub awaited_at : (me : NodeId) (work : Work) (stage : Stage) (send : NodeId × PeerReq) → Contains (unanswered_in me work stage) send
+    → list_any (is_awaited send.1.number) (open_messages stage) ≡ true
+awaited_at me work (Open attempt) send there = awaited_among me work attempt.epoch attempt.messages send there
+awaited_at me work Ended send there = has-none send there
+awaited_at me work (Short epoch) send there = has-none send there
+
+abbrev asker_in : ℕ → List (ℕ × Work) → Option (ℕ × Work)
+asker_in number entries = find (λ (entry : ℕ × Work). is_awaited_in number entry.1) entries
+
+found_for : (me : NodeId) (entries : List (ℕ × Work)) (send : NodeId × PeerReq)
+    → Contains (flat_map (λ (entry : ℕ × Work). unanswered_in me entry.1 entry.1.stage) entries) send
+    → is_some (find (λ (entry : ℕ × Work). is_awaited_in send.1.number entry.1) entries) ≡ true
+found_for me [] send there = has-none send there
+found_for me (entry ∷ entries) send there = ⊎_elim
+    (λ (own : Contains (unanswered_in me entry.1 entry.1.stage) send). here (is_awaited_in send.1.number entry.1) (awaited_at me entry.1 entry.1.stage send own))
+    (λ (later : Contains (flat_map (λ (entry : ℕ × Work). unanswered_in me entry.1 entry.1.stage) entries) send).
+    behind (is_awaited_in send.1.number entry.1) (found_for me entries send later))
+    (Contains-append_cases (unanswered_in me entry.1 entry.1.stage)
+    (flat_map (λ (entry : ℕ × Work). unanswered_in me entry.1 entry.1.stage) entries) send there)
+  where
+    here : (b : Bool) → b ≡ true → is_some (cond b (Some entry) (asker_in send.1.number entries)) ≡ true
+    here true is = refl
+    here false is = absurd (cc (is))
+
+    behind : (b : Bool) → is_some (asker_in send.1.number entries) ≡ true → is_some (cond b (Some entry) (asker_in send.1.number entries)) ≡ true
+    behind true is = refl
+    behind false is = is
+
+-- what a gateway asks and isn't answered, it waits for
+pub waits_for_asked : (me : NodeId) (gateway : gateways.Gateway) (send : NodeId × PeerReq) → Contains (asked_by_gateway me gateway) send
+    → gateways.waits_for send.1.number gateway ≡ true
+waits_for_asked me gateway send there = found_for me (tree.entries gateway.works) send there
+
+-- ---- the messages but for one
+
+-- messages as they are sent
+abbrev pairs_of : List Message → Sends
+pairs_of messages = map (λ (message : Message). (message.to, message.request)) messages
+
+kept_apart : (number : ℕ) (messages : List Message) (send : NodeId × PeerReq)
+    → Contains (pairs_of (without number messages)) send
+    → Contains (pairs_of messages) send × (send.1.number ≢ number)
+kept_apart number [] send there = has-none send there
+kept_apart number (message ∷ messages) send there =
+    by_tie (message.request.number == number) refl (kept_apart number messages send) there
+  where
+    later : Contains (pairs_of messages) send × (send.1.number ≢ number) → Contains ((message.to, message.request) ∷ pairs_of messages) send × (send.1.number ≢ number)
+    later (there, apart) = (has-later (message.to, message.request) send (pairs_of messages) there, apart)
+
+    by_tie : (b : Bool) → (message.request.number == number) ≡ b → (Contains (pairs_of (without number messages)) send → Contains (pairs_of messages) send × (send.1.number ≢ number))
+        → Contains (pairs_of (cond (not b) (message ∷ without number messages) (without number messages))) send
+        → Contains ((message.to, message.request) ∷ pairs_of messages) send × (send.1.number ≢ number)
+    by_tie true tie rest there = later (rest there)
+    by_tie false tie rest there = ⊎_elim
+        (λ (same : (message.to, message.request) ≡ send). (
+          has-here (message.to, message.request) send (pairs_of messages) same,
+          λ (is : send.1.number ≡ number). eqb-false message.request.number number tie (ap (λ (s : NodeId × PeerReq). s.1.number) same ∙ is),
+        ))
+        (λ (behind : Contains (pairs_of (without number messages)) send). later (rest behind))
+        (has_cases (message.to, message.request) send (pairs_of (without number messages)) there)
+
+-- a message of another number is found as before
+same_message : (number q : ℕ) (messages : List Message) → q ≢ number
+    → recoveries.message_of q (without number messages) ≡ recoveries.message_of q messages
+same_message number q [] apart = refl
+same_message number q (message ∷ messages) apart =
+    by_tie (message.request.number == number) refl (same_message number q messages apart)
+  where
+    other : (b : Bool) → (message.request.number == q) ≡ b → message.request.number ≡ number
+        → recoveries.message_of q messages ≡ cond b (Some message) (recoveries.message_of q messages)
+    other true tie is = absurd (apart (sym (eqb-true message.request.number q tie) ∙ is))
+    other false tie is = refl
+
+    by_tie : (b : Bool) → (message.request.number == number) ≡ b
+        → recoveries.message_of q (without number messages) ≡ recoveries.message_of q messages
+        → recoveries.message_of q (cond (not b) (message ∷ without number messages) (without number messages))
+        ≡ cond (message.request.number == q) (Some message) (recoveries.message_of q messages)
+    by_tie true tie rest = rest ∙ other (message.request.number == q) refl (eqb-true message.request.number number tie)
+    by_tie false tie rest = ap (λ (o : Option Message). cond (message.request.number == q) (Some message) o) rest
+
+same_row : (one other : Shown) (wanted : ℕ) (ask : PeerAsk) (row : RowCopy) → one.size_of ≡ other.size_of
+    → recovery_fits.fits_row one wanted ask row ≡ recovery_fits.fits_row other wanted ask row
+same_row one other wanted (asks.Create key size offset bytes) row same = refl
+same_row one other wanted (asks.Write key offset bytes) row same = refl
+same_row one other wanted (asks.Read key offset size) row same = refl
+same_row one other wanted asks.List row same = refl
+same_row one other wanted (asks.RecoverRead oid level) row same =
+    ap (λ (size_of : ℕ → Option ℕ). is_row_of level.0 wanted (size_of oid) row) same
+
+-- what fits depends on the lengths of rows alone
+pub same_fit : (one other : Shown) (message : Option Message) (say : PeerSay) → one.size_of ≡ other.size_of
+    → recovery_fits.fits_message one message say ≡ recovery_fits.fits_message other message say
+same_fit one other None say same = refl
+same_fit one other (Some message) says.Success same = refl
+same_fit one other (Some message) (says.Piece bytes) same = refl
+same_fit one other (Some message) (says.Objects oids) same = refl
+same_fit one other (Some message) (says.Row row) same = same_row one other message.wanted message.request.ask row same
+same_fit one other (Some message) says.NoRow same = refl
+same_fit one other (Some message) (says.Refused refusal) same = refl
+
+or_cases : (a b : Bool) → (a || b) ≡ true → (a ≡ true) ⊎ (b ≡ true)
+or_cases true b is = inl refl
+or_cases false b is = inr is
+
+or_left : (a b : Bool) → a ≡ true → (a || b) ≡ true
+or_left a b is = ap (λ a. a || b) is
+
+or_right : (a b : Bool) → b ≡ true → (a || b) ≡ true
+or_right true b is = refl
+or_right false b is = is
+
+-- ---- the end of a recovery's message
+
+module _ (node : Node) (number : ℕ) (said : Option PeerSay) (none : gateways.waits_for number node.gateway ≡ false) where
+  pub left_now : recoveries.all_unanswered (ended number said (state_of node)).recovery ≡ without number (recoveries.all_unanswered node.recovery)
+  left_now =
+      let frame = frame_of_end number said (state_of node) in
+      (λ i. (frame i).unanswered ++ (frame i).older)
+      ∙ sym (filter-append (λ message. not (recoveries.is_numbered number message)) node.recovery.unanswered node.recovery.older)
+
+  pub end_asks : AsksFrom (Other number) node (recovery_stepped (ended number said (state_of node)) (at_first node))
+  end_asks =
+      let state = ended number said (state_of node) in
+      let gateway = asked_by_gateway node.me node.gateway in
+      let no_more : node.sends ≡ node.sends + 0 = omega arith in
+      record {
+        me_so = refl;
+        count_so = no_more;
+        numbers = refl;
+        own = λ send there. has-none send there;
+        read = λ send there. has-none send there;
+        asked = λ send there. inl (⊎_elim
+            (λ (held : Contains gateway send). (
+              Contains-append_left gateway (asked_by_recovery node.recovery) send held,
+              λ (same : send.1.number ≡ number).
+                  let waits = waits_for_asked node.me node.gateway send held in
+                  let waits_so : gateways.waits_for number node.gateway ≡ true
+                  = subst (λ (q : ℕ). gateways.waits_for q node.gateway ≡ true) same waits in
+                  absurd (cc (waits_so, none)),
+            ))
+            (λ (left : Contains (asked_by_recovery state.recovery) send).
+            let (was, apart) = kept_apart number (recoveries.all_unanswered node.recovery) send
+            (subst (λ (messages : List Message). Contains (map (λ (message : Message). (message.to, message.request)) messages) send) left_now left) in
+            (Contains-append_right gateway (asked_by_recovery node.recovery) send was, apart))
+            (Contains-append_cases gateway (asked_by_recovery state.recovery) send there));
+        waits_on = λ q waits apart. ⊎_elim
+            (λ (held : gateways.waits_for q node.gateway ≡ true).
+            or_left (gateways.waits_for q node.gateway) (recoveries.waits_for q state.recovery) held)
+            (λ (waited : recoveries.waits_for q node.recovery ≡ true).
+            or_right (gateways.waits_for q node.gateway) (recoveries.waits_for q state.recovery)
+            (ap (λ (messages : List Message). is_some (recoveries.message_of q messages)) left_now
+            ∙ ap is_some (same_message number q (recoveries.all_unanswered node.recovery) apart) ∙ waited))
+            (or_cases (gateways.waits_for q node.gateway) (recoveries.waits_for q node.recovery) waits);
+        waits_too = λ send there. has-none send there;
+        fits_on = λ rsp below apart fit. ⊎_elim
+            (λ (held : gateways.fits rsp node.gateway ≡ true).
+            or_left (gateways.fits rsp node.gateway) (recovery_fits.fits rsp (state_of (recovery_stepped state (at_first node)).node)) held)
+            (λ (fitted : recovery_fits.fits rsp (state_of node) ≡ true).
+            or_right (gateways.fits rsp node.gateway) (recovery_fits.fits rsp (state_of (recovery_stepped state (at_first node)).node))
+            (ap (λ (messages : List Message). recovery_fits.fits_message (state_of (recovery_stepped state (at_first node)).node).shown (recoveries.message_of rsp.number messages) rsp.say) left_now
+            ∙ ap (λ (o : Option Message). recovery_fits.fits_message (state_of (recovery_stepped state (at_first node)).node).shown o rsp.say)
+            (same_message number rsp.number (recoveries.all_unanswered node.recovery) apart)
+            ∙ same_fit (state_of (recovery_stepped state (at_first node)).node).shown (state_of node).shown
+            (recoveries.message_of rsp.number (recoveries.all_unanswered node.recovery)) rsp.say refl
+            ∙ fitted))
+            (or_cases (gateways.fits rsp node.gateway) (recovery_fits.fits rsp (state_of node)) fit);
+      }
+
+-- the step of a node on the loss of a message that no work waits for
+pub lost_asks : (node : Node) (number : ℕ) → gateways.waits_for number node.gateway ≡ false
+    → AsksFrom (Other number) node (stepped (inputs.Lost number) node)
+unfolding stepped taken_in steps.lost recovery_steps.lost
+lost_asks node number none =
+    asks_at_end (Other number) node (steps.lost number (at_first node))
+    (subst (AsksFrom (Other number) node)
+    (sym (cond-false (gateways.waits_for number node.gateway)
+    (gateway_stepped (gateway_steps.lost node.gateway number) (at_first node))
+    (recovery_stepped (recovery_steps.lost number (state_of node)) (at_first node)) none))
+    (end_asks node number None none))
+
+-- the same on a reply
+pub replied_asks : (node : Node) (rsp : PeerRsp) → gateways.waits_for rsp.number node.gateway ≡ false
+    → AsksFrom (Other rsp.number) node (stepped (inputs.Reply rsp) node)
+unfolding stepped taken_in steps.answered recovery_steps.replied
+replied_asks node rsp none =
+    asks_at_end (Other rsp.number) node (steps.answered rsp (at_first node))
+    (subst (AsksFrom (Other rsp.number) node)
+    (sym (cond-false (gateways.waits_for rsp.number node.gateway)
+    (gateway_stepped (gateway_steps.replied node.gateway rsp) (at_first node))
+    (recovery_stepped (recovery_steps.replied rsp (state_of node)) (at_first node)) none))
+    (end_asks node rsp.number (Some rsp.say) none))
+
+-- ---- a message leaves the wire
+
+pub without_got : (wire : Wire) (name q : MessageName) (letter : Letter) → tree.get (tree.remove wire name) q ≡ Some letter
+    → (q ≢ name) × (tree.get wire q ≡ Some letter)
+without_got wire name q letter got =
+    by_tie (eq_by_cmp name_cmp q name) refl (sym (tree.get-remove name_cmp_total wire name q) ∙ got)
+  where
+    untied : q ≡ name → eq_by_cmp name_cmp q name ≡ false → ⊥
+    untied same tie =
+        let tied : eq_by_cmp name_cmp q name ≡ true = ap (λ (n : MessageName). eq_by_cmp name_cmp q n) (sym same) ∙ name_itself q in
+        absurd (cc (tied, tie))
+
+    by_tie : (b : Bool) → eq_by_cmp name_cmp q name ≡ b → cond b None (tree.get wire q) ≡ Some letter → (q ≢ name) × (tree.get wire q ≡ Some letter)
+    by_tie true tie is = absurd (cc (is))
+    by_tie false tie is = (λ (same : q ≡ name). untied same tie, is)
+
+pub without_apart : (wire : Wire) (name q : MessageName) → q ≢ name → tree.get (tree.remove wire name) q ≡ tree.get wire q
+without_apart wire name q apart =
+    tree.get-remove name_cmp_total wire name q ∙ ap (λ b. cond b None (tree.get wire q)) (name_apart q name apart)
+
+-- of its sender only it leaves
+pub one_leaves : (wire : Wire) (name : MessageName) → Leaves (Other name.number) name.sender.0 wire (tree.remove wire name)
+one_leaves wire name = record {
+  others = λ q apart. without_apart wire name q (λ (same : q ≡ name). apart (ap (λ (n : MessageName). n.sender.0) same));
+  kept = λ q own stays. without_apart wire name q (λ (same : q ≡ name). stays (ap (λ (n : MessageName). n.number) same));
+  was = λ q letter got. (without_got wire name q letter got).1;
+  stays = λ q letter got own same.
+      (without_got wire name q letter got).0 (λ i. record { sender = record { 0 = own i }; number = same i });
+}
+
+-- without a message of a node that isn't up the others stay together with the wire
+pub wired_without : (seats : tree.FinMap nat_cmp Seat) (wire : Wire) (name : MessageName)
+    → option_map_or is_seat_up (tree.get seats name.sender.0) false ≡ false → AreWired seats wire → AreWired seats (tree.remove wire name)
+wired_without seats wire name down wired = record {
+  spelled = λ q letter got. wired.spelled q letter (without_got wire name q letter got).1;
+  given = λ q letter got. wired.given q letter (without_got wire name q letter got).1;
+  numbered = wired.numbered;
+  on_the_way = λ q seat got up. All-weaker
+      (λ (send : NodeId × PeerReq). IsOnItsWay seat.node send (tree.get wire (own_name seat.node send)))
+      (λ (send : NodeId × PeerReq). IsOnItsWay seat.node send (tree.get (tree.remove wire name) (own_name seat.node send)))
+      (λ (send : NodeId × PeerReq) (way : IsOnItsWay seat.node send (tree.get wire (own_name seat.node send))). subst
+      (IsOnItsWay seat.node send)
+      (sym (without_apart wire name (own_name seat.node send)
+      (λ (same : own_name seat.node send ≡ name). is_down q seat got up (sym (wired.numbered q seat got) ∙ ap (λ (n : MessageName). n.sender.0) same))))
+      way)
+      (asked_by seat.node) (wired.on_the_way q seat got up);
+  awaited = λ q letter seat got at up. wired.awaited q letter seat (without_got wire name q letter got).1 at up;
+}
+  where
+    is_down : (q : ℕ) (seat : Seat) → tree.get seats q ≡ Some seat → is_seat_up seat ≡ true → q ≡ name.sender.0 → ⊥
+    is_down q seat got up same =
+        let no : is_seat_up seat ≡ false
+        = ap (λ (o : Option Seat). option_map_or is_seat_up o false) (sym (ap (tree.get seats) (sym same) ∙ got)) ∙ down in
+        absurd (cc (up, no))
+
+-- the loss of what no work waits for, or of a message of a node that isn't up
+module _ (statements : List Statement) (name : MessageName) (world : World) (wired : IsWired world) where
+  without_seat : (o : Option Seat) → seat_at name.sender.0 world ≡ o → option_map_or is_seat_up o false ≡ false
+      → IsWired (without_message name world)
+  without_seat o at down =
+      wired_without world.seats world.wire name (ap (λ (o : Option Seat). option_map_or is_seat_up o false) at ∙ down) wired
+
+  told_at : (o : Option Seat) → seat_at name.sender.0 world ≡ o
+      → option_map_or (λ (seat : Seat). is_seat_up seat && gateways.waits_for name.number seat.node.gateway) o false ≡ false
+      → IsWired (cond (option_map_or is_seat_up o false)
+      (seat_stepped statements name.sender.0 (inputs.Lost name.number) o (without_message name world)) (without_message name world))
+  told_at None at none = without_seat None at refl
+  told_at (Some seat) at none = by_up (is_seat_up seat) refl none
+    where
+      by_up : (b : Bool) → is_seat_up seat ≡ b → (b && gateways.waits_for name.number seat.node.gateway) ≡ false
+          → IsWired (cond b (seat_stepped statements name.sender.0 (inputs.Lost name.number) (Some seat) (without_message name world)) (without_message name world))
+      by_up true up free =
+          let turn = stepped (inputs.Lost name.number) seat.node in
+          wired_asking (Other name.number) world.seats world.wire (tree.remove world.wire name) name.sender.0 seat turn.node turn.outputs.sends
+          at up wired (lost_asks seat.node name.number free) (one_leaves world.wire name)
+      by_up false down free = without_seat (Some seat) at down
+
+  told_wired : is_of_work name world ≡ false → IsWired (loss_told statements name (without_message name world))
+  unfolding node_stepped
+  told_wired none = told_at (seat_at name.sender.0 world) refl none
+
+lost_wired : (statements : List Statement) (name : MessageName) (world : World) → is_of_work name world ≡ false → IsWired world
+    → IsWired (message_lost statements name world)
+unfolding message_lost
+lost_wired statements name world none wired = by_letter (message_at name world)
+  where
+    by_letter : (o : Option Letter) → IsWired (loss_told statements name (without_message name (loss_used name o (at_rest world))))
+    by_letter None = told_wired statements name (at_rest world) wired none
+    by_letter (Some letter) =
+        let fewer = record (at_rest world) { losses = world.losses - 1 } in
+        either (λ (w : World). IsWired (loss_told statements name (without_message name w))) (are_ends_up name letter (at_rest world)) fewer (at_rest world)
+        (told_wired statements name fewer wired none) (told_wired statements name (at_rest world) wired none)
+
+pub wired-lose_idle_request : (statements : List Statement) (world : World) (made : Made) (node : NodeId) (number : ℕ)
+    → step statements (events.LoseRequest node number) world ≡ Some made → is_of_work (record { sender = node; number = number }) world ≡ false
+    → IsWired world → IsWired made.world
+unfolding step
+wired-lose_idle_request statements world made node number is none wired =
+    let name : MessageName = record { sender = node; number = number } in
+    let t = cond_some (may_lose_request name world) (with_replies statements world (message_lost statements name world)) made is in
+    subst (λ (made : Made). IsWired made.world) t.1 (lost_wired statements name world none wired)
+
+pub wired-lose_idle_reply : (statements : List Statement) (world : World) (made : Made) (node : NodeId) (number : ℕ)
+    → step statements (events.LoseReply node number) world ≡ Some made → is_of_work (record { sender = node; number = number }) world ≡ false
+    → IsWired world → IsWired made.world
+unfolding step
+wired-lose_idle_reply statements world made node number is none wired =
+    let name : MessageName = record { sender = node; number = number } in
+    let t = cond_some (may_lose_reply name world) (with_replies statements world (message_lost statements name world)) made is in
+    subst (λ (made : Made). IsWired made.world) t.1 (lost_wired statements name world none wired)
+
+said_or : PeerRsp → Result PeerRsp PeerFault → PeerRsp
+said_or none (Ok rsp) = rsp
+said_or none (Err fault) = none
+
+pub same_said : (one other : PeerRsp) → ◌≡◌ {A = Result PeerRsp PeerFault} (Ok one) (Ok other) → one ≡ other
+unfolding said_or
+same_said one other same = ap (said_or one) same
+
+-- the reply to what no work waits for
+module _ (statements : List Statement) (name : MessageName) (world : World) (wired : IsWired world) where
+  got_at : (rsp : PeerRsp) (o : Option Seat) → rsp.number ≡ name.number → seat_at name.sender.0 world ≡ o
+      → option_map_or (λ (seat : Seat). is_seat_up seat && gateways.waits_for name.number seat.node.gateway) o false ≡ false
+      → option_map_or is_seat_up o false ≡ true
+      → IsWired (seat_stepped statements name.sender.0 (inputs.Reply rsp) o (without_message name (at_rest world)))
+  got_at rsp None same at none up = absurd (cc (up))
+  got_at rsp (Some seat) same at none up =
+      let turn = stepped (inputs.Reply rsp) seat.node in
+      let waits : gateways.waits_for name.number seat.node.gateway ≡ false
+      = ap (λ (b : Bool). b && gateways.waits_for name.number seat.node.gateway) (sym up) ∙ none in
+      let free : gateways.waits_for rsp.number seat.node.gateway ≡ false
+      = ap (λ (q : ℕ). gateways.waits_for q seat.node.gateway) same ∙ waits in
+      wired_asking (Other rsp.number) world.seats world.wire (tree.remove world.wire name) name.sender.0 seat turn.node turn.outputs.sends
+      at up wired (replied_asks seat.node rsp free)
+      (subst (λ (q : ℕ). Leaves (Other q) name.sender.0 world.wire (tree.remove world.wire name)) (sym same) (one_leaves world.wire name))
+
+  got_wired : (from : NodeId) (bytes : List ℕ) (said : Result PeerRsp PeerFault) → say_in bytes ≡ said → message_at name world ≡ Some (Reply from bytes)
+      → is_of_work name world ≡ false → is_up name.sender.0 world ≡ true → IsWired (reply_got statements name said (at_rest world))
+  unfolding node_stepped
+  got_wired from bytes (Ok rsp) says got none up =
+      let (read, reads, number) = wired.spelled name (Reply from bytes) got in
+      let same : read ≡ rsp = same_said read rsp (sym reads ∙ says) in
+      got_at rsp (seat_at name.sender.0 world) (ap (λ (rsp : PeerRsp). rsp.number) (sym same) ∙ number) refl none up
+  got_wired from bytes (Err fault) says got none up = wired
+
+pub wired-deliver_idle_reply : (statements : List Statement) (world : World) (made : Made) (node : NodeId) (number : ℕ) (from : NodeId) (bytes : List ℕ)
+    → step statements (events.Deliver node number) world ≡ Some made
+    → message_at (record { sender = node; number = number }) world ≡ Some (Reply from bytes)
+    → is_of_work (record { sender = node; number = number }) world ≡ false → IsWired world → IsWired made.world
+unfolding step reply_delivered
+wired-deliver_idle_reply statements world made node number from bytes is got none wired =
+    let name : MessageName = record { sender = node; number = number } in
+    let t = cond_some (may_deliver name world) (with_replies statements world (delivered statements name world)) made is in
+    let up : is_up node.0 world ≡ true
+    = sym (ap (λ (o : Option Letter). option_map_or (λ letter. is_up (receiver_of name letter).0 world) o false) got) ∙ t.0 in
+    subst (λ (made : Made). IsWired made.world) t.1
+    (subst (λ (o : Option Letter). IsWired (delivered_as statements name o world)) (sym got)
+    (got_wired statements name world wired from bytes (say_in bytes) refl got none up))

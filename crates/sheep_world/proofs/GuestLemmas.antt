@@ -1,0 +1,219 @@
+-- A guest's request, and a command that goes on, leave nodes and wire together.
+use Rattle.std.proofs.Common.{◌≡◌, ℕ, ◌==◌, Bool, true, false, ◌&&◌, List, [], ◌∷◌, ◌++◌, Option, Some, None, is_none, refl, sym, ap, subst, ◌∙◌}
+use Rattle.std.specs.Option.{option_map_or, option_and_then, IfSome}
+use Rattle.std.specs.FinMap as tree
+use Rattle.std.proofs.lemmas.Bool.{eq-eqb, and_parts}
+use Rattle.std.proofs.lemmas.Option.{cond_some}
+use Rattle.object_id.specs.declared.cause.Cause.{Cause}
+use Rattle.cluster_script.specs.declared.statement.Statement.{Statement}
+use Rattle.cluster_script.specs.Asked.{session_of, request_at}
+use Rattle.cluster_script.specs.Sessions.{Session, session_numbered}
+use Rattle.peer_proto.specs.declared.guest.DiskAsk.{DiskAsk}
+use Rattle.peer_proto.specs.declared.guest.VdiAsk.{VdiAsk}
+use Rattle.peer_proto.specs.declared.work.ObjWork.{ObjWork}
+use Rattle.gateway.specs.State.{Work}
+use Rattle.guest_driver.specs.declared.disk.Disk.{Disk}
+use Rattle.vdi_ops.specs.declared.act.OpAct.{OpAct}
+use Rattle.vdi_ops.specs.declared.act.OpAct.TheVariants as op_acts
+use Rattle.vdi_ops.specs.Op as ops
+use Rattle.vdi_ops.specs.Op.{Op, Stage, Asked, Working, Publishing, Answered, opened, entry_wanted, entry_wanted_at, IsAwaited, IsAwaitedAt}
+use Rattle.vdi_ops.specs.Steps.{begin}
+use Rattle.vdi_ops.proofs.StepLemmas.{begin_awaited}
+use Rattle.sheep_node.specs.declared.ask.Ask.{Ask}
+use Rattle.sheep_node.specs.declared.ask.Ask.TheVariants as asks
+use Rattle.sheep_node.specs.declared.event.Event.TheVariants as events
+use Rattle.sheep_node.specs.declared.input.Input.{Input}
+use Rattle.sheep_node.specs.declared.input.Input.TheVariants as inputs
+use Rattle.sheep_node.specs.State.{Waiting, Commanding, Request, Node}
+use Rattle.sheep_node.specs.Turn.{Turn, at_first, session_in, with_disk, with_course}
+use Rattle.sheep_node.specs.Courses.{disk_after, command_acted, command_stepped, command_went_on}
+use Rattle.sheep_node.specs.Guests as nodes
+use Rattle.sheep_node.specs.Guests.{refusal, inode_open, queued_as, pushed, taken, taken_unless}
+use Rattle.sheep_node.specs.Reading.{is_member}
+use Rattle.sheep_node.specs.Step.{taken_in, stepped}
+use Rattle.sheep_world.specs.World.{Seat, World, seat_at, is_seat_up}
+use Rattle.sheep_world.specs.Asking.{ask_of, input_by, input_of}
+use Rattle.sheep_world.specs.Conditions.{serves, has_gateway, next_request, may_begin, may_ask, may_guest}
+use Rattle.sheep_world.specs.World.{guest_at}
+use Rattle.sheep_world.specs.Stepped.{seat_stepped, node_stepped, node_stepped_if, at_rest}
+use Rattle.sheep_world.specs.Effects.{request_begun, begun_of, next_input, gateway_stepped, guest_asked}
+use Rattle.sheep_world.specs.Step.{Made, step, guest_made}
+use Rattle.sheep_world.specs.Wired.{IsWired}
+use Rattle.sheep_world.specs.Driven.{may_work_at, may_work_of, IsDriven, NodesAreDriven, IsSentInRange, IsNewRequest}
+use Rattle.sheep_world.proofs.EnabledLemmas.{looked_up}
+use Rattle.sheep_world.proofs.PutLemmas.{next_seat}
+use Rattle.sheep_world.proofs.SendLemmas.{wired_asking}
+use Rattle.sheep_world.proofs.RecoverLemmas.{Any, nothing_leaves}
+use Rattle.sheep_world.proofs.NumberTools.{got_own}
+use Rattle.sheep_world.proofs.DrivenLemmas.{IsGood, IsFreeIn, free_session, good_session, good_course, ended_good, work_asked_good, course_begun_good}
+use Rattle.sheep_world.proofs.RetryLemmas.{good_first, good_at_end, good_asks, good_driven, driven_after}
+
+-- ---- a command goes on
+
+-- a command whose act is a work waits for no entry
+no_entry : (work : ObjWork) (stage : Stage) → IsAwaitedAt (op_acts.Work work) stage → is_none (entry_wanted_at stage) ≡ true
+no_entry work (Asked entry ask disk) awaited = absurd (cc (awaited))
+no_entry work (Working vid task) awaited = refl
+no_entry work (Publishing entry opened) awaited = absurd (cc (awaited))
+no_entry work (Answered opened) awaited = refl
+
+command_acted_good : (old : Node) (number req : ℕ) (ask : VdiAsk) (op : Op) (act : OpAct) (turn : Turn) → IsAwaitedAt act op.stage
+    → tree.get turn.node.requests req ≡ Some (record { session = number; course = Commanding ask op })
+    → IsFreeIn req turn → IsGood old turn → IsGood old (command_acted number req ask op act turn)
+command_acted_good old number req ask op (op_acts.Append entry) turn awaited there free good = record { going = good.going; driven = good.driven }
+command_acted_good old number req ask op (op_acts.Work work) turn awaited there free good =
+    work_asked_good old number req work turn free
+    (ap (may_work_of number) there
+    ∙ ap (λ (b : Bool). b && is_none (entry_wanted op)) (eq-eqb number number refl)
+    ∙ no_entry work op.stage awaited)
+    good
+command_acted_good old number req ask op (op_acts.Reply reply) turn awaited there free good =
+    let disk = disk_after ask (opened op) (session_in number turn).disk in
+    let session = record (session_in number turn) { disk = disk } in
+    ended_good old number req reply (with_disk number disk turn)
+    (free_session req turn.node.gateway.works turn.node.sessions number session refl free)
+    (good_session old number session turn refl good)
+
+command_stepped_good : (old : Node) (number req : ℕ) (ask : VdiAsk) (step : ops.Step) (turn : Turn) → IsAwaited step → IsFreeIn req turn
+    → IsGood old turn → IsGood old (command_stepped number req ask step turn)
+unfolding command_stepped
+command_stepped_good old number req ask step turn awaited free good =
+    let request : Request = record { session = number; course = Commanding ask step.op } in
+    command_acted_good old number req ask step.op step.act (with_course number req (Commanding ask step.op) turn) awaited
+    (got_own turn.node.requests req request) free (good_course old number req (Commanding ask step.op) turn free good)
+
+pub command_went_on_good : (old : Node) (number req : ℕ) (ask : VdiAsk) (step : Option ops.Step) (turn : Turn) → IfSome step IsAwaited
+    → IsFreeIn req turn → IsGood old turn → IsGood old (command_went_on number req ask step turn)
+command_went_on_good old number req ask None turn awaited free good = good
+command_went_on_good old number req ask (Some step) turn awaited free good = command_stepped_good old number req ask step turn awaited free good
+
+-- ---- a guest's request
+
+pushed_good : (old : Node) (number req : ℕ) (ask : DiskAsk) (disk : Option Disk) (turn : Turn) → IsGood old turn → IsGood old (pushed number req ask disk turn)
+pushed_good old number req ask None turn good = good
+pushed_good old number req ask (Some disk) turn good =
+    good_session old number
+    (record (session_in number turn) { queue = (session_in number turn).queue ++ queued_as disk.inode.spec.shift req ask ∷ [] }) turn refl good
+
+pushed_free : (number req : ℕ) (ask : DiskAsk) (disk : Option Disk) (turn : Turn) → IsFreeIn req turn → IsFreeIn req (pushed number req ask disk turn)
+pushed_free number req ask None turn free = free
+pushed_free number req ask (Some disk) turn free =
+    free_session req turn.node.gateway.works turn.node.sessions number
+    (record (session_in number turn) { queue = (session_in number turn).queue ++ queued_as disk.inode.spec.shift req ask ∷ [] }) refl free
+
+taken_good : (old : Node) (number req : ℕ) (ask : Ask) (turn : Turn) → IsFreeIn req turn → IsGood old turn → IsGood old (taken number req ask turn)
+taken_good old number req (asks.Disk ask) turn free good =
+    let waiting = with_course number req (Waiting ask) turn in
+    let disk = (session_in number turn).disk in
+    course_begun_good old number req (Waiting ask) (pushed number req ask disk waiting)
+    (λ never. pushed_free number req ask disk waiting free)
+    (pushed_good old number req ask disk waiting (good_course old number req (Waiting ask) turn free good))
+taken_good old number req (asks.Vdi ask) turn free good =
+    command_went_on_good old number req ask (begin turn.node.me number ask (inode_open (session_in number turn).disk)) turn
+    (begin_awaited turn.node.me number ask (inode_open (session_in number turn).disk)) free good
+
+taken_unless_good : (old : Node) (cause : Option Cause) (number req : ℕ) (ask : Ask) (turn : Turn) → IsFreeIn req turn → IsGood old turn
+    → IsGood old (taken_unless cause number req ask turn)
+taken_unless_good old None number req ask turn free good = taken_good old number req ask turn free good
+taken_unless_good old (Some cause) number req ask turn free good = record { going = good.going; driven = good.driven }
+
+guest_good : (node : Node) (req number : ℕ) (ask : Ask) → IsDriven node → tree.get node.requests req ≡ None
+    → IsGood node (stepped (inputs.Guest req number ask) node)
+unfolding stepped taken_in nodes.guest_asked
+guest_good node req number ask driven new =
+    let turn = at_first node in
+    good_at_end node (nodes.guest_asked req number ask turn)
+    (taken_unless_good node (refusal node.peer (session_in number turn).disk ask) number req ask turn
+    (record {
+      idle = by_work (tree.get node.gateway.works req) refl;
+      out = λ line waiting there same.
+          let never : may_work_of line None ≡ true
+          = ap (may_work_of line) (sym (ap (tree.get node.requests) same ∙ new)) ∙ driven.driven.lines_so line waiting there in
+          absurd (cc (never));
+    })
+    (good_first node driven))
+  where
+    by_work : (o : Option Work) → tree.get node.gateway.works req ≡ o → tree.get node.gateway.works req ≡ None
+    by_work None none = none
+    by_work (Some work) there =
+        let never : may_work_at None ≡ true = ap may_work_at (sym new) ∙ driven.driven.works_so req work there in
+        absurd (cc (never))
+
+-- ---- and in the world
+
+-- a node steps, and what it sends can be spelled
+abbrev pub StaysTogether : World → Type 0
+StaysTogether world = IsSentInRange world → IsWired world × NodesAreDriven world
+
+-- where each node that may step does so well, all stay together
+pub good_step : (statements : List Statement) (world : World) (n : ℕ) (input : Input) (o : Option Seat) → seat_at n world ≡ o
+    → ((seat : Seat) → o ≡ Some seat → (is_seat_up seat ≡ true) × IsGood seat.node (stepped input seat.node))
+    → NodesAreDriven world → IsWired world → StaysTogether (seat_stepped statements n input o world)
+good_step statements world n input None at good driven wired requests = (wired, driven)
+good_step statements world n input (Some seat) at good driven wired requests =
+    let (up, well) = good seat refl in
+    let turn = stepped input seat.node in (
+      wired_asking Any world.seats world.wire world.wire n seat turn.node turn.outputs.sends at up wired
+          (good_asks input seat.node well requests) (nothing_leaves n world.wire),
+      driven_after world n (next_seat seat turn.node) (good_driven seat.node turn (driven n seat at) well) driven,
+    )
+
+-- a node steps well on an input, if there is one
+abbrev StepsWell : ℕ → Option Input → World → Type 0
+StepsWell n None world = Unit {0}
+StepsWell n (Some input) world = (seat : Seat) → seat_at n world ≡ Some seat → (is_seat_up seat ≡ true) × IsGood seat.node (stepped input seat.node)
+
+module _ (statements : List Statement) (number : ℕ) (world : World) (session : Session)
+    (found : session_numbered statements number ≡ Some session) (asks : may_ask statements session world ≡ true)
+    (new : IsNewRequest statements number world) (driven : NodesAreDriven world) (wired : IsWired world) where
+  is_served : (seat : Seat) → seat_at session.node world ≡ Some seat → is_seat_up seat ≡ true
+  is_served seat at =
+      let serving : has_gateway session world ≡ true
+      = (and_parts (has_gateway session world)
+      (option_map_or (may_begin statements world.phase (guest_at session.number world)) (next_request statements session.number world) false) asks).0 in
+      let serves_so : serves session seat ≡ true = sym (ap (λ (o : Option Seat). option_map_or (serves session) o false) at) ∙ serving in
+      (and_parts (is_seat_up seat) (seat.life == session.life) (and_parts (is_seat_up seat && seat.life == session.life) (is_member seat.node) serves_so).0).0
+
+  well_by : (req : ℕ) → next_request statements number world ≡ Some req → (of : Option ℕ) (ask : Option Ask)
+      → StepsWell session.node (input_by req of ask) world
+  well_by req next None ask = tt
+  well_by req next (Some of) None = tt
+  well_by req next (Some of) (Some ask) =
+      λ seat at. (is_served seat at, guest_good seat.node req of ask (driven session.node seat at) (new session req seat found next at))
+
+  well_at : (req : ℕ) → next_request statements number world ≡ Some req → (line : Option Statement)
+      → StepsWell session.node (option_and_then (λ s. input_by req (session_of s) (ask_of s)) line) world
+  well_at req next None = tt
+  well_at req next (Some line) = well_by req next (session_of line) (ask_of line)
+
+  well_on : (o : Option ℕ) → next_request statements number world ≡ o → StepsWell session.node (option_and_then (input_of statements) o) world
+  well_on None next = tt
+  well_on (Some req) next = well_at req next (request_at statements req)
+
+  steps_on : (input : Option Input) → StepsWell session.node input world → (req : Option ℕ)
+      → StaysTogether (node_stepped_if statements session.node input (request_begun session req (at_rest world)))
+  unfolding node_stepped
+  steps_on None well None = λ requests. (wired, driven)
+  steps_on None well (Some req) = λ requests. (wired, driven)
+  steps_on (Some input) well None =
+      good_step statements (at_rest world) session.node input (seat_at session.node world) refl well driven wired
+  steps_on (Some input) well (Some req) =
+      good_step statements (request_begun session (Some req) (at_rest world)) session.node input (seat_at session.node world) refl well driven wired
+
+  guest_together : StaysTogether (gateway_stepped statements (Some session) (next_input statements number world) (begun_of statements (Some session) (at_rest world)))
+  guest_together =
+      steps_on (next_input statements number world) (well_on (next_request statements number world) refl)
+      (next_request statements session.number (at_rest world))
+
+pub wired-guest : (statements : List Statement) (world : World) (made : Made) (number : ℕ)
+    → step statements (events.Guest number) world ≡ Some made → IsNewRequest statements number world → IsSentInRange made.world → NodesAreDriven world
+    → IsWired world → IsWired made.world × NodesAreDriven made.world
+unfolding step guest_asked
+wired-guest statements world made number is new requests driven wired =
+    let t = cond_some (may_guest statements number world) (guest_made statements number world (guest_asked statements number world)) made is in
+    let (session, found, asks) = looked_up (λ session. may_ask statements session world) (session_numbered statements number) t.0 in
+    let together : StaysTogether (guest_asked statements number world)
+    = subst
+    (λ (o : Option Session). StaysTogether (gateway_stepped statements o (next_input statements number world) (begun_of statements o (at_rest world))))
+    (sym found) (guest_together statements number world session found asks new driven wired) in
+    subst (λ (made : Made). IsSentInRange made.world → IsWired made.world × NodesAreDriven made.world) t.1 together requests

@@ -1,0 +1,507 @@
+-- A work that is tried again leaves nodes and wire together, and each request with one open work at most.
+use Rattle.std.proofs.Common.{◌≡◌, ◌<◌, ◌≤◌, ◌≢◌, ◌⊎◌, inl, inr, ℕ, nat_lt, Bool, true, false, not, ◌&&◌, ◌||◌, cond, T, List, [], ◌∷◌, flat_map, All, Contains, Option, Some, None, is_some, Ordering, Less, Equal, Greater, refl, sym, ap, subst, ◌∙◌, ⊎_elim, ◌+◌, length}
+use native.Mathlib.Omega.{arith}
+use Rattle.std.specs.Ordering.{nat_cmp, is_eq, is_lt, eq_by_cmp}
+use Rattle.std.specs.Cmp.{nat_cmp_total}
+use Rattle.std.specs.Option.{option_map_or}
+use Rattle.std.specs.FinMap as tree
+use Rattle.std.specs.FinMap.Entries.{below_all, is_sorted, where_key, is_sorted-where_key, find-where_key}
+use Rattle.std.proofs.lemmas.Bool.{and_parts}
+use Rattle.std.proofs.lemmas.Cmp.{tied_itself}
+use Rattle.std.proofs.lemmas.Option.{cond_some, same_Some}
+use Rattle.std.proofs.lemmas.List.Elements.{All-contains, Contains-append_left, Contains-append_right, Contains-append_cases}
+use Rattle.object_id.specs.declared.cause.Cause.{Cause}
+use Rattle.object_id.specs.declared.cause.Cause.TheVariants.{Halt}
+use Rattle.object_id.specs.declared.node.Epoch.{Epoch}
+use Rattle.object_id.specs.declared.node.NodeId.{NodeId}
+use Rattle.object_store.proofs.MapLemmas.{entries-from_entries, turned_key}
+use Rattle.cluster_script.specs.declared.statement.Statement.{Statement}
+use Rattle.hash_ring.specs.Placement.{zone_count}
+use Rattle.vnode_table.specs.Epochs.{members_at}
+use Rattle.vnode_table.specs.Targets.{targets_in}
+use Rattle.peer_proto.specs.declared.ask.PeerReq.{PeerReq}
+use Rattle.peer_proto.specs.Ask.{IsRequest}
+use Rattle.peer_proto.specs.Work.{oid_of, policy_of}
+use Rattle.peer_proto.proofs.AskLemmas.{ask-again}
+use Rattle.peer_service.specs.State.{Peer, length_of_rows}
+use Rattle.gateway.specs.Told.{AreNumberedFrom}
+use Rattle.gateway.specs.Work.{zones_for}
+use Rattle.gateway.specs.State as gateways
+use Rattle.gateway.specs.State.{Stage, Open, Ended, Short, Work, is_touched, is_awaited_in, fits_asker, may_try, next_try}
+use Rattle.gateway.specs.Step as gateway_steps
+use Rattle.gateway.specs.Step.{with_work, without_work, waiting, refused, halted, opened, next_attempt, tried, tried_found, retried}
+use Rattle.gateway.proofs.TryLaws.{found-passes}
+use Rattle.guest_driver.specs.InodeLine as lines
+use Rattle.recovery.specs.State as recoveries
+use Rattle.recovery.specs.State.{Recovery, Message}
+use Rattle.recovery.specs.Fits as recovery_fits
+use Rattle.recovery.proofs.StepLemmas.{either}
+use Rattle.sheep_node.specs.declared.event.Event.TheVariants as events
+use Rattle.sheep_node.specs.declared.input.Input.{Input}
+use Rattle.sheep_node.specs.declared.input.Input.TheVariants as inputs
+use Rattle.sheep_node.specs.State.{Node}
+use Rattle.sheep_node.specs.Shown.{state_of}
+use Rattle.sheep_node.specs.Turn.{Turn, at_first, with_gateway}
+use Rattle.sheep_node.specs.Waiting.{acted, gateway_stepped}
+use Rattle.sheep_node.specs.May.{may_retry}
+use Rattle.sheep_node.specs.Step as steps
+use Rattle.sheep_node.specs.Step.{is_due, with_recovered, recovered_put, taken_in, stepped}
+use Rattle.sheep_node.proofs.SoundSteps.{stepped_numbers, stepped_counts}
+use Rattle.sheep_world.specs.World.{Seat, World, seat_at, is_seat_up}
+use Rattle.sheep_world.specs.Conditions as conditions
+use Rattle.sheep_world.specs.Stepped.{seat_stepped, node_stepped, at_rest}
+use Rattle.sheep_world.specs.Effects.{retry_ticked}
+use Rattle.sheep_world.specs.Step.{Made, step, with_replies}
+use Rattle.sheep_world.specs.Wired.{unanswered_in, asked_by_recovery, IsWired}
+use Rattle.sheep_world.specs.Driven.{may_work_at, waiting_in, AreDriven, IsDriven, NodesAreDriven, IsSentInRange}
+use Rattle.sheep_world.proofs.ListTools.{has-here, has-none, has-later, has_cases, has-found}
+use Rattle.sheep_world.proofs.NameTools.{entries-got}
+use Rattle.sheep_world.proofs.WireLemmas.{got_insert}
+use Rattle.sheep_world.proofs.PutLemmas.{next_seat}
+use Rattle.sheep_world.proofs.SendLemmas.{Sends, Asking, wired_asking}
+use Rattle.sheep_world.proofs.RecoverLemmas.{Any, nothing_leaves}
+use Rattle.sheep_world.proofs.EndLemmas.{same_fit}
+use Rattle.sheep_world.proofs.GatewayLemmas.{Works, WaitedBefore, found_by, asked_in, Going, IsIdle, idle_number, going_opened, going_short}
+use Rattle.sheep_world.proofs.NumberTools.{same_or_not, got_removed, got_left}
+use Rattle.sheep_world.proofs.DrivenLemmas.{Requests, Sessions, IsGood, driven_insert, work_refused_good}
+
+-- ---- the entries of a map
+
+less_all : {X : Type 0} (x : ℕ) (es : List (ℕ × X)) (e : ℕ × X) → T (below_all nat_cmp x es) → Contains es e → T (is_lt (nat_cmp x e.0))
+less_all x [] e below there = has-none e there
+less_all {X} x (f ∷ es) e below there = ⊎_elim
+    (λ (same : f ≡ e). subst (λ (g : ℕ × X). T (is_lt (nat_cmp x g.0))) same (first (is_lt (nat_cmp x f.0)) (below_all nat_cmp x es) below))
+    (λ (later : Contains es e). less_all x es e (second (is_lt (nat_cmp x f.0)) (below_all nat_cmp x es) below) later)
+    (has_cases f e es there)
+  where
+    first : (a b : Bool) → T (a && b) → T a
+    first true b p = tt
+    first false b p = absurd p
+
+    second : (a b : Bool) → T (a && b) → T b
+    second true b p = p
+    second false b p = absurd p
+
+not_less : (x : ℕ) → T (is_lt (nat_cmp x x)) → ⊥
+not_less x less = subst (λ (o : Ordering). T (is_lt o)) (tied_itself nat_cmp_total x) less
+
+entry_found : {X : Type 0} (es : List (ℕ × X)) (e : ℕ × X) → T (is_sorted nat_cmp es) → Contains es e → tree.find nat_cmp e.0 es ≡ Some e.1
+entry_found [] e sorted there = has-none e there
+entry_found {X} (f ∷ es) e sorted there = ⊎_elim
+    (λ (same : f ≡ e). subst (λ (g : ℕ × X). tree.find nat_cmp g.0 (f ∷ es) ≡ Some g.1) same
+    (ap (λ (o : Ordering). cond (is_eq o) (Some f.1) (tree.find nat_cmp f.0 es)) (tied_itself nat_cmp_total f.0)))
+    (λ (later : Contains es e).
+    by_tie (nat_cmp e.0 f.0) refl (less_all f.0 es e (first (below_all nat_cmp f.0 es) (is_sorted nat_cmp es) sorted) later)
+    (entry_found es e (second (below_all nat_cmp f.0 es) (is_sorted nat_cmp es) sorted) later))
+    (has_cases f e es there)
+  where
+    first : (a b : Bool) → T (a && b) → T a
+    first true b p = tt
+    first false b p = absurd p
+
+    second : (a b : Bool) → T (a && b) → T b
+    second true b p = p
+    second false b p = absurd p
+
+    by_tie : (o : Ordering) → nat_cmp e.0 f.0 ≡ o → T (is_lt (nat_cmp f.0 e.0)) → tree.find nat_cmp e.0 es ≡ Some e.1
+        → cond (is_eq o) (Some f.1) (tree.find nat_cmp e.0 es) ≡ Some e.1
+    by_tie Less tie less rest = rest
+    by_tie Equal tie less rest =
+        absurd (not_less f.0 (subst (λ (k : ℕ). T (is_lt (nat_cmp f.0 k))) (tree.nat_cmp-IsAntisymmetric e.0 f.0 tie) less))
+    by_tie Greater tie less rest = rest
+
+-- what is among the entries is got
+pub got_entry : {X : Type 0} (m : tree.FinMap nat_cmp X) (e : ℕ × X) → Contains (tree.entries m) e → tree.get m e.0 ≡ Some e.1
+got_entry m e there = tree.get-entries m e.0 ∙ entry_found (tree.entries m) e (tree.entries_sorted m) there
+
+-- ---- the works that await a number
+
+-- a work that awaits a number is found
+pub found_got : (q : ℕ) (m : Works) (found : ℕ × Work) → found_by (is_awaited_in q) (tree.entries m) ≡ Some found
+    → (tree.get m found.0 ≡ Some found.1) × (is_awaited_in q found.1 ≡ true)
+found_got q m found is = (
+  got_entry m found (has-found (λ (entry : ℕ × Work). is_awaited_in q entry.1) (tree.entries m) found is),
+  found-passes (λ (entry : ℕ × Work). is_awaited_in q entry.1) (tree.entries m) found is,
+)
+
+any_found : (q : ℕ) (es : List (ℕ × Work)) (e : ℕ × Work) → Contains es e → is_awaited_in q e.1 ≡ true → is_some (found_by (is_awaited_in q) es) ≡ true
+any_found q [] e there awaited = has-none e there
+any_found q (f ∷ es) e there awaited = ⊎_elim
+    (λ (same : f ≡ e). here (is_awaited_in q f.1) (ap (λ (g : ℕ × Work). is_awaited_in q g.1) same ∙ awaited))
+    (λ (later : Contains es e). behind (is_awaited_in q f.1) (any_found q es e later awaited))
+    (has_cases f e es there)
+  where
+    here : (b : Bool) → b ≡ true → is_some (cond b (Some f) (found_by (is_awaited_in q) es)) ≡ true
+    here true is = refl
+    here false is = absurd (cc (is))
+
+    behind : (b : Bool) → is_some (found_by (is_awaited_in q) es) ≡ true → is_some (cond b (Some f) (found_by (is_awaited_in q) es)) ≡ true
+    behind true is = refl
+    behind false is = is
+
+pub got_found : (q : ℕ) (m : Works) (req : ℕ) (work : Work) → tree.get m req ≡ Some work → is_awaited_in q work ≡ true
+    → is_some (found_by (is_awaited_in q) (tree.entries m)) ≡ true
+got_found q m req work there awaited =
+    any_found q (tree.entries m) (req, work) (entries-got tree.nat_cmp-IsAntisymmetric m req work there) awaited
+
+pub some_of : {X : Type 0} (o : Option X) → is_some o ≡ true → (x : X) × (o ≡ Some x)
+some_of None is = absurd (cc (is))
+some_of (Some x) is = (x, refl)
+
+-- the keys but one
+abbrev not_at : ℕ → ℕ → Bool
+not_at k x = not (eq_by_cmp nat_cmp k x)
+
+entries-remove : (m : Works) (k : ℕ) → tree.entries (tree.remove m k) ≡ where_key nat_cmp (not_at k) (tree.entries m)
+entries-remove m k =
+    let es = where_key nat_cmp (not_at k) (tree.entries m) in
+    let same : tree.remove m k ≡ tree.from_entries es =
+    tree.same_map nat_cmp_total tree.nat_cmp-IsAntisymmetric (tree.remove m k) (tree.from_entries es)
+    (λ (q : ℕ). tree.get-remove nat_cmp_total m k q
+    ∙ by_tie q (eq_by_cmp nat_cmp q k) (tree.get m q)
+    ∙ ap (λ (b : Bool). cond (not b) (tree.get m q) None) (turned_key q k)
+    ∙ ap (λ (o : Option Work). cond (not_at k q) o None) (tree.get-entries m q)
+    ∙ sym (find-where_key nat_cmp (not_at k) q (λ (x : ℕ) (tie : nat_cmp q x ≡ Equal). ap (not_at k) (sym (tree.nat_cmp-IsAntisymmetric q x tie))) (tree.entries m))
+    ∙ sym (tree.get-from_entries nat_cmp_total es q)) in
+    ap (λ (n : Works). tree.entries n) same
+    ∙ entries-from_entries es (is_sorted-where_key nat_cmp (not_at k) (tree.entries m) (tree.entries_sorted m))
+  where
+    by_tie : (q : ℕ) (b : Bool) (o : Option Work) → cond b None o ≡ cond (not b) o None
+    by_tie q true o = refl
+    by_tie q false o = refl
+
+-- ---- a map of works without one that is idle
+
+find_kept : (test : Work → Bool) (p : ℕ → Bool) (es : List (ℕ × Work)) → ((e : ℕ × Work) → Contains es e → p e.0 ≡ false → test e.1 ≡ false)
+    → found_by test (where_key nat_cmp p es) ≡ found_by test es
+find_kept test p [] idle = refl
+find_kept test p (e ∷ es) idle =
+    by_key (p e.0) refl (find_kept test p es (λ (f : ℕ × Work) (there : Contains es f) (gone : p f.0 ≡ false). idle f (has-later e f es there) gone))
+  where
+    by_key : (b : Bool) → p e.0 ≡ b → found_by test (where_key nat_cmp p es) ≡ found_by test es
+        → found_by test (cond b (e ∷ where_key nat_cmp p es) (where_key nat_cmp p es)) ≡ found_by test (e ∷ es)
+    by_key true stays rest = ap (λ (o : Option (ℕ × Work)). cond (test e.1) (Some e) o) rest
+    by_key false gone rest =
+        rest ∙ sym (ap (λ b. cond b (Some e) (found_by test es)) (idle e (has-here e e es refl) gone))
+
+asked_kept : (me : NodeId) (p : ℕ → Bool) (es : List (ℕ × Work)) (send : NodeId × PeerReq)
+    → Contains (flat_map (λ (entry : ℕ × Work). unanswered_in me entry.1 entry.1.stage) (where_key nat_cmp p es)) send
+    → Contains (flat_map (λ (entry : ℕ × Work). unanswered_in me entry.1 entry.1.stage) es) send
+asked_kept me p [] send there = there
+asked_kept me p (e ∷ es) send there = by_key (p e.0) (asked_kept me p es send) there
+  where
+    by_key : (b : Bool)
+        → (Contains (flat_map (λ (entry : ℕ × Work). unanswered_in me entry.1 entry.1.stage) (where_key nat_cmp p es)) send
+        → Contains (flat_map (λ (entry : ℕ × Work). unanswered_in me entry.1 entry.1.stage) es) send)
+        → Contains (flat_map (λ (entry : ℕ × Work). unanswered_in me entry.1 entry.1.stage) (cond b (e ∷ where_key nat_cmp p es) (where_key nat_cmp p es))) send
+        → Contains (flat_map (λ (entry : ℕ × Work). unanswered_in me entry.1 entry.1.stage) (e ∷ es)) send
+    by_key true rest there = ⊎_elim
+        (λ (own : Contains (unanswered_in me e.1 e.1.stage) send).
+        Contains-append_left (unanswered_in me e.1 e.1.stage)
+        (flat_map (λ (entry : ℕ × Work). unanswered_in me entry.1 entry.1.stage) es) send own)
+        (λ (later : Contains (flat_map (λ (entry : ℕ × Work). unanswered_in me entry.1 entry.1.stage) (where_key nat_cmp p es)) send).
+        Contains-append_right (unanswered_in me e.1 e.1.stage)
+        (flat_map (λ (entry : ℕ × Work). unanswered_in me entry.1 entry.1.stage) es) send (rest later))
+        (Contains-append_cases (unanswered_in me e.1 e.1.stage)
+        (flat_map (λ (entry : ℕ × Work). unanswered_in me entry.1 entry.1.stage) (where_key nat_cmp p es)) send there)
+    by_key false rest there =
+        Contains-append_right (unanswered_in me e.1 e.1.stage)
+        (flat_map (λ (entry : ℕ × Work). unanswered_in me entry.1 entry.1.stage) es) send (rest there)
+
+module _ (m : Works) (req : ℕ) (idle : (w : Work) → tree.get m req ≡ Some w → IsIdle w) where
+  pub found_without : (number : ℕ) → found_by (is_awaited_in number) (tree.entries (tree.remove m req)) ≡ found_by (is_awaited_in number) (tree.entries m)
+  found_without number =
+      ap (found_by (is_awaited_in number)) (entries-remove m req)
+      ∙ find_kept (is_awaited_in number) (not_at req) (tree.entries m)
+      (λ (e : ℕ × Work) (there : Contains (tree.entries m) e) (gone : not_at req e.0 ≡ false).
+      idle_number e.1 number (idle e.1 (ap (tree.get m) (at_own (nat_cmp req e.0) refl gone) ∙ got_entry m e there)))
+    where
+      at_own : {k : ℕ} (o : Ordering) → nat_cmp req k ≡ o → not (is_eq o) ≡ false → req ≡ k
+      at_own Less tie gone = absurd (cc (gone))
+      at_own {k} Equal tie gone = tree.nat_cmp-IsAntisymmetric req k tie
+      at_own Greater tie gone = absurd (cc (gone))
+
+  left_got : (q : ℕ) (work : Work) → tree.get (tree.remove m req) q ≡ Some work → tree.get m q ≡ Some work
+  left_got q work got = ⊎_elim
+      (λ (own : q ≡ req).
+      let none : tree.get (tree.remove m req) q ≡ None = ap (tree.get (tree.remove m req)) own ∙ got_removed m req in
+      absurd (cc (got, none)))
+      (λ (apart : q ≢ req). sym (got_left m req q apart) ∙ got)
+      (same_or_not q req)
+
+  pub going_removed : (old : Node) (me own_me : NodeId) (count : ℕ) (recovery : Recovery) (peer : Peer) (sends : Sends)
+      → Going old me own_me m count recovery peer sends → Going old me own_me (tree.remove m req) count recovery peer sends
+  going_removed old me own_me count recovery peer sends going = record {
+    me_so = going.me_so;
+    own_so = going.own_so;
+    recovery_so = going.recovery_so;
+    peer_so = going.peer_so;
+    counted = going.counted;
+    own = going.own;
+    asked = λ send there.
+        going.asked send (asked_kept me (not_at req) (tree.entries m) send
+        (subst (λ (es : List (ℕ × Work)). Contains (flat_map (λ (entry : ℕ × Work). unanswered_in me entry.1 entry.1.stage) es) send)
+        (entries-remove m req) there));
+    waits_on = λ number waits. ap is_some (found_without number) ∙ going.waits_on number waits;
+    waits_too = λ send there. ap is_some (found_without send.1.number) ∙ going.waits_too send there;
+    fits_on = λ rsp below fit.
+        ap (λ (o : Option (ℕ × Work)). fits_asker o rsp.say) (found_without rsp.number) ∙ going.fits_on rsp below fit;
+    once = λ number one other work later got_one got_two awaits_one awaits_two.
+        going.once number one other work later (left_got one work got_one) (left_got other later got_two) awaits_one awaits_two;
+    given = λ number q work got awaited. going.given number q work (left_got q work got) awaited;
+    news = λ number q work got awaited. going.news number q work (left_got q work got) awaited;
+  }
+
+-- requests keep their works but for the one that ends
+pub driven_removed : (works : Works) (requests : Requests) (sessions : Sessions) (req : ℕ) → AreDriven works requests sessions
+    → AreDriven (tree.remove works req) requests sessions
+driven_removed works requests sessions req driven = record {
+  works_so = λ q work there. ⊎_elim
+      (λ (own : q ≡ req).
+      let none : tree.get (tree.remove works req) q ≡ None = ap (tree.get (tree.remove works req)) own ∙ got_removed works req in
+      absurd (cc (there, none)))
+      (λ (other : q ≢ req). driven.works_so q work (sym (got_left works req q other) ∙ there))
+      (same_or_not q req);
+  lines_so = driven.lines_so;
+  lines_free = λ number waiting there. ⊎_elim
+      (λ (own : waiting.req ≡ req). ap (tree.get (tree.remove works req)) own ∙ got_removed works req)
+      (λ (other : waiting.req ≢ req). got_left works req waiting.req other ∙ driven.lines_free number waiting there)
+      (same_or_not waiting.req req);
+  apart = driven.apart;
+}
+
+-- ---- from the step in the making to the wire
+
+-- before anything was done
+pub good_first : (node : Node) → IsDriven node → IsGood node (at_first node)
+good_first node driven = record {
+  going = record {
+    me_so = refl;
+    own_so = driven.own;
+    recovery_so = refl;
+    peer_so = refl;
+    counted = omega arith;
+    own = λ send there. has-none send there;
+    asked = λ send there. inl there;
+    waits_on = λ number waits. waits;
+    waits_too = λ send there. has-none send there;
+    fits_on = λ rsp below fit. fit;
+    once = driven.once;
+    given = driven.given;
+    news = λ number req work got awaited. inl (req, work, got, awaited);
+  };
+  driven = driven.driven;
+}
+
+pub good_at_end : (old : Node) (turn : Turn) → IsGood old turn → IsGood old (recovered_put turn)
+unfolding recovered_put
+good_at_end old turn good =
+    either (IsGood old) (is_due turn.node) (with_recovered turn) turn (record { going = good.going; driven = good.driven }) good
+
+or_cases : (a b : Bool) → (a || b) ≡ true → (a ≡ true) ⊎ (b ≡ true)
+or_cases true b is = inl refl
+or_cases false b is = inr is
+
+or_left : (a b : Bool) → a ≡ true → (a || b) ≡ true
+or_left a b is = ap (λ a. a || b) is
+
+or_right : (a b : Bool) → b ≡ true → (a || b) ≡ true
+or_right true b is = refl
+or_right false b is = is
+
+-- a good step asks what its node waits for, where what it sends can be spelled
+pub good_turn_asks : (node : Node) (turn : Turn) → AreNumberedFrom node.sends turn.outputs.sends
+    → turn.node.sends ≡ node.sends + length turn.outputs.sends → IsGood node turn
+    → All (λ (send : NodeId × PeerReq). IsRequest send.1) turn.outputs.sends → Asking Any node turn.node turn.outputs.sends
+good_turn_asks node turn numbers counts good requests =
+    let going = good.going in
+    record {
+      me_so = going.me_so;
+      count_so = counts;
+      numbers = numbers;
+      own = going.own;
+      read = λ send there. ask-again send.1 (All-contains (λ (send : NodeId × PeerReq). IsRequest send.1) turn.outputs.sends send requests there);
+      asked = λ send there. ⊎_elim
+          (λ (open_one : Contains (asked_in turn.node.me turn.node.gateway.works) send). ⊎_elim
+          (λ (before : Contains (asked_in node.me node.gateway.works) send).
+          inl (Contains-append_left (asked_in node.me node.gateway.works) (asked_by_recovery node.recovery) send before, tt))
+          (λ (sending : Contains turn.outputs.sends send). inr sending)
+          (going.asked send open_one))
+          (λ (recovering : Contains (asked_by_recovery turn.node.recovery) send).
+          inl (
+            Contains-append_right (asked_in node.me node.gateway.works) (asked_by_recovery node.recovery) send
+                (subst (λ (recovery : Recovery). Contains (asked_by_recovery recovery) send) going.recovery_so recovering),
+            tt,
+          ))
+          (Contains-append_cases (asked_in turn.node.me turn.node.gateway.works) (asked_by_recovery turn.node.recovery) send there);
+      waits_on = λ number waits stays. ⊎_elim
+          (λ (works : gateways.waits_for number node.gateway ≡ true).
+          or_left (gateways.waits_for number turn.node.gateway) (recoveries.waits_for number turn.node.recovery) (going.waits_on number works))
+          (λ (recovers : recoveries.waits_for number node.recovery ≡ true).
+          or_right (gateways.waits_for number turn.node.gateway) (recoveries.waits_for number turn.node.recovery)
+          (ap (λ (recovery : Recovery). recoveries.waits_for number recovery) going.recovery_so ∙ recovers))
+          (or_cases (gateways.waits_for number node.gateway) (recoveries.waits_for number node.recovery) waits);
+      waits_too = λ send there.
+          or_left (gateways.waits_for send.1.number turn.node.gateway) (recoveries.waits_for send.1.number turn.node.recovery) (going.waits_too send there);
+      fits_on = λ rsp below stays fit. ⊎_elim
+          (λ (works : gateways.fits rsp node.gateway ≡ true).
+          or_left (gateways.fits rsp turn.node.gateway) (recovery_fits.fits rsp (state_of turn.node)) (going.fits_on rsp below works))
+          (λ (recovers : recovery_fits.fits rsp (state_of node) ≡ true).
+          or_right (gateways.fits rsp turn.node.gateway) (recovery_fits.fits rsp (state_of turn.node))
+          (ap (λ (recovery : Recovery). recovery_fits.fits_message (state_of turn.node).shown
+          (recoveries.message_of rsp.number (recoveries.all_unanswered recovery)) rsp.say) going.recovery_so
+          ∙ same_fit (state_of turn.node).shown (state_of node).shown (recoveries.message_of rsp.number (recoveries.all_unanswered node.recovery)) rsp.say
+          (ap (λ (peer : Peer). length_of_rows peer) going.peer_so)
+          ∙ recovers))
+          (or_cases (gateways.fits rsp node.gateway) (recovery_fits.fits rsp (state_of node)) fit);
+    }
+
+pub good_asks : (input : Input) (node : Node) → IsGood node (stepped input node)
+    → All (λ (send : NodeId × PeerReq). IsRequest send.1) (stepped input node).outputs.sends
+    → Asking Any node (stepped input node).node (stepped input node).outputs.sends
+good_asks input node good requests =
+    good_turn_asks node (stepped input node) (stepped_numbers input node) (stepped_counts input node) good requests
+
+-- what a good step drives its node to
+pub good_driven : (old : Node) (turn : Turn) → IsDriven old → IsGood old turn → IsDriven turn.node
+good_driven old turn before good =
+    let going = good.going in
+    record {
+      own = going.own_so ∙ sym going.me_so;
+      driven = good.driven;
+      once = going.once;
+      given = going.given;
+      recovers = λ number waits.
+          let (found, is) = some_of (found_by (is_awaited_in number) (tree.entries turn.node.gateway.works)) waits in
+          let (got, awaited) = found_got number turn.node.gateway.works found is in
+          ap (λ (recovery : Recovery). recoveries.waits_for number recovery) going.recovery_so
+          ∙ ⊎_elim
+          (λ (waited : WaitedBefore number old.gateway.works).
+          let (req, work, there, so) = waited in
+          before.recovers number (got_found number old.gateway.works req work there so))
+          (λ (new : old.sends ≤ number). not_recovering number new (recoveries.waits_for number old.recovery) refl)
+          (going.news number found.0 found.1 got awaited);
+      recovering = λ number waits.
+          let given : number < old.sends
+          = before.recovering number (sym (ap (λ (recovery : Recovery). recoveries.waits_for number recovery) going.recovery_so) ∙ waits) in
+          let more : old.sends ≤ turn.node.sends = going.counted in
+          omega (arith, given, more);
+    }
+  where
+    not_recovering : (number : ℕ) → old.sends ≤ number → (b : Bool) → recoveries.waits_for number old.recovery ≡ b
+        → recoveries.waits_for number old.recovery ≡ false
+    not_recovering number new true waits = let given : number < old.sends = before.recovering number waits in absurd (omega (arith, new, given))
+    not_recovering number new false waits = waits
+
+-- the other nodes are as they were
+pub driven_after : (world : World) (n : ℕ) (seat : Seat) → IsDriven seat.node → NodesAreDriven world
+    → (q : ℕ) (at : Seat) → tree.get (tree.insert world.seats n seat) q ≡ Some at → IsDriven at.node
+driven_after world n seat own driven q at got = ⊎_elim
+    (λ (same : (q ≡ n) × (seat ≡ at)). subst (λ (seat : Seat). IsDriven seat.node) same.1 own)
+    (λ (other : (q ≢ n) × (tree.get world.seats q ≡ Some at)). driven q at other.1)
+    (got_insert world.seats n seat q at got)
+
+-- ---- a work is tried again
+
+idle_stage : (epoch : Epoch) (work : Work) (stage : Stage) → work.stage ≡ stage → may_try epoch stage ≡ true → IsIdle work
+idle_stage epoch work (Open attempt) is may = absurd (cc (may))
+idle_stage epoch work Ended is may = ap gateways.open_messages is
+idle_stage epoch work (Short since) is may = ap gateways.open_messages is
+
+-- what the next attempt of a work comes to is good
+abbrev Tries : Node → gateway_steps.Step → Type 0
+Tries node step = IsGood node (acted node.gateway step.act (with_gateway step.gateway (at_first node)))
+
+tried_good : (node : Node) (driven : IsDriven node) (found : ℕ × Work) → next_try (record { 0 = node.peer.epoch }) node.gateway ≡ Some found
+    → Tries node (tried node.epochs node.gateway found.0 found.1 node.sends (record { 0 = node.peer.epoch }))
+unfolding tried
+tried_good node driven found is =
+    let gateway = node.gateway in
+    let req = found.0 in
+    let work = found.1 in
+    let epoch : Epoch = record { 0 = node.peer.epoch } in
+    let zones = zone_count (members_at node.epochs node.peer.epoch) in
+    let targets = targets_in node.epochs node.peer.epoch (oid_of work.work) (policy_of work.work) in
+    let good = good_first node driven in
+    either (Tries node) (nat_lt zones (zones_for work.work))
+    (halted gateway req work epoch zones) (opened gateway req work (next_attempt work node.sends epoch targets))
+    (either (Tries node) (is_touched req gateway)
+    (waiting (with_work req (record work { stage = Short epoch }) gateway)) (refused gateway req (Halt zones (zones_for work.work)))
+    (record {
+      going = going_short node node.me gateway.me gateway.works node.sends node.recovery node.peer [] req idle good.going work epoch;
+      driven = driven_insert gateway.works node.requests node.sessions req (record work { stage = Short epoch }) may out driven.driven;
+    })
+    (refused_again (Halt zones (zones_for work.work))))
+    (record {
+      going = going_opened node node.me gateway.me gateway.works node.sends node.recovery node.peer [] req idle good.going work epoch targets;
+      driven = driven_insert gateway.works node.requests node.sessions req (record work { stage = Open (next_attempt work node.sends epoch targets) })
+          may out driven.driven;
+    })
+  where
+    there : tree.get node.gateway.works found.0 ≡ Some found.1
+    there =
+        got_entry node.gateway.works found
+        (has-found (λ (entry : ℕ × Work). may_try (record { 0 = node.peer.epoch }) entry.1.stage) (tree.entries node.gateway.works) found is)
+
+    idle : (w : Work) → tree.get node.gateway.works found.0 ≡ Some w → IsIdle w
+    idle w got =
+        let passes : may_try (record { 0 = node.peer.epoch }) found.1.stage ≡ true
+        = found-passes (λ (entry : ℕ × Work). may_try (record { 0 = node.peer.epoch }) entry.1.stage) (tree.entries node.gateway.works) found is in
+        subst IsIdle (same_Some found.1 w (sym there ∙ got))
+        (idle_stage (record { 0 = node.peer.epoch }) found.1 found.1.stage refl passes)
+
+    may : may_work_at (tree.get node.requests found.0) ≡ true
+    may = driven.driven.works_so found.0 found.1 there
+
+    out : (number : ℕ) (waiting : lines.Waiting) → Contains (waiting_in number node.sessions) waiting → waiting.req ≢ found.0
+    out number waiting waits same =
+        let none : tree.get node.gateway.works found.0 ≡ None
+        = ap (tree.get node.gateway.works) (sym same) ∙ driven.driven.lines_free number waiting waits in
+        absurd (cc (there, none))
+
+    refused_again : (cause : Cause) → Tries node (refused node.gateway found.0 cause)
+    refused_again cause =
+        let after = with_gateway (without_work found.0 node.gateway) (at_first node) in
+        work_refused_good node (tree.get node.gateway.works found.0) found.0 cause (tree.get node.requests found.0) after
+        (record { idle = got_removed node.gateway.works found.0; out = out })
+        (record {
+          going = going_removed node.gateway.works found.0 idle node node.me node.gateway.me node.sends node.recovery node.peer [] (good_first node driven).going;
+          driven = driven_removed node.gateway.works node.requests node.sessions found.0 driven.driven;
+        })
+
+retried_good : (node : Node) → IsDriven node → IsGood node (steps.retry_ticked (at_first node))
+unfolding steps.retry_ticked gateway_stepped retried
+retried_good node driven = by_found (next_try (record { 0 = node.peer.epoch }) node.gateway) refl
+  where
+    by_found : (found : Option (ℕ × Work)) → next_try (record { 0 = node.peer.epoch }) node.gateway ≡ found
+        → Tries node (tried_found node.epochs node.gateway node.sends (record { 0 = node.peer.epoch }) found)
+    by_found None is = record { going = (good_first node driven).going; driven = driven.driven }
+    by_found (Some found) is = tried_good node driven found is
+
+retry_good : (node : Node) → IsDriven node → IsGood node (stepped inputs.RetryTick node)
+unfolding stepped taken_in
+retry_good node driven = good_at_end node (steps.retry_ticked (at_first node)) (retried_good node driven)
+
+wired_again : (statements : List Statement) (world : World) (n : ℕ) (o : Option Seat) → seat_at n world ≡ o
+    → option_map_or (λ (seat : Seat). is_seat_up seat && may_retry seat.node) o false ≡ true
+    → IsSentInRange (seat_stepped statements n inputs.RetryTick o (at_rest world)) → NodesAreDriven world → IsWired world
+    → IsWired (seat_stepped statements n inputs.RetryTick o (at_rest world)) × NodesAreDriven (seat_stepped statements n inputs.RetryTick o (at_rest world))
+wired_again statements world n None at may requests driven wired = absurd (cc (may))
+wired_again statements world n (Some seat) at may requests driven wired =
+    let (up, retries) = and_parts (is_seat_up seat) (may_retry seat.node) may in
+    let turn = stepped inputs.RetryTick seat.node in
+    let good = retry_good seat.node (driven n seat at) in (
+      wired_asking Any world.seats world.wire world.wire n seat turn.node turn.outputs.sends at up wired
+          (good_asks inputs.RetryTick seat.node good requests) (nothing_leaves n world.wire),
+      driven_after world n (next_seat seat turn.node) (good_driven seat.node turn (driven n seat at) good) driven,
+    )
+
+pub wired-retry : (statements : List Statement) (world : World) (made : Made) (node : NodeId)
+    → step statements (events.RetryTick node) world ≡ Some made → IsSentInRange made.world → NodesAreDriven world → IsWired world
+    → IsWired made.world × NodesAreDriven made.world
+unfolding step retry_ticked node_stepped
+wired-retry statements world made node is requests driven wired =
+    let t = cond_some (conditions.may_retry node.0 world) (with_replies statements world (retry_ticked statements node.0 world)) made is in
+    subst (λ (made : Made). IsWired made.world × NodesAreDriven made.world) t.1
+    (wired_again statements world node.0 (seat_at node.0 world) refl t.0
+    (subst (λ (made : Made). IsSentInRange made.world) (sym t.1) requests) driven wired)

@@ -1,0 +1,369 @@
+-- What a gateway does once it knows of one more message leaves nodes and wire together.
+use Rattle.std.proofs.Common.{◌≡◌, ◌==◌, not, ◌∷◌, ◌⊎◌, inl, inr, ℕ, ◌+◌, ◌<◌, Bool, true, false, ◌&&◌, ◌||◌, cond, List, [], length, All, Contains, Option, Some, None, is_some, refl, sym, ap, subst, ◌∙◌, ⊎_elim}
+use native.Mathlib.Omega.{arith}
+use Rattle.std.specs.Ordering.{nat_cmp}
+use Rattle.std.specs.List.{list_any}
+use Rattle.std.specs.FinMap as tree
+use Rattle.std.specs.FinSet as set
+use Rattle.object_id.specs.declared.cause.Cause.{Cause}
+use Rattle.object_id.specs.declared.node.NodeId.{NodeId}
+use Rattle.peer_proto.specs.declared.ask.PeerReq.{PeerReq}
+use Rattle.peer_proto.specs.declared.say.PeerRsp.{PeerRsp}
+use Rattle.peer_proto.specs.declared.say.PeerSay.{PeerSay}
+use Rattle.peer_proto.specs.declared.say.PeerSay.TheVariants as says
+use Rattle.peer_proto.specs.declared.work.ObjWork.{ObjWork}
+use Rattle.peer_proto.specs.Ask.{IsRequest}
+use Rattle.gateway.specs.Told.{AreNumberedFrom}
+use Rattle.gateway.specs.Work.{is_making}
+use Rattle.gateway.specs.declared.message.Status.{Status}
+use Rattle.gateway.specs.declared.message.Status.TheVariants.{Lost}
+use Rattle.gateway.specs.Attempt.{Attempt, is_unanswered, is_awaited, may_be_made, status_by, marked, is_over, is_done, bytes_given}
+use Rattle.gateway.specs.State as gateways
+use Rattle.gateway.specs.State.{Stage, Open, Ended, Short, Work, Gateway, asker, open_messages, is_awaited_in, fits_work, fits_asker}
+use Rattle.gateway.specs.Step as gateway_steps
+use Rattle.gateway.specs.Step.{with_work, without_work, waiting, done, refused, refusal_at, not_done, went_on, known, known_in, known_by, touched_by, answered}
+use Rattle.guest_driver.specs.Driver as drivers
+use Rattle.guest_driver.specs.Driver.{Driver}
+use Rattle.guest_driver.specs.declared.disk.Disk.{Disk}
+use Rattle.vdi_ops.specs.Steps.{on_done}
+use Rattle.vdi_ops.proofs.StepLemmas.{done_awaited}
+use Rattle.recovery.specs.State as recoveries
+use Rattle.recovery.specs.Fits as recovery_fits
+use Rattle.recovery.specs.Steps as recovery_steps
+use Rattle.recovery.proofs.StepLemmas.{either}
+use Rattle.sheep_node.specs.declared.input.Input.{Input}
+use Rattle.sheep_node.specs.declared.input.Input.TheVariants as inputs
+use Rattle.sheep_node.specs.State.{Course, Waiting, Driving, Commanding, Request, Node}
+use Rattle.sheep_node.specs.Shown.{state_of}
+use Rattle.sheep_node.specs.May.{fits}
+use Rattle.sheep_node.specs.Turn.{Turn, at_first, session_in, with_gateway}
+use Rattle.sheep_node.specs.Courses.{driver_went_on, disk_went_on, course_went_on}
+use Rattle.sheep_node.specs.Waiting.{left_by, work_done, acted, gateway_stepped}
+use Rattle.sheep_node.specs.Step as steps
+use Rattle.sheep_node.specs.Step.{recovery_stepped, taken_in, is_due, with_recovered, recovered_put, stepped}
+use Rattle.sheep_node.proofs.SoundSteps.{stepped_numbers, stepped_counts}
+use Rattle.sheep_world.specs.Wired.{asked_by}
+use Rattle.sheep_world.specs.Driven.{IsDriven}
+use Rattle.sheep_world.proofs.ListTools.{has-none}
+use Rattle.sheep_world.proofs.SendLemmas.{Sends, Asking}
+use Rattle.sheep_world.proofs.RecoverLemmas.{Any}
+use Rattle.sheep_world.proofs.EndLemmas.{Other, left_now, lost_asks, replied_asks}
+use Rattle.sheep_world.proofs.NumberTools.{got_removed}
+use Rattle.sheep_world.proofs.DrivenLemmas.{IsGood, IsFree, IsFreeIn, driver_stepped_good, let_begin_good, left_by_good, left_by_free, work_refused_good}
+use Rattle.sheep_world.proofs.RetryLemmas.{found_got, some_of, good_first, good_at_end, good_turn_asks, good_driven}
+use Rattle.sheep_world.proofs.GuestLemmas.{command_went_on_good}
+use Rattle.sheep_world.proofs.MarkLemmas.{Marks, marks_open, marks_ended, marks_removed, marked_asks, marked_driven}
+
+-- ---- a request goes on with what its work gave
+
+driver_went_on_good : (old : Node) (number req : ℕ) (disk : Disk) (step : Option drivers.Step) (turn : Turn) → IsFreeIn req turn → IsGood old turn
+    → IsGood old (driver_went_on number req disk step turn)
+driver_went_on_good old number req disk None turn free good = good
+driver_went_on_good old number req disk (Some step) turn free good = driver_stepped_good old number req disk step turn free good
+
+disk_went_on_good : (old : Node) (number req : ℕ) (bytes : List ℕ) (driver : Driver) (disk : Option Disk) (turn : Turn) → IsFreeIn req turn
+    → IsGood old turn → IsGood old (disk_went_on number req bytes driver disk turn)
+disk_went_on_good old number req bytes driver None turn free good = good
+disk_went_on_good old number req bytes driver (Some disk) turn free good =
+    driver_went_on_good old number req disk (drivers.on_done disk.inode bytes driver) turn free good
+
+course_went_on_good : (old : Node) (number req : ℕ) (bytes : List ℕ) (course : Course) (turn : Turn) → IsFreeIn req turn → IsGood old turn
+    → IsGood old (course_went_on number req bytes course turn)
+unfolding course_went_on
+course_went_on_good old number req bytes (Waiting ask) turn free good = good
+course_went_on_good old number req bytes (Driving driver) turn free good =
+    disk_went_on_good old number req bytes driver (session_in number turn).disk turn free good
+course_went_on_good old number req bytes (Commanding ask op) turn free good =
+    command_went_on_good old number req ask (on_done bytes op) turn (done_awaited bytes op) free good
+
+work_done_good : (old : Node) (work : Option Work) (req : ℕ) (bytes : List ℕ) (request : Option Request) (turn : Turn) → IsFreeIn req turn
+    → IsGood old turn → IsGood old (work_done work req bytes request turn)
+work_done_good old work req bytes None turn free good = good
+work_done_good old work req bytes (Some request) turn free good =
+    let_begin_good old request.session (course_went_on request.session req bytes request.course (left_by request.session work turn))
+    (course_went_on_good old request.session req bytes request.course (left_by request.session work turn)
+    (left_by_free req request.session work turn free) (left_by_good old request.session work turn good))
+
+-- ---- what a known message comes to
+
+-- the gateway that is left has the messages but for the one, and its act is done well
+record Settles (node : Node) (number : ℕ) (step : gateway_steps.Step) : Type 0 where
+  marks : Marks number node.gateway.works step.gateway.works
+  me_so : step.gateway.me ≡ node.gateway.me
+  good : IsDriven (record node { gateway = step.gateway })
+      → IsGood (record node { gateway = step.gateway }) (acted node.gateway step.act (with_gateway step.gateway (at_first node)))
+
+module _ (node : Node) (driven : IsDriven node) (number : ℕ) (status : Status) (settled : is_unanswered status ≡ false)
+    (req : ℕ) (work : Work) (there : tree.get node.gateway.works req ≡ Some work) (awaited : is_awaited_in number work ≡ true) where
+  one_work : (other : ℕ) (later : Work) → tree.get node.gateway.works other ≡ Some later → is_awaited_in number later ≡ true → other ≡ req
+  one_work other later got waits = driven.once number other req later work got there waits awaited
+
+  -- without its work the request is free
+  free_without : (touched : set.FinSet nat_cmp) → IsFree req (tree.remove node.gateway.works req) node.sessions
+  free_without touched = record {
+    idle = got_removed node.gateway.works req;
+    out = λ line waiting waits same.
+        let none : tree.get node.gateway.works req ≡ None
+        = ap (tree.get node.gateway.works) (sym same) ∙ driven.driven.lines_free line waiting waits in
+        absurd (cc (there, none));
+  }
+
+  module _ (touched : set.FinSet nat_cmp) (attempt : Attempt) (open_so : work.stage ≡ Open attempt) where
+    ends_so : is_over (marked number status attempt.messages) ≡ true → (cause : Option Cause)
+        → Settles node number (not_done (record node.gateway { touched = touched }) req work cause)
+    ends_so over None = record {
+      marks = marks_ended node.gateway.works number status settled req work attempt there open_so one_work over (work.ended + 1);
+      me_so = refl;
+      good = λ now. good_first (record node { gateway = with_work req (record work { ended = work.ended + 1; stage = Ended }) (record node.gateway { touched = touched }) }) now;
+    }
+    ends_so over (Some cause) =
+        let after = record node { gateway = without_work req (record node.gateway { touched = touched }) } in
+        record {
+          marks = marks_removed node.gateway.works number status settled req work attempt there open_so one_work over;
+          me_so = refl;
+          good = λ now.
+              work_refused_good after (tree.get node.gateway.works req) req cause (tree.get node.requests req) (at_first after)
+              (free_without touched) (good_first after now);
+        }
+
+    goes_so : Settles node number (went_on (record node.gateway { touched = touched }) req work (known number status attempt))
+    unfolding went_on gateway_steps.ended
+    goes_so = by_over (is_over (marked number status attempt.messages)) refl
+      where
+        by_done : is_over (marked number status attempt.messages) ≡ true → (bytes : List ℕ) (cause : Option Cause) (b : Bool)
+            → Settles node number (cond b (done (record node.gateway { touched = touched }) req bytes) (not_done (record node.gateway { touched = touched }) req work cause))
+        by_done over bytes cause true =
+            let after = record node { gateway = without_work req (record node.gateway { touched = touched }) } in
+            record {
+              marks = marks_removed node.gateway.works number status settled req work attempt there open_so one_work over;
+              me_so = refl;
+              good = λ now.
+                  work_done_good after (tree.get node.gateway.works req) req bytes (tree.get node.requests req) (at_first after)
+                  (free_without touched) (good_first after now);
+            }
+        by_done over bytes cause false = ends_so over cause
+
+        by_over : (b : Bool) → is_over (marked number status attempt.messages) ≡ b
+            → Settles node number (cond b
+            (cond (is_done work.work (marked number status attempt.messages))
+            (done (record node.gateway { touched = touched }) req (bytes_given work.work (marked number status attempt.messages)))
+            (not_done (record node.gateway { touched = touched }) req work
+            (refusal_at (record node.gateway { touched = touched }) req work.work (work.ended + 1) (known number status attempt))))
+            (waiting (with_work req (record work { stage = Open (known number status attempt) }) (record node.gateway { touched = touched }))))
+        by_over true over =
+            by_done over (bytes_given work.work (marked number status attempt.messages))
+            (refusal_at (record node.gateway { touched = touched }) req work.work (work.ended + 1) (known number status attempt))
+            (is_done work.work (marked number status attempt.messages))
+        by_over false over = record {
+          marks = marks_open node.gateway.works number status settled req work attempt there open_so one_work;
+          me_so = refl;
+          good = λ now. good_first
+              (record node { gateway = with_work req (record work { stage = Open (known number status attempt) }) (record node.gateway { touched = touched }) }) now;
+        }
+
+  known_so : (stage : Stage) → work.stage ≡ stage
+      → Settles node number (known_in (touched_by req work.work status node.gateway) req work number status stage)
+  known_so (Open attempt) is =
+      either (λ (gateway : Gateway). Settles node number (went_on gateway req work (known number status attempt)))
+      (is_making work.work && may_be_made status)
+      (record node.gateway { touched = set.insert node.gateway.touched req }) node.gateway
+      (goes_so (set.insert node.gateway.touched req) attempt is) (goes_so node.gateway.touched attempt is)
+  known_so Ended is =
+      let none : is_awaited_in number work ≡ false = ap (λ (stage : Stage). list_any (is_awaited number) (open_messages stage)) is in
+      absurd (cc (awaited, none))
+  known_so (Short epoch) is =
+      let none : is_awaited_in number work ≡ false = ap (λ (stage : Stage). list_any (is_awaited number) (open_messages stage)) is in
+      absurd (cc (awaited, none))
+
+module _ (node : Node) (driven : IsDriven node) (number : ℕ) (status : Status) (settled : is_unanswered status ≡ false)
+    (waits : gateways.waits_for number node.gateway ≡ true) where
+  answered_so : Settles node number (answered node.gateway number status)
+  unfolding answered
+  answered_so =
+      let (found, is) = some_of (asker number node.gateway) waits in
+      let (there, awaited) = found_got number node.gateway.works found is in
+      subst (λ (o : Option (ℕ × Work)). Settles node number (known_by node.gateway number status o)) (sym is)
+      (known_so node driven number status settled found.0 found.1 there awaited found.1.stage refl)
+
+  -- what a node waits for after that, and what it is driven to
+  pub settled_good : IsGood (record node { gateway = (answered node.gateway number status).gateway })
+      (gateway_stepped (answered node.gateway number status) (at_first node))
+  unfolding gateway_stepped
+  settled_good =
+      answered_so.good
+      (marked_driven node (answered node.gateway number status).gateway number answered_so.marks driven waits answered_so.me_so)
+
+  pub settled_driven : IsDriven (record node { gateway = (answered node.gateway number status).gateway })
+  settled_driven =
+      marked_driven node (answered node.gateway number status).gateway number answered_so.marks driven waits answered_so.me_so
+
+  pub settled_asks : Asking (Other number) node (record node { gateway = (answered node.gateway number status).gateway }) []
+  settled_asks = marked_asks node (answered node.gateway number status).gateway number answered_so.marks driven waits
+
+-- what is asked on one way, and then on another
+pub asks_after : (Stays : ℕ → Type 0) (one two three : Node) (sends : Sends) → Asking Stays one two [] → Asking Any two three sends
+    → Asking Stays one three sends
+asks_after Stays one two three sends first then =
+    let none : one.sends + 0 ≡ one.sends = omega arith in
+    let same : two.sends ≡ one.sends = first.count_so ∙ none in
+    record {
+      me_so = then.me_so ∙ first.me_so;
+      count_so = then.count_so ∙ ap (λ (n : ℕ). n + length sends) same;
+      numbers = subst (λ (n : ℕ). AreNumberedFrom n sends) same then.numbers;
+      own = λ send there. then.own send there ∙ first.me_so;
+      read = then.read;
+      asked = λ send there. ⊎_elim
+          (λ (old : Contains (asked_by two) send × Unit {0}). ⊎_elim
+          (λ (older : Contains (asked_by one) send × Stays send.1.number). inl older)
+          (λ (new : Contains [] send). has-none send new)
+          (first.asked send old.0))
+          (λ (new : Contains sends send). inr new)
+          (then.asked send there);
+      waits_on = λ number waits stays. then.waits_on number (first.waits_on number waits stays) tt;
+      waits_too = then.waits_too;
+      fits_on = λ rsp below stays fit.
+          then.fits_on rsp (subst (λ (n : ℕ). rsp.number < n) (sym same) below) tt (first.fits_on rsp below stays fit);
+    }
+
+-- ---- the step of a node
+
+-- what a step on a message makes of what its node waits for but for that, where what it sends can be spelled
+pub record EndsWell (number : ℕ) (input : Input) (node : Node) : Type 0 where
+  pub asks : All (λ (send : NodeId × PeerReq). IsRequest send.1) (stepped input node).outputs.sends
+      → Asking (Other number) node (stepped input node).node (stepped input node).outputs.sends
+  pub driven : IsDriven (stepped input node).node
+
+-- a step that a gateway makes so
+ends_by : (number : ℕ) (input : Input) (node between : Node) (turn : Turn) → stepped input node ≡ recovered_put turn → between.sends ≡ node.sends
+    → Asking (Other number) node between [] → IsDriven between → IsGood between turn → EndsWell number input node
+ends_by number input node between turn is same first there good =
+    let last : IsGood between (stepped input node) = subst (IsGood between) (sym is) (good_at_end between turn good) in
+    record {
+      asks = λ requests.
+          asks_after (Other number) node between (stepped input node).node (stepped input node).outputs.sends first
+          (good_turn_asks between (stepped input node)
+          (subst (λ (n : ℕ). AreNumberedFrom n (stepped input node).outputs.sends) (sym same) (stepped_numbers input node))
+          (stepped_counts input node ∙ ap (λ (n : ℕ). n + length (stepped input node).outputs.sends) (sym same))
+          last requests);
+      driven = good_driven between (stepped input node) there last;
+    }
+
+-- a message that is found among some was found among all
+found_before : (number q : ℕ) (messages : List recoveries.Message) → is_some (recoveries.message_of q (recovery_steps.without number messages)) ≡ true
+    → is_some (recoveries.message_of q messages) ≡ true
+found_before number q [] is = is
+found_before number q (message ∷ messages) is = by_tie (message.request.number == number) (found_before number q messages) is
+  where
+    later : (b : Bool) → is_some (recoveries.message_of q messages) ≡ true → is_some (cond b (Some message) (recoveries.message_of q messages)) ≡ true
+    later true found = refl
+    later false found = found
+
+    kept : (b : Bool) → (is_some (recoveries.message_of q (recovery_steps.without number messages)) ≡ true → is_some (recoveries.message_of q messages) ≡ true)
+        → is_some (cond b (Some message) (recoveries.message_of q (recovery_steps.without number messages))) ≡ true
+        → is_some (cond b (Some message) (recoveries.message_of q messages)) ≡ true
+    kept true rest is = refl
+    kept false rest is = rest is
+
+    by_tie : (b : Bool) → (is_some (recoveries.message_of q (recovery_steps.without number messages)) ≡ true → is_some (recoveries.message_of q messages) ≡ true)
+        → is_some (recoveries.message_of q (cond (not b) (message ∷ recovery_steps.without number messages) (recovery_steps.without number messages))) ≡ true
+        → is_some (cond (message.request.number == q) (Some message) (recoveries.message_of q messages)) ≡ true
+    by_tie true rest is = later (message.request.number == q) (rest is)
+    by_tie false rest is = kept (message.request.number == q) rest is
+
+-- the end of a recovery's message drives nothing
+recovery_driven : (node : Node) (number : ℕ) (said : Option PeerSay) → gateways.waits_for number node.gateway ≡ false → IsDriven node
+    → IsDriven (recovered_put (recovery_stepped (recovery_steps.ended number said (state_of node)) (at_first node))).node
+unfolding recovered_put
+recovery_driven node number said none driven =
+    let turn = recovery_stepped (recovery_steps.ended number said (state_of node)) (at_first node) in
+    either (λ (turn : Turn). IsDriven turn.node) (is_due turn.node) (with_recovered turn) turn
+    (record { own = driven.own; driven = driven.driven; once = driven.once; given = driven.given; recovers = λ q waits. apart q waits; recovering = λ q waits. below q waits })
+    (record { own = driven.own; driven = driven.driven; once = driven.once; given = driven.given; recovers = λ q waits. apart q waits; recovering = λ q waits. below q waits })
+  where
+    was : (q : ℕ) → recoveries.waits_for q (recovery_steps.ended number said (state_of node)).recovery ≡ true → recoveries.waits_for q node.recovery ≡ true
+    was q waits =
+        found_before number q (recoveries.all_unanswered node.recovery)
+        (sym (ap (λ (messages : List recoveries.Message). is_some (recoveries.message_of q messages)) (left_now node number said none)) ∙ waits)
+
+    below : (q : ℕ) → recoveries.waits_for q (recovery_steps.ended number said (state_of node)).recovery ≡ true → q < node.sends
+    below q waits = driven.recovering q (was q waits)
+
+    by_wait : (q : ℕ) → recoveries.waits_for q node.recovery ≡ false → (b : Bool)
+        → recoveries.waits_for q (recovery_steps.ended number said (state_of node)).recovery ≡ b
+        → recoveries.waits_for q (recovery_steps.ended number said (state_of node)).recovery ≡ false
+    by_wait q none true waits = let waited = was q waits in absurd (cc (waited, none))
+    by_wait q none false waits = waits
+
+    apart : (q : ℕ) → gateways.waits_for q node.gateway ≡ true → recoveries.waits_for q (recovery_steps.ended number said (state_of node)).recovery ≡ false
+    apart q waits =
+        by_wait q (driven.recovers q waits) (recoveries.waits_for q (recovery_steps.ended number said (state_of node)).recovery) refl
+
+pub lost_well : (node : Node) (number : ℕ) → IsDriven node → EndsWell number (inputs.Lost number) node
+unfolding stepped taken_in steps.lost recovery_steps.lost
+lost_well node number driven = by_waits (gateways.waits_for number node.gateway) refl
+  where
+    by_waits : (b : Bool) → gateways.waits_for number node.gateway ≡ b → EndsWell number (inputs.Lost number) node
+    by_waits true waits =
+        ends_by number (inputs.Lost number) node (record node { gateway = (answered node.gateway number Lost).gateway })
+        (gateway_stepped (answered node.gateway number Lost) (at_first node))
+        (ap (λ (b : Bool). recovered_put (cond b (gateway_stepped (answered node.gateway number Lost) (at_first node))
+        (recovery_stepped (recovery_steps.lost number (state_of node)) (at_first node)))) waits)
+        refl (settled_asks node driven number Lost refl waits) (settled_driven node driven number Lost refl waits) (settled_good node driven number Lost refl waits)
+    by_waits false none = record {
+      asks = λ requests. lost_asks node number none;
+      driven = subst (λ (turn : Turn). IsDriven turn.node)
+          (sym (ap (λ (b : Bool). recovered_put (cond b (gateway_stepped (answered node.gateway number Lost) (at_first node))
+          (recovery_stepped (recovery_steps.lost number (state_of node)) (at_first node)))) none))
+          (recovery_driven node number None none driven);
+    }
+
+-- what a reply that fits says of its message is settled
+settled_by : (work : ObjWork) (say : PeerSay) → fits_work work say ≡ true → is_unanswered (status_by say) ≡ false
+settled_by work says.Success fit = refl
+settled_by work (says.Piece bytes) fit = refl
+settled_by work (says.Objects oids) fit = absurd (cc (fit))
+settled_by work (says.Row row) fit = absurd (cc (fit))
+settled_by work says.NoRow fit = absurd (cc (fit))
+settled_by work (says.Refused refusal) fit = refl
+
+or_cases : (a b : Bool) → (a || b) ≡ true → (a ≡ true) ⊎ (b ≡ true)
+or_cases true b is = inl refl
+or_cases false b is = inr is
+
+fits_settled : (node : Node) (rsp : PeerRsp) → IsDriven node → gateways.waits_for rsp.number node.gateway ≡ true → fits rsp node ≡ true
+    → is_unanswered (status_by rsp.say) ≡ false
+fits_settled node rsp driven waits fit = ⊎_elim
+    (λ (works : gateways.fits rsp node.gateway ≡ true). by_asker (asker rsp.number node.gateway) works)
+    (λ (recovers : recovery_fits.fits rsp (state_of node) ≡ true).
+    by_message (recoveries.message_of rsp.number (recoveries.all_unanswered node.recovery)) (driven.recovers rsp.number waits) recovers)
+    (or_cases (gateways.fits rsp node.gateway) (recovery_fits.fits rsp (state_of node)) fit)
+  where
+    by_asker : (o : Option (ℕ × Work)) → fits_asker o rsp.say ≡ true → is_unanswered (status_by rsp.say) ≡ false
+    by_asker None fit = absurd (cc (fit))
+    by_asker (Some found) fit = settled_by found.1.work rsp.say fit
+
+    by_message : (o : Option recoveries.Message) → is_some o ≡ false → recovery_fits.fits_message (state_of node).shown o rsp.say ≡ true
+        → is_unanswered (status_by rsp.say) ≡ false
+    by_message None none fit = absurd (cc (fit))
+    by_message (Some message) none fit = absurd (cc (none))
+
+pub replied_well : (node : Node) (rsp : PeerRsp) → IsDriven node → fits rsp node ≡ true → EndsWell rsp.number (inputs.Reply rsp) node
+unfolding stepped taken_in steps.answered recovery_steps.replied
+replied_well node rsp driven fit = by_waits (gateways.waits_for rsp.number node.gateway) refl
+  where
+    by_waits : (b : Bool) → gateways.waits_for rsp.number node.gateway ≡ b → EndsWell rsp.number (inputs.Reply rsp) node
+    by_waits true waits =
+        let status = status_by rsp.say in
+        let settled = fits_settled node rsp driven waits fit in
+        ends_by rsp.number (inputs.Reply rsp) node (record node { gateway = (answered node.gateway rsp.number status).gateway })
+        (gateway_stepped (answered node.gateway rsp.number status) (at_first node))
+        (ap (λ (b : Bool). recovered_put (cond b (gateway_stepped (answered node.gateway rsp.number status) (at_first node))
+        (recovery_stepped (recovery_steps.replied rsp (state_of node)) (at_first node)))) waits)
+        refl (settled_asks node driven rsp.number status settled waits) (settled_driven node driven rsp.number status settled waits) (settled_good node driven rsp.number status settled waits)
+    by_waits false none = record {
+      asks = λ requests. replied_asks node rsp none;
+      driven = subst (λ (turn : Turn). IsDriven turn.node)
+          (sym (ap (λ (b : Bool). recovered_put (cond b (gateway_stepped (answered node.gateway rsp.number (status_by rsp.say)) (at_first node))
+          (recovery_stepped (recovery_steps.replied rsp (state_of node)) (at_first node)))) none))
+          (recovery_driven node rsp.number (Some rsp.say) none driven);
+    }

@@ -1,0 +1,21 @@
+-- What holds of each node's recovery in every world of a run, by which all that it asks can be read.
+use Rattle.std.specs.Prelude.{◌≡◌, ℕ, Some}
+use Rattle.std.specs.Ordering.{nat_cmp}
+use Rattle.std.specs.FinMap as tree
+use Rattle.recovery.specs.Range as recoveries
+use Rattle.sheep_node.specs.State.{Node}
+use Rattle.sheep_node.specs.Shown.{state_of}
+use Rattle.sheep_world.specs.World.{Seat, World}
+
+-- a node's recovery asks in the node's name, and is in range
+pub record RecoversInRange (node : Node) : Type 0 where
+  pub own : node.recovery.me ≡ node.me
+  pub range : recoveries.IsInRange (state_of node)
+
+-- the same of each node
+abbrev pub AllRecoverInRange : tree.FinMap nat_cmp Seat → Type 0
+AllRecoverInRange seats = (number : ℕ) (seat : Seat) → tree.get seats number ≡ Some seat → RecoversInRange seat.node
+
+-- the same of a world
+abbrev pub RecoveriesAreInRange : World → Type 0
+RecoveriesAreInRange world = AllRecoverInRange world.seats
