@@ -511,7 +511,7 @@ retried_good node driven = by_found (next_try (record { 0 = node.peer.epoch }) n
     by_found None is = record { going = (good_first node driven).going; driven = driven.driven }
     by_found (Some found) is = tried_good node driven found is
 
-retry_good : (node : Node) → IsDriven node → IsGood node (stepped inputs.RetryTick node)
+pub retry_good : (node : Node) → IsDriven node → IsGood node (stepped inputs.RetryTick node)
 unfolding stepped taken_in
 retry_good node driven = good_at_end node (steps.retry_ticked (at_first node)) (retried_good node driven)
 

@@ -143,6 +143,30 @@ pub fn works_go_with_their_requests()
         → step statements (events.Back node) world ≡ Some made → NodesAreDriven world → NodesAreDriven made.world }
 {}
 
+/// What the recoveries know of stays in range at the events that ask them nothing, and at losses. Of RecoverTick it is part of
+/// `nodes_and_wire_stay_together`.
+pub fn recoveries_stay_in_range()
+    ensures phase { (statements : List Statement) (world : World) (made : Made)
+        → step statements events.Phase world ≡ Some made → RecoveriesAreInRange world → RecoveriesAreInRange made.world }
+    ensures put { (statements : List Statement) (world : World) (made : Made) (node : NodeId)
+        → step statements (events.Put node) world ≡ Some made → RecoveriesAreInRange world → RecoveriesAreInRange made.world }
+    ensures lost { (statements : List Statement) (world : World) (made : Made) (node : NodeId)
+        → step statements (events.Lost node) world ≡ Some made → RecoveriesAreInRange world → RecoveriesAreInRange made.world }
+    ensures leave { (statements : List Statement) (world : World) (made : Made) (node : NodeId)
+        → step statements (events.Leave node) world ≡ Some made → RecoveriesAreInRange world → RecoveriesAreInRange made.world }
+    ensures reweight { (statements : List Statement) (world : World) (made : Made) (node : NodeId)
+        → step statements (events.Reweight node) world ≡ Some made → RecoveriesAreInRange world → RecoveriesAreInRange made.world }
+    ensures retry { (statements : List Statement) (world : World) (made : Made) (node : NodeId)
+        → step statements (events.RetryTick node) world ≡ Some made → NodesAreDriven world → RecoveriesAreInRange world
+        → RecoveriesAreInRange made.world }
+    ensures lose_request { (statements : List Statement) (world : World) (made : Made) (node : NodeId) (number : ℕ)
+        → step statements (events.LoseRequest node number) world ≡ Some made → NodesAreDriven world → RecoveriesAreInRange world
+        → RecoveriesAreInRange made.world }
+    ensures lose_reply { (statements : List Statement) (world : World) (made : Made) (node : NodeId) (number : ℕ)
+        → step statements (events.LoseReply node number) world ≡ Some made → NodesAreDriven world → RecoveriesAreInRange world
+        → RecoveriesAreInRange made.world }
+{}
+
 /// A node steps only on what it may. So a loss that it is told is of a message that it waits for, and so is a reply, which
 /// fits what it asked, as long as nodes and wire go together.
 pub fn nodes_step_on_what_they_may()

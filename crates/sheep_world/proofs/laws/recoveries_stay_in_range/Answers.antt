@@ -1,0 +1,14 @@
+use Rattle.sheep_world.proofs.RangeLemmas.{range-phase, range-put, range-lost, range-leave, range-reweight, range-retry, range-lose_request, range-lose_reply}
+use Rattle.sheep_world.proofs.laws.recoveries_stay_in_range.Goals as goal
+
+pub returns : goal.returns
+returns c = record {
+  phase = range-phase;
+  put = range-put;
+  lost = range-lost;
+  leave = range-leave;
+  reweight = range-reweight;
+  retry = range-retry;
+  lose_request = range-lose_request;
+  lose_reply = range-lose_reply;
+}
