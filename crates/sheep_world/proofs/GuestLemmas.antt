@@ -114,7 +114,7 @@ taken_unless_good : (old : Node) (cause : Option Cause) (number req : ℕ) (ask 
 taken_unless_good old None number req ask turn free good = taken_good old number req ask turn free good
 taken_unless_good old (Some cause) number req ask turn free good = record { going = good.going; driven = good.driven }
 
-guest_good : (node : Node) (req number : ℕ) (ask : Ask) → IsDriven node → tree.get node.requests req ≡ None
+pub guest_good : (node : Node) (req number : ℕ) (ask : Ask) → IsDriven node → tree.get node.requests req ≡ None
     → IsGood node (stepped (inputs.Guest req number ask) node)
 unfolding stepped taken_in nodes.guest_asked
 guest_good node req number ask driven new =

@@ -1,8 +1,31 @@
 -- Which events leave what the recoveries know of in range.
-use Rattle.std.proofs.Common.{◌≡◌, ℕ, ◌-◌, Bool, true, false, cond, List, [], ◌∷◌, Option, Some, None, refl, sym, ap, subst, ◌∙◌}
+use Rattle.std.proofs.Common.{◌≡◌, ℕ, ◌-◌, Bool, true, false, cond, List, [], ◌∷◌, Option, Some, None, refl, sym, ap, subst, ◌∙◌, ◌<◌, ◌≤◌, map, All}
+use native.Mathlib.Omega.{arith}
 use Rattle.std.specs.Ordering.{nat_cmp}
 use Rattle.std.specs.FinMap as tree
 use Rattle.std.proofs.lemmas.Option.{cond_some}
+use Rattle.std.proofs.lemmas.List.Elements.{All-nil}
+use Rattle.std.proofs.Math.Nat.{min-le_left}
+use Rattle.object_id.specs.Oid.{IsOid, kind_of}
+use Rattle.object_id.specs.Policy.{wanted_of}
+use Rattle.object_store.specs.Store.{SeenRow}
+use Rattle.hash_ring.specs.Circle.{hash_of_object}
+use Rattle.hash_ring.specs.Placement.{zone_count}
+use Rattle.hash_ring.proofs.TargetLaws.{length-targets_of}
+use Rattle.vnode_table.specs.Epochs.{members_at}
+use Rattle.vdi_directory.specs.Effects.{header_of}
+use Rattle.vdi_directory.specs.Decisions.{happened}
+use Rattle.std.specs.Option.{option_and_then}
+use Rattle.cluster_script.specs.Settings.{tries_of}
+use Rattle.cluster_script.specs.Asked.{session_of, request_at}
+use Rattle.cluster_script.specs.Sessions.{Session, session_numbered}
+use Rattle.sheep_node.specs.declared.ask.Ask.{Ask}
+use Rattle.sheep_node.specs.declared.input.Input.{Input}
+use Rattle.sheep_world.proofs.EnabledLemmas.{looked_up}
+use Rattle.sheep_world.proofs.GuestLemmas.{guest_good}
+use Rattle.sheep_node.specs.State as nodes
+use Rattle.sheep_world.specs.Opening.{first_seat}
+use Rattle.sheep_world.proofs.WireLemmas.{none_there}
 use Rattle.object_id.specs.declared.entry.Entry.{Entry}
 use Rattle.object_id.specs.declared.node.NodeId.{NodeId}
 use Rattle.cluster_script.specs.declared.statement.Statement.{Statement}
@@ -33,12 +56,15 @@ use Rattle.sheep_node.proofs.SoundSteps.{stepped_place}
 use Rattle.sheep_world.specs.declared.name.MessageName.{MessageName}
 use Rattle.sheep_world.specs.World.{Letter, Seat, World, seat_at, is_up, message_at, are_ends_up}
 use Rattle.sheep_world.specs.Conditions as conditions
-use Rattle.sheep_world.specs.Stepped.{seat_stepped, node_stepped, at_rest}
-use Rattle.sheep_world.specs.Effects.{entry_put, retry_ticked}
+use Rattle.sheep_world.specs.Stepped.{seat_stepped, node_stepped, node_stepped_if, at_rest}
+use Rattle.sheep_world.specs.Asking.{ask_of, input_by, input_of}
+use Rattle.sheep_world.specs.Conditions.{next_request}
+use Rattle.sheep_world.specs.Effects as effects
+use Rattle.sheep_world.specs.Effects.{request_begun, begun_of, next_input, guest_asked, entry_put, retry_ticked}
 use Rattle.sheep_world.specs.Messages.{without_message, loss_used, loss_told, message_lost}
-use Rattle.sheep_world.specs.Changes.{failed, control_taken, seat_changed, without_replies, node_lost, node_left, reweighted, phase_ended}
-use Rattle.sheep_world.specs.Step.{Made, step, only, put_made, loss_made, with_replies}
-use Rattle.sheep_world.specs.Driven.{IsDriven, NodesAreDriven}
+use Rattle.sheep_world.specs.Changes.{failed, control_taken, seat_changed, without_replies, node_lost, node_left, node_joined, reweighted, phase_ended}
+use Rattle.sheep_world.specs.Step.{Made, step, only, put_made, loss_made, guest_made, with_replies}
+use Rattle.sheep_world.specs.Driven.{IsDriven, NodesAreDriven, IsNewRequest}
 use Rattle.sheep_world.specs.Ranges.{RecoversInRange, AllRecoverInRange, RecoveriesAreInRange}
 use Rattle.sheep_world.proofs.PutLemmas.{next_seat}
 use Rattle.sheep_world.proofs.RecoverLemmas.{range_at_end, range_after}
@@ -241,3 +267,95 @@ range-lose_reply statements world made node number is driven range =
     subst (λ (made : Made). RecoveriesAreInRange made.world)
     (cond_some (conditions.may_lose_reply name world) (with_replies statements world (message_lost statements name world)) made is).1
     (lose_range statements name world driven range)
+
+-- a node that has read nothing is in range
+none_kept : All IsOid (tree.keys (tree.empty {X = List SeenRow} {R = nat_cmp}))
+none_kept =
+    subst (λ (es : List (ℕ × List SeenRow)). All IsOid (map (λ (e : ℕ × List SeenRow). e.0) es))
+    (sym (none_there (tree.entries {R = nat_cmp} (tree.empty {X = List SeenRow})) (sym (tree.len-entries tree.empty) ∙ tree.len-empty nat_cmp (List SeenRow))))
+    (All-nil IsOid)
+
+opening_range : (me : NodeId) (tries : ℕ) → me.0 < 64 → RecoversInRange (nodes.opening me tries)
+unfolding happened header_of targets_in
+opening_range me tries below = record {
+  own = refl;
+  range = record {
+    me = below;
+    epoch = (omega arith, omega arith);
+    settled = omega arith;
+    waiting = omega arith;
+    policies = λ oid. tt;
+    targets = λ level oid policy.
+        subst (λ (n : ℕ). n ≤ wanted_of policy (kind_of oid))
+        (sym (length-targets_of (members_at [] level) (hash_of_object oid) (wanted_of policy (kind_of oid))))
+        (min-le_left (wanted_of policy (kind_of oid)) (zone_count (members_at [] level)));
+    named = All-nil IsOid;
+    kept = none_kept;
+    pending = All-nil IsOid;
+    search = tt;
+  };
+}
+
+pub range-join : (statements : List Statement) (world : World) (made : Made) (node : NodeId) → step statements (events.Join node) world ≡ Some made
+    → node.0 < 64 → RecoveriesAreInRange world → RecoveriesAreInRange made.world
+unfolding step node_joined
+range-join statements world made node is below range = subst
+    (λ (made : Made). RecoveriesAreInRange made.world)
+    (cond_some (conditions.may_join node.0 world) (only (node_joined statements node.0 world)) made is).1
+    (range_after world.seats node.0 (first_seat (nodes.opening (record { 0 = node.0 }) (tries_of statements)))
+    (opening_range (record { 0 = node.0 }) (tries_of statements) below) range)
+
+-- Guest: the recovery of the gateway is left alone
+abbrev StepsInRange : ℕ → Option Input → World → Type 0
+StepsInRange n None world = Unit {0}
+StepsInRange n (Some input) world = (seat : Seat) → seat_at n world ≡ Some seat → RecoversInRange (stepped input seat.node).node
+
+stepped_all : (statements : List Statement) (world : World) (n : ℕ) (input : Input) (o : Option Seat) → seat_at n world ≡ o
+    → ((seat : Seat) → o ≡ Some seat → RecoversInRange (stepped input seat.node).node) → RecoveriesAreInRange world
+    → RecoveriesAreInRange (seat_stepped statements n input o world)
+stepped_all statements world n input None at steps range = range
+stepped_all statements world n input (Some seat) at steps range =
+    range_after world.seats n (next_seat seat (stepped input seat.node).node) (steps seat refl) range
+
+module _ (statements : List Statement) (number : ℕ) (world : World) (session : Session) (found : session_numbered statements number ≡ Some session)
+    (new : IsNewRequest statements number world) (driven : NodesAreDriven world) (range : RecoveriesAreInRange world) where
+  range_by : (req : ℕ) → next_request statements number world ≡ Some req → (of : Option ℕ) (ask : Option Ask)
+      → StepsInRange session.node (input_by req of ask) world
+  range_by req next None ask = tt
+  range_by req next (Some of) None = tt
+  range_by req next (Some of) (Some ask) =
+      λ seat at. good_range seat.node (stepped (inputs.Guest req of ask) seat.node)
+      (guest_good seat.node req of ask (driven session.node seat at) (new session req seat found next at))
+      (ap (λ (place : Place). place.epochs) (stepped_place (inputs.Guest req of ask) seat.node)) (range session.node seat at)
+
+  range_at : (req : ℕ) → next_request statements number world ≡ Some req → (line : Option Statement)
+      → StepsInRange session.node (option_and_then (λ s. input_by req (session_of s) (ask_of s)) line) world
+  range_at req next None = tt
+  range_at req next (Some line) = range_by req next (session_of line) (ask_of line)
+
+  range_on : (o : Option ℕ) → next_request statements number world ≡ o → StepsInRange session.node (option_and_then (input_of statements) o) world
+  range_on None next = tt
+  range_on (Some req) next = range_at req next (request_at statements req)
+
+  range_steps : (input : Option Input) → StepsInRange session.node input world → (req : Option ℕ)
+      → RecoveriesAreInRange (node_stepped_if statements session.node input (request_begun session req (at_rest world)))
+  unfolding node_stepped
+  range_steps None steps None = range
+  range_steps None steps (Some req) = range
+  range_steps (Some input) steps None = stepped_all statements (at_rest world) session.node input (seat_at session.node world) refl steps range
+  range_steps (Some input) steps (Some req) =
+      stepped_all statements (request_begun session (Some req) (at_rest world)) session.node input (seat_at session.node world) refl steps range
+
+pub range-guest : (statements : List Statement) (world : World) (made : Made) (number : ℕ) → step statements (events.Guest number) world ≡ Some made
+    → IsNewRequest statements number world → NodesAreDriven world → RecoveriesAreInRange world → RecoveriesAreInRange made.world
+unfolding step guest_asked
+range-guest statements world made number is new driven range =
+    let t = cond_some (conditions.may_guest statements number world) (guest_made statements number world (guest_asked statements number world)) made is in
+    let (session, found, asks) = looked_up (λ session. conditions.may_ask statements session world) (session_numbered statements number) t.0 in
+    subst (λ (made : Made). RecoveriesAreInRange made.world) t.1
+    (subst
+    (λ (o : Option Session). RecoveriesAreInRange (effects.gateway_stepped statements o (next_input statements number world) (begun_of statements o (at_rest world))))
+    (sym found)
+    (range_steps statements number world session found new driven range (next_input statements number world)
+    (range_on statements number world session found new driven range (next_request statements number world) refl)
+    (next_request statements session.number (at_rest world))))
