@@ -1,8 +1,8 @@
 -- A message of a work that is lost or answered leaves the wire, and its gateway waits for it no more: they stay together.
-use Rattle.std.proofs.Common.{◌≡◌, ◌≢◌, ◌⊎◌, inl, inr, ℕ, ◌==◌, Bool, true, false, not, ◌||◌, cond, List, [], ◌∷◌, map, flat_map, Contains, Some, refl, sym, ap, subst, ◌∙◌, ⊎_elim}
+use Rattle.std.proofs.Common.{◌≡◌, ◌≢◌, ℕ, ◌==◌, Bool, true, false, not, ◌||◌, cond, List, [], ◌∷◌, map, flat_map, Contains, Some, refl, sym, ap, subst, ◌∙◌, ⊎_elim}
 use Rattle.std.specs.List.{list_any}
 use Rattle.std.specs.FinMap as tree
-use Rattle.std.proofs.lemmas.Bool.{eqb-true, eqb-false}
+use Rattle.std.proofs.lemmas.Bool.{eqb-true, eqb-false, or_left, or_right, or_cases}
 use Rattle.std.proofs.lemmas.List.Elements.{Contains-append_cases}
 use Rattle.object_id.specs.declared.node.Epoch.{Epoch}
 use Rattle.object_id.specs.declared.node.NodeId.{NodeId}
@@ -51,35 +51,24 @@ module _ (number : ℕ) (status : Status) (settled : is_unanswered status ≡ fa
       by_tie true tie is = other (message.number == q) refl (eqb-true message.number number tie) is
       by_tie false tie is = is
 
-  any_left : (b c : Bool) → b ≡ true → (b || c) ≡ true
-  any_left b c is = ap (λ b. b || c) is
-
-  any_right : (b c : Bool) → c ≡ true → (b || c) ≡ true
-  any_right true c is = refl
-  any_right false c is = is
-
-  any_cases : (b c : Bool) → (b || c) ≡ true → (b ≡ true) ⊎ (c ≡ true)
-  any_cases true c is = inl refl
-  any_cases false c is = inr is
-
   pub all_before : (q : ℕ) (messages : List Message) → list_any (is_awaited q) (marked number status messages) ≡ true → list_any (is_awaited q) messages ≡ true
   all_before q [] is = is
   all_before q (message ∷ messages) is = ⊎_elim
       (λ (here : is_awaited q (mark message) ≡ true).
-      any_left (is_awaited q message) (list_any (is_awaited q) messages) (awaited_before q message here))
+      or_left (is_awaited q message) (list_any (is_awaited q) messages) (awaited_before q message here))
       (λ (later : list_any (is_awaited q) (marked number status messages) ≡ true).
-      any_right (is_awaited q message) (list_any (is_awaited q) messages) (all_before q messages later))
-      (any_cases (is_awaited q (mark message)) (list_any (is_awaited q) (marked number status messages)) is)
+      or_right (is_awaited q message) (list_any (is_awaited q) messages) (all_before q messages later))
+      (or_cases (is_awaited q (mark message)) (list_any (is_awaited q) (marked number status messages)) is)
 
   pub all_still : (q : ℕ) (messages : List Message) → q ≢ number → list_any (is_awaited q) messages ≡ true
       → list_any (is_awaited q) (marked number status messages) ≡ true
   all_still q [] apart is = is
   all_still q (message ∷ messages) apart is = ⊎_elim
       (λ (here : is_awaited q message ≡ true).
-      any_left (is_awaited q (mark message)) (list_any (is_awaited q) (marked number status messages)) (awaited_still q message apart here))
+      or_left (is_awaited q (mark message)) (list_any (is_awaited q) (marked number status messages)) (awaited_still q message apart here))
       (λ (later : list_any (is_awaited q) messages ≡ true).
-      any_right (is_awaited q (mark message)) (list_any (is_awaited q) (marked number status messages)) (all_still q messages apart later))
-      (any_cases (is_awaited q message) (list_any (is_awaited q) messages) is)
+      or_right (is_awaited q (mark message)) (list_any (is_awaited q) (marked number status messages)) (all_still q messages apart later))
+      (or_cases (is_awaited q message) (list_any (is_awaited q) messages) is)
 
   -- none of the marked number is unanswered
   pub marked_sends : (me : NodeId) (work : Work) (epoch : Epoch) (messages : List Message) (send : NodeId × PeerReq)

@@ -6,7 +6,7 @@ use Rattle.std.specs.Cmp.{nat_cmp_total}
 use Rattle.std.specs.List.{list_any, enumerate_from}
 use Rattle.std.specs.FinMap as tree
 use Rattle.std.specs.FinMap.Entries.{by_order}
-use Rattle.std.proofs.lemmas.Bool.{eqb-true, eq-eqb, ne_eqb}
+use Rattle.std.proofs.lemmas.Bool.{eqb-true, eq-eqb, ne_eqb, or_left, or_right}
 use Rattle.std.proofs.lemmas.Option.{same_Some}
 use Rattle.std.proofs.lemmas.List.Elements.{Contains-append_left, Contains-append_right, Contains-append_cases}
 use Rattle.object_id.specs.declared.node.Epoch.{Epoch}
@@ -131,13 +131,6 @@ asked_after me m k v send there =
 
 -- ---- the messages of an attempt that begins
 
-left : (b c : Bool) → b ≡ true → (b || c) ≡ true
-left b c is = ap (λ b. b || c) is
-
-right : (b c : Bool) → c ≡ true → (b || c) ≡ true
-right true c is = refl
-right false c is = is
-
 neither : (b c : Bool) → b ≡ false → c ≡ false → (b || c) ≡ false
 neither b c one other = ap (λ b. b || c) one ∙ other
 
@@ -148,11 +141,11 @@ module _ (me : NodeId) (epoch : Epoch) (work : ObjWork) where
   fresh_awaited first [] send there = has-none send there
   fresh_awaited first (target ∷ targets) send there = ⊎_elim
       (λ (same : send_of me epoch work (message_to work (first, target)) ≡ send).
-      left (is_awaited send.1.number (message_to work (first, target)))
+      or_left (is_awaited send.1.number (message_to work (first, target)))
       (list_any (is_awaited send.1.number) (map (message_to work) (enumerate_from (first + 1) targets)))
       (ap (λ (b : Bool). cond b true false) (eq-eqb first send.1.number (ap (λ (s : NodeId × PeerReq). s.1.number) same))))
       (λ (later : Contains (map (send_of me epoch work) (map (message_to work) (enumerate_from (first + 1) targets))) send).
-      right (is_awaited send.1.number (message_to work (first, target)))
+      or_right (is_awaited send.1.number (message_to work (first, target)))
       (list_any (is_awaited send.1.number) (map (message_to work) (enumerate_from (first + 1) targets)))
       (fresh_awaited (first + 1) targets send later))
       (has_cases (send_of me epoch work (message_to work (first, target))) send

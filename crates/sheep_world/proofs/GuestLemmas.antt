@@ -35,18 +35,15 @@ use Rattle.sheep_world.specs.World.{Seat, World, seat_at, is_seat_up}
 use Rattle.sheep_world.specs.Asking.{ask_of, input_by, input_of}
 use Rattle.sheep_world.specs.Conditions.{serves, has_gateway, next_request, may_begin, may_ask, may_guest}
 use Rattle.sheep_world.specs.World.{guest_at}
-use Rattle.sheep_world.specs.Stepped.{seat_stepped, node_stepped, node_stepped_if, at_rest}
+use Rattle.sheep_world.specs.Stepped.{node_stepped, node_stepped_if, at_rest}
 use Rattle.sheep_world.specs.Effects.{request_begun, begun_of, next_input, gateway_stepped, guest_asked}
 use Rattle.sheep_world.specs.Step.{Made, step, guest_made}
 use Rattle.sheep_world.specs.Wired.{IsWired}
 use Rattle.sheep_world.specs.Driven.{may_work_at, may_work_of, IsDriven, NodesAreDriven, IsSentInRange, IsNewRequest}
 use Rattle.sheep_world.proofs.EnabledLemmas.{looked_up}
-use Rattle.sheep_world.proofs.PutLemmas.{next_seat}
-use Rattle.sheep_world.proofs.SendLemmas.{wired_asking}
-use Rattle.sheep_world.proofs.RecoverLemmas.{Any, nothing_leaves}
 use Rattle.sheep_world.proofs.NumberTools.{got_own}
 use Rattle.sheep_world.proofs.DrivenLemmas.{IsGood, IsFreeIn, free_session, good_session, good_course, ended_good, work_asked_good, course_begun_good}
-use Rattle.sheep_world.proofs.RetryLemmas.{good_first, good_at_end, good_asks, good_driven, driven_after}
+use Rattle.sheep_world.proofs.RetryLemmas.{good_first, good_at_end, DoesWell, good_well, step_together, StaysTogether}
 
 -- ---- a command goes on
 
@@ -117,7 +114,7 @@ taken_unless_good : (old : Node) (cause : Option Cause) (number req : ℕ) (ask 
 taken_unless_good old None number req ask turn free good = taken_good old number req ask turn free good
 taken_unless_good old (Some cause) number req ask turn free good = record { going = good.going; driven = good.driven }
 
-guest_good : (node : Node) (req number : ℕ) (ask : Ask) → IsDriven node → tree.get node.requests req ≡ None
+pub guest_good : (node : Node) (req number : ℕ) (ask : Ask) → IsDriven node → tree.get node.requests req ≡ None
     → IsGood node (stepped (inputs.Guest req number ask) node)
 unfolding stepped taken_in nodes.guest_asked
 guest_good node req number ask driven new =
@@ -141,27 +138,10 @@ guest_good node req number ask driven new =
 
 -- ---- and in the world
 
--- a node steps, and what it sends can be spelled
-abbrev pub StaysTogether : World → Type 0
-StaysTogether world = IsSentInRange world → IsWired world × NodesAreDriven world
-
--- where each node that may step does so well, all stay together
-pub good_step : (statements : List Statement) (world : World) (n : ℕ) (input : Input) (o : Option Seat) → seat_at n world ≡ o
-    → ((seat : Seat) → o ≡ Some seat → (is_seat_up seat ≡ true) × IsGood seat.node (stepped input seat.node))
-    → NodesAreDriven world → IsWired world → StaysTogether (seat_stepped statements n input o world)
-good_step statements world n input None at good driven wired requests = (wired, driven)
-good_step statements world n input (Some seat) at good driven wired requests =
-    let (up, well) = good seat refl in
-    let turn = stepped input seat.node in (
-      wired_asking Any world.seats world.wire world.wire n seat turn.node turn.outputs.sends at up wired
-          (good_asks input seat.node well requests) (nothing_leaves n world.wire),
-      driven_after world n (next_seat seat turn.node) (good_driven seat.node turn (driven n seat at) well) driven,
-    )
-
 -- a node steps well on an input, if there is one
 abbrev StepsWell : ℕ → Option Input → World → Type 0
 StepsWell n None world = Unit {0}
-StepsWell n (Some input) world = (seat : Seat) → seat_at n world ≡ Some seat → (is_seat_up seat ≡ true) × IsGood seat.node (stepped input seat.node)
+StepsWell n (Some input) world = (seat : Seat) → seat_at n world ≡ Some seat → (is_seat_up seat ≡ true) × DoesWell input seat.node
 
 module _ (statements : List Statement) (number : ℕ) (world : World) (session : Session)
     (found : session_numbered statements number ≡ Some session) (asks : may_ask statements session world ≡ true)
@@ -179,7 +159,11 @@ module _ (statements : List Statement) (number : ℕ) (world : World) (session :
   well_by req next None ask = tt
   well_by req next (Some of) None = tt
   well_by req next (Some of) (Some ask) =
-      λ seat at. (is_served seat at, guest_good seat.node req of ask (driven session.node seat at) (new session req seat found next at))
+      λ seat at. (
+        is_served seat at,
+        good_well (inputs.Guest req of ask) seat.node (driven session.node seat at)
+            (guest_good seat.node req of ask (driven session.node seat at) (new session req seat found next at)),
+      )
 
   well_at : (req : ℕ) → next_request statements number world ≡ Some req → (line : Option Statement)
       → StepsWell session.node (option_and_then (λ s. input_by req (session_of s) (ask_of s)) line) world
@@ -196,9 +180,9 @@ module _ (statements : List Statement) (number : ℕ) (world : World) (session :
   steps_on None well None = λ requests. (wired, driven)
   steps_on None well (Some req) = λ requests. (wired, driven)
   steps_on (Some input) well None =
-      good_step statements (at_rest world) session.node input (seat_at session.node world) refl well driven wired
+      step_together statements (at_rest world) session.node input (seat_at session.node world) refl well driven wired
   steps_on (Some input) well (Some req) =
-      good_step statements (request_begun session (Some req) (at_rest world)) session.node input (seat_at session.node world) refl well driven wired
+      step_together statements (request_begun session (Some req) (at_rest world)) session.node input (seat_at session.node world) refl well driven wired
 
   guest_together : StaysTogether (gateway_stepped statements (Some session) (next_input statements number world) (begun_of statements (Some session) (at_rest world)))
   guest_together =

@@ -19,6 +19,7 @@ pub mod MarkLemmas
 pub mod SettleLemmas
 pub mod LossLemmas
 pub mod KeptLemmas
+pub mod RangeLemmas
 pub mod MeetLemmas
 pub mod AskLemmas
 pub mod BackLemmas

@@ -25,8 +25,7 @@ use Rattle.sheep_world.proofs.PutLemmas.{next_seat}
 use Rattle.sheep_world.proofs.MeetLemmas.{meets-reply}
 use Rattle.sheep_world.proofs.SendLemmas.{Leaves, wired_asking}
 use Rattle.sheep_world.proofs.EndLemmas.{Other, one_leaves, wired_without, same_said}
-use Rattle.sheep_world.proofs.RetryLemmas.{driven_after}
-use Rattle.sheep_world.proofs.GuestLemmas.{StaysTogether}
+use Rattle.sheep_world.proofs.RetryLemmas.{driven_after, StaysTogether}
 use Rattle.sheep_world.proofs.SettleLemmas.{lost_well, replied_well}
 
 -- a loss, by the seat of the message's sender

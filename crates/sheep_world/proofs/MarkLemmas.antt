@@ -1,8 +1,9 @@
 -- A gateway that knows of one more message waits for the others as before.
-use Rattle.std.proofs.Common.{◌≡◌, ◌≢◌, ◌⊎◌, inl, inr, ℕ, ◌+◌, Bool, true, false, ◌||◌, [], Contains, Option, Some, None, refl, sym, ap, subst, ◌∙◌, ⊎_elim}
+use Rattle.std.proofs.Common.{◌≡◌, ◌≢◌, inl, ℕ, ◌+◌, true, false, [], Contains, Option, Some, None, refl, sym, ap, subst, ◌∙◌, ⊎_elim}
 use native.Mathlib.Omega.{arith}
 use Rattle.std.specs.List.{list_any}
 use Rattle.std.specs.FinMap as tree
+use Rattle.std.proofs.lemmas.Bool.{or_cases, or_left, or_right}
 use Rattle.std.proofs.lemmas.Option.{same_Some}
 use Rattle.std.proofs.lemmas.List.Elements.{Contains-append_left, Contains-append_right, Contains-append_cases}
 use Rattle.object_id.specs.declared.node.NodeId.{NodeId}
@@ -132,17 +133,6 @@ module _ (m : Works) (number : ℕ) (status : Status) (settled : is_unanswered s
     }
 
 -- ---- the node with such a gateway
-
-or_cases : (a b : Bool) → (a || b) ≡ true → (a ≡ true) ⊎ (b ≡ true)
-or_cases true b is = inl refl
-or_cases false b is = inr is
-
-or_left : (a b : Bool) → a ≡ true → (a || b) ≡ true
-or_left a b is = ap (λ a. a || b) is
-
-or_right : (a b : Bool) → b ≡ true → (a || b) ≡ true
-or_right true b is = refl
-or_right false b is = is
 
 module _ (node : Node) (gateway : Gateway) (number : ℕ) (marks : Marks number node.gateway.works gateway.works) (once : IsDriven node)
     (waits : gateways.waits_for number node.gateway ≡ true) where

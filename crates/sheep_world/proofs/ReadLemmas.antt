@@ -1,9 +1,9 @@
 -- A node that reads an entry of the log leaves nodes and wire together.
-use Rattle.std.proofs.Common.{◌≡◌, ◌⊎◌, inl, inr, ℕ, ◌+◌, ◌==◌, ◌<◌, nat_lt, Bool, true, false, ◌&&◌, ◌||◌, cond, List, [], ◌∷◌, ◌++◌, length, map, All, Contains, Option, Some, None, is_some, is_none, refl, sym, ap, subst, ◌∙◌, ⊎_elim}
+use Rattle.std.proofs.Common.{◌≡◌, inl, ℕ, ◌+◌, ◌==◌, ◌<◌, nat_lt, Bool, true, false, ◌&&◌, ◌||◌, cond, List, [], ◌∷◌, ◌++◌, length, map, Contains, Option, Some, None, is_some, is_none, refl, sym, ap, subst, ◌∙◌, ⊎_elim}
 use native.Mathlib.Omega.{arith}
 use Rattle.std.specs.Option.{option_map, option_map_or}
 use Rattle.std.specs.FinMap as tree
-use Rattle.std.proofs.lemmas.Bool.{eqb-true, and_parts}
+use Rattle.std.proofs.lemmas.Bool.{eqb-true, and_parts, or_cases, or_left, or_right}
 use Rattle.std.proofs.lemmas.Option.{cond_some, same_Some}
 use Rattle.object_id.specs.declared.entry.Entry.{Entry}
 use Rattle.object_id.specs.declared.entry.Member.{Member}
@@ -27,8 +27,6 @@ use Rattle.vdi_directory.proofs.LawLemmas.{granted-unused}
 use Rattle.vdi_directory.proofs.LineLemmas.{line-happened}
 use Rattle.peer_proto.specs.declared.ask.PeerAsk.{PeerAsk}
 use Rattle.peer_proto.specs.declared.ask.PeerAsk.TheVariants as asks
-use Rattle.peer_proto.specs.declared.ask.PeerReq.{PeerReq}
-use Rattle.peer_proto.specs.Ask.{IsRequest}
 use Rattle.peer_proto.specs.declared.say.PeerSay.{PeerSay}
 use Rattle.peer_proto.specs.declared.say.PeerSay.TheVariants as says
 use Rattle.peer_service.specs.State.{Peer, effects_of, length_of_rows, row_size}
@@ -48,7 +46,6 @@ use Rattle.vdi_ops.specs.Op.{entry_wanted}
 use Rattle.vdi_ops.specs.Steps.{on_decision}
 use Rattle.vdi_ops.proofs.StepLemmas.{decision_awaited}
 use Rattle.sheep_node.specs.declared.event.Event.TheVariants as events
-use Rattle.sheep_node.specs.declared.input.Input.{Input}
 use Rattle.sheep_node.specs.declared.input.Input.TheVariants as inputs
 use Rattle.sheep_node.specs.State.{Course, Waiting, Driving, Commanding, Request, Node}
 use Rattle.sheep_node.specs.Shown.{state_of}
@@ -63,19 +60,18 @@ use Rattle.sheep_node.proofs.SoundReading.{entries_reading}
 use Rattle.sheep_node.proofs.SoundSteps.{stepped_numbers, stepped_counts}
 use Rattle.sheep_world.specs.World.{Seat, World, seat_at, node_at, is_seat_up}
 use Rattle.sheep_world.specs.Conditions.{may_read}
-use Rattle.sheep_world.specs.Stepped.{seat_stepped, node_stepped, node_stepped_if, at_rest}
+use Rattle.sheep_world.specs.Stepped.{node_stepped, node_stepped_if, at_rest}
 use Rattle.sheep_world.specs.Effects.{next_entry, entry_read}
 use Rattle.sheep_world.specs.Step.{Made, step, with_replies}
-use Rattle.sheep_world.specs.Wired.{asked_by, asked_by_gateway, IsWired}
+use Rattle.sheep_world.specs.Wired.{asked_by_gateway, IsWired}
 use Rattle.sheep_world.specs.Driven.{may_work, AreDriven, IsOnceIn, IsGivenIn, IsDriven, NodesAreDriven, IsSentInRange}
 use Rattle.sheep_world.proofs.ListTools.{has-none, has-found}
-use Rattle.sheep_world.proofs.PutLemmas.{next_seat}
-use Rattle.sheep_world.proofs.SendLemmas.{Sends, Asking, wired_asking}
-use Rattle.sheep_world.proofs.RecoverLemmas.{Any, nothing_leaves}
+use Rattle.sheep_world.proofs.SendLemmas.{Sends, Asking}
+use Rattle.sheep_world.proofs.RecoverLemmas.{Any}
 use Rattle.gateway.proofs.TryLaws.{found-passes}
 use Rattle.sheep_world.proofs.DrivenLemmas.{Requests, Sessions, IsGood, IsFreeIn, free_of, let_begin_good}
-use Rattle.sheep_world.proofs.RetryLemmas.{got_entry, good_first, good_at_end, good_turn_asks, good_driven, driven_after}
-use Rattle.sheep_world.proofs.GuestLemmas.{command_went_on_good, StaysTogether}
+use Rattle.sheep_world.proofs.RetryLemmas.{got_entry, good_first, good_at_end, good_turn_asks, good_driven, DoesWell, asks_after, step_together, StaysTogether}
+use Rattle.sheep_world.proofs.GuestLemmas.{command_went_on_good}
 
 -- ---- the length of an object's rows stays known
 
@@ -231,17 +227,6 @@ read_keeps entry node =
     either (Keeps node) (nat_lt entered.peer.settled settled) (with_peer (settled_to settled entered.peer) entered) entered
     (same_keeps node entered (settled_to settled entered.peer) then) then
 
-or_cases : (a b : Bool) → (a || b) ≡ true → (a ≡ true) ⊎ (b ≡ true)
-or_cases true b is = inl refl
-or_cases false b is = inr is
-
-or_left : (a b : Bool) → a ≡ true → (a || b) ≡ true
-or_left a b is = ap (λ a. a || b) is
-
-or_right : (a b : Bool) → b ≡ true → (a || b) ≡ true
-or_right true b is = refl
-or_right false b is = is
-
 -- a node that has read an entry waits for the same as before
 read_asks : (entry : Entry) (node : Node) → Asking Any node (nodes.entry_read entry node) []
 read_asks entry node =
@@ -294,29 +279,6 @@ read_driven entry node driven =
           (driven.recovering number (sym (ap (λ (messages : List Message). is_some (recoveries.message_of number messages)) kept.messages_so) ∙ waits));
     }
 
--- what is asked on one way, and then on another
-asks_then : (one two three : Node) (sends : Sends) → Asking Any one two [] → Asking Any two three sends → Asking Any one three sends
-asks_then one two three sends first then =
-    let none : one.sends + 0 ≡ one.sends = omega arith in
-    let same : two.sends ≡ one.sends = first.count_so ∙ none in
-    record {
-      me_so = then.me_so ∙ first.me_so;
-      count_so = then.count_so ∙ ap (λ (n : ℕ). n + length sends) same;
-      numbers = subst (λ (n : ℕ). AreNumberedFrom n sends) same then.numbers;
-      own = λ send there. then.own send there ∙ first.me_so;
-      read = then.read;
-      asked = λ send there. ⊎_elim
-          (λ (old : Contains (asked_by two) send × Unit {0}). ⊎_elim
-          (λ (older : Contains (asked_by one) send × Unit {0}). inl older)
-          (λ (new : Contains [] send). has-none send new)
-          (first.asked send old.0))
-          (λ (new : Contains sends send). inr new)
-          (then.asked send there);
-      waits_on = λ number waits stays. then.waits_on number (first.waits_on number waits tt) tt;
-      waits_too = then.waits_too;
-      fits_on = λ rsp below stays fit. then.fits_on rsp (subst (λ (n : ℕ). rsp.number < n) (sym same) below) tt (first.fits_on rsp below tt fit);
-    }
-
 -- ---- the decision goes to the command that waits for it
 
 wanted_never : (entry : Entry) (course : Course) → waits_for_entry entry course ≡ true → may_work course ≡ false
@@ -359,12 +321,6 @@ log_read_good entry node driven =
 
 -- ---- and in the world
 
--- what a step makes of what its node waits for and is driven to, where what it sends can be spelled
-pub record DoesWell (input : Input) (node : Node) : Type 0 where
-  pub asks : All (λ (send : NodeId × PeerReq). IsRequest send.1) (stepped input node).outputs.sends
-      → Asking Any node (stepped input node).node (stepped input node).outputs.sends
-  pub driven : IsDriven (stepped input node).node
-
 pub reads_well : (entry : Entry) (node : Node) → IsDriven node → DoesWell (inputs.LogEntry entry) node
 unfolding stepped taken_in
 reads_well entry node driven =
@@ -374,24 +330,13 @@ reads_well entry node driven =
     let same : after.sends ≡ node.sends = (read_keeps entry node).sends_so in
     record {
       asks = λ requests.
-          asks_then node after turn.node turn.outputs.sends (read_asks entry node)
+          asks_after Any node after turn.node turn.outputs.sends (read_asks entry node)
           (good_turn_asks after turn
           (subst (λ (n : ℕ). AreNumberedFrom n turn.outputs.sends) (sym same) (stepped_numbers (inputs.LogEntry entry) node))
           (stepped_counts (inputs.LogEntry entry) node ∙ ap (λ (n : ℕ). n + length turn.outputs.sends) (sym same))
           good requests);
       driven = good_driven after turn (read_driven entry node driven) good;
     }
-
-pub step_together : (statements : List Statement) (world : World) (n : ℕ) (input : Input) (o : Option Seat) → seat_at n world ≡ o
-    → ((seat : Seat) → o ≡ Some seat → (is_seat_up seat ≡ true) × DoesWell input seat.node)
-    → NodesAreDriven world → IsWired world → StaysTogether (seat_stepped statements n input o world)
-step_together statements world n input None at well driven wired requests = (wired, driven)
-step_together statements world n input (Some seat) at well driven wired requests =
-    let (up, does) = well seat refl in
-    let turn = stepped input seat.node in (
-      wired_asking Any world.seats world.wire world.wire n seat turn.node turn.outputs.sends at up wired (does.asks requests) (nothing_leaves n world.wire),
-      driven_after world n (next_seat seat turn.node) does.driven driven,
-    )
 
 read_together : (statements : List Statement) (world : World) (n : ℕ) (entry : Option Entry) → may_read n world ≡ true → NodesAreDriven world → IsWired world
     → StaysTogether (node_stepped_if statements n (option_map (λ entry. inputs.LogEntry entry) entry) (at_rest world))

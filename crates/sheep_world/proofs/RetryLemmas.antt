@@ -1,12 +1,12 @@
 -- A work that is tried again leaves nodes and wire together, and each request with one open work at most.
-use Rattle.std.proofs.Common.{◌≡◌, ◌<◌, ◌≤◌, ◌≢◌, ◌⊎◌, inl, inr, ℕ, nat_lt, Bool, true, false, not, ◌&&◌, ◌||◌, cond, T, List, [], ◌∷◌, flat_map, All, Contains, Option, Some, None, is_some, Ordering, Less, Equal, Greater, refl, sym, ap, subst, ◌∙◌, ⊎_elim, ◌+◌, length}
+use Rattle.std.proofs.Common.{◌≡◌, ◌<◌, ◌≤◌, ◌≢◌, inl, inr, ℕ, nat_lt, Bool, true, false, not, ◌&&◌, cond, T, List, [], ◌∷◌, flat_map, All, Contains, Option, Some, None, is_some, Ordering, Less, Equal, Greater, refl, sym, ap, subst, ◌∙◌, ⊎_elim, ◌+◌, length}
 use native.Mathlib.Omega.{arith}
 use Rattle.std.specs.Ordering.{nat_cmp, is_eq, is_lt, eq_by_cmp}
 use Rattle.std.specs.Cmp.{nat_cmp_total}
 use Rattle.std.specs.Option.{option_map_or}
 use Rattle.std.specs.FinMap as tree
 use Rattle.std.specs.FinMap.Entries.{below_all, is_sorted, where_key, is_sorted-where_key, find-where_key}
-use Rattle.std.proofs.lemmas.Bool.{and_parts}
+use Rattle.std.proofs.lemmas.Bool.{and_parts, or_cases, or_left, or_right}
 use Rattle.std.proofs.lemmas.Cmp.{tied_itself}
 use Rattle.std.proofs.lemmas.Option.{cond_some, same_Some}
 use Rattle.std.proofs.lemmas.List.Elements.{All-contains, Contains-append_left, Contains-append_right, Contains-append_cases}
@@ -52,7 +52,7 @@ use Rattle.sheep_world.specs.Conditions as conditions
 use Rattle.sheep_world.specs.Stepped.{seat_stepped, node_stepped, at_rest}
 use Rattle.sheep_world.specs.Effects.{retry_ticked}
 use Rattle.sheep_world.specs.Step.{Made, step, with_replies}
-use Rattle.sheep_world.specs.Wired.{unanswered_in, asked_by_recovery, IsWired}
+use Rattle.sheep_world.specs.Wired.{unanswered_in, asked_by, asked_by_recovery, IsWired}
 use Rattle.sheep_world.specs.Driven.{may_work_at, waiting_in, AreDriven, IsDriven, NodesAreDriven, IsSentInRange}
 use Rattle.sheep_world.proofs.ListTools.{has-here, has-none, has-later, has_cases, has-found}
 use Rattle.sheep_world.proofs.NameTools.{entries-got}
@@ -67,20 +67,20 @@ use Rattle.sheep_world.proofs.DrivenLemmas.{Requests, Sessions, IsGood, driven_i
 
 -- ---- the entries of a map
 
+first_true : (a b : Bool) → T (a && b) → T a
+first_true true b p = tt
+first_true false b p = absurd p
+
+second_true : (a b : Bool) → T (a && b) → T b
+second_true true b p = p
+second_true false b p = absurd p
+
 less_all : {X : Type 0} (x : ℕ) (es : List (ℕ × X)) (e : ℕ × X) → T (below_all nat_cmp x es) → Contains es e → T (is_lt (nat_cmp x e.0))
 less_all x [] e below there = has-none e there
 less_all {X} x (f ∷ es) e below there = ⊎_elim
-    (λ (same : f ≡ e). subst (λ (g : ℕ × X). T (is_lt (nat_cmp x g.0))) same (first (is_lt (nat_cmp x f.0)) (below_all nat_cmp x es) below))
-    (λ (later : Contains es e). less_all x es e (second (is_lt (nat_cmp x f.0)) (below_all nat_cmp x es) below) later)
+    (λ (same : f ≡ e). subst (λ (g : ℕ × X). T (is_lt (nat_cmp x g.0))) same (first_true (is_lt (nat_cmp x f.0)) (below_all nat_cmp x es) below))
+    (λ (later : Contains es e). less_all x es e (second_true (is_lt (nat_cmp x f.0)) (below_all nat_cmp x es) below) later)
     (has_cases f e es there)
-  where
-    first : (a b : Bool) → T (a && b) → T a
-    first true b p = tt
-    first false b p = absurd p
-
-    second : (a b : Bool) → T (a && b) → T b
-    second true b p = p
-    second false b p = absurd p
 
 not_less : (x : ℕ) → T (is_lt (nat_cmp x x)) → ⊥
 not_less x less = subst (λ (o : Ordering). T (is_lt o)) (tied_itself nat_cmp_total x) less
@@ -91,18 +91,10 @@ entry_found {X} (f ∷ es) e sorted there = ⊎_elim
     (λ (same : f ≡ e). subst (λ (g : ℕ × X). tree.find nat_cmp g.0 (f ∷ es) ≡ Some g.1) same
     (ap (λ (o : Ordering). cond (is_eq o) (Some f.1) (tree.find nat_cmp f.0 es)) (tied_itself nat_cmp_total f.0)))
     (λ (later : Contains es e).
-    by_tie (nat_cmp e.0 f.0) refl (less_all f.0 es e (first (below_all nat_cmp f.0 es) (is_sorted nat_cmp es) sorted) later)
-    (entry_found es e (second (below_all nat_cmp f.0 es) (is_sorted nat_cmp es) sorted) later))
+    by_tie (nat_cmp e.0 f.0) refl (less_all f.0 es e (first_true (below_all nat_cmp f.0 es) (is_sorted nat_cmp es) sorted) later)
+    (entry_found es e (second_true (below_all nat_cmp f.0 es) (is_sorted nat_cmp es) sorted) later))
     (has_cases f e es there)
   where
-    first : (a b : Bool) → T (a && b) → T a
-    first true b p = tt
-    first false b p = absurd p
-
-    second : (a b : Bool) → T (a && b) → T b
-    second true b p = p
-    second false b p = absurd p
-
     by_tie : (o : Ordering) → nat_cmp e.0 f.0 ≡ o → T (is_lt (nat_cmp f.0 e.0)) → tree.find nat_cmp e.0 es ≡ Some e.1
         → cond (is_eq o) (Some f.1) (tree.find nat_cmp e.0 es) ≡ Some e.1
     by_tie Less tie less rest = rest
@@ -298,17 +290,6 @@ unfolding recovered_put
 good_at_end old turn good =
     either (IsGood old) (is_due turn.node) (with_recovered turn) turn (record { going = good.going; driven = good.driven }) good
 
-or_cases : (a b : Bool) → (a || b) ≡ true → (a ≡ true) ⊎ (b ≡ true)
-or_cases true b is = inl refl
-or_cases false b is = inr is
-
-or_left : (a b : Bool) → a ≡ true → (a || b) ≡ true
-or_left a b is = ap (λ a. a || b) is
-
-or_right : (a b : Bool) → b ≡ true → (a || b) ≡ true
-or_right true b is = refl
-or_right false b is = is
-
 -- a good step asks what its node waits for, where what it sends can be spelled
 pub good_turn_asks : (node : Node) (turn : Turn) → AreNumberedFrom node.sends turn.outputs.sends
     → turn.node.sends ≡ node.sends + length turn.outputs.sends → IsGood node turn
@@ -401,6 +382,58 @@ driven_after world n seat own driven q at got = ⊎_elim
     (λ (other : (q ≢ n) × (tree.get world.seats q ≡ Some at)). driven q at other.1)
     (got_insert world.seats n seat q at got)
 
+-- what is asked on one way, and then on another
+pub asks_after : (Stays : ℕ → Type 0) (one two three : Node) (sends : Sends) → Asking Stays one two [] → Asking Any two three sends
+    → Asking Stays one three sends
+asks_after Stays one two three sends first then =
+    let none : one.sends + 0 ≡ one.sends = omega arith in
+    let same : two.sends ≡ one.sends = first.count_so ∙ none in
+    record {
+      me_so = then.me_so ∙ first.me_so;
+      count_so = then.count_so ∙ ap (λ (n : ℕ). n + length sends) same;
+      numbers = subst (λ (n : ℕ). AreNumberedFrom n sends) same then.numbers;
+      own = λ send there. then.own send there ∙ first.me_so;
+      read = then.read;
+      asked = λ send there. ⊎_elim
+          (λ (old : Contains (asked_by two) send × Unit {0}). ⊎_elim
+          (λ (older : Contains (asked_by one) send × Stays send.1.number). inl older)
+          (λ (new : Contains [] send). has-none send new)
+          (first.asked send old.0))
+          (λ (new : Contains sends send). inr new)
+          (then.asked send there);
+      waits_on = λ number waits stays. then.waits_on number (first.waits_on number waits stays) tt;
+      waits_too = then.waits_too;
+      fits_on = λ rsp below stays fit.
+          then.fits_on rsp (subst (λ (n : ℕ). rsp.number < n) (sym same) below) tt (first.fits_on rsp below stays fit);
+    }
+
+-- what a step makes of what its node waits for and is driven to, where what it sends can be spelled
+pub record DoesWell (input : Input) (node : Node) : Type 0 where
+  pub asks : All (λ (send : NodeId × PeerReq). IsRequest send.1) (stepped input node).outputs.sends
+      → Asking Any node (stepped input node).node (stepped input node).outputs.sends
+  pub driven : IsDriven (stepped input node).node
+
+-- a good step does well
+pub good_well : (input : Input) (node : Node) → IsDriven node → IsGood node (stepped input node) → DoesWell input node
+good_well input node driven good =
+    record { asks = λ requests. good_asks input node good requests; driven = good_driven node (stepped input node) driven good }
+
+-- a node steps, and what it sends can be spelled
+abbrev pub StaysTogether : World → Type 0
+StaysTogether world = IsSentInRange world → IsWired world × NodesAreDriven world
+
+-- where a node does well, all stay together
+pub step_together : (statements : List Statement) (world : World) (n : ℕ) (input : Input) (o : Option Seat) → seat_at n world ≡ o
+    → ((seat : Seat) → o ≡ Some seat → (is_seat_up seat ≡ true) × DoesWell input seat.node)
+    → NodesAreDriven world → IsWired world → StaysTogether (seat_stepped statements n input o world)
+step_together statements world n input None at well driven wired requests = (wired, driven)
+step_together statements world n input (Some seat) at well driven wired requests =
+    let (up, does) = well seat refl in
+    let turn = stepped input seat.node in (
+      wired_asking Any world.seats world.wire world.wire n seat turn.node turn.outputs.sends at up wired (does.asks requests) (nothing_leaves n world.wire),
+      driven_after world n (next_seat seat turn.node) does.driven driven,
+    )
+
 -- ---- a work is tried again
 
 idle_stage : (epoch : Epoch) (work : Work) (stage : Stage) → work.stage ≡ stage → may_try epoch stage ≡ true → IsIdle work
@@ -478,23 +511,19 @@ retried_good node driven = by_found (next_try (record { 0 = node.peer.epoch }) n
     by_found None is = record { going = (good_first node driven).going; driven = driven.driven }
     by_found (Some found) is = tried_good node driven found is
 
-retry_good : (node : Node) → IsDriven node → IsGood node (stepped inputs.RetryTick node)
+pub retry_good : (node : Node) → IsDriven node → IsGood node (stepped inputs.RetryTick node)
 unfolding stepped taken_in
 retry_good node driven = good_at_end node (steps.retry_ticked (at_first node)) (retried_good node driven)
 
-wired_again : (statements : List Statement) (world : World) (n : ℕ) (o : Option Seat) → seat_at n world ≡ o
-    → option_map_or (λ (seat : Seat). is_seat_up seat && may_retry seat.node) o false ≡ true
-    → IsSentInRange (seat_stepped statements n inputs.RetryTick o (at_rest world)) → NodesAreDriven world → IsWired world
-    → IsWired (seat_stepped statements n inputs.RetryTick o (at_rest world)) × NodesAreDriven (seat_stepped statements n inputs.RetryTick o (at_rest world))
-wired_again statements world n None at may requests driven wired = absurd (cc (may))
-wired_again statements world n (Some seat) at may requests driven wired =
-    let (up, retries) = and_parts (is_seat_up seat) (may_retry seat.node) may in
-    let turn = stepped inputs.RetryTick seat.node in
-    let good = retry_good seat.node (driven n seat at) in (
-      wired_asking Any world.seats world.wire world.wire n seat turn.node turn.outputs.sends at up wired
-          (good_asks inputs.RetryTick seat.node good requests) (nothing_leaves n world.wire),
-      driven_after world n (next_seat seat turn.node) (good_driven seat.node turn (driven n seat at) good) driven,
-    )
+retried_well : (statements : List Statement) (world : World) (n : ℕ) → conditions.may_retry n world ≡ true → NodesAreDriven world → IsWired world
+    → StaysTogether (seat_stepped statements n inputs.RetryTick (seat_at n world) (at_rest world))
+retried_well statements world n may driven wired =
+    step_together statements (at_rest world) n inputs.RetryTick (seat_at n world) refl
+    (λ seat at.
+    let (up, retries) = and_parts (is_seat_up seat) (may_retry seat.node)
+    (sym (ap (λ (o : Option Seat). option_map_or (λ (seat : Seat). is_seat_up seat && may_retry seat.node) o false) at) ∙ may) in
+    (up, good_well inputs.RetryTick seat.node (driven n seat at) (retry_good seat.node (driven n seat at))))
+    driven wired
 
 pub wired-retry : (statements : List Statement) (world : World) (made : Made) (node : NodeId)
     → step statements (events.RetryTick node) world ≡ Some made → IsSentInRange made.world → NodesAreDriven world → IsWired world
@@ -502,6 +531,4 @@ pub wired-retry : (statements : List Statement) (world : World) (made : Made) (n
 unfolding step retry_ticked node_stepped
 wired-retry statements world made node is requests driven wired =
     let t = cond_some (conditions.may_retry node.0 world) (with_replies statements world (retry_ticked statements node.0 world)) made is in
-    subst (λ (made : Made). IsWired made.world × NodesAreDriven made.world) t.1
-    (wired_again statements world node.0 (seat_at node.0 world) refl t.0
-    (subst (λ (made : Made). IsSentInRange made.world) (sym t.1) requests) driven wired)
+    subst (λ (made : Made). StaysTogether made.world) t.1 (retried_well statements world node.0 t.0 driven wired) requests

@@ -1,6 +1,6 @@
 -- What a gateway does once it knows of one more message leaves nodes and wire together.
-use Rattle.std.proofs.Common.{◌≡◌, ◌==◌, not, ◌∷◌, ◌⊎◌, inl, inr, ℕ, ◌+◌, ◌<◌, Bool, true, false, ◌&&◌, ◌||◌, cond, List, [], length, All, Contains, Option, Some, None, is_some, refl, sym, ap, subst, ◌∙◌, ⊎_elim}
-use native.Mathlib.Omega.{arith}
+use Rattle.std.proofs.Common.{◌≡◌, ◌==◌, not, ◌∷◌, ℕ, ◌+◌, ◌<◌, Bool, true, false, ◌&&◌, cond, List, [], length, All, Option, Some, None, is_some, refl, sym, ap, subst, ◌∙◌, ⊎_elim}
+use Rattle.std.proofs.lemmas.Bool.{or_cases}
 use Rattle.std.specs.Ordering.{nat_cmp}
 use Rattle.std.specs.List.{list_any}
 use Rattle.std.specs.FinMap as tree
@@ -42,15 +42,12 @@ use Rattle.sheep_node.specs.Waiting.{left_by, work_done, acted, gateway_stepped}
 use Rattle.sheep_node.specs.Step as steps
 use Rattle.sheep_node.specs.Step.{recovery_stepped, taken_in, is_due, with_recovered, recovered_put, stepped}
 use Rattle.sheep_node.proofs.SoundSteps.{stepped_numbers, stepped_counts}
-use Rattle.sheep_world.specs.Wired.{asked_by}
 use Rattle.sheep_world.specs.Driven.{IsDriven}
-use Rattle.sheep_world.proofs.ListTools.{has-none}
-use Rattle.sheep_world.proofs.SendLemmas.{Sends, Asking}
-use Rattle.sheep_world.proofs.RecoverLemmas.{Any}
+use Rattle.sheep_world.proofs.SendLemmas.{Asking}
 use Rattle.sheep_world.proofs.EndLemmas.{Other, left_now, lost_asks, replied_asks}
 use Rattle.sheep_world.proofs.NumberTools.{got_removed}
 use Rattle.sheep_world.proofs.DrivenLemmas.{IsGood, IsFree, IsFreeIn, driver_stepped_good, let_begin_good, left_by_good, left_by_free, work_refused_good}
-use Rattle.sheep_world.proofs.RetryLemmas.{found_got, some_of, good_first, good_at_end, good_turn_asks, good_driven}
+use Rattle.sheep_world.proofs.RetryLemmas.{found_got, some_of, good_first, good_at_end, good_turn_asks, good_driven, asks_after}
 use Rattle.sheep_world.proofs.GuestLemmas.{command_went_on_good}
 use Rattle.sheep_world.proofs.MarkLemmas.{Marks, marks_open, marks_ended, marks_removed, marked_asks, marked_driven}
 
@@ -200,31 +197,6 @@ module _ (node : Node) (driven : IsDriven node) (number : ℕ) (status : Status)
   pub settled_asks : Asking (Other number) node (record node { gateway = (answered node.gateway number status).gateway }) []
   settled_asks = marked_asks node (answered node.gateway number status).gateway number answered_so.marks driven waits
 
--- what is asked on one way, and then on another
-pub asks_after : (Stays : ℕ → Type 0) (one two three : Node) (sends : Sends) → Asking Stays one two [] → Asking Any two three sends
-    → Asking Stays one three sends
-asks_after Stays one two three sends first then =
-    let none : one.sends + 0 ≡ one.sends = omega arith in
-    let same : two.sends ≡ one.sends = first.count_so ∙ none in
-    record {
-      me_so = then.me_so ∙ first.me_so;
-      count_so = then.count_so ∙ ap (λ (n : ℕ). n + length sends) same;
-      numbers = subst (λ (n : ℕ). AreNumberedFrom n sends) same then.numbers;
-      own = λ send there. then.own send there ∙ first.me_so;
-      read = then.read;
-      asked = λ send there. ⊎_elim
-          (λ (old : Contains (asked_by two) send × Unit {0}). ⊎_elim
-          (λ (older : Contains (asked_by one) send × Stays send.1.number). inl older)
-          (λ (new : Contains [] send). has-none send new)
-          (first.asked send old.0))
-          (λ (new : Contains sends send). inr new)
-          (then.asked send there);
-      waits_on = λ number waits stays. then.waits_on number (first.waits_on number waits stays) tt;
-      waits_too = then.waits_too;
-      fits_on = λ rsp below stays fit.
-          then.fits_on rsp (subst (λ (n : ℕ). rsp.number < n) (sym same) below) tt (first.fits_on rsp below stays fit);
-    }
-
 -- ---- the step of a node
 
 -- what a step on a message makes of what its node waits for but for that, where what it sends can be spelled
@@ -325,10 +297,6 @@ settled_by work (says.Objects oids) fit = absurd (cc (fit))
 settled_by work (says.Row row) fit = absurd (cc (fit))
 settled_by work says.NoRow fit = absurd (cc (fit))
 settled_by work (says.Refused refusal) fit = refl
-
-or_cases : (a b : Bool) → (a || b) ≡ true → (a ≡ true) ⊎ (b ≡ true)
-or_cases true b is = inl refl
-or_cases false b is = inr is
 
 fits_settled : (node : Node) (rsp : PeerRsp) → IsDriven node → gateways.waits_for rsp.number node.gateway ≡ true → fits rsp node ≡ true
     → is_unanswered (status_by rsp.say) ≡ false

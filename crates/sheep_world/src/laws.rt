@@ -1,5 +1,5 @@
 //! Laws of the definitions, for the proofs of the layers above: each is the contract of a function that does nothing.
-ghost use Rattle.std.specs.Prelude.{◌≡◌, ◌≢◌, ℕ, true, false, List, [], ◌∷◌, ◌++◌, Contains, Some, None, Ok, is_some};
+ghost use Rattle.std.specs.Prelude.{◌≡◌, ◌≢◌, ◌<◌, ℕ, true, false, List, [], ◌∷◌, ◌++◌, Contains, Some, None, Ok, is_some};
 ghost use Rattle.object_id.specs.declared.node.NodeId.{NodeId};
 ghost use Rattle.object_id.specs.declared.entry.Entry.{Entry};
 ghost use Rattle.object_id.specs.declared.entry.Entry.TheVariants as entries;
@@ -141,6 +141,36 @@ pub fn works_go_with_their_requests()
         → step statements (events.Reweight node) world ≡ Some made → NodesAreDriven world → NodesAreDriven made.world }
     ensures back { (statements : List Statement) (world : World) (made : Made) (node : NodeId)
         → step statements (events.Back node) world ≡ Some made → NodesAreDriven world → NodesAreDriven made.world }
+{}
+
+/// What the recoveries know of stays in range at the events that tell them nothing, and at losses. Of RecoverTick it is part of
+/// `nodes_and_wire_stay_together`.
+pub fn recoveries_stay_in_range()
+    ensures phase { (statements : List Statement) (world : World) (made : Made)
+        → step statements events.Phase world ≡ Some made → RecoveriesAreInRange world → RecoveriesAreInRange made.world }
+    ensures put { (statements : List Statement) (world : World) (made : Made) (node : NodeId)
+        → step statements (events.Put node) world ≡ Some made → RecoveriesAreInRange world → RecoveriesAreInRange made.world }
+    ensures lost { (statements : List Statement) (world : World) (made : Made) (node : NodeId)
+        → step statements (events.Lost node) world ≡ Some made → RecoveriesAreInRange world → RecoveriesAreInRange made.world }
+    ensures leave { (statements : List Statement) (world : World) (made : Made) (node : NodeId)
+        → step statements (events.Leave node) world ≡ Some made → RecoveriesAreInRange world → RecoveriesAreInRange made.world }
+    ensures reweight { (statements : List Statement) (world : World) (made : Made) (node : NodeId)
+        → step statements (events.Reweight node) world ≡ Some made → RecoveriesAreInRange world → RecoveriesAreInRange made.world }
+    ensures join { (statements : List Statement) (world : World) (made : Made) (node : NodeId)
+        → step statements (events.Join node) world ≡ Some made → node.0 < 64 → RecoveriesAreInRange world
+        → RecoveriesAreInRange made.world }
+    ensures guest { (statements : List Statement) (world : World) (made : Made) (session : ℕ)
+        → step statements (events.Guest session) world ≡ Some made → IsNewRequest statements session world → NodesAreDriven world
+        → RecoveriesAreInRange world → RecoveriesAreInRange made.world }
+    ensures retry { (statements : List Statement) (world : World) (made : Made) (node : NodeId)
+        → step statements (events.RetryTick node) world ≡ Some made → NodesAreDriven world → RecoveriesAreInRange world
+        → RecoveriesAreInRange made.world }
+    ensures lose_request { (statements : List Statement) (world : World) (made : Made) (node : NodeId) (number : ℕ)
+        → step statements (events.LoseRequest node number) world ≡ Some made → NodesAreDriven world → RecoveriesAreInRange world
+        → RecoveriesAreInRange made.world }
+    ensures lose_reply { (statements : List Statement) (world : World) (made : Made) (node : NodeId) (number : ℕ)
+        → step statements (events.LoseReply node number) world ≡ Some made → NodesAreDriven world → RecoveriesAreInRange world
+        → RecoveriesAreInRange made.world }
 {}
 
 /// A node steps only on what it may. So a loss that it is told is of a message that it waits for, and so is a reply, which

@@ -21,7 +21,7 @@ pub use fault::ApplyFault;
 pub use laws::{
     a_history_only_grows, a_run_is_cut_anywhere, a_small_world_worked_out, lives_worked_out,
     members_make_no_disk, nodes_and_wire_stay_together, nodes_step_on_what_they_may,
-    requests_have_inputs, the_enabled_list_has_what_may_happen, what_may_happen_is_made,
-    works_go_with_their_requests,
+    recoveries_stay_in_range, requests_have_inputs, the_enabled_list_has_what_may_happen,
+    what_may_happen_is_made, works_go_with_their_requests,
 };
 pub use name::MessageName;

@@ -1,0 +1,16 @@
+use Rattle.sheep_world.proofs.RangeLemmas.{range-phase, range-put, range-lost, range-leave, range-reweight, range-join, range-guest, range-retry, range-lose_request, range-lose_reply}
+use Rattle.sheep_world.proofs.laws.recoveries_stay_in_range.Goals as goal
+
+pub returns : goal.returns
+returns c = record {
+  phase = range-phase;
+  put = range-put;
+  lost = range-lost;
+  leave = range-leave;
+  reweight = range-reweight;
+  join = range-join;
+  guest = range-guest;
+  retry = range-retry;
+  lose_request = range-lose_request;
+  lose_reply = range-lose_reply;
+}
