@@ -20,6 +20,7 @@ pub mod SettleLemmas
 pub mod LossLemmas
 pub mod KeptLemmas
 pub mod RangeLemmas
+pub mod OpeningRange
 pub mod MeetLemmas
 pub mod AskLemmas
 pub mod BackLemmas

@@ -5,6 +5,7 @@ ghost use Rattle.object_id.specs.declared.entry.Entry.{Entry};
 ghost use Rattle.object_id.specs.declared.entry.Entry.TheVariants as entries;
 ghost use Rattle.cluster_script.specs.declared.statement.Statement.{Statement};
 ghost use Rattle.cluster_script.specs.Asked.{request_at};
+ghost use Rattle.cluster_script.specs.Language.{IsScript};
 ghost use Rattle.peer_proto.specs.declared.say.PeerRsp.{PeerRsp};
 ghost use Rattle.peer_proto.specs.Say.{say_in};
 ghost use Rattle.disk_history.specs.declared.event.HistEvent.{HistEvent};
@@ -143,9 +144,10 @@ pub fn works_go_with_their_requests()
         → step statements (events.Back node) world ≡ Some made → NodesAreDriven world → NodesAreDriven made.world }
 {}
 
-/// What the recoveries know of stays in range at the events that tell them nothing, and at losses. Of RecoverTick it is part of
-/// `nodes_and_wire_stay_together`.
+/// What the recoveries know of is in range when a script opens, and stays so at the events that tell them nothing, and at losses. Of
+/// RecoverTick it is part of `nodes_and_wire_stay_together`.
 pub fn recoveries_stay_in_range()
+    ensures opening { (statements : List Statement) → IsScript statements → RecoveriesAreInRange (opening statements) }
     ensures phase { (statements : List Statement) (world : World) (made : Made)
         → step statements events.Phase world ≡ Some made → RecoveriesAreInRange world → RecoveriesAreInRange made.world }
     ensures put { (statements : List Statement) (world : World) (made : Made) (node : NodeId)
