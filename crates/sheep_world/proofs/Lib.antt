@@ -19,6 +19,8 @@ pub mod MarkLemmas
 pub mod SettleLemmas
 pub mod LossLemmas
 pub mod KeptLemmas
+pub mod RequestLemmas
+pub mod BegunLemmas
 pub mod RangeLemmas
 pub mod OpeningRange
 pub mod MeetLemmas

@@ -15,5 +15,6 @@ pub mod Lives
 pub mod Wired
 pub mod Ranges
 pub mod Driven
+pub mod Begun
 pub mod Meets
 pub mod Example

@@ -28,6 +28,7 @@ ghost use Rattle.sheep_world.specs.Run.{Moment, run_from};
 ghost use Rattle.sheep_world.specs.Enabled.{is_enabled, enabled};
 ghost use Rattle.sheep_world.specs.Wired.{is_of_work, IsWired};
 ghost use Rattle.sheep_world.specs.Ranges.{RecoveriesAreInRange};
+ghost use Rattle.sheep_world.specs.Begun.{RequestsWereBegun};
 ghost use Rattle.sheep_world.specs.Driven.{NodesAreDriven, IsSentInRange, IsNewRequest};
 
 /// An event makes something exactly where it may happen.
@@ -173,6 +174,16 @@ pub fn recoveries_stay_in_range()
     ensures lose_reply { (statements : List Statement) (world : World) (made : Made) (node : NodeId) (number : ℕ)
         → step statements (events.LoseReply node number) world ≡ Some made → NodesAreDriven world → RecoveriesAreInRange world
         → RecoveriesAreInRange made.world }
+{}
+
+/// Each request that a node has is one that a session has begun whose gateway the node is, in its present life: so it is in the opening
+/// world, and so it stays at each event. So the next request of a session is new to its gateway.
+pub fn requests_were_begun()
+    ensures opening { (statements : List Statement) → RequestsWereBegun statements (opening statements) }
+    ensures kept { (statements : List Statement) (world : World) (made : Made) (event : Event)
+        → step statements event world ≡ Some made → RequestsWereBegun statements world → RequestsWereBegun statements made.world }
+    ensures new { (statements : List Statement) (session : ℕ) (world : World)
+        → RequestsWereBegun statements world → IsNewRequest statements session world }
 {}
 
 /// A node steps only on what it may. So a loss that it is told is of a message that it waits for, and so is a reply, which
