@@ -2,3 +2,4 @@ pub mod ReportLaws
 pub mod FateLaws
 pub mod ExampleLemmas
 pub mod CountLaws
+pub mod DumpLaws

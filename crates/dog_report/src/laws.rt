@@ -1,9 +1,10 @@
 //! Laws of the definitions, for the proofs of the layers above: each is the contract of a function that does nothing.
 ghost use Rattle.std.specs.Prelude.{◌≡◌, ℕ, ◌+◌, nat_le, true, false, List, [], ◌∷◌, ◌++◌, codes, replicate, length, take, map, Some, None};
-ghost use Rattle.std.specs.List.{range_with_len};
+ghost use Rattle.std.specs.List.{range_with_len, Contains};
 ghost use Rattle.std.specs.List.Sorted.{IsPermutation};
 ghost use Rattle.std.specs.FinMap.{get};
 ghost use Rattle.object_id.specs.declared.cause.Cause.TheVariants as causes;
+ghost use Rattle.object_store.specs.Store.{SeenRow, rows_of};
 ghost use Rattle.peer_proto.specs.declared.guest.GuestRsp.{GuestRsp};
 ghost use Rattle.peer_proto.specs.declared.guest.GuestRsp.TheVariants as replies;
 ghost use Rattle.cluster_script.specs.declared.statement.Statement.{Statement};
@@ -11,11 +12,11 @@ ghost use Rattle.cluster_script.specs.Statements.{requests_of};
 ghost use Rattle.cluster_script.specs.Phases.{phase_of_request};
 ghost use Rattle.sheep_node.specs.declared.event.Event.{Event};
 ghost use Rattle.sheep_node.specs.State.{opening};
-ghost use Rattle.sheep_world.specs.World.{Seat, World};
+ghost use Rattle.sheep_world.specs.World.{Seat, World, is_seat_up};
 ghost use Rattle.sheep_world.specs.Opening.{first_seat};
-ghost use Rattle.dog_report.specs.Words.{spaced};
+ghost use Rattle.dog_report.specs.Words.{Words, spaced};
 ghost use Rattle.dog_report.specs.Fates.{Answered, Gone, Pending, Unsent, Line, Told, line_words, numbers_told};
-ghost use Rattle.dog_report.specs.Lists.{seat_words, pending_word, vdis_words, cluster_info, row_words, in_order};
+ghost use Rattle.dog_report.specs.Lists.{seat_words, pending_word, vdis_words, cluster_info, row_words, in_order, dump};
 ghost use Rattle.dog_report.specs.Report.{Report, is_lost_request, is_begun, fate_of, fate_due, last_fate, report_of};
 ghost use Rattle.dog_report.specs.Counts.{count_of, is_ok, is_refused, is_gone, is_pending, is_unsent, generated_words};
 ghost use Rattle.dog_report.specs.Example.{node, member, example_log, at_log, example_effects, row_to, row_from};
@@ -116,4 +117,15 @@ pub fn lists_spelled_out()
         ≡ codes "row 3 0001ec8c00000000 0 2 5 af63dc4c8601ec8c" }
     // The rows of an object by index, and then by their first epochs.
     ensures order { in_order (row_from 1 2 ∷ row_from 0 3 ∷ row_from 0 2 ∷ []) ≡ row_from 0 2 ∷ row_from 0 3 ∷ row_from 1 2 ∷ [] }
+{}
+
+/// What `dump` lists: each row of each node that is up, and nothing else.
+pub fn dump_has_the_rows_of_nodes_that_are_up()
+    ensures only { (world : World) (words : Words) → Contains (dump world) words
+        → (number : ℕ) × (seat : Seat) × (oid : ℕ) × (row : SeenRow)
+        × (get world.seats number ≡ Some seat) × (is_seat_up seat ≡ true) × Contains (rows_of seat.node.peer.rows oid) row
+        × (words ≡ row_words number oid row) }
+    ensures all { (world : World) (number : ℕ) (seat : Seat) (oid : ℕ) (row : SeenRow)
+        → get world.seats number ≡ Some seat → is_seat_up seat ≡ true → Contains (rows_of seat.node.peer.rows oid) row
+        → Contains (dump world) (row_words number oid row) }
 {}

@@ -4,13 +4,13 @@
 //! (`specs/Causes.antt`), how read bytes are (`specs/Runs.antt`), what may have become of a request and its line
 //! (`specs/Fates.antt`), the lists (`specs/Lists.antt`), and the report of a run by its lines (`specs/Report.antt`), over
 //! the words of a line (`specs/Words.antt`); and how many requests it tells of in each way (`specs/Counts.antt`). The laws of
-//! `laws.rt` say that each request has exactly one line, and spell lines out, of requests and of the lists of a small log
-//! (`specs/Example.antt`).
+//! `laws.rt` say that each request has exactly one line and which rows are listed, and spell lines out, of requests and of
+//! the lists of a small log (`specs/Example.antt`).
 #![tactic(auto)]
 
 mod laws;
 
 pub use laws::{
-    each_request_has_one_line, lists_spelled_out, requests_lines_spelled_out, the_counts_add_up,
-    what_became_of_a_request,
+    dump_has_the_rows_of_nodes_that_are_up, each_request_has_one_line, lists_spelled_out,
+    requests_lines_spelled_out, the_counts_add_up, what_became_of_a_request,
 };
