@@ -1,16 +1,15 @@
 -- Each event leaves the nodes with requests that were begun, so that the next request of a session is new to its gateway.
-use Rattle.std.proofs.Common.{◌≡◌, ◌≢◌, ◌⊎◌, inl, inr, ℕ, zero, suc, ◌+◌, ◌-◌, ◌<◌, ◌≤◌, ◌==◌, Bool, true, false, ◌&&◌, cond, List, [], ◌∷◌, map, filter, fold, Option, Some, None, refl, sym, ap, subst, ◌∙◌, ⊎_elim}
+use Rattle.std.proofs.Common.{◌≡◌, ◌≢◌, ℕ, ◌+◌, ◌-◌, ◌<◌, ◌≤◌, ◌==◌, Bool, true, false, ◌&&◌, cond, List, [], ◌∷◌, fold, Option, Some, None, refl, sym, ap, subst, ◌∙◌, ⊎_elim}
 use native.Mathlib.Omega.{arith}
 use Rattle.std.specs.Prelude.{Result, Ok, Err, unwrap_or}
-use Rattle.std.specs.List.{slice_get, enumerate_from}
 use Rattle.std.specs.Option.{option_map_or, option_and_then}
 use Rattle.std.specs.Ordering.{nat_cmp}
 use Rattle.std.specs.FinMap as tree
 use Rattle.std.proofs.lemmas.Bool.{eqb-true, and_parts}
-use Rattle.std.proofs.lemmas.Option.{same_Some, cond_some}
+use Rattle.std.proofs.lemmas.Option.{cond_some}
 use Rattle.object_id.specs.declared.entry.Entry.{Entry}
 use Rattle.cluster_script.specs.declared.statement.Statement.{Statement}
-use Rattle.cluster_script.specs.Asked.{session_of, is_of_session, request_at}
+use Rattle.cluster_script.specs.Asked.{session_of, request_at}
 use Rattle.cluster_script.specs.Settings.{tries_of}
 use Rattle.cluster_script.specs.Sessions.{Session, session_numbered, is_numbered, sessions_of}
 use Rattle.cluster_script.specs.Statements.{requests_of}
@@ -50,78 +49,12 @@ use Rattle.sheep_world.proofs.NumberTools.{same_or_not, got_own, got_other}
 use Rattle.sheep_world.proofs.OpeningLemmas.{opening_found}
 use Rattle.sheep_world.proofs.PutLemmas.{next_seat}
 use Rattle.sheep_world.proofs.RequestLemmas.{IsOfInput, stepped_are, none_are, back_are}
+use Rattle.sheep_world.proofs.SessionNumbers.{once}
 use Rattle.sheep_world.proofs.WireLemmas.{got_insert}
 
--- ---- the numbers of sessions' requests
-
--- the numbers of a session's requests among some, counted from `first`
-abbrev those_of : ℕ → List Statement → ℕ → List (ℕ × Statement)
-those_of first requests session = filter (λ (request : ℕ × Statement). is_of_session session request.1) (enumerate_from first requests)
-
-abbrev numbers_from : ℕ → List Statement → ℕ → List ℕ
-numbers_from first requests session = map (λ (request : ℕ × Statement). request.0) (those_of first requests session)
-
--- a number at a place is that of the first request, or one of the later ones
-abbrev IsFirst : Bool → ℕ → ℕ → ℕ → Type 0
-IsFirst takes first place req = (takes ≡ true) × (place ≡ 0) × (first ≡ req)
-
-abbrev IsLater : Bool → List ℕ → ℕ → ℕ → Type 0
-IsLater takes later place req =
-    (behind : ℕ) × (slice_get later behind ≡ Some req) × (takes ≡ true → place ≡ behind + 1) × (takes ≡ false → place ≡ behind)
-
-listed : (takes : Bool) (first : ℕ × Statement) (later : List (ℕ × Statement)) (place req : ℕ)
-    → slice_get (map (λ (request : ℕ × Statement). request.0) (cond takes (first ∷ later) later)) place ≡ Some req
-    → IsFirst takes first.0 place req ⊎ IsLater takes (map (λ (request : ℕ × Statement). request.0) later) place req
-listed true first later zero req is = inl (refl, refl, same_Some first.0 req is)
-listed true first later (suc behind) req is = inr (behind, is, λ so. omega arith, λ never. absurd (cc (never)))
-listed false first later place req is = inr (place, is, λ never. absurd (cc (never)), λ so. refl)
-
-at_least : (first : ℕ) (requests : List Statement) (session place req : ℕ) → slice_get (numbers_from first requests session) place ≡ Some req
-    → first ≤ req
-at_least first [] session place req is = absurd (cc (is))
-at_least first (s ∷ rest) session place req is = ⊎_elim
-    (λ (here : IsFirst (is_of_session session s) first place req). let same : first ≡ req = here.2 in omega (arith, same))
-    (λ (later : IsLater (is_of_session session s) (numbers_from (first + 1) rest session) place req).
-    let more : first + 1 ≤ req = at_least (first + 1) rest session later.0 req later.1 in omega (arith, more))
-    (listed (is_of_session session s) (first, s) (those_of (first + 1) rest session) place req is)
-
-one_session : (one other : ℕ) (of : Option ℕ) → option_map_or (λ (number : ℕ). number == one) of false ≡ true
-    → option_map_or (λ (number : ℕ). number == other) of false ≡ true → one ≡ other
-one_session one other None is there = absurd (cc (is))
-one_session one other (Some number) is there = sym (eqb-true number one is) ∙ eqb-true number other there
-
--- a number is of one session, and at one place of its numbers
-once : (first : ℕ) (requests : List Statement) (one other place behind req : ℕ) → slice_get (numbers_from first requests one) place ≡ Some req
-    → slice_get (numbers_from first requests other) behind ≡ Some req → (one ≡ other) × (place ≡ behind)
-once first [] one other place behind req is there = absurd (cc (is))
-once first (s ∷ rest) one other place behind req is there = ⊎_elim
-    (λ (here : IsFirst (is_of_session one s) first place req). ⊎_elim
-    (λ (too : IsFirst (is_of_session other s) first behind req). (one_session one other (session_of s) here.0 too.0, here.1 ∙ sym too.1))
-    (λ (later : IsLater (is_of_session other s) (numbers_from (first + 1) rest other) behind req).
-    let same : first ≡ req = here.2 in
-    let more : first + 1 ≤ req = at_least (first + 1) rest other later.0 req later.1 in
-    absurd (omega (arith, same, more)))
-    (listed (is_of_session other s) (first, s) (those_of (first + 1) rest other) behind req there))
-    (λ (later : IsLater (is_of_session one s) (numbers_from (first + 1) rest one) place req). ⊎_elim
-    (λ (here : IsFirst (is_of_session other s) first behind req).
-    let same : first ≡ req = here.2 in
-    let more : first + 1 ≤ req = at_least (first + 1) rest one later.0 req later.1 in
-    absurd (omega (arith, same, more)))
-    (λ (too : IsLater (is_of_session other s) (numbers_from (first + 1) rest other) behind req).
-    let same = once (first + 1) rest one other later.0 too.0 req later.1 too.1 in
-    (same.0, by_first (is_of_session one s) refl later too same))
-    (listed (is_of_session other s) (first, s) (those_of (first + 1) rest other) behind req there))
-    (listed (is_of_session one s) (first, s) (those_of (first + 1) rest one) place req is)
-  where
-    by_first : (b : Bool) → is_of_session one s ≡ b → (later : IsLater (is_of_session one s) (numbers_from (first + 1) rest one) place req)
-        → (too : IsLater (is_of_session other s) (numbers_from (first + 1) rest other) behind req) → (one ≡ other) × (later.0 ≡ too.0) → place ≡ behind
-    by_first true takes later too same =
-        later.2 takes ∙ ap (λ (n : ℕ). n + 1) same.1 ∙ sym (too.2 (ap (λ (k : ℕ). is_of_session k s) (sym same.0) ∙ takes))
-    by_first false takes later too same =
-        later.3 takes ∙ same.1 ∙ sym (too.3 (ap (λ (k : ℕ). is_of_session k s) (sym same.0) ∙ takes))
-
 -- the next request of a session is new to its gateway
-pub new-begun : (statements : List Statement) (number : ℕ) (world : World) → RequestsWereBegun statements world → IsNewRequest statements number world
+pub new-begun : (statements : List Statement) (number : ℕ) (world : World) → RequestsWereBegun statements world
+    → IsNewRequest statements number world
 new-begun statements number world was session req seat found next at = by_request (tree.get seat.node.requests req) refl
   where
     by_request : (o : Option Request) → tree.get seat.node.requests req ≡ o → tree.get seat.node.requests req ≡ None
@@ -211,11 +144,13 @@ IsInputBegun statements world n input =
     (seat : Seat) → seat_at n world ≡ Some seat → IsOfInput (IsBegun statements world.guests n seat.life) input
 
 stepped_begun : (statements : List Statement) (world : World) (n : ℕ) (input : Input) (o : Option Seat) → seat_at n world ≡ o
-    → IsInputBegun statements world n input → RequestsWereBegun statements world → RequestsWereBegun statements (seat_stepped statements n input o world)
+    → IsInputBegun statements world n input → RequestsWereBegun statements world
+    → RequestsWereBegun statements (seat_stepped statements n input o world)
 stepped_begun statements world n input None at of was = was
 stepped_begun statements world n input (Some seat) at of was =
     let turn = stepped input seat.node in
-    all_grown statements (tree.insert world.seats n (next_seat seat turn.node)) world.guests (fold (answered statements) world.guests turn.outputs.replies)
+    all_grown statements (tree.insert world.seats n (next_seat seat turn.node)) world.guests
+    (fold (answered statements) world.guests turn.outputs.replies)
     (grown_by statements turn.outputs.replies world.guests)
     (with_seat statements world.seats world.guests n (next_seat seat turn.node)
     (stepped_are (IsBegun statements world.guests n seat.life) input seat.node (of seat at) (was n seat at))
@@ -237,10 +172,11 @@ module _ (statements : List Statement) (number : ℕ) (world : World) (session :
   lives_now seat at =
       let serving : has_gateway session world ≡ true
       = (and_parts (has_gateway session world)
-      (option_map_or (may_begin statements world.phase (guest_at session.number world)) (next_request statements session.number world) false) asks).0 in
+      (option_map_or (may_begin statements world.phase (guest_at session.number world)) (next_request statements session.number world) false)
+      asks).0 in
       let serves_so : serves session seat ≡ true = sym (ap (λ (o : Option Seat). option_map_or (serves session) o false) at) ∙ serving in
-      let lives = (and_parts (is_seat_up seat) (seat.life == session.life) (and_parts (is_seat_up seat && seat.life == session.life) (is_member seat.node) serves_so).0).1 in
-      sym (eqb-true seat.life session.life lives)
+      let lives = (and_parts (is_seat_up seat && seat.life == session.life) (is_member seat.node) serves_so).0 in
+      sym (eqb-true seat.life session.life (and_parts (is_seat_up seat) (seat.life == session.life) lives).1)
 
   abbrev IsAskBegun : ℕ → Option Input → Type 0
   IsAskBegun req None = Unit {0}
@@ -280,18 +216,23 @@ module _ (statements : List Statement) (number : ℕ) (world : World) (session :
         (begun_in (record { req = req; disk = disk_open session world }) (guest_at session.number world)) (omega arith))
         was
 
-    asked_begun : (input : Option Input) → IsAskBegun req input → RequestsWereBegun statements (node_stepped_if statements session.node input (begun_world req))
+    asked_begun : (input : Option Input) → IsAskBegun req input
+        → RequestsWereBegun statements (node_stepped_if statements session.node input (begun_world req))
     asked_begun None of = there_begun
     asked_begun (Some input) of = node_begun statements (begun_world req) session.node input of there_begun
 
   on_next : (o : Option ℕ) → next_request statements session.number world ≡ o
-      → RequestsWereBegun statements (node_stepped_if statements session.node (option_and_then (input_of statements) o) (request_begun session o (at_rest world)))
+      → RequestsWereBegun statements
+      (node_stepped_if statements session.node (option_and_then (input_of statements) o) (request_begun session o (at_rest world)))
   on_next None next = was
   on_next (Some req) next = asked_begun req next (input_of statements req) (begun_at req next (request_at statements req))
 
-  guest_kept : RequestsWereBegun statements (gateway_stepped statements (Some session) (next_input statements number world) (begun_of statements (Some session) (at_rest world)))
+  guest_kept : RequestsWereBegun statements
+      (gateway_stepped statements (Some session) (next_input statements number world) (begun_of statements (Some session) (at_rest world)))
   guest_kept =
-      subst (λ (k : ℕ). RequestsWereBegun statements (gateway_stepped statements (Some session) (next_input statements k world) (begun_of statements (Some session) (at_rest world))))
+      subst
+      (λ (k : ℕ). RequestsWereBegun statements
+      (gateway_stepped statements (Some session) (next_input statements k world) (begun_of statements (Some session) (at_rest world))))
       same (on_next (next_request statements session.number world) refl)
 
 asked_kept : (statements : List Statement) (world : World) (number : ℕ) → conditions.may_guest statements number world ≡ true
@@ -301,7 +242,8 @@ asked_kept statements world number may was =
     let (session, found, asks) = looked_up (λ session. may_ask statements session world) (session_numbered statements number) may in
     let same : session.number ≡ number = eqb-true session.number number (found-passes (is_numbered number) (sessions_of statements) session found) in
     subst
-    (λ (o : Option Session). RequestsWereBegun statements (gateway_stepped statements o (next_input statements number world) (begun_of statements o (at_rest world))))
+    (λ (o : Option Session). RequestsWereBegun statements
+    (gateway_stepped statements o (next_input statements number world) (begun_of statements o (at_rest world))))
     (sym found) (guest_kept statements number world session found same asks was)
 
 -- ---- messages
@@ -344,7 +286,8 @@ lost_kept statements name world was =
     by_letter : (o : Option Letter) → RequestsWereBegun statements (loss_used name o (at_rest world))
     by_letter None = was
     by_letter (Some letter) =
-        either (RequestsWereBegun statements) (are_ends_up name letter (at_rest world)) (record (at_rest world) { losses = world.losses - 1 }) (at_rest world) was was
+        either (RequestsWereBegun statements) (are_ends_up name letter (at_rest world)) (record (at_rest world) { losses = world.losses - 1 })
+        (at_rest world) was was
 
 -- ---- the other events
 
@@ -364,7 +307,8 @@ failed_kept statements world after n (Some seat) at seats_so guests_so was =
     (with_seat statements world.seats world.guests n (failed seat) (was n seat at) (λ q other apart there. was q other there)))
 
 -- a node that comes back has no request
-handed_kept : (statements : List Statement) (world after : World) (n : ℕ) (seat : Seat) (log : List Entry) → after.seats ≡ tree.insert world.seats n (revived seat)
+handed_kept : (statements : List Statement) (world after : World) (n : ℕ) (seat : Seat) (log : List Entry)
+    → after.seats ≡ tree.insert world.seats n (revived seat)
     → after.guests ≡ world.guests → RequestsWereBegun statements world
     → RequestsWereBegun statements (seat_stepped statements n (inputs.Back log) (Some (revived seat)) after)
 handed_kept statements world after n seat log seats_so guests_so was =
@@ -405,7 +349,8 @@ back_kept : (statements : List Statement) (world : World) (n : ℕ) → Requests
 unfolding came_back node_stepped
 back_kept statements world n was = back_by statements world n (seat_at n world) refl was
 
-made_kept : (statements : List Statement) (b : Bool) (one made : Made) → cond b (Some one) None ≡ Some made → (b ≡ true → RequestsWereBegun statements one.world)
+made_kept : (statements : List Statement) (b : Bool) (one made : Made) → cond b (Some one) None ≡ Some made
+    → (b ≡ true → RequestsWereBegun statements one.world)
     → RequestsWereBegun statements made.world
 made_kept statements b one made is kept =
     let t = cond_some b one made is in
@@ -416,7 +361,8 @@ pub kept-begun : (statements : List Statement) (world : World) (made : Made) (ev
     → RequestsWereBegun statements world → RequestsWereBegun statements made.world
 unfolding step entry_read entry_put recovery_ticked retry_ticked node_lost node_left node_joined reweighted phase_ended
 kept-begun statements world made (events.Guest number) is was =
-    made_kept statements (conditions.may_guest statements number world) (guest_made statements number world (guest_asked statements number world)) made is
+    made_kept statements (conditions.may_guest statements number world)
+    (guest_made statements number world (guest_asked statements number world)) made is
     (λ may. asked_kept statements world number may was)
 kept-begun statements world made (events.Deliver node number) is was =
     let name : MessageName = record { sender = node; number = number } in

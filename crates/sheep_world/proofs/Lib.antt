@@ -20,6 +20,7 @@ pub mod SettleLemmas
 pub mod LossLemmas
 pub mod KeptLemmas
 pub mod RequestLemmas
+pub mod SessionNumbers
 pub mod BegunLemmas
 pub mod RangeLemmas
 pub mod OpeningRange

@@ -73,7 +73,8 @@ none_changed : (change : ℕ → List SeenRow → List SeenRow) → All IsOid (t
 unfolding each
 none_changed change =
     let none : tree.entries {R = nat_cmp} (tree.empty {X = List SeenRow}) ≡ []
-    = none_there (tree.entries {R = nat_cmp} (tree.empty {X = List SeenRow})) (sym (tree.len-entries tree.empty) ∙ tree.len-empty nat_cmp (List SeenRow)) in
+    = none_there (tree.entries {R = nat_cmp} (tree.empty {X = List SeenRow}))
+    (sym (tree.len-entries tree.empty) ∙ tree.len-empty nat_cmp (List SeenRow)) in
     subst (λ (es : List (ℕ × List SeenRow)). All IsOid (tree.keys (tree.from_entries {R = nat_cmp} (each_entry change es)))) (sym none)
     (subst (λ (es : List (ℕ × List SeenRow)). All IsOid (map (λ (e : ℕ × List SeenRow). e.0) es)) (sym none) (All-nil IsOid))
 

@@ -99,12 +99,14 @@ module _ (P : ℕ → Type 0) where
   command_refused_are number req (Some end) turn all =
       ended_are number req end.reply (appended_if end.unlock turn) (appended_are end.unlock turn all)
 
-  course_refused_are : (number req : ℕ) (cause : Cause) (course : Course) (turn : Turn) → AreIn turn → AreIn (course_refused number req cause course turn)
+  course_refused_are : (number req : ℕ) (cause : Cause) (course : Course) (turn : Turn) → AreIn turn
+      → AreIn (course_refused number req cause course turn)
   course_refused_are number req cause (Waiting ask) turn all = all
   course_refused_are number req cause (Driving driver) turn all = ended_are number req (Refused cause) turn all
   course_refused_are number req cause (Commanding ask op) turn all = command_refused_are number req (on_refused cause op) turn all
 
-  request_refused_are : (req : ℕ) (cause : Cause) (request : Option Request) (turn : Turn) → AreIn turn → AreIn (request_refused req cause request turn)
+  request_refused_are : (req : ℕ) (cause : Cause) (request : Option Request) (turn : Turn) → AreIn turn
+      → AreIn (request_refused req cause request turn)
   request_refused_are req cause None turn all = all
   request_refused_are req cause (Some request) turn all = course_refused_are request.session req cause request.course turn all
 
