@@ -81,6 +81,36 @@ lines_of_a_cluster =
     (codes "lose 1001", Err causes.TooMany) ∷
     (codes "node lists", Err causes.Word) ∷
     (codes "stop", Err causes.Word) ∷
+    (codes "0 vdi close", Err causes.Range) ∷
+    (codes "1", Err causes.Word) ∷
+    (codes "1 vd close", Err causes.Word) ∷
+    (codes "1 vdi", Err causes.Word) ∷
+    (codes "1 vdi create -c gs 64M", Err causes.Number) ∷
+    (codes "1 vdi create -c 32 gs 64M", Err causes.Range) ∷
+    (codes "1 vdi create -c 2:16 gs 64M", Err causes.Range) ∷
+    (codes "1 vdi create gs 511", Err causes.Range) ∷
+    (codes "1 vdi create gs 513", Err causes.Unaligned) ∷
+    (codes "1 vdi create gs", Err causes.Word) ∷
+    (codes "1 vdi open -s gs", Err causes.Word) ∷
+    (codes "1 vdi read 0 1048577", Err causes.Range) ∷
+    (codes "1 vdi read 0 512 512", Err causes.Word) ∷
+    (codes "1 vdi write 0 512 full 256", Err causes.Word) ∷
+    (codes "1 vdi write 0 512 fill x", Err causes.Number) ∷
+    (codes "1 vdi write 0 512 fill", Err causes.Word) ∷
+    (codes "1 vdi clone -s monday gs", Err causes.Word) ∷
+    (codes "session 0 node 0", Err causes.Range) ∷
+    (codes "session 1 nod 9", Err causes.Twice) ∷
+    (codes "session 2 node 0 0", Err causes.Word) ∷
+    (codes "fail x", Err causes.Number) ∷
+    (codes "fail 64", Err causes.Range) ∷
+    (codes "fail", Err causes.Word) ∷
+    (codes "join 2 3", Err causes.Twice) ∷
+    (codes "reweight 2", Err causes.Word) ∷
+    (codes "reweight 4 0", Err causes.Unknown) ∷
+    (codes "back 64", Err causes.Range) ∷
+    (codes "lose x", Err causes.Number) ∷
+    (codes "lose 1001 2", Err causes.Word) ∷
+    (codes "dump all", Err causes.Word) ∷
     []
 
 abbrev lines_behind_settings : List Row
@@ -95,6 +125,11 @@ lines_behind_settings =
     (codes "cluster 3", Err causes.Word) ∷
     (codes "session 1 node 2", Ok (Some (lines.Session 1 2))) ∷
     (codes "session 1 node 3", Err causes.Unknown) ∷
+    (codes "zone 64 0", Err causes.Range) ∷
+    (codes "zone 1", Err causes.Word) ∷
+    (codes "tries 1001", Err causes.Range) ∷
+    (codes "limit 1000001", Err causes.Range) ∷
+    (codes "cluster info", Ok (Some lines.ClusterInfo)) ∷
     []
 
 abbrev first_lines : List Row
@@ -109,14 +144,17 @@ first_lines =
     (codes "settle", Err causes.Word) ∷
     (codes "1 vdi close", Err causes.Word) ∷
     (codes "back 1", Err causes.Word) ∷
+    (codes "cluster 65 x", Err causes.Range) ∷
+    (codes "cluster 3 4", Err causes.Word) ∷
+    (codes "cluster 0", Err causes.Range) ∷
     []
 
 lines_are_read : AreRead cluster_so_far lines_of_a_cluster
-unfolding words_read statement_at cluster.setting_at told_at cluster.zone_at cluster.happening_at asked_at cluster.barrier_at cluster.session_at cluster.fail_at cluster.reweight_at cluster.back_at cluster.lose_at asking cluster.join_at cluster.followed_at cluster.alone_at number_at cluster.there_at scaled keyword_at requests.request_at requests.verb_at requests.create_at requests.open_at requests.close_at requests.read_at requests.write_at requests.copy_verb_at name_at requests.policy_at requests.disk_at requests.span_at requests.snapshot_at requests.clone_at requests.delete_at blocks_at requests.strips_in requests.tag_at size_of requests.pattern_at requests.named_pattern_at requests.byte_at
+unfolding words_read statement_at cluster.setting_at told_at cluster.zone_at cluster.happening_at asked_at cluster.barrier_at cluster.session_at cluster.fail_at cluster.reweight_at cluster.back_at cluster.lose_at asking cluster.join_at cluster.followed_at cluster.alone_at number_at cluster.there_at scaled keyword_at requests.request_at requests.verb_at requests.create_at requests.open_at requests.close_at requests.read_at requests.write_at requests.copy_verb_at name_at requests.policy_at requests.disk_at requests.span_at requests.snapshot_at requests.clone_at requests.delete_at blocks_at requests.strips_in requests.tag_at size_of requests.pattern_at requests.named_pattern_at requests.byte_at requests.copies_in
 lines_are_read = refl
 
 settings_are_read : AreRead (lines.Cluster 3 ∷ lines.Zone 0 9 ∷ []) lines_behind_settings
-unfolding words_read statement_at cluster.setting_at cluster.zone_at told_at number_at cluster.happening_at scaled cluster.session_at keyword_at cluster.there_at
+unfolding words_read statement_at cluster.setting_at cluster.zone_at told_at number_at cluster.happening_at scaled cluster.session_at keyword_at cluster.there_at cluster.barrier_at cluster.followed_at cluster.alone_at
 settings_are_read = refl
 
 the_first_line_is_read : AreRead [] first_lines

@@ -1,11 +1,11 @@
 -- The run against the script: each request at a gateway is the one of its number, of a session of this life, with the disk on which it
 -- began; each attempt is for such a one; and who is to join is new.
-use Rattle.std.specs.Prelude.{◌≡◌, ℕ, ◌<◌, true, false, List, length, ◌∷◌, ◌++◌, slice_get, Option, Some, ◌+◌, drop, flat_map, None}
+use Rattle.std.specs.Prelude.{◌≡◌, ℕ, true, false, List, length, ◌∷◌, ◌++◌, slice_get, Option, Some, ◌+◌, drop, flat_map, None}
 use Rattle.std.specs.FinMap as tree
 use Rattle.cluster_script.specs.declared.statement.Statement.{Statement}
 use Rattle.cluster_script.specs.declared.statement.Statement.TheVariants as lines
 use Rattle.cluster_script.specs.Phases.{Phase, phases_of}
-use Rattle.cluster_script.specs.Asked.{session_of, request_at, numbers_of_session}
+use Rattle.cluster_script.specs.Asked.{session_of, request_at}
 use Rattle.cluster_script.specs.Sessions.{Session, session_numbered}
 use Rattle.peer_proto.specs.declared.guest.DiskAsk.{DiskAsk}
 use Rattle.peer_proto.specs.declared.guest.DiskAsk.TheVariants.{Read, Write}
@@ -16,6 +16,7 @@ use Rattle.sheep_node.specs.declared.ask.Ask.{Ask}
 use Rattle.sheep_node.specs.declared.ask.Ask.TheVariants as asks
 use Rattle.sheep_node.specs.State.{Request, Course, Waiting, Driving, Commanding, session_at}
 use Rattle.sheep_world.specs.World.{Seat, Started, World, guest_at, seat_at}
+use Rattle.sheep_world.specs.Begun.{WasBegun}
 use Rattle.sheep_world.specs.Asking.{ask_of, session_asking}
 use Rattle.overlap_law.specs.Attempts.{Attempt}
 use Rattle.overlap_law.specs.Each.{EachAttempt}
@@ -82,12 +83,9 @@ pub record IsForARequest (script : List Statement) (attempt : Attempt) : Type 0 
 pub record AttemptsAreTheScripts (script : List Statement) (attempts : List Attempt) : Type 0 where
   pub each : EachAttempt attempts (λ j attempt. IsForARequest script attempt)
 
--- a request was started: it is one of the first of its session, as many as began
-pub record WasStarted (script : List Statement) (world : World) (req : ℕ) : Type 0 where
-  pub session : ℕ
-  pub place : ℕ
-  pub there : slice_get (numbers_of_session script session) place ≡ Some req
-  pub began : place < (guest_at session world).begun
+-- a request was started: a session has begun it
+abbrev pub WasStarted : List Statement → World → ℕ → Type 0
+WasStarted script world req = (session : ℕ) × WasBegun script world.guests session req
 
 -- what was refused was started and has its reply, and what has none was started
 pub record TheRefusedAreAnswered (script : List Statement) (world : World) (refused : List ℕ) : Type 0 where

@@ -61,10 +61,10 @@ new-begun statements number world was session req seat found next at = by_reques
     by_request None none = none
     by_request (Some request) got =
         let begun = was session.node seat at req request got in
-        let same = once 1 (requests_of statements) number begun.session.number (guest_at number world).begun begun.place req next begun.there in
-        let place_so : (guest_at number world).begun ≡ begun.place = same.1 in
-        let before : begun.place < (guest_at number world).begun
-        = subst (λ (k : ℕ). begun.place < count_begun k world.guests) (sym same.0) begun.before in
+        let same = once 1 (requests_of statements) number begun.session.number (guest_at number world).begun begun.begun.place req next begun.begun.there in
+        let place_so : (guest_at number world).begun ≡ begun.begun.place = same.1 in
+        let before : begun.begun.place < (guest_at number world).begun
+        = subst (λ (k : ℕ). begun.begun.place < count_begun k world.guests) (sym same.0) begun.begun.before in
         absurd (omega (arith, place_so, before))
 
 -- ---- what sessions have begun
@@ -111,12 +111,14 @@ still_begun statements guests later node life req grows begun = record {
   declared = begun.declared;
   gateway = begun.gateway;
   lived = begun.lived;
-  place = begun.place;
-  before =
-      let more : count_begun begun.session.number guests ≤ count_begun begun.session.number later = grows begun.session.number in
-      let before : begun.place < count_begun begun.session.number guests = begun.before in
-      omega (arith, more, before);
-  there = begun.there;
+  begun = record {
+    place = begun.begun.place;
+    before =
+        let more : count_begun begun.session.number guests ≤ count_begun begun.session.number later = grows begun.session.number in
+        let before : begun.begun.place < count_begun begun.session.number guests = begun.begun.before in
+        omega (arith, more, before);
+    there = begun.begun.there;
+  };
 }
 
 all_grown : (statements : List Statement) (seats : tree.FinMap nat_cmp Seat) (guests later : tree.FinMap nat_cmp Guest) → Grows guests later
@@ -190,14 +192,16 @@ module _ (statements : List Statement) (number : ℕ) (world : World) (session :
       declared = ap (session_numbered statements) same ∙ found;
       gateway = refl;
       lived = lives_now seat at;
-      place = (guest_at session.number world).begun;
-      before =
-          let is : count_begun session.number (begun_world req).guests ≡ (guest_at session.number world).begun + 1
-          = ap (λ (o : Option Guest). (unwrap_or o new_guest).begun)
-          (got_own world.guests session.number
-          (begun_in (record { req = req; disk = disk_open session world }) (guest_at session.number world))) in
-          omega (arith, is);
-      there = next;
+      begun = record {
+        place = (guest_at session.number world).begun;
+        before =
+            let is : count_begun session.number (begun_world req).guests ≡ (guest_at session.number world).begun + 1
+            = ap (λ (o : Option Guest). (unwrap_or o new_guest).begun)
+            (got_own world.guests session.number
+            (begun_in (record { req = req; disk = disk_open session world }) (guest_at session.number world))) in
+            omega (arith, is);
+        there = next;
+      };
     }
 
     begun_by : (of : Option ℕ) (ask : Option Ask) → IsAskBegun req (input_by req of ask)

@@ -82,9 +82,9 @@ driven_session : (works : Works) (requests : Requests) (sessions : Sessions) (nu
 driven_session works requests sessions number session same driven =
     let so = same_waiting sessions number session same in
     record {
-      works_so = driven.works_so;
-      lines_so = λ q waiting there. driven.lines_so q waiting (subst (λ (list : List lines.Waiting). Contains list waiting) (so q) there);
-      lines_free = λ q waiting there. driven.lines_free q waiting (subst (λ (list : List lines.Waiting). Contains list waiting) (so q) there);
+      open_works = driven.open_works;
+      waiting_works = λ q waiting there. driven.waiting_works q waiting (subst (λ (list : List lines.Waiting). Contains list waiting) (so q) there);
+      waiting_free = λ q waiting there. driven.waiting_free q waiting (subst (λ (list : List lines.Waiting). Contains list waiting) (so q) there);
       apart = λ q. subst AreApart (sym (so q)) (driven.apart q);
     }
 
@@ -114,15 +114,15 @@ good_course old number req course turn free good =
     record {
       going = good.going;
       driven = record {
-        works_so = λ q work there. ⊎_elim
+        open_works = λ q work there. ⊎_elim
             (λ (own : q ≡ req).
             let none : tree.get turn.node.gateway.works q ≡ None = ap (tree.get turn.node.gateway.works) own ∙ free.idle in
             absurd (cc (there, none)))
-            (λ (other : q ≢ req). ap may_work_at (got_other requests req request q other) ∙ good.driven.works_so q work there)
+            (λ (other : q ≢ req). ap may_work_at (got_other requests req request q other) ∙ good.driven.open_works q work there)
             (same_or_not q req);
-        lines_so = λ line waiting there.
-            ap (may_work_of line) (got_other requests req request waiting.req (free.out line waiting there)) ∙ good.driven.lines_so line waiting there;
-        lines_free = good.driven.lines_free;
+        waiting_works = λ line waiting there.
+            ap (may_work_of line) (got_other requests req request waiting.req (free.out line waiting there)) ∙ good.driven.waiting_works line waiting there;
+        waiting_free = good.driven.waiting_free;
         apart = good.driven.apart;
       };
     }
@@ -131,15 +131,15 @@ good_course old number req course turn free good =
 good_gone : (old : Node) (req : ℕ) (turn : Turn) → IsFreeIn req turn → IsGood old turn
     → AreDriven turn.node.gateway.works (tree.remove turn.node.requests req) turn.node.sessions
 good_gone old req turn free good = record {
-  works_so = λ q work there. ⊎_elim
+  open_works = λ q work there. ⊎_elim
       (λ (own : q ≡ req).
       let none : tree.get turn.node.gateway.works q ≡ None = ap (tree.get turn.node.gateway.works) own ∙ free.idle in
       absurd (cc (there, none)))
-      (λ (other : q ≢ req). ap may_work_at (got_left turn.node.requests req q other) ∙ good.driven.works_so q work there)
+      (λ (other : q ≢ req). ap may_work_at (got_left turn.node.requests req q other) ∙ good.driven.open_works q work there)
       (same_or_not q req);
-  lines_so = λ line waiting there.
-      ap (may_work_of line) (got_left turn.node.requests req waiting.req (free.out line waiting there)) ∙ good.driven.lines_so line waiting there;
-  lines_free = good.driven.lines_free;
+  waiting_works = λ line waiting there.
+      ap (may_work_of line) (got_left turn.node.requests req waiting.req (free.out line waiting there)) ∙ good.driven.waiting_works line waiting there;
+  waiting_free = good.driven.waiting_free;
   apart = good.driven.apart;
 }
 
@@ -206,12 +206,12 @@ pub driven_insert : (works : Works) (requests : Requests) (sessions : Sessions) 
     → ((number : ℕ) (waiting : lines.Waiting) → Contains (waiting_in number sessions) waiting → waiting.req ≢ req)
     → AreDriven works requests sessions → AreDriven (tree.insert works req work) requests sessions
 driven_insert works requests sessions req work may out driven = record {
-  works_so = λ q other_work there. ⊎_elim
+  open_works = λ q other_work there. ⊎_elim
       (λ (own : q ≡ req). ap (λ (k : ℕ). may_work_at (tree.get requests k)) own ∙ may)
-      (λ (other : q ≢ req). driven.works_so q other_work (sym (got_other works req work q other) ∙ there))
+      (λ (other : q ≢ req). driven.open_works q other_work (sym (got_other works req work q other) ∙ there))
       (same_or_not q req);
-  lines_so = driven.lines_so;
-  lines_free = λ number waiting there. got_other works req work waiting.req (out number waiting there) ∙ driven.lines_free number waiting there;
+  waiting_works = driven.waiting_works;
+  waiting_free = λ number waiting there. got_other works req work waiting.req (out number waiting there) ∙ driven.waiting_free number waiting there;
   apart = driven.apart;
 }
 
@@ -301,15 +301,15 @@ module _ (works : Works) (requests : Requests) (sessions : Sessions) (number : �
   driven_queued : may_work_of number (tree.get requests new.req) ≡ true → IsFree new.req works sessions → AreDriven works requests sessions
       → AreDriven works requests (tree.insert sessions number session)
   driven_queued may free driven = record {
-    works_so = driven.works_so;
-    lines_so = λ q waiting there. ⊎_elim
-        (λ (old : Contains (waiting_in q sessions) waiting). driven.lines_so q waiting old)
+    open_works = driven.open_works;
+    waiting_works = λ q waiting there. ⊎_elim
+        (λ (old : Contains (waiting_in q sessions) waiting). driven.waiting_works q waiting old)
         (λ (own : (q ≡ number) × (new ≡ waiting)).
         ap (λ (k : ℕ). may_work_of k (tree.get requests waiting.req)) own.0
         ∙ ap (λ (w : lines.Waiting). may_work_of number (tree.get requests w.req)) (sym own.1) ∙ may)
         (waits_there q waiting there);
-    lines_free = λ q waiting there. ⊎_elim
-        (λ (old : Contains (waiting_in q sessions) waiting). driven.lines_free q waiting old)
+    waiting_free = λ q waiting there. ⊎_elim
+        (λ (old : Contains (waiting_in q sessions) waiting). driven.waiting_free q waiting old)
         (λ (own : (q ≡ number) × (new ≡ waiting)). ap (λ (w : lines.Waiting). tree.get works w.req) (sym own.1) ∙ free.idle)
         (waits_there q waiting there);
     apart = λ q. ⊎_elim
@@ -381,7 +381,7 @@ free_of old req request turn there never good = record {
   idle = by_work (tree.get turn.node.gateway.works req) refl;
   out = λ number waiting waits same.
       let may : may_work_of number (Some request) ≡ true
-      = ap (may_work_of number) (sym (ap (tree.get turn.node.requests) same ∙ there)) ∙ good.driven.lines_so number waiting waits in
+      = ap (may_work_of number) (sym (ap (tree.get turn.node.requests) same ∙ there)) ∙ good.driven.waiting_works number waiting waits in
       let so : may_work request.course ≡ true = (and_parts (request.session == number) (may_work request.course) may).1 in
       absurd (cc (so, never));
 }
@@ -389,7 +389,7 @@ free_of old req request turn there never good = record {
     by_work : (o : Option Work) → tree.get turn.node.gateway.works req ≡ o → tree.get turn.node.gateway.works req ≡ None
     by_work None none = none
     by_work (Some work) open_there =
-        let may : may_work request.course ≡ true = ap may_work_at (sym there) ∙ good.driven.works_so req work open_there in
+        let may : may_work request.course ≡ true = ap may_work_at (sym there) ∙ good.driven.open_works req work open_there in
         absurd (cc (may, never))
 
 request_begun_good : (old : Node) (number req : ℕ) (request : Option Request) (turn : Turn) → tree.get turn.node.requests req ≡ request → IsGood old turn
@@ -431,9 +431,9 @@ module _ (works : Works) (requests : Requests) (sessions : Sessions) (number : �
 
   driven_taken : AreDriven works requests (tree.insert sessions number session)
   driven_taken = record {
-    works_so = driven.works_so;
-    lines_so = λ q waiting there. driven.lines_so q waiting (waited_before q waiting there);
-    lines_free = λ q waiting there. driven.lines_free q waiting (waited_before q waiting there);
+    open_works = driven.open_works;
+    waiting_works = λ q waiting there. driven.waiting_works q waiting (waited_before q waiting there);
+    waiting_free = λ q waiting there. driven.waiting_free q waiting (waited_before q waiting there);
     apart = λ q. ⊎_elim
         (λ (own : q ≡ number). subst AreApart (sym (left_line_of q own)) apart_there.1)
         (λ (other : q ≢ number). subst AreApart (sym (kept_line q other)) (driven.apart q))
@@ -453,15 +453,15 @@ module _ (works : Works) (requests : Requests) (sessions : Sessions) (number : �
 
   free_taken : IsFree first.req works (tree.insert sessions number session)
   free_taken = record {
-    idle = driven.lines_free number first first_waits;
+    idle = driven.waiting_free number first first_waits;
     out = λ q waiting there same. ⊎_elim
         (λ (own : q ≡ number).
         apart_there.0 waiting (subst (λ (list : List lines.Waiting). Contains list waiting) (left_line_of q own) there) same)
         (λ (other : q ≢ number).
         other (one_session q (tree.get requests first.req)
         (ap (λ (req : ℕ). may_work_of q (tree.get requests req)) (sym same)
-        ∙ driven.lines_so q waiting (subst (λ (list : List lines.Waiting). Contains list waiting) (kept_line q other) there))
-        (driven.lines_so number first first_waits)))
+        ∙ driven.waiting_works q waiting (subst (λ (list : List lines.Waiting). Contains list waiting) (kept_line q other) there))
+        (driven.waiting_works number first first_waits)))
         (same_or_not q number);
   }
 
@@ -483,7 +483,7 @@ next_begun_good old number turn good =
         let session = record (session_in number turn) { line = taken } in
         work_begun_good old number first.req first.work (with_line number taken turn)
         (free_taken turn.node.gateway.works turn.node.requests turn.node.sessions number session first later is refl good.driven)
-        (good.driven.lines_so number first (subst (λ (list : List lines.Waiting). Contains list first) (sym is) (has-here first first later refl)))
+        (good.driven.waiting_works number first (subst (λ (list : List lines.Waiting). Contains list first) (sym is) (has-here first first later refl)))
         (record {
           going = good.going;
           driven = driven_taken turn.node.gateway.works turn.node.requests turn.node.sessions number session first later is refl good.driven;

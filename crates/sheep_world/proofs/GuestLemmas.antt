@@ -125,7 +125,7 @@ guest_good node req number ask driven new =
       idle = by_work (tree.get node.gateway.works req) refl;
       out = λ line waiting there same.
           let never : may_work_of line None ≡ true
-          = ap (may_work_of line) (sym (ap (tree.get node.requests) same ∙ new)) ∙ driven.driven.lines_so line waiting there in
+          = ap (may_work_of line) (sym (ap (tree.get node.requests) same ∙ new)) ∙ driven.driven.waiting_works line waiting there in
           absurd (cc (never));
     })
     (good_first node driven))
@@ -133,7 +133,7 @@ guest_good node req number ask driven new =
     by_work : (o : Option Work) → tree.get node.gateway.works req ≡ o → tree.get node.gateway.works req ≡ None
     by_work None none = none
     by_work (Some work) there =
-        let never : may_work_at None ≡ true = ap may_work_at (sym new) ∙ driven.driven.works_so req work there in
+        let never : may_work_at None ≡ true = ap may_work_at (sym new) ∙ driven.driven.open_works req work there in
         absurd (cc (never))
 
 -- ---- and in the world

@@ -227,24 +227,24 @@ idle_driven : (me : NodeId) (tries : ℕ) (node : Node) → node.me ≡ me → n
     → node.sessions ≡ tree.empty → recoveries.all_unanswered node.recovery ≡ [] → IsDriven node
 idle_driven me tries node me_so gateway_so requests_so sessions_so none = record {
   own = ap (λ (gateway : gateways.Gateway). gateway.me) gateway_so ∙ sym me_so;
-  driven = subst (λ (works : Works). AreDriven works node.requests node.sessions) (sym works_so)
+  driven = subst (λ (works : Works). AreDriven works node.requests node.sessions) (sym open_works)
       (subst (λ (sessions : Sessions). AreDriven tree.empty node.requests sessions) (sym sessions_so)
       (record {
-        works_so = λ q work got. none_found q work got;
-        lines_so = λ q waiting there. none_waits q waiting there;
-        lines_free = λ q waiting there. none_waits q waiting there;
+        open_works = λ q work got. none_found q work got;
+        waiting_works = λ q waiting there. none_waits q waiting there;
+        waiting_free = λ q waiting there. none_waits q waiting there;
         apart = λ q. subst (λ (o : Option Session). AreApart (unwrap_or o new_session).line.waiting) (sym (tree.get-empty nat_cmp q)) tt;
       }));
-  once = subst IsOnceIn (sym works_so) (λ q one other work later got_one got_two awaits_one awaits_two. none_found one work got_one);
-  given = subst (IsGivenIn node.sends) (sym works_so) (λ q req work got awaited. none_found req work got);
+  once = subst IsOnceIn (sym open_works) (λ q one other work later got_one got_two awaits_one awaits_two. none_found one work got_one);
+  given = subst (IsGivenIn node.sends) (sym open_works) (λ q req work got awaited. none_found req work got);
   recovers = λ q waits. ap (λ (messages : List Message). is_some (recoveries.message_of q messages)) none;
   recovering = λ q waits.
       let never : recoveries.waits_for q node.recovery ≡ false = ap (λ (messages : List Message). is_some (recoveries.message_of q messages)) none in
       absurd (cc (waits, never));
 }
   where
-    works_so : node.gateway.works ≡ tree.empty
-    works_so = ap (λ (gateway : gateways.Gateway). gateway.works) gateway_so
+    open_works : node.gateway.works ≡ tree.empty
+    open_works = ap (λ (gateway : gateways.Gateway). gateway.works) gateway_so
 
 opening_driven : (me : NodeId) (tries : ℕ) → IsDriven (nodes.opening me tries)
 opening_driven me tries = idle_driven me tries (nodes.opening me tries) refl refl refl refl refl

@@ -210,11 +210,11 @@ module _ (node : Node) (gateway : Gateway) (number : ℕ) (marks : Marks number 
   marked_driven me = record {
     own = me ∙ once.own;
     driven = record {
-      works_so = λ req now got.
+      open_works = λ req now got.
           let (work, was, so) = marks.was req now got in
-          once.driven.works_so req work was;
-      lines_so = once.driven.lines_so;
-      lines_free = λ line waiting there. by_work waiting.req (tree.get gateway.works waiting.req) refl (once.driven.lines_free line waiting there);
+          once.driven.open_works req work was;
+      waiting_works = once.driven.waiting_works;
+      waiting_free = λ line waiting there. by_work waiting.req (tree.get gateway.works waiting.req) refl (once.driven.waiting_free line waiting there);
       apart = once.driven.apart;
     };
     once = λ q one other now later got_one got_two awaits_one awaits_two.

@@ -248,16 +248,16 @@ module _ (m : Works) (req : ℕ) (idle : (w : Work) → tree.get m req ≡ Some 
 pub driven_removed : (works : Works) (requests : Requests) (sessions : Sessions) (req : ℕ) → AreDriven works requests sessions
     → AreDriven (tree.remove works req) requests sessions
 driven_removed works requests sessions req driven = record {
-  works_so = λ q work there. ⊎_elim
+  open_works = λ q work there. ⊎_elim
       (λ (own : q ≡ req).
       let none : tree.get (tree.remove works req) q ≡ None = ap (tree.get (tree.remove works req)) own ∙ got_removed works req in
       absurd (cc (there, none)))
-      (λ (other : q ≢ req). driven.works_so q work (sym (got_left works req q other) ∙ there))
+      (λ (other : q ≢ req). driven.open_works q work (sym (got_left works req q other) ∙ there))
       (same_or_not q req);
-  lines_so = driven.lines_so;
-  lines_free = λ number waiting there. ⊎_elim
+  waiting_works = driven.waiting_works;
+  waiting_free = λ number waiting there. ⊎_elim
       (λ (own : waiting.req ≡ req). ap (tree.get (tree.remove works req)) own ∙ got_removed works req)
-      (λ (other : waiting.req ≢ req). got_left works req waiting.req other ∙ driven.lines_free number waiting there)
+      (λ (other : waiting.req ≢ req). got_left works req waiting.req other ∙ driven.waiting_free number waiting there)
       (same_or_not waiting.req req);
   apart = driven.apart;
 }
@@ -484,12 +484,12 @@ tried_good node driven found is =
         (idle_stage (record { 0 = node.peer.epoch }) found.1 found.1.stage refl passes)
 
     may : may_work_at (tree.get node.requests found.0) ≡ true
-    may = driven.driven.works_so found.0 found.1 there
+    may = driven.driven.open_works found.0 found.1 there
 
     out : (number : ℕ) (waiting : lines.Waiting) → Contains (waiting_in number node.sessions) waiting → waiting.req ≢ found.0
     out number waiting waits same =
         let none : tree.get node.gateway.works found.0 ≡ None
-        = ap (tree.get node.gateway.works) (sym same) ∙ driven.driven.lines_free number waiting waits in
+        = ap (tree.get node.gateway.works) (sym same) ∙ driven.driven.waiting_free number waiting waits in
         absurd (cc (there, none))
 
     refused_again : (cause : Cause) → Tries node (refused node.gateway found.0 cause)

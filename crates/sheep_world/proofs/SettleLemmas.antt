@@ -101,7 +101,7 @@ module _ (node : Node) (driven : IsDriven node) (number : ℕ) (status : Status)
     idle = got_removed node.gateway.works req;
     out = λ line waiting waits same.
         let none : tree.get node.gateway.works req ≡ None
-        = ap (tree.get node.gateway.works) (sym same) ∙ driven.driven.lines_free line waiting waits in
+        = ap (tree.get node.gateway.works) (sym same) ∙ driven.driven.waiting_free line waiting waits in
         absurd (cc (there, none));
   }
 

@@ -13,16 +13,19 @@ use Rattle.sheep_world.specs.World.{Seat, Guest, World, new_guest}
 abbrev pub count_begun : ℕ → tree.FinMap nat_cmp Guest → ℕ
 count_begun number guests = (unwrap_or (tree.get guests number) new_guest).begun
 
--- a request is among those that a session of the script has begun, whose gateway is this node in this life of it
+-- a request is among those that a session of this number has begun: the first ones of the session's
+pub record WasBegun (statements : List Statement) (guests : tree.FinMap nat_cmp Guest) (number req : ℕ) : Type 0 where
+  pub place : ℕ
+  pub before : place < count_begun number guests
+  pub there : slice_get (numbers_of_session statements number) place ≡ Some req
+
+-- a session of the script has begun it, whose gateway is this node in this life of it
 pub record IsBegun (statements : List Statement) (guests : tree.FinMap nat_cmp Guest) (node life req : ℕ) : Type 0 where
   pub session : Session
   pub declared : session_numbered statements session.number ≡ Some session
   pub gateway : session.node ≡ node
   pub lived : session.life ≡ life
-  -- its place among the numbers of the session's requests
-  pub place : ℕ
-  pub before : place < count_begun session.number guests
-  pub there : slice_get (numbers_of_session statements session.number) place ≡ Some req
+  pub begun : WasBegun statements guests session.number req
 
 -- each request that the node in a seat has is so
 abbrev pub HasOnlyBegun : List Statement → tree.FinMap nat_cmp Guest → ℕ → Seat → Type 0

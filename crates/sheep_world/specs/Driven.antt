@@ -45,10 +45,10 @@ AreApart (waiting ∷ later) = ((other : lines.Waiting) → Contains later other
 -- an open work is of a request that may have one; a work that waits is of such a request of its session, which has none open and
 -- waits once
 pub record AreDriven (works : tree.FinMap nat_cmp Work) (requests : tree.FinMap nat_cmp Request) (sessions : tree.FinMap nat_cmp Session) : Type 0 where
-  pub works_so : (req : ℕ) (work : Work) → tree.get works req ≡ Some work → may_work_at (tree.get requests req) ≡ true
-  pub lines_so : (number : ℕ) (waiting : lines.Waiting) → Contains (waiting_in number sessions) waiting
+  pub open_works : (req : ℕ) (work : Work) → tree.get works req ≡ Some work → may_work_at (tree.get requests req) ≡ true
+  pub waiting_works : (number : ℕ) (waiting : lines.Waiting) → Contains (waiting_in number sessions) waiting
       → may_work_of number (tree.get requests waiting.req) ≡ true
-  pub lines_free : (number : ℕ) (waiting : lines.Waiting) → Contains (waiting_in number sessions) waiting → tree.get works waiting.req ≡ None
+  pub waiting_free : (number : ℕ) (waiting : lines.Waiting) → Contains (waiting_in number sessions) waiting → tree.get works waiting.req ≡ None
   pub apart : (number : ℕ) → AreApart (waiting_in number sessions)
 
 -- a number is of one work at most
