@@ -3,7 +3,7 @@ ghost use Rattle.std.specs.Prelude.{◌≡◌, ◌||◌, true, [], Some, OnOk};
 ghost use Rattle.std.specs.Ordering.{nat_cmp};
 ghost use Rattle.std.specs.BTreeMap.{get, Updates};
 ghost use Rattle.std.specs.BTreeSet.{contains, Updates as Gains};
-ghost use Rattle.disk_history.specs.Books.{fate_of, is_answer, may_end_in, stray_of, place_cmp};
+ghost use Rattle.disk_history.specs.CheckerState.{fate_of, is_answer, may_end_in, stray_of, place_cmp};
 ghost use Rattle.disk_history.specs.declared.requests.Fate.TheVariants.{Unanswered};
 
 use object_id::NoMemory;

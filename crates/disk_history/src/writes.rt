@@ -1,6 +1,6 @@
 //! The writes of a history, each linked to the one before it on its block.
 ghost use Rattle.std.specs.Prelude.{◌≡◌, ℕ, Option, None, Some, List, length, replicate, reverse};
-ghost use Rattle.disk_history.specs.Books.{fate_of, items_from, may_give as gives, says_of, IsLinked, IsWithin};
+ghost use Rattle.disk_history.specs.CheckerState.{fate_of, items_from, may_give as gives, says_of, IsLinked, IsWithin};
 ghost use Rattle.std.specs.Str.{bytes_eq};
 
 use crate::requests::{Fate, Requests};

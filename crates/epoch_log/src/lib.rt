@@ -10,11 +10,11 @@
 #![tactic(auto)]
 
 mod appending;
+mod epoch_record;
 mod laws;
 mod log;
 mod roster;
 mod tally;
-mod term;
 #[cfg(test)]
 mod tests;
 

@@ -11,7 +11,7 @@ use Rattle.object_id.specs.Spec.{IsSpec}
 use Rattle.object_id.specs.Fields.{u8_at, u32_at, u64_at}
 use Rattle.inode.specs.declared.fault.InodeFault.{InodeFault}
 use Rattle.inode.specs.declared.fault.InodeFault.TheVariants as faults
-use Rattle.inode.specs.Reading.{◌>>=◌, policy_of, shift_at, policy_at, is_size, size_at, spec_at, vid_at}
+use Rattle.inode.specs.Reading.{◌>>=◌, spelled_policy, shift_at, policy_at, is_size, size_at, spec_at, vid_at}
 use Rattle.inode.proofs.PolicyLemmas.{policy-spelled, policy-read}
 
 -- the value of a step that didn't refuse
@@ -76,7 +76,7 @@ policy-at_read : (bytes : List ℕ) (policy : Policy) → policy_at bytes ≡ Ok
     → IsPolicy policy × (u8_at 552 bytes ≡ policy_byte policy) × (u8_at 554 bytes ≡ strips_of policy)
 unfolding policy_at
 policy-at_read bytes policy e =
-    let spelled = policy-spelled (u8_at 552 bytes) (u8_at 554 bytes) policy (some-read (policy_of (u8_at 552 bytes) (u8_at 554 bytes)) policy e) in
+    let spelled = policy-spelled (u8_at 552 bytes) (u8_at 554 bytes) policy (some-read (spelled_policy (u8_at 552 bytes) (u8_at 554 bytes)) policy e) in
     (spelled.valid, sym spelled.byte_is, sym spelled.copies_is)
 
 pub spec-read : (bytes : List ℕ) (spec : VdiSpec) → spec_at bytes ≡ Ok spec → IsSpecAt bytes spec

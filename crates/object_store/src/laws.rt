@@ -4,9 +4,9 @@ ghost use Rattle.std.specs.List.{AllByRecursion};
 ghost use Rattle.std.specs.FinMap as tree;
 ghost use Rattle.object_store.specs.declared.key.Key.{Key};
 ghost use Rattle.object_store.specs.Rows.{closed_all, advanced, purged, without_disk, holds, row_holding, IsRowAt, IsOrderly};
-ghost use Rattle.object_store.specs.Bytes.{zeros, trimmed};
+ghost use Rattle.object_store.specs.Bytes.{zeros, trimmed_bytes};
 ghost use Rattle.object_store.specs.Store.{AllRows, SeenRow, rows_of, create_at, write_at, read_at, each, OpenUpTo, OpenBelow};
-ghost use Rattle.object_store.specs.Calls.{Call, step, after, story_of, read_story, touches, Has};
+ghost use Rattle.object_store.specs.Calls.{Call, rows_step, rows_after, story_of, read_story, touches, Has};
 
 /// No open row is from an epoch above the node's: the calls of a node keep the conditions of the later ones.
 pub fn open_rows_are_from_epochs_so_far()
@@ -35,18 +35,18 @@ pub fn rows_of_one_object()
 /// After any list of calls a read gives, at each place of an open row, the byte of the latest piece that was laid
 /// over it since the row was made, and 0 where none was.
 pub fn reads_what_was_written_last()
-    ensures { (calls : List Call) (key : Key) (offset n : ℕ) → read_at (after calls) key offset n ≡ read_story (story_of key calls) offset n }
+    ensures { (calls : List Call) (key : Key) (offset n : ℕ) → read_at (rows_after calls) key offset n ≡ read_story (story_of key calls) offset n }
 {}
 
 /// A row that a call isn't about stays as it was.
 pub fn other_rows_stay()
-    ensures { (all : AllRows) (call : Call) (oid : ℕ) (row : SeenRow) → touches call oid row ≡ false → Has row (rows_of all oid) → Has row (rows_of (step all call) oid) }
+    ensures { (all : AllRows) (call : Call) (oid : ℕ) (row : SeenRow) → touches call oid row ≡ false → Has row (rows_of all oid) → Has row (rows_of (rows_step all call) oid) }
 {}
 
 /// After any list of calls at most the last row of an object is open, and an object without rows isn't there.
 pub fn rows_are_in_order()
-    ensures last { (calls : List Call) (oid : ℕ) → IsOrderly (rows_of (after calls) oid) }
-    ensures there { (calls : List Call) (oid : ℕ) → tree.get (after calls) oid ≢ Some [] }
+    ensures last { (calls : List Call) (oid : ℕ) → IsOrderly (rows_of (rows_after calls) oid) }
+    ensures there { (calls : List Call) (oid : ℕ) → tree.get (rows_after calls) oid ≢ Some [] }
 {}
 
 /// The row that `row_at` copies: of those that hold the level the one from the greatest epoch, and of equal ones
@@ -54,6 +54,6 @@ pub fn rows_are_in_order()
 pub fn copies_are_of_the_latest_row()
     ensures some { (level : ℕ) (rows : List SeenRow) (row : SeenRow) → row_holding level rows ≡ Some row → IsRowAt level rows row }
     ensures none { (level : ℕ) (rows : List SeenRow) → row_holding level rows ≡ None → AllByRecursion (λ row. holds level row ≡ false) rows }
-    ensures bytes { (bytes : List ℕ) → trimmed bytes ++ zeros (length bytes - length (trimmed bytes)) ≡ bytes }
-    ensures last { (bytes front : List ℕ) → trimmed bytes ≢ front ++ 0 ∷ [] }
+    ensures bytes { (bytes : List ℕ) → trimmed_bytes bytes ++ zeros (length bytes - length (trimmed_bytes bytes)) ≡ bytes }
+    ensures last { (bytes front : List ℕ) → trimmed_bytes bytes ≢ front ++ 0 ∷ [] }
 {}
