@@ -44,7 +44,7 @@ for c in ('epoch_log/proofs/term', 'vnode_table/proofs/term'):
 # disk_history: what the checker keeps
 ps = paths('disk_history')
 sub_all(ps, [(W('Books'), 'CheckerState'), (r"\bdeclared\.books\b", 'declared.checker_state'), (r"\bcrate::books\b", 'crate::checker_state'), (r"\bmod books;", 'mod checker_state;'), (r"\bproofs\.books\b", 'proofs.checker_state')])
-sub_all(ps, [(r"(?<![\w.'])books(?![\w'])", 'checker_state')])
+sub_all(ps, [(r"(?<![\w'])books(?![\w'])", 'checker_state')])
 mv('crates/disk_history/src/books.rt', 'crates/disk_history/src/checker_state.rt')
 if os.path.exists('crates/disk_history/proofs/books'):
     mv('crates/disk_history/proofs/books', 'crates/disk_history/proofs/checker_state')
