@@ -42,7 +42,8 @@ numbered_requests statements = enumerate_from 1 (requests_of statements)
 
 -- the numbers of a session's requests, ascending
 abbrev pub numbers_of_session : List Statement → ℕ → List ℕ
-numbers_of_session statements session = map (λ request. request.0) (filter (λ request. is_of_session session request.1) (numbered_requests statements))
+numbers_of_session statements session =
+    map (λ request. request.0) (filter (λ request. is_of_session session request.1) (numbered_requests statements))
 
 -- the byte that a block of what is written is full of: the same one, or one more for each block; 0 follows 255
 abbrev pub byte_of : Pattern → ℕ → ℕ

@@ -18,7 +18,8 @@ digits_value digits = fold (λ value digit. value * 10 + (digit - 48)) 0 digits
 
 -- so many times the number that the digits are
 unfoldable pub scaled_number : ℕ → Word → Result ℕ LineCause
-scaled_number scale word = if is_digits word && nat_lt (digits_value word * scale) (2 ^ 64) then Ok (digits_value word * scale) else Err causes.Number
+scaled_number scale word = if is_digits word && nat_lt (digits_value word * scale) (2 ^ 64) then Ok (digits_value word * scale)
+    else Err causes.Number
 
 -- the number that a word is
 abbrev pub number_of : Word → Result ℕ LineCause

@@ -61,8 +61,10 @@ disk_verb_at before session verb words =
 -- the first request is a create and the second an open; a verb out of its turn is a bad word
 unfoldable pub one_disk_verb_at : List Statement → ℕ → Word → List Word → Result Statement LineCause
 one_disk_verb_at before session verb words =
-    if bytes_eq verb (codes "create") then (if count_by is_request before == 0 then one_disk_create_at before session words else Err causes.Word)
-    else if bytes_eq verb (codes "open") then (if has is_create before && not (has is_open before) then one_disk_open_at before session words else Err causes.Word)
+    if bytes_eq verb (codes "create") then (if count_by is_request before == 0 then one_disk_create_at before session words
+    else Err causes.Word)
+    else if bytes_eq verb (codes "open") then (if has is_create before && not (has is_open before)
+    then one_disk_open_at before session words else Err causes.Word)
     else disk_verb_at before session verb words
 
 -- `vdi` and the verb

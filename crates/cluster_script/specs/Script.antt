@@ -39,7 +39,8 @@ statement_behind_cluster before first words =
 -- the statement that the first word begins; `cluster info` is no setting
 unfoldable pub statement_at : List Statement → Word → List Word → Result Statement LineCause
 statement_at before first words =
-    if bytes_eq first (codes "cluster") && not (is_next_word (codes "info") words) then setting_at (λ nodes. Cluster nodes) nodes_set NODES_MAX before words
+    if bytes_eq first (codes "cluster") && not (is_next_word (codes "info") words)
+    then setting_at (λ nodes. Cluster nodes) nodes_set NODES_MAX before words
     else if bytes_eq first (codes "vnodes") then setting_at (λ vnodes. Vnodes vnodes) vnodes_set VNODES_MAX before words
     else if bytes_eq first (codes "tries") then setting_at (λ tries. Tries tries) tries_set TRIES_MAX before words
     else if bytes_eq first (codes "limit") then setting_at (λ limit. Limit limit) limit_set LIMIT_MAX before words

@@ -21,7 +21,8 @@ incarnation_after before node = 1 + count_by (brings_back node) before
 
 -- the session that a statement declares after those before it
 abbrev pub declared_session : List Statement → Statement → Option ScriptSession
-declared_session before (lines.Session number node) = Some (record { number = number; node = node; incarnation = incarnation_after before node })
+declared_session before (lines.Session number node) =
+    Some (record { number = number; node = node; incarnation = incarnation_after before node })
 declared_session before s = None
 
 -- sessions with one more, before the first of a greater number

@@ -44,7 +44,8 @@ is_next_word expected [] = false
 is_next_word expected (first ∷ rest) = bytes_eq first expected
 
 -- an option that may stand there: what is read behind its name, or else its default
-abbrev pub option_at : {A : Type 0} → Word → (List Word → Result (A × List Word) LineCause) → A → List Word → Result (A × List Word) LineCause
+abbrev pub option_at : {A : Type 0} → Word → (List Word → Result (A × List Word) LineCause) → A → List Word
+    → Result (A × List Word) LineCause
 option_at name read default words = if is_next_word name words then (do
   rest ← keyword_at name words
   read rest) else Ok (default, words)
@@ -60,7 +61,8 @@ is_name_byte byte = nat_le 33 byte && nat_le byte 126
 
 -- 1 to 255 such bytes, of which the first isn't `-`
 abbrev pub is_name : Word → Bool
-is_name word = nat_le 1 (length word) && nat_le (length word) NAME_BYTES_MAX && list_all is_name_byte word && not (starts_with nat_eq word (codes "-"))
+is_name word = nat_le 1 (length word) && nat_le (length word) NAME_BYTES_MAX && list_all is_name_byte word
+    && not (starts_with nat_eq word (codes "-"))
 
 -- a name, and the words after it
 unfoldable pub name_word_at : List Word → Result (Word × List Word) LineCause

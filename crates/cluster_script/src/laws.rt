@@ -32,7 +32,8 @@ pub fn each_request_is_of_a_phase()
 
 /// A session of a number is there exactly where one is declared, and the sessions ascend by number.
 pub fn each_session_is_declared()
-    ensures declared { (statements : List Line) (number : ℕ) → is_some (session_numbered statements number) ≡ is_session_declared number statements }
+    ensures declared { (statements : List Line) (number : ℕ) → is_some (session_numbered statements number)
+        ≡ is_session_declared number statements }
     ensures order { (statements : List Line) → AllPairs (λ (a b : ScriptSession). a.number ≤ b.number) (sessions_of statements) }
 {}
 
@@ -59,7 +60,8 @@ pub fn a_line_reads_as_it_is_spelled()
 
 /// A text is read as the script that its lines say; where they say none, its first bad line is found.
 pub fn a_text_reads_as_its_script()
-    ensures script { (text : List ℕ) (statements : List Line) → script_in text ≡ Ok statements ↔ IsScript statements × IsScriptText text statements }
+    ensures script { (text : List ℕ) (statements : List Line) → script_in text ≡ Ok statements ↔ IsScript statements
+        × IsScriptText text statements }
     ensures bad { (text : List ℕ) (number : ℕ) (cause : LineCause) → script_in text ≡ Err (number, cause) ↔ IsBadLine text number cause }
 {}
 

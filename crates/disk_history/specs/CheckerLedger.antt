@@ -17,7 +17,8 @@ use Rattle.disk_history.specs.CheckerState.{fate_of, place_cmp, shown_disk, Show
 pub record ShowsAll (requests : Requests) (disks : BTreeMap ℕ DiskState) (writes : List Write) (ledger : Ledger) : Type 0 where
   pub of_disk : (disk : ℕ) → ledger.disks disk ≡ option_map (shown_disk (fate_of requests) writes) (get nat_cmp disks disk)
   pub of_request : (req : ℕ) → ShowsRequest (get nat_cmp requests.states req) (ledger.requests req)
-  pub of_place : (req disk block : ℕ) → has_place (ledger.requests req) disk block ≡ contains place_cmp requests.places (record { req = req; disk = disk; block = block })
+  pub of_place : (req disk block : ℕ) → has_place (ledger.requests req) disk block
+      ≡ contains place_cmp requests.places (record { req = req; disk = disk; block = block })
   pub linked : IsLinked (reverse writes)
   pub within : (disk : ℕ) → AreWithin (get nat_cmp disks disk) (length writes)
 
@@ -26,7 +27,8 @@ Shows checker_state ledger = ShowsAll checker_state.requests checker_state.disks
 
 -- The answer is whether the event may follow, and where it may, the state then shows what it leaves.
 abbrev pub Enters : CheckerState → CheckerState → HistEvent → Bool → Type 0
-Enters old new event legal = (ledger : Ledger) → Shows old ledger → (legal ≡ may_follow ledger event) × (legal ≡ true → Shows new (ledger_after ledger event))
+Enters old new event legal = (ledger : Ledger) → Shows old ledger → (legal ≡ may_follow ledger event)
+    × (legal ≡ true → Shows new (ledger_after ledger event))
 
 -- the state shows some ledger
 abbrev pub ShowSome : CheckerState → Type 0

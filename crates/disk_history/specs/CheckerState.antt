@@ -111,7 +111,8 @@ deleted_state (Some state) = Some (record state { deleted = true })
 
 -- one disk deleted, and no other changed
 abbrev pub DeletesOne : BTreeMap ℕ DiskState → BTreeMap ℕ DiskState → ℕ → Type 0
-DeletesOne old new disk = (q : ℕ) → get nat_cmp new q ≡ (if is_at (nat_cmp disk) q then deleted_state (get nat_cmp old disk) else get nat_cmp old q)
+DeletesOne old new disk = (q : ℕ) → get nat_cmp new q ≡ (if is_at (nat_cmp disk) q then deleted_state (get nat_cmp old disk)
+    else get nat_cmp old q)
 
 -- after the block's newest write is set: the same disk but for that
 pub record IsWritten (old new : DiskState) (block place : ℕ) : Type 0 where
@@ -122,7 +123,8 @@ pub record IsWritten (old new : DiskState) (block place : ℕ) : Type 0 where
 -- a disk changed, and no other
 abbrev pub WritesOne : Option DiskState → BTreeMap ℕ DiskState → BTreeMap ℕ DiskState → ℕ → ℕ → ℕ → Type 0
 WritesOne None old new disk block place = ⊥
-WritesOne (Some state) old new disk block place = (written : DiskState) × Updates nat_cmp old new disk (Some written) × IsWritten state written block place
+WritesOne (Some state) old new disk block place = (written : DiskState) × Updates nat_cmp old new disk (Some written)
+    × IsWritten state written block place
 
 -- a disk as the ledger has it
 abbrev pub shown_disk : (ℕ → Fate) → List Write → DiskState → Disk
@@ -135,7 +137,8 @@ shown_disk fates writes state = record {
 -- a request's state is that of the ledger's; one that hasn't begun has none
 abbrev pub ShowsRequest : Option RequestState → WriteRequest → Type 0
 ShowsRequest None request = (has_begun_to_write request ≡ false) × (request.stray ≡ false) × (request.ended ≡ false)
-ShowsRequest (Some state) request = (has_begun_to_write request ≡ true) × (request.stray ≡ state.stray) × (request.ended ≡ is_answer state.fate)
+ShowsRequest (Some state) request = (has_begun_to_write request ≡ true) × (request.stray ≡ state.stray)
+    × (request.ended ≡ is_answer state.fate)
 
 -- the newest write of each block of the disk is one of so many
 abbrev pub AreWithin : Option DiskState → ℕ → Type 0

@@ -92,7 +92,12 @@ ledger_after ledger (Delete disk) = record ledger {
 }
 ledger_after ledger (WriteStart req disk block coded bytes) = record {
   disks = if has_block (ledger.disks disk) block
-      then changed_at disk (with_changed_disk (with_item block (record { request = Some req; bytes = bytes; coded = coded; mark = Open })) (ledger.disks disk)) ledger.disks
+      then changed_at disk (with_changed_disk (with_item block (record {
+        request = Some req;
+        bytes = bytes;
+        coded = coded;
+        mark = Open;
+      })) (ledger.disks disk)) ledger.disks
       else ledger.disks;
   requests = changed_at req (record {
     places = (ledger.requests req).places ++ (disk, block) ∷ [];

@@ -108,4 +108,5 @@ pub record MayBeRead (events : List HistEvent) (disk block : ℕ) (bytes : List 
   pub there : block_count_of events disk ≡ Some count
   pub within : block < count
   pub whole : length bytes ≡ 512
-  pub given : (was_deleted events disk ≡ true) ⊎ (IsTornBlock events (writes_of events disk block) ⊎ IsReadable events (writes_of events disk block) bytes)
+  pub given : (was_deleted events disk ≡ true) ⊎ (IsTornBlock events (writes_of events disk block)
+      ⊎ IsReadable events (writes_of events disk block) bytes)

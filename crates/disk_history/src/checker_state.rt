@@ -66,7 +66,8 @@ impl<'a> CheckerState<'a> {
 
     fn write_start(&mut self, place: Place, coded: bool, bytes: &'a [u8]) -> Result<bool, NoMemory>
         requires { ShowSome self.old }
-        ensures { IfOk result (λ legal. Enters self.old self.new (events.WriteStart place.req place.disk place.block coded bytes.now) legal) }
+        ensures { IfOk result (λ legal. Enters self.old self.new (events.WriteStart place.req place.disk place.block coded bytes.now)
+            legal) }
     {
         if bytes.len() != 512
             || self.requests.fate(place.req).is_answer()

@@ -19,7 +19,8 @@ pub fn histories_go_step_by_step()
     // A history is legal, or there is one first place at which it isn't.
     ensures judged { (events : List HistEvent) → IsLegal events ⊎ ((place : ℕ) × IsFirstIllegal events place) }
     ensures illegal { (events : List HistEvent) (place : ℕ) → IsFirstIllegal events place → ¬ IsLegal events }
-    ensures one_place { (events : List HistEvent) (place other : ℕ) → IsFirstIllegal events place → IsFirstIllegal events other → place ≡ other }
+    ensures one_place { (events : List HistEvent) (place other : ℕ) → IsFirstIllegal events place → IsFirstIllegal events other → place
+        ≡ other }
 {}
 
 /// In a legal history each read of a disk that wasn't deleted, and of a block that isn't torn, gives the bytes of the

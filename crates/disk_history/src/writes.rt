@@ -61,7 +61,8 @@ pub fn unrefused(writes: &[Write], requests: &Requests, newest: Option<usize>) -
     requires linked { IsLinked (reverse writes.now) }
     requires within { IsWithin newest (length writes.now) }
     ensures within { IsWithin result (length writes.now) }
-    ensures same { items_from (fate_of requests.now) (reverse writes.now) result ≡ items_from (fate_of requests.now) (reverse writes.now) newest }
+    ensures same { items_from (fate_of requests.now) (reverse writes.now) result
+        ≡ items_from (fate_of requests.now) (reverse writes.now) newest }
 {
     let mut at = newest;
     while let Some(place) = at {

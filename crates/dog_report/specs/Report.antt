@@ -41,7 +41,8 @@ empty_report statements = record {
 -- whether the incarnation of a request's gateway is lost
 abbrev pub is_lost_request : List Statement → ℕ → World → Bool
 is_lost_request statements req world =
-    option_map_or (λ (session : ScriptSession). is_session_gone session world) (option_and_then (session_numbered statements) (session_asking statements req)) false
+    option_map_or (λ (session : ScriptSession). is_session_gone session world)
+    (option_and_then (session_numbered statements) (session_asking statements req)) false
 
 -- whether a session has started a request
 abbrev pub has_begun : List Statement → ℕ → World → ℕ → Bool

@@ -100,7 +100,8 @@ pub fn requests_lines_spelled_out()
 
 /// How the lines of lists are spelled, of a log of two members and a third that joins, and of a disk with a snapshot.
 pub fn lists_spelled_out()
-    ensures cluster { (world : World) → map spaced_words (cluster_info (at_log world)) ≡ codes "cluster epoch 2 settled 2 members 0 1 2" ∷ [] }
+    ensures cluster { (world : World) → map spaced_words (cluster_info (at_log world))
+        ≡ codes "cluster epoch 2 settled 2 members 0 1 2" ∷ [] }
     // Before anyone has recovered in epoch 2, epoch 1 is the settled one.
     ensures unsettled { (world : World) → map spaced_words (cluster_info (record world { log = take 2 example_log }))
         ≡ codes "cluster epoch 2 settled 1 members 0 1 2" ∷ [] }

@@ -40,7 +40,8 @@ pub fn a_read_goes_by_its_pieces()
 /// How pieces are written: one after another, each by what the table said of its object when the write began.
 pub fn a_write_goes_by_its_entries()
     ensures { (inode : Content) (payload : List ℕ) (given : Piece → List ℕ) (shift offset size : ℕ)
-        → driver_acts_from (Some (write_on inode payload (pieces shift offset size))) (flat_map (answers inode given) (pieces shift offset size))
+        → driver_acts_from (Some (write_on inode payload (pieces shift offset size)))
+        (flat_map (answers inode given) (pieces shift offset size))
         ≡ flat_map (write_acts inode payload given) (pieces shift offset size) ++ Reply Done ∷ [] }
 {}
 

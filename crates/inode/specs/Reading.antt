@@ -55,10 +55,12 @@ spelled_policy byte copies =
     if byte == 0 then
     if nat_le 1 copies && nat_le copies 31 then Some (Copies copies) else None
     else
-    if is_width (byte / 16 * 2) && not (byte % 16 == 0) && copies == byte / 16 * 2 + byte % 16 then Some (Coded (byte / 16 * 2) (byte % 16)) else None
+    if is_width (byte / 16 * 2) && not (byte % 16 == 0) && copies == byte / 16 * 2 + byte % 16
+    then Some (Coded (byte / 16 * 2) (byte % 16)) else None
 
 unfoldable pub shift_at : List ℕ → Result ℕ InodeFault
-shift_at bytes = if nat_le SHIFT_MIN (u8_at 555 bytes) && nat_le (u8_at 555 bytes) SHIFT_MAX then Ok (u8_at 555 bytes) else Err faults.BadShift
+shift_at bytes = if nat_le SHIFT_MIN (u8_at 555 bytes) && nat_le (u8_at 555 bytes) SHIFT_MAX then Ok (u8_at 555 bytes)
+    else Err faults.BadShift
 
 unfoldable pub policy_at : List ℕ → Result Policy InodeFault
 policy_at bytes = ok_or (spelled_policy (u8_at 552 bytes) (u8_at 554 bytes)) faults.BadPolicy
@@ -87,7 +89,8 @@ is_entry entry = nat_lt entry (2 ^ 24)
 unfoldable pub table_at : VdiSpec → List ℕ → Result (List ℕ) InodeFault
 table_at spec bytes =
     if nat_lt (length bytes) (INODE_HEADER_BYTES + 4 * objects_of spec) then Err faults.ShortInode else
-    if list_all is_entry (numbers_at w32 (objects_of spec) INODE_HEADER_BYTES bytes) then Ok (numbers_at w32 (objects_of spec) INODE_HEADER_BYTES bytes)
+    if list_all is_entry (numbers_at w32 (objects_of spec) INODE_HEADER_BYTES bytes)
+    then Ok (numbers_at w32 (objects_of spec) INODE_HEADER_BYTES bytes)
     else Err faults.BadEntry
 
 -- bytes that have a header

@@ -32,7 +32,15 @@ impl Model for Inode {
 
     ghost Value = { Content };
 
-    ghost view = { λ i. record { name = i.name; tag = i.tag; spec = i.spec; snap_id = i.snap_id; vid = i.vid.0; parent = i.parent; table = i.table.items } };
+    ghost view = { λ i. record {
+      name = i.name;
+      tag = i.tag;
+      spec = i.spec;
+      snap_id = i.snap_id;
+      vid = i.vid.0;
+      parent = i.parent;
+      table = i.table.items;
+    } };
 
     ghost invariant = { λ i. IsFieldText i.name × IsFieldText i.tag × IsSpec i.spec × (length i.table.items ≡ objects_of i.spec) };
 }

@@ -141,7 +141,8 @@ fn are_entries(count: u32, bytes: &[u8]) -> bool
 #[tactic(auto, unfolding(crate::specs::Reading::table_at))]
 fn check_table(spec: VdiSpec, bytes: &[u8]) -> Result<(), InodeFault>
     requires { IsSpec spec }
-    ensures value { reading.GivesField (λ _. numbers_at w32 (objects_of spec) INODE_HEADER_BYTES bytes.now) result (reading.table_at spec bytes.now) }
+    ensures value { reading.GivesField (λ _. numbers_at w32 (objects_of spec) INODE_HEADER_BYTES bytes.now) result
+        (reading.table_at spec bytes.now) }
     ensures long { IfOk result (λ _. INODE_HEADER_BYTES + 4 * objects_of spec ≤ length bytes.now) }
 {
     let count = objects(spec);

@@ -49,7 +49,8 @@ is_same_key a b = nat_eq a.oid b.oid && nat_eq a.index b.index
 abbrev pub with_piece : ℕ → List ℕ → Option Story → Option Story
 with_piece offset piece None = None
 with_piece offset piece (Some story) =
-    if nat_le (offset + length piece) story.size then Some (record { size = story.size; pieces = (offset, piece) ∷ story.pieces }) else Some story
+    if nat_le (offset + length piece) story.size then Some (record { size = story.size; pieces = (offset, piece) ∷ story.pieces })
+    else Some story
 
 -- what one call more means for the open row of a key
 abbrev pub story_after : Key → Option Story → Call → Option Story

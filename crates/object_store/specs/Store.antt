@@ -47,7 +47,8 @@ write_in index offset piece rows = changed (is_open_at index) (λ bytes. laid_ov
 
 abbrev pub write_at : AllRows → Key → ℕ → List ℕ → Result AllRows StoreFault
 write_at all key offset piece =
-    on_open (offset + length piece) (open_row all key) (λ row. tree.insert all key.oid (write_in key.index offset piece (rows_of all key.oid)))
+    on_open (offset + length piece) (open_row all key) (λ row. tree.insert all key.oid
+    (write_in key.index offset piece (rows_of all key.oid)))
 
 abbrev pub create_in : ℕ → ℕ → ℕ → ℕ → List ℕ → List SeenRow → List SeenRow
 create_in index epoch size offset piece rows = created index epoch (laid_over (zeros size) offset piece) rows

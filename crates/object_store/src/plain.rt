@@ -71,7 +71,8 @@ impl PlainStore {
 
     /// Makes the open row of an object. Without memory the rows stay.
     fn put(&mut self, key: &Key, epoch: Epoch, bytes: Content) -> Result<(), NoMemory>
-        ensures ok { OnOk result (IsPut self.old self.new key.now.oid (created key.now.index epoch.0 bytes (kept_of self.old key.now.oid))) }
+        ensures ok { OnOk result (IsPut self.old self.new key.now.oid
+            (created key.now.index epoch.0 bytes (kept_of self.old key.now.oid))) }
         ensures err { OnErr result (self.new ≡ self.old) }
     {
         if self.objects.contains_key(&key.oid) {
@@ -83,7 +84,8 @@ impl PlainStore {
 
     fn put_there(&mut self, key: &Key, epoch: Epoch, bytes: Content) -> Result<(), NoMemory>
         requires { IsSome (lookup (is_at (nat_cmp key.now.oid)) self.old) }
-        ensures ok { OnOk result (IsPut self.old self.new key.now.oid (created key.now.index epoch.0 bytes (kept_of self.old key.now.oid))) }
+        ensures ok { OnOk result (IsPut self.old self.new key.now.oid
+            (created key.now.index epoch.0 bytes (kept_of self.old key.now.oid))) }
         ensures err { OnErr result (self.new ≡ self.old) }
     {
         let Some(rows) = self.objects.get_mut(&key.oid) else {
@@ -94,7 +96,8 @@ impl PlainStore {
 
     fn put_new(&mut self, key: &Key, epoch: Epoch, bytes: Content) -> Result<(), NoMemory>
         requires { lookup (is_at (nat_cmp key.now.oid)) self.old ≡ None }
-        ensures ok { OnOk result (IsPut self.old self.new key.now.oid (created key.now.index epoch.0 bytes (kept_of self.old key.now.oid))) }
+        ensures ok { OnOk result (IsPut self.old self.new key.now.oid
+            (created key.now.index epoch.0 bytes (kept_of self.old key.now.oid))) }
         ensures err { OnErr result (self.new ≡ self.old) }
     {
         let mut rows = ObjectRows::new(self.alloc);

@@ -27,15 +27,20 @@ attempts_begun_for (Some session) old new = attempts_begun session.node old new
 -- that asked
 abbrev pub attempts_after_delivery : Option Packet → MessageName → World → World → List AttemptRecord → List AttemptRecord
 attempts_after_delivery None name old new attempts = attempts
-attempts_after_delivery (Some (Request to bytes)) name old new attempts = attempts_with_fate (fate_by_answer new.outputs.say) name.sender name.number attempts
+attempts_after_delivery (Some (Request to bytes)) name old new attempts =
+    attempts_with_fate (fate_by_answer new.outputs.say) name.sender name.number attempts
 attempts_after_delivery (Some (Reply from bytes)) name old new attempts = attempts ++ attempts_begun name.sender.0 old new
 
 -- the attempts after an event, which leads from one world to another
 unfoldable pub attempts_after : List Statement → Event → World → World → List AttemptRecord → List AttemptRecord
 attempts_after script (Guest session) old new attempts = attempts ++ attempts_begun_for (session_numbered script session) old new
 attempts_after script (Deliver node number) old new attempts =
-    attempts_after_delivery (message_at (record { sender = node; number = number }) old) (record { sender = node; number = number }) old new attempts
-attempts_after script (LoseRequest node number) old new attempts = attempts_with_fate Doomed node number attempts ++ attempts_begun node.0 old new
+    attempts_after_delivery (message_at (record { sender = node; number = number }) old) (record {
+      sender = node;
+      number = number;
+    }) old new attempts
+attempts_after script (LoseRequest node number) old new attempts = attempts_with_fate Doomed node number attempts
+    ++ attempts_begun node.0 old new
 attempts_after script (LoseReply node number) old new attempts = attempts ++ attempts_begun node.0 old new
 attempts_after script (LogNext node) old new attempts = attempts ++ attempts_begun node.0 old new
 attempts_after script (Put node) old new attempts = attempts

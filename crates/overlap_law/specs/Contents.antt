@@ -21,7 +21,8 @@ HasPartOf policy kind index bytes unit attempt = row_bytes_at policy kind unit b
 
 -- at a quiet unit a row has what the made attempts come to; at another one a whole copy has the bytes of the unit's own base
 -- or of a later attempt that covers it
-pub record HasBase (policy : Policy) (kind : Kind) (attempts : List AttemptRecord) (index : ℕ) (bytes : List ℕ) (unit : ℕ) (own : AttemptRecord) : Type 0 where
+pub record HasBase (policy : Policy) (kind : Kind) (attempts : List AttemptRecord) (index : ℕ) (bytes : List ℕ) (unit : ℕ)
+    (own : AttemptRecord) : Type 0 where
   pub quiet : is_quiet unit attempts ≡ true → row_bytes_at policy kind unit bytes ≡ made_part policy kind index unit attempts
   pub copies : is_quiet unit attempts ≡ false → is_in_strips policy kind ≡ false
       → Any (HasPartOf policy kind index bytes unit) (own ∷ later_on unit attempts)

@@ -49,12 +49,14 @@ pub record IsRead (parent : Option Vid) (header : Header) (work : ObjWork) : Typ
 
 -- an inode is created: that of the granted id, which is the one that the session then has open, if it has one by that; its
 -- table is drawn from what the id is reserved for, where that was available
-pub record IsCreatedNow (effects : List Effect) (good_id : ℕ → Bool) (attempts : List AttemptRecord) (vid : Vid) (opened : Option Content) (work : ObjWork) : Type 0 where
+pub record IsCreatedNow (effects : List Effect) (good_id : ℕ
+    → Bool) (attempts : List AttemptRecord) (vid : Vid) (opened : Option Content) (work : ObjWork) : Type 0 where
   pub inode : Content
   pub own : inode.vid ≡ vid.0
   pub work_of : work ≡ create_inode inode
   pub same : (content : Content) → opened ≡ Some content → content ≡ inode
-  pub drawn : (index : ℕ) → good_id vid.0 ≡ true → index < objects_of inode.spec → IsDrawn effects attempts vid.0 index (slice_index inode.table index)
+  pub drawn : (index : ℕ) → good_id vid.0 ≡ true → index < objects_of inode.spec
+      → IsDrawn effects attempts vid.0 index (slice_index inode.table index)
 
 -- a work is that of a command's task
 abbrev pub IsOfTask : List Effect → (ℕ → Bool) → List AttemptRecord → Option Disk → Vid → Task → ObjWork → Type 0
@@ -84,7 +86,8 @@ WaitsFor effects good_id attempts disk (Driving driver) work = IsOfDriver disk d
 WaitsFor effects good_id attempts disk (Commanding ask op) work = IsOfStage effects good_id attempts disk op.stage work
 
 -- a node's request, with its session, waits for a work
-pub record IsWaitedFor (effects : List Effect) (good_id : ℕ → Bool) (attempts : List AttemptRecord) (node : Node) (req : ℕ) (work : ObjWork) : Type 0 where
+pub record IsWaitedFor (effects : List Effect) (good_id : ℕ
+    → Bool) (attempts : List AttemptRecord) (node : Node) (req : ℕ) (work : ObjWork) : Type 0 where
   pub request : Request
   pub session : Session
   pub there : tree.get node.requests req ≡ Some request
@@ -93,8 +96,10 @@ pub record IsWaitedFor (effects : List Effect) (good_id : ℕ → Bool) (attempt
 
 -- works that are open, and those that wait for the inode, are what their requests wait for
 pub record WorksAreWaitedFor (effects : List Effect) (good_id : ℕ → Bool) (hosts : Hosts) (attempts : List AttemptRecord) : Type 0 where
-  pub opened : EachUp hosts (λ n node. (req : ℕ) (work : Work) → tree.get node.gateway.works req ≡ Some work → IsWaitedFor effects good_id attempts node req work.work)
-  pub lined : EachUp hosts (λ n node. (number place : ℕ) (session : Session) (waiting : lines.Waiting) → tree.get node.sessions number ≡ Some session
+  pub opened : EachUp hosts (λ n node. (req : ℕ) (work : Work) → tree.get node.gateway.works req ≡ Some work
+      → IsWaitedFor effects good_id attempts node req work.work)
+  pub lined : EachUp hosts (λ n node. (number place : ℕ) (session : Session) (waiting : lines.Waiting) → tree.get node.sessions number
+      ≡ Some session
       → slice_get session.inode_queue.waiting place ≡ Some waiting → IsWaitedFor effects good_id attempts node waiting.req waiting.work)
 
 -- the id that a task works for under a grant; a snapshot that is opened is nobody's
@@ -115,5 +120,6 @@ granted_at (Answered opened) = None
 
 -- a command that works for an id may write it
 pub record CommandsKeepTheirGrants (log : List Entry) (hosts : Hosts) : Type 0 where
-  pub each : EachUp hosts (λ n node. (req : ℕ) (request : Request) (ask : VdiAsk) (op : Op) (vid : Vid) → tree.get node.requests req ≡ Some request
+  pub each : EachUp hosts (λ n node. (req : ℕ) (request : Request) (ask : VdiAsk) (op : Op) (vid : Vid) → tree.get node.requests req
+      ≡ Some request
       → request.course ≡ Commanding ask op → granted_at op.stage ≡ Some vid → MayWrite log n request.session vid.0 node)

@@ -32,7 +32,8 @@ IsDrawnFrom attempts index entry (Some parent) = IsCandidate attempts parent.0 i
 -- the same of an id, while its reservation stands
 abbrev pub IsDrawn : List Effect → List AttemptRecord → ℕ → ℕ → ℕ → Type 0
 IsDrawn effects attempts vid index entry =
-    is_some (reservation_on (record { 0 = vid }) (reservations_of effects)) ≡ true → IsDrawnFrom attempts index entry (parent_of effects vid)
+    is_some (reservation_on (record { 0 = vid }) (reservations_of effects)) ≡ true
+    → IsDrawnFrom attempts index entry (parent_of effects vid)
 
 -- the attempts on a reserved id's inode have such entries
 pub record ReservedInodesAreDrawn (effects : List Effect) (good_id : ℕ → Bool) (attempts : List AttemptRecord) : Type 0 where

@@ -27,7 +27,8 @@ use Rattle.overlap_law.specs.Contents.{RowContents, AttemptsStand}
 
 -- Holders of the base. Each target of the greater of the base's epoch and the settled one that counts for it has a row that
 -- holds it
-pub record HoldersOfTheBase (T : Placing) (counts_in : NodeId → ℕ → Bool) (settled : ℕ) (hosts : Hosts) (oid : ℕ) (attempts : List AttemptRecord) : Type 0 where
+pub record HoldersOfTheBase (T : Placing) (counts_in : NodeId → ℕ
+    → Bool) (settled : ℕ) (hosts : Hosts) (oid : ℕ) (attempts : List AttemptRecord) : Type 0 where
   pub each : (base : AttemptRecord) → base_of attempts ≡ Some base → All (λ (target : NodeId).
       counts_in target (max base.epoch settled) ≡ true → holds_level (tree.get hosts target.0) oid (max base.epoch settled) ≡ true)
       (T (max base.epoch settled) oid (policy_of base.work))
@@ -68,15 +69,19 @@ pub record IsUnderGrant (log : List Entry) (vid : ℕ) (holder : Holder) (attemp
 
 -- Lost gateways are fenced. The messages of a lost gateway are of epochs below that of its `Leave`; where one of them is still
 -- on its way, the disk is granted next after that entry, and every attempt under that grant is of a later epoch
-pub record LostGatewaysAreFenced (log : List Entry) (hosts : Hosts) (wire : tree.FinMap name_cmp Packet) (attempts : List AttemptRecord) : Type 0 where
+pub record LostGatewaysAreFenced (log : List Entry) (hosts : Hosts) (wire : tree.FinMap name_cmp Packet) (attempts : List AttemptRecord) :
+    Type 0 where
   pub messages : EachHost hosts (λ n host. (epoch : ℕ) (name : MessageName) (to : NodeId) (bytes : List ℕ) (request : PeerReq)
-      → host.is_lost ≡ true → leave_of log n host.incarnation ≡ Some epoch → name.sender.0 ≡ n → tree.get wire name ≡ Some (Request to bytes)
+      → host.is_lost ≡ true → leave_of log n host.incarnation ≡ Some epoch → name.sender.0 ≡ n → tree.get wire name
+      ≡ Some (Request to bytes)
       → ask_in bytes ≡ Ok request → request.epoch.0 < epoch)
   pub grants : EachAttempt attempts (λ j attempt. (epoch : ℕ) (holder : Holder) → flies attempt ≡ true
-      → leave_of log attempt.gateway.0 attempt.incarnation ≡ Some epoch → writer_of (log_effects log) (vid_of (object_of attempt)) ≡ Some holder
+      → leave_of log attempt.gateway.0 attempt.incarnation ≡ Some epoch → writer_of (log_effects log) (vid_of (object_of attempt))
+      ≡ Some holder
       → epoch ≤ granted_in log (vid_of (object_of attempt)))
   pub later : EachAttempt attempts (λ j attempt. EachAttempt attempts (λ k other. (epoch : ℕ) (holder : Holder) → flies attempt ≡ true
-      → leave_of log attempt.gateway.0 attempt.incarnation ≡ Some epoch → writer_of (log_effects log) (vid_of (object_of attempt)) ≡ Some holder
+      → leave_of log attempt.gateway.0 attempt.incarnation ≡ Some epoch → writer_of (log_effects log) (vid_of (object_of attempt))
+      ≡ Some holder
       → IsUnderGrant log (vid_of (object_of attempt)) holder other → attempt.epoch < other.epoch))
 
 -- the entry of an object in the table of an inode
@@ -99,8 +104,10 @@ pub record EntriesNameMadeObjects (hosts : Hosts) (vid : ℕ) (attempts : List A
   pub own : EachHost hosts (λ n host. EachRowOf host.node.peer.rows (inode_number vid) (λ row. (index : ℕ) → index < 2 ^ 20
       → entry_in index row.bytes ≡ vid → list_any (is_made_create (object_number vid index)) attempts ≡ true))
   pub one_table : (last : AttemptRecord) → last_of (attempts_on (inode_number vid) attempts) ≡ Some last → is_made last ≡ true
-      → EachHost hosts (λ n host. EachRowOf host.node.peer.rows (inode_number vid) (λ row. last.epoch ≤ end_of_row host.node.peer.epoch row.to
-      → EachHost hosts (λ m other. EachRowOf other.node.peer.rows (inode_number vid) (λ copy. last.epoch ≤ end_of_row other.node.peer.epoch copy.to
+      → EachHost hosts (λ n host. EachRowOf host.node.peer.rows (inode_number vid)
+      (λ row. last.epoch ≤ end_of_row host.node.peer.epoch row.to
+      → EachHost hosts (λ m other. EachRowOf other.node.peer.rows (inode_number vid)
+      (λ copy. last.epoch ≤ end_of_row other.node.peer.epoch copy.to
       → HaveOneTable last row.bytes copy.bytes))))
 
 -- of each object that is live and was available at every state so far, with the attempts on it
@@ -114,4 +121,5 @@ pub record MeetsFacts (world : World) (past : Past) : Type 0 where
   pub holders : EachGood world past (HoldersOfTheBase (targets_by world.log) (counts past.ended world) (settled_of world.log) world.hosts)
   pub lists : EachGood world past (CompleteLists past.listed world.hosts)
   pub fenced : LostGatewaysAreFenced world.log world.hosts world.wire past.attempts
-  pub entries : (vid : ℕ) → IsVid vid → IsGood world.log past.attempts past.unavailable (inode_number vid) → EntriesNameMadeObjects world.hosts vid past.attempts
+  pub entries : (vid : ℕ) → IsVid vid → IsGood world.log past.attempts past.unavailable (inode_number vid)
+      → EntriesNameMadeObjects world.hosts vid past.attempts

@@ -33,14 +33,18 @@ IsFateIn wire attempt place target Doomed = is_request_in_flight (tree.get wire 
 -- each message of an attempt has one fate: it flies, was served, or is doomed
 pub record FatesAreOfTheWire (wire : Wire) (attempts : List AttemptRecord) : Type 0 where
   pub whole : EachAttempt attempts (λ j attempt. length attempt.fates ≡ length attempt.targets)
-  pub each : EachAttempt attempts (λ j attempt. (place : ℕ) (target : NodeId) (fate : MessageFate) → slice_get attempt.targets place ≡ Some target
+  pub each : EachAttempt attempts (λ j attempt. (place : ℕ) (target : NodeId) (fate : MessageFate) → slice_get attempt.targets place
+      ≡ Some target
       → slice_get attempt.fates place ≡ Some fate → IsFateIn wire attempt place target fate)
 
--- an attempt is of an incarnation of its gateway that began, and one of an earlier incarnation has no packets; its gateway gave its numbers, and a
+-- an attempt is of an incarnation of its gateway that began, and one of an earlier incarnation has no packets; its
+-- gateway gave its numbers, and a
 -- later attempt of that gateway has later ones
 pub record AttemptsAreOfIncarnations (hosts : Hosts) (wire : Wire) (attempts : List AttemptRecord) : Type 0 where
-  pub began : EachAttempt attempts (λ j attempt. (host : Host) → tree.get hosts attempt.gateway.0 ≡ Some host → attempt.incarnation ≤ host.incarnation)
-  pub earlier : EachAttempt attempts (λ j attempt. (host : Host) → tree.get hosts attempt.gateway.0 ≡ Some host → attempt.incarnation < host.incarnation
+  pub began : EachAttempt attempts (λ j attempt. (host : Host) → tree.get hosts attempt.gateway.0 ≡ Some host
+      → attempt.incarnation ≤ host.incarnation)
+  pub earlier : EachAttempt attempts (λ j attempt. (host : Host) → tree.get hosts attempt.gateway.0 ≡ Some host
+      → attempt.incarnation < host.incarnation
       → IsQuiet wire attempt)
   pub given : EachAttempt attempts (λ j attempt. (host : Host) → tree.get hosts attempt.gateway.0 ≡ Some host
       → attempt.first + length attempt.targets ≤ host.node.sends)
@@ -49,7 +53,8 @@ pub record AttemptsAreOfIncarnations (hosts : Hosts) (wire : Wire) (attempts : L
 
 -- a node that served an attempt came to its epoch
 pub record ServersReachedTheEpoch (hosts : Hosts) (attempts : List AttemptRecord) : Type 0 where
-  pub each : EachAttempt attempts (λ j attempt. (node : NodeId) → has_served node attempt ≡ true → has_reached hosts attempt.epoch node ≡ true)
+  pub each : EachAttempt attempts (λ j attempt. (node : NodeId) → has_served node attempt ≡ true → has_reached hosts attempt.epoch node
+      ≡ true)
 
 -- an attempt is to create or write by its object's policy, and went to the targets of its epoch, as many as are wanted
 pub record AttemptsAreShaped (T : Placing) (log : List Entry) (attempts : List AttemptRecord) : Type 0 where

@@ -49,7 +49,8 @@ pub record PacketsAreAwaited (hosts : Hosts) (wire : Wire) : Type 0 where
   pub spelled : PacketsAreReadable wire
   pub numbered : HostsKnowTheirNumbers hosts
   pub there : EachAble hosts (λ n node. AllAwaitedIsInFlight node wire)
-  pub awaited : EachUp hosts (λ n node. (number : ℕ) (packet : Packet) → tree.get wire (message_name n number) ≡ Some packet → node_awaits number node ≡ true)
+  pub awaited : EachUp hosts (λ n node. (number : ℕ) (packet : Packet) → tree.get wire (message_name n number) ≡ Some packet
+      → node_awaits number node ≡ true)
   pub recovery : EachUp hosts (λ n node. MessagesAreOfTheRecovery node)
 
 -- no reply to a lost node is in the wire
@@ -61,7 +62,8 @@ pub record NoReplyGoesToTheLost (hosts : Hosts) (wire : Wire) : Type 0 where
 pub record RequestsAreOfThePast (hosts : Hosts) (wire : Wire) : Type 0 where
   pub flying : EachHost hosts (λ n host. (number : ℕ) (to : NodeId) (request : PeerReq)
       → IsAsking wire (message_name n number) to request → request.epoch.0 ≤ host.node.peer.epoch)
-  pub awaited : EachUp hosts (λ n node. (to : NodeId) (request : PeerReq) → IsAwaitedReply node to request → request.epoch.0 ≤ node.peer.epoch)
+  pub awaited : EachUp hosts (λ n node. (to : NodeId) (request : PeerReq) → IsAwaitedReply node to request
+      → request.epoch.0 ≤ node.peer.epoch)
 
 -- a refusal by the epoch is of another epoch than the request
 abbrev pub IsRefusedSo : ℕ → ℕ → Refusal → Type 0

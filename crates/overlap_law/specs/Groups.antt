@@ -76,7 +76,8 @@ pub record TermsAreKept (log : List Entry) (hosts : Hosts) : Type 0 where
   pub settles : TheSettledHaveRecovered log hosts
 
 -- rows
-pub record RowsAreKept (T : Placing) (log : List Entry) (effects : List Effect) (live good : ℕ → Bool) (hosts : Hosts) (attempts : List AttemptRecord)
+pub record RowsAreKept (T : Placing) (log : List Entry) (effects : List Effect) (live good : ℕ
+    → Bool) (hosts : Hosts) (attempts : List AttemptRecord)
     : Type 0 where
   pub ends : RowsHaveEnds hosts
   pub one_open : OneRowIsOpen hosts
@@ -91,7 +92,8 @@ pub record RowsAreKept (T : Placing) (log : List Entry) (effects : List Effect) 
   pub carried : AttemptsAreCarried T log effects good hosts attempts
 
 -- recoveries
-pub record SearchesAreKept (T : Placing) (log : List Entry) (effects : List Effect) (live good : ℕ → Bool) (listed : List FinishedList) (hosts : Hosts)
+pub record SearchesAreKept (T : Placing) (log : List Entry) (effects : List Effect) (live good : ℕ
+    → Bool) (listed : List FinishedList) (hosts : Hosts)
     (wire : Wire) (attempts : List AttemptRecord) : Type 0 where
   pub listing : ListsComeFirst hosts
   pub told_beyond : TellersHaveCome hosts wire
@@ -109,7 +111,8 @@ pub record SearchesAreKept (T : Placing) (log : List Entry) (effects : List Effe
   pub not_missing : TheMadeIsNotMissing good hosts attempts
 
 -- inodes and tables
-pub record TablesAreKept (log : List Entry) (effects : List Effect) (live good_id : ℕ → Bool) (hosts : Hosts) (attempts : List AttemptRecord) : Type 0 where
+pub record TablesAreKept (log : List Entry) (effects : List Effect) (live good_id : ℕ
+    → Bool) (hosts : Hosts) (attempts : List AttemptRecord) : Type 0 where
   pub entries : EntriesAreMade effects live good_id attempts
   pub own : OwnEntriesAreMade live attempts
   pub chains : TablesAreOfTheChain effects hosts attempts
@@ -119,12 +122,14 @@ pub record TablesAreKept (log : List Entry) (effects : List Effect) (live good_i
   pub table_made : TablesAreMade effects good_id hosts attempts
 
 -- the history against the attempts
-pub record WrittenIsKept (ledger : Ledger) (effects : List Effect) (good_id : ℕ → Bool) (hosts : Hosts) (attempts : List AttemptRecord) : Type 0 where
+pub record WrittenIsKept (ledger : Ledger) (effects : List Effect) (good_id : ℕ
+    → Bool) (hosts : Hosts) (attempts : List AttemptRecord) : Type 0 where
   pub written : BlocksAreWritten ledger effects good_id hosts attempts
   pub sound : StripsAreSound ledger effects good_id hosts attempts
 
 -- reads and writes that are under way, against the history
-pub record PiecesAreKept (ledger : Ledger) (effects : List Effect) (good_id : ℕ → Bool) (hosts : Hosts) (attempts : List AttemptRecord) : Type 0 where
+pub record PiecesAreKept (ledger : Ledger) (effects : List Effect) (good_id : ℕ
+    → Bool) (hosts : Hosts) (attempts : List AttemptRecord) : Type 0 where
   pub named : WorksNameWhatIsMade effects good_id hosts attempts
   pub to_make : WorksMayBeMade ledger effects good_id hosts
   pub to_write : WritesHaveItems ledger hosts
@@ -132,7 +137,8 @@ pub record PiecesAreKept (ledger : Ledger) (effects : List Effect) (good_id : �
   pub read : WhatIsReadMayBeRead ledger effects good_id hosts
 
 -- requests and commands
-pub record CoursesAreKept (log : List Entry) (effects : List Effect) (good_id : ℕ → Bool) (hosts : Hosts) (attempts : List AttemptRecord) : Type 0 where
+pub record CoursesAreKept (log : List Entry) (effects : List Effect) (good_id : ℕ
+    → Bool) (hosts : Hosts) (attempts : List AttemptRecord) : Type 0 where
   pub waited_for : WorksAreWaitedFor effects good_id hosts attempts
   pub granted : CommandsKeepTheirGrants log hosts
   pub drawn : ReservedInodesAreDrawn effects good_id attempts

@@ -54,7 +54,8 @@ RefusedMakeNothing refused lost attempts =
     EachAttempt attempts (λ j attempt. is_object_among attempt.req refused ≡ true → IsWithoutEffect lost attempt)
 
 -- a peer's request of another epoch than the node's comes to the node, by an event that makes this
-pub record IsOfAnotherEpoch (script : List Statement) (world : World) (name : MessageName) (to : NodeId) (node : Node) (request : PeerReq) (made : EventOutcome) : Type 0 where
+pub record IsOfAnotherEpoch (script : List Statement) (world : World) (name : MessageName) (to : NodeId) (node : Node) (request : PeerReq)
+    (made : EventOutcome) : Type 0 where
   pub bytes : List ℕ
   pub packet : message_at name world ≡ Some (Request to bytes)
   pub decoded : ask_in bytes ≡ Ok request

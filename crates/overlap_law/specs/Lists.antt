@@ -53,8 +53,10 @@ pub record HasNoOpenRow (rows : AllRows) (oid : ℕ) : Type 0 where
 pub record PendingIsLacked (T : Placing) (effects : List Effect) (live : ℕ → Bool) (hosts : Hosts) : Type 0 where
   pub target : EachUp hosts (λ n node. (oid : ℕ) (policy : Policy) → is_pending_object oid node.peer.pending ≡ true → live oid ≡ true
       → policy_in effects oid ≡ Some policy → has_node (record { 0 = n }) (T node.recovery.epoch oid policy) ≡ true)
-  pub lacked : EachUp hosts (λ n node. (oid : ℕ) → is_pending_object oid node.peer.pending ≡ true → live oid ≡ true → HasNoOpenRow node.peer.rows oid)
-  pub known : EachUp hosts (λ n node. (oid : ℕ) → is_pending_object oid node.peer.pending ≡ true → live oid ≡ true → is_known node.peer oid ≡ true)
+  pub lacked : EachUp hosts (λ n node. (oid : ℕ) → is_pending_object oid node.peer.pending ≡ true → live oid ≡ true
+      → HasNoOpenRow node.peer.rows oid)
+  pub known : EachUp hosts (λ n node. (oid : ℕ) → is_pending_object oid node.peer.pending ≡ true → live oid ≡ true
+      → is_known node.peer oid ≡ true)
 
 -- a node has an open row of the index
 pub record HasOpenRow (rows : AllRows) (oid index : ℕ) : Type 0 where
@@ -62,7 +64,8 @@ pub record HasOpenRow (rows : AllRows) (oid index : ℕ) : Type 0 where
   pub found : open_row rows (record { oid = oid; index = index }) ≡ Some row
 
 -- what a target with a finished list hasn't pending it has, of all that was made up to its epoch
-pub record WhatIsNotPendingIsThere (T : Placing) (effects : List Effect) (good : ℕ → Bool) (hosts : Hosts) (attempts : List AttemptRecord) : Type 0 where
+pub record WhatIsNotPendingIsThere (T : Placing) (effects : List Effect) (good : ℕ
+    → Bool) (hosts : Hosts) (attempts : List AttemptRecord) : Type 0 where
   pub each : EachUp hosts (λ n node. (oid index : ℕ) (policy : Policy) → is_listed node.recovery ≡ true → good oid ≡ true
       → policy_in effects oid ≡ Some policy → index_of_part T node.recovery.epoch oid policy (record { 0 = n }) ≡ Some index
       → IsMadeBy attempts oid node.recovery.epoch

@@ -58,7 +58,8 @@ pub record HasRecovered (node : Node) : Type 0 where
 
 -- where a node recovered in an epoch, every member of that came to it, and what it lacked then it has
 pub record TheRecoveredHaveAll (log : List Entry) (hosts : Hosts) : Type 0 where
-  pub reached : EachHost hosts (λ n host. (epoch : ℕ) → has_finished hosts log epoch (record { 0 = n }) ≡ true → epoch ≤ host.node.peer.epoch)
+  pub reached : EachHost hosts (λ n host. (epoch : ℕ) → has_finished hosts log epoch (record { 0 = n }) ≡ true
+      → epoch ≤ host.node.peer.epoch)
   pub members : EachHost hosts (λ n host. (epoch : ℕ) (other : NodeId) → has_finished hosts log epoch (record { 0 = n }) ≡ true
       → is_member other.0 (members_in log epoch) ≡ true → has_reached hosts epoch other ≡ true)
   pub all : EachUp hosts (λ n node. has_finished hosts log node.peer.epoch (record { 0 = n }) ≡ true

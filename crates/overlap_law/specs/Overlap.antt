@@ -20,20 +20,25 @@ pub record Overlap (moment : MomentWithPast) : Type 0 where
       moment.world.hosts moment.world.wire moment.past.refused moment.past.lost moment.past.attempts
   pub writers : WritersAreKept moment.world.log moment.world.hosts moment.world.wire moment.past.attempts
   pub terms : TermsAreKept moment.world.log moment.world.hosts
-  pub rows : RowsAreKept (targets_by moment.world.log) moment.world.log (log_effects moment.world.log) (is_live_object moment.world.log moment.past.attempts)
+  pub rows : RowsAreKept (targets_by moment.world.log) moment.world.log (log_effects moment.world.log)
+      (is_live_object moment.world.log moment.past.attempts)
       (is_good moment.world.log moment.past.attempts moment.past.unavailable) moment.world.hosts moment.past.attempts
   pub searches : SearchesAreKept (targets_by moment.world.log) moment.world.log (log_effects moment.world.log)
-      (is_live_object moment.world.log moment.past.attempts) (is_good moment.world.log moment.past.attempts moment.past.unavailable) moment.past.listed
+      (is_live_object moment.world.log moment.past.attempts) (is_good moment.world.log moment.past.attempts moment.past.unavailable)
+      moment.past.listed
       moment.world.hosts moment.world.wire moment.past.attempts
   pub tables : TablesAreKept moment.world.log (log_effects moment.world.log) (is_live_object moment.world.log moment.past.attempts)
       (is_available_disk moment.world.log moment.past.unavailable) moment.world.hosts moment.past.attempts
-  pub written : WrittenIsKept (ledger_of moment.past.history) (log_effects moment.world.log) (is_available_disk moment.world.log moment.past.unavailable)
+  pub written : WrittenIsKept (ledger_of moment.past.history) (log_effects moment.world.log)
+      (is_available_disk moment.world.log moment.past.unavailable)
       moment.world.hosts moment.past.attempts
   pub courses : CoursesAreKept moment.world.log (log_effects moment.world.log) (is_available_disk moment.world.log moment.past.unavailable)
       moment.world.hosts moment.past.attempts
-  pub pieces : PiecesAreKept (ledger_of moment.past.history) (log_effects moment.world.log) (is_available_disk moment.world.log moment.past.unavailable)
+  pub pieces : PiecesAreKept (ledger_of moment.past.history) (log_effects moment.world.log)
+      (is_available_disk moment.world.log moment.past.unavailable)
       moment.world.hosts moment.past.attempts
-  pub lacked : NothingIsLacked (log_effects moment.world.log) (is_available_disk moment.world.log moment.past.unavailable) moment.world.hosts moment.world.wire
+  pub lacked : NothingIsLacked (log_effects moment.world.log) (is_available_disk moment.world.log moment.past.unavailable)
+      moment.world.hosts moment.world.wire
   pub legal : IsLegalWhereAvailable moment.past
   pub no_items : RefusedHaveNoItems moment.past.refused moment.past.history
   pub nothing_made : RefusedMakeNothing moment.past.refused moment.past.lost moment.past.attempts

@@ -71,4 +71,5 @@ pub record HasPacket (wire : Wire) (attempt : AttemptRecord) (place : ℕ) (targ
 
 -- no message of an attempt is in the wire, nor the reply to one
 pub record IsQuiet (wire : Wire) (attempt : AttemptRecord) : Type 0 where
-  pub none : (place : ℕ) (target : NodeId) → slice_get attempt.targets place ≡ Some target → is_name_in_wire wire (message_name_at attempt place) ≡ false
+  pub none : (place : ℕ) (target : NodeId) → slice_get attempt.targets place ≡ Some target
+      → is_name_in_wire wire (message_name_at attempt place) ≡ false

@@ -86,7 +86,8 @@ pub record WritesHaveItems (ledger : Ledger) (hosts : Hosts) : Type 0 where
       → HasItem (items_at disk opened.inode.spec piece.index unit) req (bytes_for (payload_at request.course) piece unit))
 
 -- what a write has behind it is all that its blocks may be read as: in the disk's own object, by the entry, and by each attempt
-pub record WhatIsWrittenIsAlone (ledger : Ledger) (effects : List Effect) (good_id : ℕ → Bool) (hosts : Hosts) (attempts : List AttemptRecord) : Type 0 where
+pub record WhatIsWrittenIsAlone (ledger : Ledger) (effects : List Effect) (good_id : ℕ
+    → Bool) (hosts : Hosts) (attempts : List AttemptRecord) : Type 0 where
   pub entry : EachUp hosts (λ n node. (req index unit place : ℕ) (request : Request) (opened : Disk) (disk : histories.Disk) (item : Item)
       (payload : List ℕ) (stage : DriverStage) (piece : Piece) (rest : List Piece) → IsOn ledger node req request opened disk
       → request.course ≡ Driving (Writes payload stage piece rest) → index < piece.index

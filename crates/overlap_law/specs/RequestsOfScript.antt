@@ -1,4 +1,5 @@
--- The run against the script: each request at a gateway is the one of its number, of a session of this incarnation, with the disk on which it
+-- The run against the script: each request at a gateway is the one of its number, of a session of this incarnation,
+-- with the disk on which it
 -- began; each attempt is for such a one; and who is to join is new.
 use Rattle.std.specs.Prelude.{◌≡◌, ℕ, true, false, List, length, ◌∷◌, ◌++◌, slice_get, Option, Some, ◌+◌, drop, flat_map, None}
 use Rattle.std.specs.FinMap as tree
@@ -29,7 +30,8 @@ AreLeft disk offset size piece rest = (before : List Piece) × (pieces disk.inod
 -- a driver is that of what was asked of the disk
 abbrev pub IsDriverOf : Disk → DiskAsk → Driver → Type 0
 IsDriverOf disk ask (Reads told piece rest) = (offset : ℕ) × (size : ℕ) × (ask ≡ Read offset size) × AreLeft disk offset size piece rest
-IsDriverOf disk ask (Writes payload stage piece rest) = (offset : ℕ) × (ask ≡ Write offset payload) × AreLeft disk offset (length payload) piece rest
+IsDriverOf disk ask (Writes payload stage piece rest) = (offset : ℕ) × (ask ≡ Write offset payload)
+    × AreLeft disk offset (length payload) piece rest
 IsDriverOf disk ask Answered = ⊥
 
 -- the disk on which a request began is the one that its session has open

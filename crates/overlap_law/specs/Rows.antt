@@ -63,7 +63,8 @@ pub record RowsAreBegun (log : List Entry) (live : ℕ → Bool) (hosts : Hosts)
 pub record ServedRowsStay (live : ℕ → Bool) (hosts : Hosts) (attempts : List AttemptRecord) : Type 0 where
   pub each : EachAttempt attempts (λ j attempt. EachHost hosts (λ n host. live (object_of attempt) ≡ true
       → has_served (record { 0 = n }) attempt ≡ true
-      → (has_row_at host.node.peer.epoch host.node.peer.rows (object_of attempt) attempt.epoch ≡ true) ⊎ (attempt.epoch < host.node.peer.settled)))
+      → (has_row_at host.node.peer.epoch host.node.peer.rows (object_of attempt) attempt.epoch ≡ true)
+      ⊎ (attempt.epoch < host.node.peer.settled)))
 
 -- a made attempt on an object, of no later epoch than this one
 pub record IsMadeBy (attempts : List AttemptRecord) (oid epoch : ℕ) : Type 0 where
@@ -75,7 +76,8 @@ pub record IsMadeBy (attempts : List AttemptRecord) (oid epoch : ℕ) : Type 0 w
   pub before : attempt.epoch ≤ epoch
 
 -- a target that has recovered in an epoch has a row that covers it, of each object that was made by then
-pub record RecoveredRowsAreKept (T : Placing) (log : List Entry) (effects : List Effect) (good : ℕ → Bool) (hosts : Hosts) (attempts : List AttemptRecord)
+pub record RecoveredRowsAreKept (T : Placing) (log : List Entry) (effects : List Effect) (good : ℕ
+    → Bool) (hosts : Hosts) (attempts : List AttemptRecord)
     : Type 0 where
   pub each : EachHost hosts (λ n host. (oid epoch : ℕ) (policy : Policy) → good oid ≡ true → policy_in effects oid ≡ Some policy
       → has_finished hosts log epoch (record { 0 = n }) ≡ true → host.node.peer.settled ≤ epoch
@@ -93,10 +95,13 @@ IsCarriedFrom T log epoch oid policy = (later : ℕ) → epoch ≤ later → lat
     → need_of policy (kind_of oid) ≤ common T log epoch later oid policy
 
 -- an attempt that isn't doomed is carried from its epoch on, and from each later one that isn't dying: what is settled already counts alone
-pub record AttemptsAreCarried (T : Placing) (log : List Entry) (effects : List Effect) (good : ℕ → Bool) (hosts : Hosts) (attempts : List AttemptRecord)
+pub record AttemptsAreCarried (T : Placing) (log : List Entry) (effects : List Effect) (good : ℕ
+    → Bool) (hosts : Hosts) (attempts : List AttemptRecord)
     : Type 0 where
-  pub own : EachAttempt attempts (λ j attempt. (policy : Policy) → good (object_of attempt) ≡ true → policy_in effects (object_of attempt) ≡ Some policy
+  pub own : EachAttempt attempts (λ j attempt. (policy : Policy) → good (object_of attempt) ≡ true → policy_in effects (object_of attempt)
+      ≡ Some policy
       → is_doomed hosts attempt ≡ false → settled_of log ≤ attempt.epoch → IsCarriedFrom T log attempt.epoch (object_of attempt) policy)
   pub later : EachAttempt attempts (λ j attempt. (policy : Policy) (epoch : ℕ) → good (object_of attempt) ≡ true
-      → policy_in effects (object_of attempt) ≡ Some policy → is_doomed hosts attempt ≡ false → settled_of log ≤ epoch → attempt.epoch < epoch
+      → policy_in effects (object_of attempt) ≡ Some policy → is_doomed hosts attempt ≡ false → settled_of log ≤ epoch
+      → attempt.epoch < epoch
       → epoch ≤ epoch_of log → is_dying hosts log epoch ≡ false → IsCarriedFrom T log epoch (object_of attempt) policy)

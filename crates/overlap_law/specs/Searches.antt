@@ -29,8 +29,10 @@ use Rattle.overlap_law.specs.ToldRows.{ToldRow, end_told, served_told}
 
 -- a search is of the first pending object, and of a level before the recovery's epoch
 pub record SearchesAreOfTheFirst (hosts : Hosts) : Type 0 where
-  pub first : EachUp hosts (λ n node. (search : Search) → search_on (recovery_state_of node) ≡ Some search → first_in node.peer.pending ≡ Some search.oid)
-  pub below : EachUp hosts (λ n node. (search : Search) → search_on (recovery_state_of node) ≡ Some search → search.level < node.recovery.epoch)
+  pub first : EachUp hosts (λ n node. (search : Search) → search_on (recovery_state_of node) ≡ Some search → first_in node.peer.pending
+      ≡ Some search.oid)
+  pub below : EachUp hosts (λ n node. (search : Search) → search_on (recovery_state_of node) ≡ Some search
+      → search.level < node.recovery.epoch)
   pub above : EachUp hosts (λ n node. (search : Search) → search_on (recovery_state_of node) ≡ Some search → 1 ≤ search.level)
 
 -- a node is awaited, or its answer is kept
@@ -48,8 +50,10 @@ is_asked T log epoch search n policy node =
 
 -- while answers of a level are awaited, and none was refused or lost, those awaited and those kept are all that it is asked of
 pub record LevelsAreAsked (T : Placing) (log : List Entry) (effects : List Effect) (good : ℕ → Bool) (hosts : Hosts) : Type 0 where
-  pub each : EachUp hosts (λ n node. (search : Search) (policy : Policy) → search_on (recovery_state_of node) ≡ Some search → good search.oid ≡ true
-      → policy_in effects search.oid ≡ Some policy → list_any (is_of_search search.oid) node.recovery.unanswered ≡ true → search.again ≡ false
+  pub each : EachUp hosts (λ n node. (search : Search) (policy : Policy) → search_on (recovery_state_of node) ≡ Some search
+      → good search.oid ≡ true
+      → policy_in effects search.oid ≡ Some policy → list_any (is_of_search search.oid) node.recovery.unanswered ≡ true → search.again
+      ≡ false
       → (other : NodeId) → (is_asked T log node.recovery.epoch search n policy other ≡ true)
       ↔ ((is_awaited_of search.oid node.recovery.unanswered other ≡ true) ⊎ (has_kept_answer search.answers other ≡ true)))
 
@@ -66,13 +70,15 @@ pub record ToldRowsAreTrue (T : Placing) (effects : List Effect) (good : ℕ →
       → IsTrueRow T policy from oid level row)
 
 -- a row that was told has what it owes
-pub record ToldRowsAreSince (effects : List Effect) (good : ℕ → Bool) (hosts : Hosts) (wire : Wire) (attempts : List AttemptRecord) : Type 0 where
+pub record ToldRowsAreSince (effects : List Effect) (good : ℕ
+    → Bool) (hosts : Hosts) (wire : Wire) (attempts : List AttemptRecord) : Type 0 where
   pub each : EachUp hosts (λ n node. (from : NodeId) (epoch oid level : ℕ) (row : RowCopy) (policy : Policy)
       → ToldRow wire n node from epoch oid level (Some row) → good oid ≡ true → policy_in effects oid ≡ Some policy
       → IsSince policy oid hosts attempts from row.index (end_told epoch row.to) (served_told epoch row.to) (row_bytes row))
 
 -- a copy that was told is of attempts
-pub record ToldCopiesAreOfAttempts (effects : List Effect) (live : ℕ → Bool) (hosts : Hosts) (wire : Wire) (attempts : List AttemptRecord) : Type 0 where
+pub record ToldCopiesAreOfAttempts (effects : List Effect) (live : ℕ
+    → Bool) (hosts : Hosts) (wire : Wire) (attempts : List AttemptRecord) : Type 0 where
   pub each : EachUp hosts (λ n node. (from : NodeId) (epoch oid level : ℕ) (row : RowCopy) (policy : Policy)
       → ToldRow wire n node from epoch oid level (Some row) → live oid ≡ true → policy_in effects oid ≡ Some policy
       → IsCopyOfAttempts policy oid attempts row.index (row_bytes row))

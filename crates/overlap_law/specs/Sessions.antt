@@ -63,7 +63,8 @@ pub record HaveBegun (node : Node) (session : Session) (number : ℕ) (one two :
 pub record WorksAreApart (hosts : Hosts) : Type 0 where
   pub objects : EachUp hosts (λ n node. (req other : ℕ) (work second : Work) → AreOpen node req work other second
       → oid_of work.work ≡ oid_of second.work → (is_making work.work ≡ false) × (is_making second.work ≡ false))
-  pub inodes : EachUp hosts (λ n node. (session req other : ℕ) (work second : Work) (request another : Request) → AreOpen node req work other second
+  pub inodes : EachUp hosts (λ n node. (session req other : ℕ) (work second : Work) (request another : Request)
+      → AreOpen node req work other second
       → AreOfOneSession node session req request other another → is_on_inode work.work ≡ true → is_on_inode second.work ≡ false)
   pub indexes : EachUp hosts (λ n node. (number : ℕ) (session : Session) (one two : Queued) → tree.get node.sessions number ≡ Some session
       → HaveBegun node session number one two → AreApart one two)

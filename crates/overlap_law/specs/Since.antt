@@ -36,7 +36,8 @@ pub record AreMuteAfter (attempts : List AttemptRecord) (unit j : ℕ) : Type 0 
 
 -- of strips: the attempt's own, where the later ones are mute
 pub record IsStripOf (attempts : List AttemptRecord) (unit j index : ℕ) (bytes : List ℕ) : Type 0 where
-  pub own : (attempt : AttemptRecord) → slice_get attempts j ≡ Some attempt → AreMuteAfter attempts unit j → bytes ≡ unit_part_by index unit attempt.work
+  pub own : (attempt : AttemptRecord) → slice_get attempts j ≡ Some attempt → AreMuteAfter attempts unit j → bytes
+      ≡ unit_part_by index unit attempt.work
 
 -- which of the two an object's rows are
 abbrev pub reading_by : Bool → Reading
@@ -50,7 +51,8 @@ reading_of policy oid = reading_by (is_in_strips policy (kind_of oid))
 -- a row has what it owes: each unit of each such attempt may be read as of it, unless the attempt is doomed
 pub record HasWhatItOwes (Reads : Reading) (policy : Policy) (kind : Kind) (hosts : Hosts) (attempts : List AttemptRecord) (node : NodeId)
     (index end served_to : ℕ) (bytes : List ℕ) : Type 0 where
-  pub each : EachAttempt attempts (λ j attempt. (unit : ℕ) → covers_unit unit attempt ≡ true → owes_attempt node end served_to attempt ≡ true
+  pub each : EachAttempt attempts (λ j attempt. (unit : ℕ) → covers_unit unit attempt ≡ true → owes_attempt node end served_to attempt
+      ≡ true
       → (is_doomed hosts attempt ≡ true) ⊎ Reads attempts unit j index (row_bytes_at policy kind unit bytes))
 
 -- the same of an object, by its policy
@@ -61,12 +63,15 @@ IsSince policy oid hosts attempts node index end served_to bytes =
 -- each row of a node has what it owes
 pub record RowsAreSince (effects : List Effect) (good : ℕ → Bool) (hosts : Hosts) (attempts : List AttemptRecord) : Type 0 where
   pub each : EachRow hosts (λ n host oid row. (policy : Policy) → good oid ≡ true → policy_in effects oid ≡ Some policy
-      → IsSince policy oid hosts attempts (record { 0 = n }) row.index (end_of_row host.node.peer.epoch row.to) (end_of_row host.node.peer.epoch row.to) row.bytes)
+      → IsSince policy oid hosts attempts (record {
+        0 = n;
+      }) row.index (end_of_row host.node.peer.epoch row.to) (end_of_row host.node.peer.epoch row.to) row.bytes)
 
 -- at each unit a copy has the bytes of some attempt that covers it
 pub record IsOfAttempts (kind : Kind) (policy : Policy) (attempts : List AttemptRecord) (index : ℕ) (bytes : List ℕ) : Type 0 where
   pub each : (unit : ℕ) → nat_le (unit_end kind unit) (length bytes) ≡ true
-      → SomeAttempt attempts (λ attempt. (covers_unit unit attempt ≡ true) × (row_bytes_at policy kind unit bytes ≡ unit_part_by index unit attempt.work))
+      → SomeAttempt attempts (λ attempt. (covers_unit unit attempt ≡ true)
+      × (row_bytes_at policy kind unit bytes ≡ unit_part_by index unit attempt.work))
 
 -- the same of an object, if its rows are copies
 abbrev pub IsCopyOfAttempts : Policy → ℕ → List AttemptRecord → ℕ → List ℕ → Type 0

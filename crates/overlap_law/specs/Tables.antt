@@ -74,7 +74,8 @@ pub record EntriesAreMade (effects : List Effect) (live : ℕ → Bool) (good_id
 pub record OwnEntriesAreMade (live : ℕ → Bool) (attempts : List AttemptRecord) : Type 0 where
   pub each : EachAttempt attempts (λ j attempt. (vid index : ℕ) → IsVid vid → object_of attempt ≡ inode_number vid
       → live (inode_number vid) ≡ true → index < 2 ^ 20
-      → covers_unit (entry_unit index) attempt ≡ true → entry_by index attempt ≡ vid → IsCreated attempts (object_number vid index) attempt.epoch)
+      → covers_unit (entry_unit index) attempt ≡ true → entry_by index attempt ≡ vid
+      → IsCreated attempts (object_number vid index) attempt.epoch)
 
 -- an id is a hole, a disk's own, or one of its chain
 abbrev pub IsOfChain : List Effect → ℕ → ℕ → Type 0
@@ -83,7 +84,8 @@ IsOfChain effects vid entry = (entry ≡ 0) ⊎ ((entry ≡ vid) ⊎ (is_above e
 -- the table of a session has such entries alone, also where the disk wasn't available; and its own ones stand for objects that were made
 pub record TablesAreOfTheChain (effects : List Effect) (hosts : Hosts) (attempts : List AttemptRecord) : Type 0 where
   pub chain : EachUp hosts (λ n node. (number index : ℕ) (session : Session) (disk : Disk) → tree.get node.sessions number ≡ Some session
-      → session.disk ≡ Some disk → index < objects_of disk.inode.spec → IsOfChain effects disk.inode.vid (slice_index disk.inode.table index))
+      → session.disk ≡ Some disk → index < objects_of disk.inode.spec
+      → IsOfChain effects disk.inode.vid (slice_index disk.inode.table index))
   pub own : EachUp hosts (λ n node. (number index : ℕ) (session : Session) (disk : Disk) → tree.get node.sessions number ≡ Some session
       → session.disk ≡ Some disk → index < objects_of disk.inode.spec → slice_index disk.inode.table index ≡ disk.inode.vid
       → is_dead effects disk.inode.vid ≡ false → IsCreated attempts (object_number disk.inode.vid index) node.peer.epoch)

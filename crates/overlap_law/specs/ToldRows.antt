@@ -43,15 +43,16 @@ recovery_answer None = says.NoRow
 recovery_answer (Some row) = says.Row row
 
 -- a node's row of an object at a level, or that it has none, is on its way to one of a node's recoveries
-pub record IsRowUnderWay (wire : Wire) (n : ℕ) (recovery : Recovery) (from : NodeId) (epoch oid level : ℕ) (row : Option RowCopy) : Type 0 where
-  pub place : ℕ
-  pub message : Message
-  pub reply : PeerRsp
-  pub unanswered : slice_get (all_unanswered recovery) place ≡ Some message
-  pub asked : message.request.ask ≡ asks.RecoverRead oid (record { 0 = level })
-  pub of_epoch : message.request.epoch.0 ≡ epoch
-  pub answering : IsAnswering wire (message_name n message.request.number) from reply
-  pub said : reply.say ≡ recovery_answer row
+pub record IsRowUnderWay (wire : Wire) (n : ℕ) (recovery : Recovery) (from : NodeId) (epoch oid level : ℕ) (row : Option RowCopy) : Type 0
+  where
+    pub place : ℕ
+    pub message : Message
+    pub reply : PeerRsp
+    pub unanswered : slice_get (all_unanswered recovery) place ≡ Some message
+    pub asked : message.request.ask ≡ asks.RecoverRead oid (record { 0 = level })
+    pub of_epoch : message.request.epoch.0 ≡ epoch
+    pub answering : IsAnswering wire (message_name n message.request.number) from reply
+    pub said : reply.say ≡ recovery_answer row
 
 -- a search keeps it, while further answers of its level are awaited
 pub record IsRowKept (node : Node) (from : NodeId) (epoch oid level : ℕ) (row : Option RowCopy) : Type 0 where

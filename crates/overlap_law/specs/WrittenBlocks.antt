@@ -42,7 +42,8 @@ abbrev pub blocks_per_object : VdiSpec → ℕ
 blocks_per_object spec = 2 ^ spec.shift / 512
 
 -- a block of a disk that is there: the disk's entry of the history, what it was made with, the object's index, the block in it
-pub record IsBlockOfDisk (ledger : Ledger) (effects : List Effect) (good_id : ℕ → Bool) (vid : ℕ) (disk : Disk) (spec : VdiSpec) (index unit : ℕ) : Type 0 where
+pub record IsBlockOfDisk (ledger : Ledger) (effects : List Effect) (good_id : ℕ
+    → Bool) (vid : ℕ) (disk : Disk) (spec : VdiSpec) (index unit : ℕ) : Type 0 where
   pub there : ledger.disks vid ≡ Some disk
   pub kept : disk.deleted ≡ false
   pub live : is_live_state (state_of effects vid) ≡ true
@@ -81,7 +82,8 @@ abbrev pub AreAllowed : List Item → ℕ → List AttemptRecord → Type 0
 AreAllowed items unit attempts = list_all (λ (attempt : AttemptRecord). is_allowed items (bytes_by unit attempt.work)) attempts ≡ true
 
 -- a block, wherever it may be read from, is read as its items let it be
-pub record BlocksAreWritten (ledger : Ledger) (effects : List Effect) (good_id : ℕ → Bool) (hosts : Hosts) (attempts : List AttemptRecord) : Type 0 where
+pub record BlocksAreWritten (ledger : Ledger) (effects : List Effect) (good_id : ℕ
+    → Bool) (hosts : Hosts) (attempts : List AttemptRecord) : Type 0 where
   -- its inode has an entry
   pub entered : (vid index unit : ℕ) (disk : Disk) (spec : VdiSpec) → IsBlockOfDisk ledger effects good_id vid disk spec index unit
       → (entry : ℕ) × IsCandidate attempts vid index entry
@@ -106,7 +108,8 @@ pub record IsUnanswered (hosts : Hosts) (attempt : AttemptRecord) : Type 0 where
   pub unanswered : tree.contains_key host.node.requests attempt.req ≡ true
 
 -- of strips that aren't torn, each attempt behind the own base is mute, or of an unanswered request, or has the base's bytes
-pub record StripsAreSound (ledger : Ledger) (effects : List Effect) (good_id : ℕ → Bool) (hosts : Hosts) (attempts : List AttemptRecord) : Type 0 where
+pub record StripsAreSound (ledger : Ledger) (effects : List Effect) (good_id : ℕ
+    → Bool) (hosts : Hosts) (attempts : List AttemptRecord) : Type 0 where
   pub each : (vid index unit home place : ℕ) (disk : Disk) (spec : VdiSpec) (base later : AttemptRecord)
       → IsBlockOfDisk ledger effects good_id vid disk spec index unit → is_in_strips spec.policy Block ≡ true
       → IsHome attempts vid index home → home ≢ 0 → is_torn (items_at disk spec index unit) ≡ false

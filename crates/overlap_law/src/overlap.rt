@@ -28,7 +28,8 @@ pub fn the_overlap_gives_legal_replies()
 
 /// The lists of recoveries are complete there, for each object that is good.
 pub fn the_overlap_gives_complete_lists()
-    ensures { (moment : MomentWithPast) → Overlap moment → EachGood moment.world moment.past (CompleteLists moment.past.listed moment.world.hosts) }
+    ensures { (moment : MomentWithPast) → Overlap moment
+        → EachGood moment.world moment.past (CompleteLists moment.past.listed moment.world.hosts) }
 {}
 
 /// An attempt that isn't made is doomed, or each row that reaches beyond its epoch has it, for each object that is good.
@@ -40,14 +41,16 @@ pub fn the_overlap_makes_attempts_stand()
 /// that is good.
 pub fn the_overlap_gives_holders()
     ensures { (moment : MomentWithPast) → Overlap moment → EachGood moment.world moment.past
-        (HoldersOfTheBase (targets_by moment.world.log) (counts moment.past.ended moment.world) (settled_of moment.world.log) moment.world.hosts) }
+        (HoldersOfTheBase (targets_by moment.world.log) (counts moment.past.ended moment.world) (settled_of moment.world.log)
+        moment.world.hosts) }
 {}
 
 /// The messages of a lost gateway are of epochs below that of its `Leave`, as the facts say it.
 pub fn the_messages_of_the_gone_are_fenced()
     ensures { (log : List Entry) (hosts : Hosts) (wire : Wire) → TheGoneAreFenced log hosts wire
         → EachHost hosts (λ n host. (epoch : ℕ) (name : MessageName) (to : NodeId) (bytes : List ℕ) (request : PeerReq)
-        → host.is_lost ≡ true → leave_of log n host.incarnation ≡ Some epoch → name.sender.0 ≡ n → tree.get wire name ≡ Some (Request to bytes)
+        → host.is_lost ≡ true → leave_of log n host.incarnation ≡ Some epoch → name.sender.0 ≡ n → tree.get wire name
+        ≡ Some (Request to bytes)
         → ask_in bytes ≡ Ok request → request.epoch.0 < epoch) }
 {}
 

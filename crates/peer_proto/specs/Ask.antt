@@ -62,7 +62,8 @@ ask_bytes req = ask_head_bytes (ask_head req) ++ ask_body req.ask
 
 -- what a request may ask for
 abbrev pub IsPeerAsk : PeerAsk → Type 0
-IsPeerAsk (asks.Create key size offset bytes) = IsOid key.oid × (key.index ≤ 30) × (size < 2 ^ 32) × (offset < 2 ^ 32) × (length bytes < 2 ^ 32)
+IsPeerAsk (asks.Create key size offset bytes) = IsOid key.oid × (key.index ≤ 30) × (size < 2 ^ 32) × (offset < 2 ^ 32)
+    × (length bytes < 2 ^ 32)
 IsPeerAsk (asks.Write key offset bytes) = IsOid key.oid × (key.index ≤ 30) × (offset < 2 ^ 32) × (length bytes < 2 ^ 32)
 IsPeerAsk (asks.Read key offset size) = IsOid key.oid × (key.index ≤ 30) × (offset < 2 ^ 32) × (size < 2 ^ 32)
 IsPeerAsk asks.List = Unit {0}

@@ -221,7 +221,11 @@ peer_say_of forms.NoRow head body = says.NoRow
 peer_say_of forms.Refused head body = says.Refused (refusal_of head.result (record { 0 = head.common.epoch }))
 
 abbrev pub peer_reply_of : Form → SayHead → List ℕ → PeerRsp
-peer_reply_of form head body = record { number = head.common.id; epoch = record { 0 = head.common.epoch }; say = peer_say_of form head body }
+peer_reply_of form head body = record {
+  number = head.common.id;
+  epoch = record { 0 = head.common.epoch };
+  say = peer_say_of form head body;
+}
 
 abbrev pub reply_in : Option Form → SayHead → List ℕ → Result PeerRsp PeerFault
 reply_in None head body = Err BadField

@@ -36,7 +36,8 @@ pub fn other_epochs_are_refused()
     ensures newer { (peer : Peer) (request : PeerReq) → peer.epoch < request.epoch.0
         → peer_step peer request ≡ peer_refusal_step (refusals.NewEpoch (record { 0 = peer.epoch })) peer }
     // One of the node's own epoch goes by what it asks.
-    ensures own { (peer : Peer) (request : PeerReq) → request.epoch.0 ≡ peer.epoch → peer_step peer request ≡ own_epoch_step request.ask peer }
+    ensures own { (peer : Peer) (request : PeerReq) → request.epoch.0 ≡ peer.epoch → peer_step peer request
+        ≡ own_epoch_step request.ask peer }
     ensures admitted { (own requested : ℕ) → (admission own requested ≡ Ok (tt {0})) ↔ (requested ≡ own) }
     // The reply has the node's own epoch.
     ensures reply { (peer : Peer) (request : PeerReq) → reply_to peer request
@@ -88,7 +89,8 @@ pub fn what_a_write_leaves()
     ensures row { (peer : Peer) (key : Key) (offset : ℕ) (bytes : List ℕ) (row : SeenRow) → is_waiting peer key.oid ≡ false
         → open_row peer.rows key ≡ Some row → MayServe peer (asks.Write key offset bytes)
         → ((own_epoch_step (asks.Write key offset bytes) peer).say ≡ says.Success)
-        × (open_row (own_epoch_step (asks.Write key offset bytes) peer).peer.rows key ≡ Some (record row { bytes = laid_over row.bytes offset bytes })) }
+        × (open_row (own_epoch_step (asks.Write key offset bytes) peer).peer.rows key
+        ≡ Some (record row { bytes = laid_over row.bytes offset bytes })) }
     ensures waiting { (peer : Peer) (key : Key) (offset : ℕ) (bytes : List ℕ) → is_waiting peer key.oid ≡ true
         → own_epoch_step (asks.Write key offset bytes) peer ≡ peer_refusal_step refusals.Recovery peer }
     ensures none { (peer : Peer) (key : Key) (offset : ℕ) (bytes : List ℕ) → is_waiting peer key.oid ≡ false
@@ -108,7 +110,8 @@ pub fn conditions_are_tests()
 
 /// Going to the next epoch closes rows and drops none: open are those that were and that stay, by the targets there.
 pub fn entering_drops_no_row()
-    ensures next { (me : NodeId) (targets : ℕ → ℕ → Policy → List NodeId) (peer : Peer) → (peer_in_next_epoch me targets peer).epoch ≡ peer.epoch + 1 }
+    ensures next { (me : NodeId) (targets : ℕ → ℕ → Policy → List NodeId) (peer : Peer) → (peer_in_next_epoch me targets peer).epoch
+        ≡ peer.epoch + 1 }
     ensures stays { (me : NodeId) (targets : ℕ → ℕ → Policy → List NodeId) (peer : Peer) (oid index : ℕ)
         → stays_open me targets peer oid index ≡ has_at me targets (peer.epoch + 1) oid index (object_policy peer oid) }
     ensures rows { (me : NodeId) (targets : ℕ → ℕ → Policy → List NodeId) (peer : Peer) (oid : ℕ)
@@ -132,15 +135,18 @@ pub fn settling_drops_closed_rows()
 
 /// The rows of an id go exactly at the entry that makes it dead, and its objects are pending no more.
 pub fn rows_go_with_their_disk()
-    ensures goes { (entry : Entry) (peer : Peer) (oid : ℕ) → kills_object entry peer oid ≡ true → rows_of (read_entry entry peer).rows oid ≡ [] }
+    ensures goes { (entry : Entry) (peer : Peer) (oid : ℕ) → kills_object entry peer oid ≡ true → rows_of (read_entry entry peer).rows oid
+        ≡ [] }
     ensures stays { (entry : Entry) (peer : Peer) (oid : ℕ) → kills_object entry peer oid ≡ false
         → rows_of (read_entry entry peer).rows oid ≡ rows_of peer.rows oid }
-    ensures pending { (entry : Entry) (peer : Peer) (oid : ℕ) (oids : List ℕ) → peer.pending ≡ Some oids → kills_object entry peer oid ≡ true
+    ensures pending { (entry : Entry) (peer : Peer) (oid : ℕ) (oids : List ℕ) → peer.pending ≡ Some oids → kills_object entry peer oid
+        ≡ true
         → is_waiting (read_entry entry peer) oid ≡ false }
     ensures still_pending { (entry : Entry) (peer : Peer) (oid : ℕ) → kills_object entry peer oid ≡ false
         → is_waiting (read_entry entry peer) oid ≡ is_waiting peer oid }
     // An id dies once, and for good: a row that was made for a dead id is like any other.
-    ensures for_good { (entry : Entry) (peer : Peer) (oid : ℕ) → is_dead_object peer oid ≡ true → is_dead_object (read_entry entry peer) oid ≡ true }
+    ensures for_good { (entry : Entry) (peer : Peer) (oid : ℕ) → is_dead_object peer oid ≡ true
+        → is_dead_object (read_entry entry peer) oid ≡ true }
     ensures dead_before { (entry : Entry) (peer : Peer) (oid : ℕ) → is_dead_object peer oid ≡ true → kills_object entry peer oid ≡ false }
 {}
 
@@ -150,7 +156,8 @@ pub fn who_comes_back_has_closed_rows()
     ensures epochs { (entries : List Entry) (peer : Peer)
         → ((come_back entries peer).epoch ≡ epoch_of entries) × ((come_back entries peer).settled ≡ settled_of entries) }
     ensures rows { (entries : List Entry) (peer : Peer) (oid : ℕ) → rows_of (come_back entries peer).rows oid
-        ≡ (if is_dead_object (come_back entries peer) oid then [] else purged (settled_of entries) (closed_all peer.epoch (rows_of peer.rows oid))) }
+        ≡ (if is_dead_object (come_back entries peer) oid then []
+        else purged (settled_of entries) (closed_all peer.epoch (rows_of peer.rows oid))) }
     ensures opened { (entries : List Entry) (peer : Peer) (oid : ℕ) → filter is_open (rows_of (come_back entries peer).rows oid) ≡ [] }
 {}
 

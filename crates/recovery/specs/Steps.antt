@@ -17,7 +17,8 @@ use Rattle.recovery.specs.Level.{searching}
 -- what is to be recovered, of the objects that were named and of those that the node has rows of
 abbrev pub to_recover : RecoveryState → List ℕ
 to_recover state =
-    filter (is_to_recover state.recovery.me state.recovery.epoch state.shown) (union state.recovery.lists.objects (tree.keys state.shown.rows))
+    filter (is_to_recover state.recovery.me state.recovery.epoch state.shown)
+    (union state.recovery.lists.objects (tree.keys state.shown.rows))
 
 -- where every other member has named its objects, it is known what is pending
 abbrev pub when_listed : RecoveryState → RecoveryState

@@ -35,7 +35,8 @@ ghost use Rattle.recovery.specs.Example.{object, request, in_epoch_3, with_objec
 /// Once each other member has named its objects, pending are, in ascending order, those of the named objects and of the
 /// node's own that it has to recover.
 pub fn what_is_pending()
-    ensures ascending { (state : RecoveryState) → IsStrictlyIncreasing state.recovery.lists.objects → IsStrictlyIncreasing (to_recover state) }
+    ensures ascending { (state : RecoveryState) → IsStrictlyIncreasing state.recovery.lists.objects
+        → IsStrictlyIncreasing (to_recover state) }
     ensures has { (state : RecoveryState) (oid : ℕ) → Contains (to_recover state) oid
         ↔ ((Contains state.recovery.lists.objects oid ⊎ Contains (tree.keys state.shown.rows) oid)
         × (is_to_recover state.recovery.me state.recovery.epoch state.shown oid ≡ true)) }
@@ -57,7 +58,8 @@ pub fn lists_come_before_searches()
 /// Of an older recovery, or of a search that has ended, an answer or a loss only makes its message answered.
 pub fn old_messages_only_become_answered()
     // As a recovery begins, all unanswered messages are of older ones.
-    ensures begin { (epoch : ℕ) (members : List NodeId) (state : RecoveryState) → ((recovery_from_epoch epoch members state).recovery.unanswered ≡ [])
+    ensures begin { (epoch : ℕ) (members : List NodeId) (state : RecoveryState)
+        → ((recovery_from_epoch epoch members state).recovery.unanswered ≡ [])
         × ((recovery_from_epoch epoch members state).recovery.older ≡ all_unanswered state.recovery) }
     ensures older { (number : ℕ) (said : Option PeerSay) (state : RecoveryState)
         → message_of number state.recovery.unanswered ≡ None
@@ -75,7 +77,8 @@ pub fn messages_are_unanswered_until_they_end()
     ensures numbers { (first : ℕ) (state : RecoveryState) → map (λ (message : Message). message.request.number) (tick_messages first state)
         ≡ range_with_len first (length (tick_messages first state)) }
     // Beside its messages a step changes neither what is recovered nor what the node shows but its rows and what is pending.
-    ensures tick { (first : ℕ) (state : RecoveryState) → frame (state_after_tick first state) ≡ frame (with_messages (tick_messages first state) state) }
+    ensures tick { (first : ℕ) (state : RecoveryState) → frame (state_after_tick first state)
+        ≡ frame (with_messages (tick_messages first state) state) }
     ensures end { (number : ℕ) (said : Option PeerSay) (state : RecoveryState)
         → frame (message_end number said state) ≡ frame (without_unanswered number state) }
 {}
@@ -100,7 +103,8 @@ pub fn levels_are_left_after_all_answers()
     ensures waits { (search : Search) (state : RecoveryState) → list_any (is_of_search search.oid) state.recovery.unanswered ≡ true
         → searching search state ≡ record state { recovery = record state.recovery { search = Some search } } }
     // A refusal or a loss counts as no answer: the level is asked anew.
-    ensures again { (from : NodeId) (refusal : Refusal) (search : Search) → (search_after_answer from None search ≡ record search { again = true })
+    ensures again { (from : NodeId) (refusal : Refusal) (search : Search)
+        → (search_after_answer from None search ≡ record search { again = true })
         × (search_after_answer from (Some (says.Refused refusal)) search ≡ record search { again = true }) }
     // A search that goes on is at the same level after a refusal or a loss, and else one lower, and not below the settled epoch.
     ensures next { (policy : Policy) (search : Search) (state : RecoveryState) (next : Search)
@@ -120,7 +124,8 @@ pub fn levels_are_left_after_all_answers()
 /// The rows that are taken at a level were told by its targets, or are the node's own where it is one, and are as many as
 /// a read needs.
 pub fn taken_rows_are_of_the_level()
-    ensures found { (state : RecoveryState) (policy : Policy) (search : Search) (row : RowCopy) → Contains (rows_found state policy search) row
+    ensures found { (state : RecoveryState) (policy : Policy) (search : Search) (row : RowCopy)
+        → Contains (rows_found state policy search) row
         → (node : NodeId) × Contains (state.shown.targets search.level search.oid policy) node
         × (row_of_target state.recovery.me (own_row state.shown search.oid search.level) search.answers node ≡ Some row) }
     ensures taken { (policy : Policy) (kind : Kind) (rows : List RowCopy) (row : RowCopy)
@@ -140,7 +145,8 @@ pub fn parts_are_of_the_same_bytes()
         → part_from_rows policy kind index rows ≡ part policy kind index bytes }
     // It is the part of the node's index in the recovered epoch.
     ensures own { (policy : Policy) (search : Search) (state : RecoveryState) (index : ℕ)
-        → index_in state.shown state.recovery.epoch search.oid policy state.recovery.me ≡ Some index → own_index policy search state ≡ index }
+        → index_in state.shown state.recovery.epoch search.oid policy state.recovery.me ≡ Some index → own_index policy search state
+        ≡ index }
     // Of whole copies the first is taken, of strips each index once, ascending.
     ensures copies { (copies : ℕ) (kind : Kind) (row : RowCopy) (rows : List RowCopy)
         → rows_taken (Copies copies) kind (row ∷ rows) ≡ row ∷ [] }

@@ -23,8 +23,10 @@ events_after before (Read session offset length) =
     then map (λ block. events.Read (vid_after before) block (block_after (size_after before) before block)) (piece_blocks offset length)
     else []
 events_after before (Write session offset length pattern) =
-    map (λ block. events.WriteStart (number_after before) (vid_after before) block false (block_of pattern offset block)) (piece_blocks offset length)
-    ++ (if ends_inside_disk (size_after before) offset length then events.WriteDone (number_after before) else events.WriteRefused (number_after before)) ∷ []
+    map (λ block. events.WriteStart (number_after before) (vid_after before) block false (block_of pattern offset block))
+    (piece_blocks offset length)
+    ++ (if ends_inside_disk (size_after before) offset length then events.WriteDone (number_after before)
+    else events.WriteRefused (number_after before)) ∷ []
 events_after before s = []
 
 -- the history of a script's run

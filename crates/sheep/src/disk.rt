@@ -165,7 +165,8 @@ impl Disk {
     ) -> Result<(), NoMemory>
         ensures size { OnOk result (self.new.size ≡ self.old.size) }
         ensures blocks { OnOk result ((block : ℕ) → stored_block self.new.blocks block
-            ≡ (if ends_inside_disk self.old.size offset length && covers_block offset length block then block_of pattern offset block else stored_block self.old.blocks block)) }
+            ≡ (if ends_inside_disk self.old.size offset length && covers_block offset length block then block_of pattern offset block
+            else stored_block self.old.blocks block)) }
     {
         if !ends_inside(self.size, offset, length) {
             return Ok(());

@@ -83,9 +83,11 @@ impl Sink for MemSink {
 
         // It fails at the calls that are listed, and where what it would take is more than it has room for:
         // none of that is taken then.
-        ensures fails { IsErr result ↔ (IsDue self.old.plan ⊎ (self.old.room < length self.old.given + min self.old.piece (length piece.now))) }
+        ensures fails { IsErr result ↔ (IsDue self.old.plan
+            ⊎ (self.old.room < length self.old.given + min self.old.piece (length piece.now))) }
         ensures taken { IfOk result (λ n. n ≡ min self.old.piece (length piece.now)) }
-        ensures plan { MatchResult result (λ _. self.new.plan ≡ plan_after_call self.old.plan) (λ _. self.new.plan ≡ plan_after_fault (plan_after_call self.old.plan)) }
+        ensures plan { MatchResult result (λ _. self.new.plan ≡ plan_after_call self.old.plan) (λ _. self.new.plan
+            ≡ plan_after_fault (plan_after_call self.old.plan)) }
         ensures settings { (self.new.room ≡ self.old.room) × (self.new.piece ≡ self.old.piece) }
     {
         self.plan.call()?;

@@ -32,7 +32,8 @@ impl FaultPlan {
     /// Counts a call, and its fault where one is planned.
     pub(crate) fn call(&mut self) -> Result<(), Fault>
         ensures due { IsErr result ↔ IsDue self.old }
-        ensures after { MatchResult result (λ _. self.new ≡ plan_after_call self.old) (λ _. self.new ≡ plan_after_fault (plan_after_call self.old)) }
+        ensures after { MatchResult result (λ _. self.new ≡ plan_after_call self.old) (λ _. self.new
+            ≡ plan_after_fault (plan_after_call self.old)) }
         ensures count { self.old.faults ≤ self.new.faults }
     {
         let due = is_listed(self.fails.as_slice(), self.calls);

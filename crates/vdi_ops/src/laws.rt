@@ -31,19 +31,24 @@ ghost use Rattle.vdi_ops.specs.Course.{Decided, Given, op_acts_from};
 /// How each command goes, from its first entry to its reply, where each is granted and each work is done.
 pub fn commands_go_so()
     // An inode of holes is created, and the disk published.
-    ensures create { (known : List Effect) (by : NodeId) (session : ℕ) (name : List ℕ) (spec : VdiSpec) (disk : Option Content) (vid : Vid) (header : TheHeader) (last : Decision)
+    ensures create { (known : List Effect) (by : NodeId) (session : ℕ) (name : List ℕ) (spec : VdiSpec) (disk : Option Content)
+        (vid : Vid) (header : TheHeader) (last : Decision)
         → header_of known vid.0 ≡ Some header
-        → op_acts_from known (begin_command by session (Create name spec) disk) (Decided (decisions.Granted vid) ∷ Given [] ∷ Decided last ∷ [])
+        → op_acts_from known (begin_command by session (Create name spec) disk)
+        (Decided (decisions.Granted vid) ∷ Given [] ∷ Decided last ∷ [])
         ≡ Append (entries.Reserve by session name (Fresh spec)) ∷ Work (create_inode (inode_by header vid.0 (holes header.spec)))
         ∷ Append (entries.Publish by vid) ∷ Reply Done ∷ [] }
     // The disk's inode is read, and written back with the directory's header.
-    ensures attach { (known : List Effect) (by : NodeId) (session : ℕ) (name : List ℕ) (disk : Option Content) (vid : Vid) (header : TheHeader) (bytes : List ℕ)
+    ensures attach { (known : List Effect) (by : NodeId) (session : ℕ) (name : List ℕ) (disk : Option Content) (vid : Vid)
+        (header : TheHeader) (bytes : List ℕ)
         → header_of known vid.0 ≡ Some header
-        → op_acts_from known (begin_command by session (Attach name None) disk) (Decided (decisions.Granted vid) ∷ Given bytes ∷ Given [] ∷ [])
+        → op_acts_from known (begin_command by session (Attach name None) disk)
+        (Decided (decisions.Granted vid) ∷ Given bytes ∷ Given [] ∷ [])
         ≡ Append (entries.Lock by session name None) ∷ Work (read_inode vid.0 header.spec)
         ∷ Work (write_back (inode_by header vid.0 (table_in (vid.0 ∷ chain_of known vid.0) header.spec bytes)) bytes) ∷ Reply Done ∷ [] }
     // A snapshot's is only read.
-    ensures attach_snapshot { (known : List Effect) (by : NodeId) (session : ℕ) (name tag : List ℕ) (disk : Option Content) (vid : Vid) (header : TheHeader) (bytes : List ℕ)
+    ensures attach_snapshot { (known : List Effect) (by : NodeId) (session : ℕ) (name tag : List ℕ) (disk : Option Content) (vid : Vid)
+        (header : TheHeader) (bytes : List ℕ)
         → header_of known vid.0 ≡ Some header
         → op_acts_from known (begin_command by session (Attach name (Some tag)) disk) (Decided (decisions.Granted vid) ∷ Given bytes ∷ [])
         ≡ Append (entries.Lock by session name (Some tag)) ∷ Work (read_inode vid.0 header.spec) ∷ Reply Done ∷ [] }
@@ -51,25 +56,35 @@ pub fn commands_go_so()
         → op_acts_from known (begin_command by session Close (Some disk)) (Decided decisions.None ∷ [])
         ≡ Append (entries.Unlock by session (record { 0 = disk.vid })) ∷ Reply Done ∷ [] }
     // The open disk's inode gets the tag, and the granted id's inode is created with the session's table.
-    ensures snapshot { (known : List Effect) (by : NodeId) (session : ℕ) (tag : List ℕ) (disk : Content) (vid : Vid) (header : TheHeader) (last : Decision)
+    ensures snapshot { (known : List Effect) (by : NodeId) (session : ℕ) (tag : List ℕ) (disk : Content) (vid : Vid) (header : TheHeader)
+        (last : Decision)
         → header_of known vid.0 ≡ Some header
-        → op_acts_from known (begin_command by session (Snapshot tag) (Some disk)) (Decided (decisions.Granted vid) ∷ Given [] ∷ Given [] ∷ Decided last ∷ [])
+        → op_acts_from known (begin_command by session (Snapshot tag) (Some disk))
+        (Decided (decisions.Granted vid) ∷ Given [] ∷ Given [] ∷ Decided last ∷ [])
         ≡ Append (entries.Reserve by session disk.name (SnapshotOf tag)) ∷ Work (write_tag disk tag)
-        ∷ Work (create_inode (inode_by header vid.0 disk.table)) ∷ Append (entries.Snapshot by (record { 0 = disk.vid }) vid) ∷ Reply Done ∷ [] }
+        ∷ Work (create_inode (inode_by header vid.0 disk.table)) ∷ Append (entries.Snapshot by (record {
+          0 = disk.vid;
+        }) vid) ∷ Reply Done ∷ [] }
     // The parent's inode is read, and the granted id's created with its table.
-    ensures clone { (known : List Effect) (by : NodeId) (session : ℕ) (base tag name : List ℕ) (disk : Option Content) (vid parent : Vid) (header : TheHeader) (bytes : List ℕ) (last : Decision)
+    ensures clone { (known : List Effect) (by : NodeId) (session : ℕ) (base tag name : List ℕ) (disk : Option Content) (vid parent : Vid)
+        (header : TheHeader) (bytes : List ℕ) (last : Decision)
         → header_of known vid.0 ≡ Some header → header.parent ≡ Some parent
-        → op_acts_from known (begin_command by session (Clone base tag name) disk) (Decided (decisions.Granted vid) ∷ Given bytes ∷ Given [] ∷ Decided last ∷ [])
+        → op_acts_from known (begin_command by session (Clone base tag name) disk)
+        (Decided (decisions.Granted vid) ∷ Given bytes ∷ Given [] ∷ Decided last ∷ [])
         ≡ Append (entries.Reserve by session name (CloneOf base tag)) ∷ Work (read_inode parent.0 header.spec)
-        ∷ Work (create_inode (inode_by header vid.0 (table_in (chain_of known vid.0) header.spec bytes))) ∷ Append (entries.Clone by vid) ∷ Reply Done ∷ [] }
-    ensures delete { (known : List Effect) (by : NodeId) (session : ℕ) (name : List ℕ) (tag : Option (List ℕ)) (disk : Option Content) (vid : Vid) (header : TheHeader)
+        ∷ Work (create_inode (inode_by header vid.0 (table_in (chain_of known vid.0) header.spec bytes))) ∷ Append
+        (entries.Clone by vid) ∷ Reply Done ∷ [] }
+    ensures delete { (known : List Effect) (by : NodeId) (session : ℕ) (name : List ℕ) (tag : Option (List ℕ)) (disk : Option Content)
+        (vid : Vid) (header : TheHeader)
         → header_of known vid.0 ≡ Some header
         → op_acts_from known (begin_command by session (Delete name tag) disk) (Decided (decisions.Granted vid) ∷ [])
         ≡ Append (entries.Delete by session name tag) ∷ Reply Done ∷ [] }
     // Where the first entry is refused, that is the reply.
-    ensures refused { (known : List Effect) (by : NodeId) (session : ℕ) (entry : Entry) (ask : VdiAsk) (disk : Option Content) (cause : Cause)
+    ensures refused { (known : List Effect) (by : NodeId) (session : ℕ) (entry : Entry) (ask : VdiAsk) (disk : Option Content)
+        (cause : Cause)
         → first_entry by session disk ask ≡ Some entry
-        → op_acts_from known (begin_command by session ask disk) (Decided (decisions.Refused cause) ∷ []) ≡ Append entry ∷ Reply (Refused cause) ∷ [] }
+        → op_acts_from known (begin_command by session ask disk) (Decided (decisions.Refused cause) ∷ [])
+        ≡ Append entry ∷ Reply (Refused cause) ∷ [] }
 {}
 
 /// The parent chain of an id is the ids that the directory calls above it.
