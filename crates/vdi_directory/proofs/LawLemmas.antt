@@ -29,7 +29,7 @@ use Rattle.vdi_directory.specs.Names.{is_live_name, snapshot_with_tag}
 use Rattle.vdi_directory.specs.Sources.{is_for, tag_for}
 use Rattle.vdi_directory.specs.Effects.{grants, is_used, header_of, name_of, reservations_of, reservation_on, ids_with, live_after, live_of, holder_after, holder_of}
 use Rattle.vdi_directory.specs.Decisions.{nothing, silent_outcome, grant_outcome, refusal_outcome, outcome, happens, log_effects, or_full, grant_of, with_spec, reservation_outcome, reserved_snapshot, reserved_clone, reserve_outcome, publication, replacement, snapshot_outcome, deletion, lock, target, held_disk, is_held_by, is_reserved_by, is_taken}
-use Rattle.vdi_directory.specs.States.{VdiState, Unused, Reserved, Working, Snapshot, Deleted, Freed, freed_state, state_after_leave, state_after, state_of, rank, is_live_state, may_take}
+use Rattle.vdi_directory.specs.States.{VdiState, Unused, Reserved, Working, Snapshot as SnapshotState, Deleted, Freed, freed_state, state_after_leave, state_after, state_of, rank, is_live_state, may_take}
 use Rattle.vdi_directory.specs.Sound.{In, IsSound, IsLawful}
 use Rattle.vdi_directory.proofs.StateLemmas.{log_effects-none, log_effects-push, is_used-push, reservations_of-push, live_of-push, holder_of-push}
 use Rattle.vdi_directory.proofs.SoundLemmas.{state_of-push, in-filter, when-false, other-id, by_cond}
@@ -79,7 +79,7 @@ rank-most : (state : VdiState) → rank state ≤ 4
 rank-most Unused = omega arith
 rank-most (Reserved by) = omega arith
 rank-most Working = omega arith
-rank-most (Snapshot tag) = omega arith
+rank-most (SnapshotState tag) = omega arith
 rank-most Deleted = omega arith
 rank-most Freed = omega arith
 
@@ -87,7 +87,7 @@ rank-freed_state : (state : VdiState) → rank state ≤ rank (freed_state state
 rank-freed_state Unused = omega arith
 rank-freed_state (Reserved by) = omega arith
 rank-freed_state Working = omega arith
-rank-freed_state (Snapshot tag) = omega arith
+rank-freed_state (SnapshotState tag) = omega arith
 rank-freed_state Deleted = omega arith
 rank-freed_state Freed = omega arith
 
@@ -95,7 +95,7 @@ rank-state_after_leave : (node : ℕ) (state : VdiState) → rank state ≤ rank
 rank-state_after_leave node Unused = omega arith
 rank-state_after_leave node (Reserved by) = by_cond (by.0 == node) Freed (Reserved by) (λ (s : VdiState). 1 ≤ rank s) (λ t. (omega arith)) (λ f. (omega arith))
 rank-state_after_leave node Working = omega arith
-rank-state_after_leave node (Snapshot tag) = omega arith
+rank-state_after_leave node (SnapshotState tag) = omega arith
 rank-state_after_leave node Deleted = omega arith
 rank-state_after_leave node Freed = omega arith
 
@@ -112,7 +112,7 @@ module _ (before : List Effect) (sound : IsSound before) where
       (λ here. (let is : rank (state_of before vid) ≡ 1 = ap (λ v. rank (state_of before v)) (sym (eqb-true of.0 vid here)) ∙ ap rank ((lawful.0).1) in omega arith))
       (λ there. (omega arith))
   rank-grows (effects.Snapped snap) lawful vid =
-      by_cond (snap.old.0 == vid) (Snapshot snap.tag) (cond (snap.vid.0 == vid) Working (state_of before vid)) (λ (s : VdiState). rank (state_of before vid) ≤ rank s)
+      by_cond (snap.old.0 == vid) (SnapshotState snap.tag) (cond (snap.vid.0 == vid) Working (state_of before vid)) (λ (s : VdiState). rank (state_of before vid) ≤ rank s)
       (λ here. (let is : rank (state_of before vid) ≡ 2 = ap (λ v. rank (state_of before v)) (sym (eqb-true snap.old.0 vid here)) ∙ ap rank ((lawful.0).state) in omega arith))
       (λ there. by_cond (snap.vid.0 == vid) Working (state_of before vid) (λ (s : VdiState). rank (state_of before vid) ≤ rank s)
       (λ here. (let is : rank (state_of before vid) ≡ 1 = ap (λ v. rank (state_of before v)) (sym (eqb-true snap.vid.0 vid here)) ∙ ap rank ((lawful.1).1) in omega arith))
@@ -182,7 +182,7 @@ live-freed_state : (state : VdiState) → is_live_state (freed_state state) ≡ 
 live-freed_state Unused = refl
 live-freed_state (Reserved by) = refl
 live-freed_state Working = refl
-live-freed_state (Snapshot tag) = refl
+live-freed_state (SnapshotState tag) = refl
 live-freed_state Deleted = refl
 live-freed_state Freed = refl
 
@@ -190,7 +190,7 @@ live-state_after_leave : (node : ℕ) (state : VdiState) → is_live_state (stat
 live-state_after_leave node Unused = refl
 live-state_after_leave node (Reserved by) = by_cond (by.0 == node) Freed (Reserved by) (λ (s : VdiState). is_live_state s ≡ false) (λ t. refl) (λ f. refl)
 live-state_after_leave node Working = refl
-live-state_after_leave node (Snapshot tag) = refl
+live-state_after_leave node (SnapshotState tag) = refl
 live-state_after_leave node Deleted = refl
 live-state_after_leave node Freed = refl
 
@@ -208,7 +208,7 @@ module _ (before : List Effect) (sound : IsSound before) (vid : ℕ) (is : has v
       by_test false = is
   live-step (effects.Snapped snap) lawful = has-ids_with vid snap.vid.0 (live_of before) ∙ by_test (snap.old.0 == vid) (snap.vid.0 == vid) refl
     where
-      by_test : (b c : Bool) → (snap.old.0 == vid) ≡ b → (c || has vid (live_of before)) ≡ is_live_state (cond b (Snapshot snap.tag) (cond c Working (state_of before vid)))
+      by_test : (b c : Bool) → (snap.old.0 == vid) ≡ b → (c || has vid (live_of before)) ≡ is_live_state (cond b (SnapshotState snap.tag) (cond c Working (state_of before vid)))
       by_test true c here =
           ap (λ t. c || t) (is ∙ ap (λ v. is_live_state (state_of before v)) (sym (eqb-true snap.old.0 vid here)) ∙ ap is_live_state ((lawful.0).state)) ∙ or-true c
       by_test false true there = refl

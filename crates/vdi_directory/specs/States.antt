@@ -3,7 +3,7 @@ use Rattle.std.specs.Prelude.{ℕ, ◌==◌, ◌||◌, Bool, true, false, List, 
 use Rattle.std.specs.Option.{option_map}
 use Rattle.object_id.specs.declared.node.NodeId.{NodeId}
 use Rattle.object_id.specs.declared.entry.Entry.{Entry}
-use Rattle.object_id.specs.declared.entry.Entry.TheVariants.{Format, Join, Leave, Reweight, Recovered, Reserve, Publish, Clone, Snapshot, Delete, Lock, Unlock}
+use Rattle.object_id.specs.declared.entry.Entry.TheVariants as entries
 use Rattle.vdi_directory.specs.declared.header.Header.{Header}
 use Rattle.vdi_directory.specs.declared.effect.Effect.{Effect}
 use Rattle.vdi_directory.specs.declared.effect.Effect.TheVariants as effects
@@ -73,15 +73,15 @@ owner_of before vid = option_map (λ (header : Header). header.name) (header_of 
 -- whether an entry may take a disk from a session of the node: the node's leave, an entry of the node itself, and the
 -- snapshot of the disk, with which the lock goes over to the disk in its place
 abbrev pub may_take : ℕ → ℕ → Entry → Bool
-may_take node vid (Format members) = false
-may_take node vid (Join other zone vnodes) = false
-may_take node vid (Leave other) = other.0 == node
-may_take node vid (Reweight other vnodes) = false
-may_take node vid (Recovered other epoch) = false
-may_take node vid (Reserve by session name origin) = by.0 == node
-may_take node vid (Publish by of) = by.0 == node
-may_take node vid (Clone by of) = by.0 == node
-may_take node vid (Snapshot by old of) = by.0 == node || old.0 == vid
-may_take node vid (Delete by session name tag) = by.0 == node
-may_take node vid (Lock by session name tag) = by.0 == node
-may_take node vid (Unlock by session of) = by.0 == node
+may_take node vid (entries.Format members) = false
+may_take node vid (entries.Join other zone vnodes) = false
+may_take node vid (entries.Leave other) = other.0 == node
+may_take node vid (entries.Reweight other vnodes) = false
+may_take node vid (entries.Recovered other epoch) = false
+may_take node vid (entries.Reserve by session name origin) = by.0 == node
+may_take node vid (entries.Publish by of) = by.0 == node
+may_take node vid (entries.Clone by of) = by.0 == node
+may_take node vid (entries.Snapshot by old of) = by.0 == node || old.0 == vid
+may_take node vid (entries.Delete by session name tag) = by.0 == node
+may_take node vid (entries.Lock by session name tag) = by.0 == node
+may_take node vid (entries.Unlock by session of) = by.0 == node

@@ -2,7 +2,7 @@
 ghost use Rattle.std.specs.Prelude.{◌≡◌, ℕ, List, IfOk, if◌then◌else◌};
 ghost use Rattle.std.specs.Option.{option_copied};
 ghost use Rattle.vdi_directory.specs.Effects.{holder_of, reservations_of, reservation_on as the_reservation, name_of};
-ghost use Rattle.vdi_directory.specs.Decisions.{nothing, silent_outcome, grant_outcome, refusal_outcome, is_held_by, is_reserved_by, is_taken as has_taken, reservation_outcome as the_reserved, held_disk as the_held, reserved_snapshot as the_snapshot, reserved_clone as the_clone, reserve_outcome as the_reservation, publication, snapshot_outcome as the_replacement, free_disk as the_free, target as the_target, deletion, lock as the_lock, release as the_release, outcome as the_outcome, log_effects};
+ghost use Rattle.vdi_directory.specs.Decisions.{nothing, silent_outcome, grant_outcome, refusal_outcome, is_held_by, is_reserved_by, is_taken as has_taken, reservation_outcome as the_reserved, held_disk as the_held, reserved_snapshot as the_snapshot, reserved_clone as the_clone, reserve_outcome as the_reserve_outcome, publication, snapshot_outcome as the_replacement, free_disk as the_free, target as the_target, deletion, lock as the_lock, release as the_release, outcome as the_outcome, log_effects};
 ghost use Rattle.vdi_directory.specs.Sources.{is_for, tag_for as for_tag};
 ghost use Rattle.vdi_directory.specs.DirectoryState.{AreLocks};
 
@@ -210,7 +210,7 @@ impl Directory {
         locks: &Locks,
     ) -> Result<Outcome, NoMemory>
         requires { AreLocks (log_effects self.now) locks.now }
-        ensures { IfOk result (λ o. o ≡ the_reservation (log_effects self.now) by session name.now origin.now) }
+        ensures { IfOk result (λ o. o ≡ the_reserve_outcome (log_effects self.now) by session name.now origin.now) }
     {
         match origin {
             Origin::Fresh { spec } => {

@@ -34,7 +34,6 @@ mod vid_range;
 
 pub use decision::Decision;
 pub use directory::Directory;
-pub use epoch_log::{Cause, Entry, Epoch, Member, MemberList, NodeId, NodeList, Origin, VdiSpec};
 pub use header::Header;
 pub use laws::{
     a_disk_stays_with_its_holder, a_free_id_is_the_first, a_node_that_left_has_nothing,
