@@ -35,7 +35,7 @@ may_work_of number request =
 
 -- the works that wait in a session's line
 abbrev pub waiting_in : ℕ → tree.FinMap nat_cmp Session → List lines.Waiting
-waiting_in number sessions = (unwrap_or (tree.get sessions number) new_session).line.waiting
+waiting_in number sessions = (unwrap_or (tree.get sessions number) new_session).inode_queue.waiting
 
 -- no two are of one request
 abbrev pub AreOfDifferentRequests : List lines.Waiting → Type 0
