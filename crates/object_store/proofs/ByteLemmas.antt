@@ -3,7 +3,8 @@ use Rattle.std.proofs.Common.{◌≡◌, ℕ, zero, suc, ◌+◌, ◌-◌, ◌<�
 use Rattle.std.proofs.lemmas.List.{take-replicate, drop-replicate, take_more}
 use Rattle.std.proofs.lemmas.Bool.Decides.{nat_tests}
 use Rattle.object_id.specs.Piece.{laid_over}
-use Rattle.object_store.specs.Bytes.{zeros, trimmed_bytes}
+use Rattle.object_id.specs.Fields.{zeros}
+use Rattle.object_store.specs.Bytes.{trimmed_bytes}
 
 and_false : (a : Bool) → (a && false) ≡ false
 and_false true = refl

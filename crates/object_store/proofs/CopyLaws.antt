@@ -4,7 +4,8 @@ use Rattle.std.proofs.lemmas.Bool.{leb-true, leb-false}
 use Rattle.std.proofs.lemmas.Bool.Decides.{nat_tests}
 use Rattle.std.specs.List.{AllByRecursion}
 use Rattle.object_store.specs.declared.row.Row.{Row}
-use Rattle.object_store.specs.Bytes.{zeros, trimmed_bytes}
+use Rattle.object_id.specs.Fields.{zeros}
+use Rattle.object_store.specs.Bytes.{trimmed_bytes}
 use Rattle.object_store.specs.Rows.{holds, is_no_later, better, row_holding, IsRowAt}
 
 both : (a b : Bool) → (a && b) ≡ false → a ≡ true → b ≡ false
