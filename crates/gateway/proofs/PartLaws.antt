@@ -3,7 +3,8 @@ use Rattle.std.proofs.Common.{◌≡◌, ℕ, suc, List, [], ◌∷◌, length, 
 use Rattle.object_id.specs.declared.oid.Kind.{Kind}
 use Rattle.object_id.specs.declared.policy.Policy.{Policy}
 use Rattle.object_id.specs.Policy.{IsPolicy, need_of}
-use Rattle.gf256.specs.Polynomial.{AreBytes, ArePoints}
+use Rattle.object_id.specs.Fields.{AreBytes}
+use Rattle.gf256.specs.Polynomial.{ArePoints}
 use Rattle.strip_coding.specs.Part.{IsAligned, part, bytes_of_parts}
 use Rattle.strip_coding.proofs.PartLaws.{bytes_of_parts-part}
 use Rattle.gateway.specs.declared.message.Message.{Message}

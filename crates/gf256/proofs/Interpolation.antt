@@ -7,7 +7,8 @@ use Rattle.std.specs.Int.Bits.{xor_self, xor_zero_r, xor_lt}
 use Rattle.std.proofs.lemmas.Bool.{cases_eq}
 use Rattle.std.proofs.lemmas.List.{get_or-map, length-map}
 use Rattle.gf256.specs.Field.{plus, times, inverse}
-use Rattle.gf256.specs.Polynomial.{IsPolynomial, AreBytes, ArePoints}
+use Rattle.object_id.specs.Fields.{AreBytes}
+use Rattle.gf256.specs.Polynomial.{IsPolynomial, ArePoints}
 use Rattle.gf256.specs.Strip.{basis, coefficients, weighted_sum, lagrange}
 use Rattle.gf256.proofs.Points.{Bytes, Avoids, Points, points_bytes, points_from, bytes_from}
 use Rattle.gf256.proofs.Xor.{xor_zero}

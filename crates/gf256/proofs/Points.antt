@@ -1,8 +1,9 @@
 -- Bytes and points by recursion on their list, as the proofs on polynomials go, and from the words of
 -- the contracts.
-use Rattle.std.proofs.Common.{◌≢◌, ℕ, zero, suc, ◌+◌, ◌^◌, ◌<◌, ◌≤◌, List, [], ◌∷◌, length, get_or, sym, arith}
+use Rattle.std.proofs.Common.{◌≢◌, ℕ, zero, suc, ◌+◌, ◌^◌, ◌<◌, ◌≤◌, List, [], ◌∷◌, length, get_or, All, sym, arith}
 use Rattle.std.specs.List.{range_with_len}
-use Rattle.gf256.specs.Polynomial.{AreBytes, ArePoints}
+use Rattle.object_id.specs.Fields.{AreBytes}
+use Rattle.gf256.specs.Polynomial.{ArePoints}
 
 abbrev pub Bytes : List ℕ → Type 0
 Bytes [] = Unit {0}
@@ -20,12 +21,23 @@ Points (p ∷ ps) = (p < 2 ^ 8) × Avoids p ps × Points ps
 
 pub bytes_from : (xs : List ℕ) → AreBytes xs → Bytes xs
 bytes_from [] h = tt
-bytes_from (x ∷ xs) h = (h 0 0 (omega arith), bytes_from xs (λ k d l. h (suc k) d (omega arith)))
+bytes_from (x ∷ xs) h = (h 0, bytes_from xs (λ k. h (suc k)))
 
 pub bytes_at : (vs : List ℕ) (j : ℕ) → Bytes vs → get_or vs j 0 < 2 ^ 8
 bytes_at [] j h = omega arith
 bytes_at (v ∷ vs) zero h = h.0
 bytes_at (v ∷ vs) (suc j) h = bytes_at vs j h.1
+
+-- each is a byte, as a fact of all places and of those of the list
+pub bytes_of_all : (xs : List ℕ) → All (λ b. b < 2 ^ 8) xs → AreBytes xs
+bytes_of_all [] h k = omega arith
+bytes_of_all (x ∷ xs) h zero = h 0 0 (omega arith)
+bytes_of_all (x ∷ xs) h (suc k) = bytes_of_all xs (λ i d l. h (suc i) d (omega arith)) k
+
+pub all_of_bytes : (xs : List ℕ) → AreBytes xs → All (λ b. b < 2 ^ 8) xs
+all_of_bytes [] h k d l = absurd (omega arith)
+all_of_bytes (x ∷ xs) h zero d l = h 0
+all_of_bytes (x ∷ xs) h (suc k) d l = all_of_bytes xs (λ i. h (suc i)) k d (omega arith)
 
 avoids_from : (p : ℕ) (ps : List ℕ) → ((k : ℕ) → k < length ps → p ≢ get_or ps k 0) → Avoids p ps
 avoids_from p [] h = tt
@@ -35,10 +47,10 @@ avoids_from p (q ∷ qs) h =
 pub points_from : (ps : List ℕ) → ArePoints ps → Points ps
 points_from [] h = tt
 points_from (p ∷ ps) h = (
-  h.0 0 0 (omega arith),
+  h.0 0,
   avoids_from p ps (λ k l. h.1 0 (suc k) 0 (omega arith) (omega arith)),
   points_from ps
-      ((λ k d l. h.0 (suc k) d (omega arith)), λ i j d l m. h.1 (suc i) (suc j) d (omega arith) (omega arith)),
+      ((λ k. h.0 (suc k)), λ i j d l m. h.1 (suc i) (suc j) d (omega arith) (omega arith)),
 )
 
 pub points_bytes : (ps : List ℕ) → Points ps → Bytes ps
@@ -60,11 +72,6 @@ avoids_to p [] h k d l = absurd (omega arith)
 avoids_to p (q ∷ qs) h zero d l = λ e. h.0 (sym e)
 avoids_to p (q ∷ qs) h (suc k) d l = avoids_to p qs h.1 k d (omega arith)
 
-bytes_to : (ps : List ℕ) → Points ps → (k d : ℕ) → k < length ps → get_or ps k d < 2 ^ 8
-bytes_to [] h k d l = absurd (omega arith)
-bytes_to (p ∷ ps) h zero d l = h.0
-bytes_to (p ∷ ps) h (suc k) d l = bytes_to ps h.2 k d (omega arith)
-
 differ_to : (ps : List ℕ) → Points ps → (i j d : ℕ) → i < j → j < length ps → get_or ps i d ≢ get_or ps j d
 differ_to [] h i j d l m = absurd (omega arith)
 differ_to (p ∷ ps) h i zero d l m = absurd (omega arith)
@@ -72,4 +79,4 @@ differ_to (p ∷ ps) h zero (suc j) d l m = avoids_to p ps h.1 j d (omega arith)
 differ_to (p ∷ ps) h (suc i) (suc j) d l m = differ_to ps h.2 i j d (omega arith) (omega arith)
 
 pub points_to : (ps : List ℕ) → Points ps → ArePoints ps
-points_to ps h = (bytes_to ps h, differ_to ps h)
+points_to ps h = ((λ k. bytes_at ps k (points_bytes ps h)), differ_to ps h)

@@ -8,11 +8,12 @@ use Rattle.std.proofs.lemmas.Bool.{cases_lt}
 use Rattle.std.proofs.lemmas.List.Elements.{All-map}
 use Rattle.std.proofs.lemmas.List.FromFn.{length-range_with_len, get_or-range_with_len, length-map-range_with_len, get_or-map-range_with_len}
 use Rattle.std.proofs.lemmas.Nat.{div-mul-add, mod-mul-add, row_fits, div_below, mod_below, div-add-mod'}
-use Rattle.gf256.specs.Polynomial.{IsPolynomial, AreBytes, ArePoints}
+use Rattle.object_id.specs.Fields.{AreBytes}
+use Rattle.gf256.specs.Polynomial.{IsPolynomial, ArePoints}
 use Rattle.gf256.specs.Field.{plus, times}
 use Rattle.gf256.proofs.FieldLaws.{times-zero}
 use Rattle.gf256.specs.Strip.{lagrange, strip_bytes, data_points, column, strip, row, block_through, IsBlock, AreStrips, Divides, coefficients, weighted_sum}
-use Rattle.gf256.proofs.Points.{Bytes, Points, bytes_from, bytes_at, points_from, range_points}
+use Rattle.gf256.proofs.Points.{Bytes, Points, bytes_from, bytes_at, bytes_of_all, points_from, range_points}
 use Rattle.gf256.proofs.Interpolation.{lagrange_polynomial, lagrange_byte, lagrange_at, lagrange_is, mapped_bytes}
 
 pub strip_some : (d : ℕ) → Divides d → 0 < 512 / d
@@ -38,8 +39,9 @@ strip_place d block i j h =
 pub strip_is_bytes : (d : ℕ) (block : List ℕ) (i : ℕ) → AreBytes (strip d block i)
 unfolding strip
 strip_is_bytes d block i =
-    All-map (λ b. b < 2 ^ 8) (λ j. lagrange (data_points d) (column d block j) i) (range_with_len 0 (512 / d))
-    (λ k e l. lagrange_byte (data_points d) (column d block (get_or (range_with_len 0 (512 / d)) k e)) i)
+    bytes_of_all (map (λ j. lagrange (data_points d) (column d block j) i) (range_with_len 0 (512 / d)))
+    (All-map (λ b. b < 2 ^ 8) (λ j. lagrange (data_points d) (column d block j) i) (range_with_len 0 (512 / d))
+    (λ k e l. lagrange_byte (data_points d) (column d block (get_or (range_with_len 0 (512 / d)) k e)) i))
 
 length-column : (d : ℕ) (block : List ℕ) (j : ℕ) → length (column d block j) ≡ d
 unfolding column
@@ -115,11 +117,12 @@ block_place d points strips place h =
 pub block_through_is_block : (d : ℕ) (points : List ℕ) (strips : List (List ℕ)) → IsBlock (block_through d points strips)
 unfolding block_through
 block_through_is_block d points strips = (
-  All-map (λ b. b < 2 ^ 8)
+  bytes_of_all (map (λ place. lagrange points (row (place % strip_bytes d) strips) (place / strip_bytes d)) (range_with_len 0 512))
+      (All-map (λ b. b < 2 ^ 8)
       (λ place. lagrange points (row (place % strip_bytes d) strips) (place / strip_bytes d)) (range_with_len 0 512)
       (λ k e l.
       let place : ℕ = get_or (range_with_len 0 512) k e in
-      lagrange_byte points (row (place % strip_bytes d) strips) (place / strip_bytes d)),
+      lagrange_byte points (row (place % strip_bytes d) strips) (place / strip_bytes d))),
   length-block_through d points strips,
 )
 

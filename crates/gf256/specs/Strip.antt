@@ -2,8 +2,9 @@
 -- below d at the points 0 to d - 1, and strip i has its values at point i.
 use Rattle.std.specs.Prelude.{◌≡◌, ℕ, length, ◌+◌, ◌*◌, ◌/◌, ◌%◌, ◌^◌, ◌<◌, ◌≤◌, ◌==◌, if◌then◌else◌, List, [], ◌∷◌, map, slice_index}
 use Rattle.std.specs.List.{All, range_with_len}
+use Rattle.object_id.specs.declared.limits.TheConstants.{BLOCK_BYTES}
 use Rattle.gf256.specs.Field.{plus, times, inverse}
-use Rattle.gf256.specs.Polynomial.{AreBytes}
+use Rattle.object_id.specs.Fields.{AreBytes}
 
 -- the product, over the other points m, of (x - m) / (point - m): 1 at its own point, 0 at the others
 unfoldable pub basis : List ℕ → ℕ → ℕ → ℕ
@@ -27,13 +28,13 @@ weighted_sum (c ∷ cs) (v ∷ vs) = plus (times c v) (weighted_sum cs vs)
 unfoldable pub lagrange : List ℕ → List ℕ → ℕ → ℕ
 lagrange points values x = weighted_sum (coefficients points points x) values
 
--- 512 bytes
+-- the bytes of a block
 abbrev pub IsBlock : List ℕ → Type 0
-IsBlock block = AreBytes block × (length block ≡ 512)
+IsBlock block = AreBytes block × (length block ≡ BLOCK_BYTES)
 
 -- the bytes of a strip
 abbrev pub strip_bytes : ℕ → ℕ
-strip_bytes d = 512 / d
+strip_bytes d = BLOCK_BYTES / d
 
 -- the points of the data strips
 abbrev pub data_points : ℕ → List ℕ
@@ -58,7 +59,7 @@ unfoldable pub block_through : ℕ → List ℕ → List (List ℕ) → List ℕ
 block_through d points strips =
     map
     (λ place. lagrange points (row (place % strip_bytes d) strips) (place / strip_bytes d))
-    (range_with_len 0 512)
+    (range_with_len 0 BLOCK_BYTES)
 
 -- strips of some length
 abbrev pub AreStrips : ℕ → List (List ℕ) → Type 0
@@ -66,6 +67,6 @@ AreStrips width strips = All (λ s. AreBytes s × (length s ≡ width)) strips
 
 -- d strips of equal length make up a block
 pub record Divides (d : ℕ) : Type 0 where
-  pub whole : d * strip_bytes d ≡ 512
+  pub whole : d * strip_bytes d ≡ BLOCK_BYTES
   pub some : 0 < d
   pub few : d ≤ 2 ^ 8

@@ -1,7 +1,8 @@
 ghost use Rattle.std.specs.Prelude.{◌≡◌, ◌≢◌, ◌/◌, ◌*◌, ◌<◌, ◌^◌, ◌⊎◌, ℕ, List, length, map, slice_index, take, drop, slice_index_or, []};
 ghost use Rattle.std.specs.List.{All};
 ghost use Rattle.gf256.specs.Field.{plus, times, inverse};
-ghost use Rattle.gf256.specs.Polynomial.{IsPolynomial, AreBytes, ArePoints};
+ghost use Rattle.object_id.specs.Fields.{AreBytes};
+ghost use Rattle.gf256.specs.Polynomial.{IsPolynomial, ArePoints};
 ghost use Rattle.gf256.specs.Strip.{lagrange, strip, block_through, strip_bytes, IsBlock, AreStrips, Divides};
 
 /// The 256 elements are a field: its laws, for all numbers where they hold so, of which a product

@@ -4,8 +4,8 @@
 //! products are taken modulo x^8 + x^4 + x^3 + x^2 + 1. [`add`], [`mul`] and [`inv`] are that field's
 //! sum, product and inverse, found in two tables; [`field_laws`] says that it is a field.
 //! `specs/Strip.antt` defines the strips of a block by Lagrange's sum, and `proofs/` shows that one
-//! polynomial of degree below d goes through d points. The crate stands on nothing but std, and takes
-//! no memory.
+//! polynomial of degree below d goes through d points. The crate stands on `object_id`, which says how
+//! long a block is, and takes no memory.
 #![tactic(auto)]
 
 mod element;

@@ -9,8 +9,9 @@ use Rattle.std.specs.Prelude.{◌==◌, ◌||◌, slice_index}
 use Rattle.std.specs.List.{All}
 use Rattle.std.proofs.lemmas.List.{get_or-drop, drop-drop, take-map, take_at, drop_at}
 use Rattle.std.proofs.lemmas.List.Elements.{All-nil, All-cons, All-take}
-use Rattle.gf256.specs.Polynomial.{AreBytes, ArePoints}
-use Rattle.gf256.proofs.Points.{Bytes, Avoids, Points, bytes_from, points_from, points_to}
+use Rattle.object_id.specs.Fields.{AreBytes}
+use Rattle.gf256.specs.Polynomial.{ArePoints}
+use Rattle.gf256.proofs.Points.{Bytes, Avoids, Points, bytes_from, bytes_of_all, points_from, points_to}
 use Rattle.gf256.specs.Strip.{strip}
 use Rattle.gf256.proofs.StripLaws.{length-strip}
 use Rattle.std.specs.List.{flat_map, range_with_len}
@@ -151,7 +152,7 @@ points_take (suc d) (p ∷ ps) h = (h.0, avoids_take d p ps h.1, points_take d p
 pub chosen_points : (d : ℕ) (indexes : List ℕ) → All (λ index. index < 31) indexes
     → ArePoints (map (slice_index indexes) (chosen_places d indexes))
 chosen_points d indexes h =
-    let bytes : AreBytes indexes = λ k x l. (let b : get_or indexes k x < 31 = h k x l in omega arith) in
+    let bytes : AreBytes indexes = bytes_of_all indexes (λ k x l. (let b : get_or indexes k x < 31 = h k x l in omega arith)) in
     points_to (map (slice_index indexes) (chosen_places d indexes))
     (subst Points
     (sym (sym (take-map (slice_index indexes) d (distinct_places indexes)) ∙ ap (take d) (indexes_at indexes [] indexes 0 refl)))

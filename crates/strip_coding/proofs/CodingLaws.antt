@@ -9,8 +9,9 @@ use Rattle.std.proofs.lemmas.List.Quantifiers.{position-Some}
 use Rattle.std.proofs.lemmas.List.FromFn.{length-range_with_len, get_or-range_with_len}
 use Rattle.object_id.specs.Policy.{is_width}
 use Rattle.gf256.specs.Strip.{coefficients, weighted_sum, lagrange, data_points, column, strip, row, IsBlock}
-use Rattle.gf256.specs.Polynomial.{AreBytes, ArePoints}
-use Rattle.gf256.proofs.Points.{bytes_from, bytes_at}
+use Rattle.object_id.specs.Fields.{AreBytes}
+use Rattle.gf256.specs.Polynomial.{ArePoints}
+use Rattle.gf256.proofs.Points.{bytes_from, bytes_at, bytes_of_all}
 use Rattle.gf256.proofs.Interpolation.{lagrange_value}
 use Rattle.gf256.proofs.StripLaws.{length-strip, strip_place, data_strip}
 use Rattle.strip_coding.specs.declared.coding.TheConstants.{IN_ORDER}
@@ -99,5 +100,6 @@ at_hand points places strips index m long k distinct both bytes e h =
     ∙ sym
     (ap (lagrange points (map f places)) (sym there.1)
     ∙ lagrange_value points (map f places) m distinct
-    (All-map (λ b. b < 2 ^ 8) f places (λ j x l. bytes_at strips (get_or places j x * long + k) (bytes_from strips bytes)))
+    (bytes_of_all (map f places)
+    (All-map (λ b. b < 2 ^ 8) f places (λ j x l. bytes_at strips (get_or places j x * long + k) (bytes_from strips bytes))))
     (length-map places f ∙ sym both) within)

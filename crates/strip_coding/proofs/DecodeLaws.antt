@@ -8,9 +8,10 @@ use Rattle.std.proofs.lemmas.List.Elements.{All-map, All-take, All-drop}
 use Rattle.std.proofs.lemmas.Nat.{row_fits, div-mul-add, mod-mul-add, mod_below}
 use borrow.Rule.Slice.PartMut.{put_mid, mid_of, post_of}
 use Rattle.object_id.specs.Policy.{is_width}
-use Rattle.gf256.specs.Polynomial.{AreBytes}
+use Rattle.object_id.specs.Fields.{AreBytes}
 use Rattle.gf256.specs.Strip.{lagrange, strip, row, block_through, IsBlock, AreStrips}
 use Rattle.gf256.proofs.StripLaws.{strip_some, length-block_through, block_place, strip-block_through, block_through-strips}
+use Rattle.gf256.proofs.Points.{bytes_of_all, all_of_bytes}
 use Rattle.strip_coding.specs.Choice.{strip_at, distinct_places, chosen_places, HasStrips}
 use Rattle.strip_coding.proofs.Widths.{divides}
 use Rattle.strip_coding.proofs.ChosenLaws.{chosen_points, chosen_within}
@@ -122,7 +123,9 @@ are_strips d indexes strips bytes whole =
     All-map (λ s. AreBytes s × (length s ≡ 512 / d)) (strip_at d strips) (chosen_places d indexes)
     (λ k x l.
     let place : ℕ = get_or (chosen_places d indexes) k x in (
-      All-take (λ b. b < 2 ^ 8) (512 / d) (drop (place * (512 / d)) strips) (All-drop (λ b. b < 2 ^ 8) (place * (512 / d)) strips bytes),
+      bytes_of_all (strip_at d strips place)
+          (All-take (λ b. b < 2 ^ 8) (512 / d) (drop (place * (512 / d)) strips)
+          (All-drop (λ b. b < 2 ^ 8) (place * (512 / d)) strips (all_of_bytes strips bytes))),
       length-strip_at d strips place
           (within_strips place (length indexes) (512 / d) (length strips) (chosen_within d indexes k x l) whole),
     ))

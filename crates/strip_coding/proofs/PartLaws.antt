@@ -11,9 +11,11 @@ use Rattle.object_id.specs.declared.oid.Kind.{Kind}
 use Rattle.object_id.specs.declared.oid.Kind.TheVariants.{Block, Inode}
 use Rattle.object_id.specs.Policy.{IsPolicy, need_of}
 use Rattle.object_id.specs.Piece.{laid_over}
-use Rattle.gf256.specs.Polynomial.{AreBytes, ArePoints}
+use Rattle.object_id.specs.Fields.{AreBytes}
+use Rattle.gf256.specs.Polynomial.{ArePoints}
 use Rattle.gf256.specs.Strip.{strip, block_through, Divides}
 use Rattle.gf256.proofs.StripLaws.{length-strip, strip_is_bytes, strip_some, strip-zeros, block_through-strips}
+use Rattle.gf256.proofs.Points.{bytes_of_all, all_of_bytes}
 use Rattle.strip_coding.specs.Part.{strips_of_blocks, blocks_through, IsAligned, part_size, part, first_part, bytes_of_parts}
 use Rattle.strip_coding.proofs.Widths.{divides}
 
@@ -46,10 +48,12 @@ strips_of_blocks-append d index (suc blocks) more front back e =
 
 strips_are_bytes : (d index blocks : ℕ) (bytes : List ℕ) → AreBytes (strips_of_blocks d index blocks bytes)
 unfolding strips_of_blocks
-strips_are_bytes d index zero bytes = All-nil (λ b. b < 2 ^ 8)
+strips_are_bytes d index zero bytes = bytes_of_all [] (All-nil (λ b. b < 2 ^ 8))
 strips_are_bytes d index (suc blocks) bytes =
-    All-append (λ b. b < 2 ^ 8) (strip d (take 512 bytes) index) (strips_of_blocks d index blocks (drop 512 bytes))
-    (strip_is_bytes d (take 512 bytes) index) (strips_are_bytes d index blocks (drop 512 bytes))
+    bytes_of_all (strip d (take 512 bytes) index ++ strips_of_blocks d index blocks (drop 512 bytes))
+    (All-append (λ b. b < 2 ^ 8) (strip d (take 512 bytes) index) (strips_of_blocks d index blocks (drop 512 bytes))
+    (all_of_bytes (strip d (take 512 bytes) index) (strip_is_bytes d (take 512 bytes) index))
+    (all_of_bytes (strips_of_blocks d index blocks (drop 512 bytes)) (strips_are_bytes d index blocks (drop 512 bytes))))
 
 -- blocks through their strips
 
@@ -84,10 +88,10 @@ blocks_through-strips d (suc blocks) bytes points splits distinct count are e =
     ap₂ ◌++◌
     (ap (block_through d points) (first_strips d blocks bytes points)
     ∙ block_through-strips d (take 512 bytes) points splits distinct count
-    (All-take (λ b. b < 2 ^ 8) 512 bytes are, length-take-le 512 bytes long))
+    (bytes_of_all (take 512 bytes) (All-take (λ b. b < 2 ^ 8) 512 bytes (all_of_bytes bytes are)), length-take-le 512 bytes long))
     (ap (blocks_through d points blocks) (other_strips d blocks bytes points)
     ∙ blocks_through-strips d blocks (drop 512 bytes) points splits distinct count
-    (All-drop (λ b. b < 2 ^ 8) 512 bytes are) rest)
+    (bytes_of_all (drop 512 bytes) (All-drop (λ b. b < 2 ^ 8) 512 bytes (all_of_bytes bytes are))) rest)
     ∙ take-append-drop 512 bytes
 
 -- whole blocks
@@ -265,7 +269,7 @@ same_parts f g (x ∷ xs) e = ap₂ ◌∷◌ (e 0 0 (omega arith)) (same_parts 
 
 points_front : (n : ℕ) (points : List ℕ) → n ≤ length points → ArePoints points → ArePoints (take n points)
 points_front n points h distinct = (
-  All-take (λ b. b < 2 ^ 8) n points distinct.0,
+  bytes_of_all (take n points) (All-take (λ b. b < 2 ^ 8) n points (all_of_bytes points distinct.0)),
   λ i j d l m e.
       (let long : j < n = omega (arith, length-take-le n points h) in
       distinct.1 i j d l (omega arith)

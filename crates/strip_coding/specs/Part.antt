@@ -2,6 +2,7 @@
 use Rattle.std.specs.Prelude.{◌≡◌, ℕ, zero, suc, ◌/◌, ◌%◌, ◌==◌, Bool, true, false, List, [], ◌∷◌, ◌++◌, length, take, drop, map, Option, if◌then◌else◌}
 use Rattle.std.specs.List.{position}
 use Rattle.std.specs.Option.{option_map}
+use Rattle.object_id.specs.declared.limits.TheConstants.{BLOCK_BYTES}
 use Rattle.object_id.specs.declared.node.NodeId.{NodeId}
 use Rattle.object_id.specs.declared.policy.Policy.{Policy}
 use Rattle.object_id.specs.declared.policy.Policy.TheVariants.{Copies, Coded}
@@ -13,7 +14,7 @@ use Rattle.gf256.specs.Strip.{strip, strip_bytes, block_through}
 unfoldable pub strips_of_blocks : ℕ → ℕ → ℕ → List ℕ → List ℕ
 strips_of_blocks d index zero bytes = []
 strips_of_blocks d index (suc blocks) bytes =
-    strip d (take 512 bytes) index ++ strips_of_blocks d index blocks (drop 512 bytes)
+    strip d (take BLOCK_BYTES bytes) index ++ strips_of_blocks d index blocks (drop BLOCK_BYTES bytes)
 
 -- the first `blocks` blocks through their strips at d points
 unfoldable pub blocks_through : ℕ → List ℕ → ℕ → List (List ℕ) → List ℕ
@@ -25,7 +26,7 @@ blocks_through d points (suc blocks) parts =
 -- whether offsets and lengths of an object go by whole blocks: those of coded data do
 abbrev pub IsAligned : Policy → Kind → ℕ → Type 0
 IsAligned (Copies copies) kind n = Unit {0}
-IsAligned (Coded d p) Block n = n % 512 ≡ 0
+IsAligned (Coded d p) Block n = n % BLOCK_BYTES ≡ 0
 IsAligned (Coded d p) Inode n = Unit {0}
 
 -- the length of the part of so many bytes, and the offset in the part of an offset in the object
@@ -37,7 +38,7 @@ part_size (Coded d p) Inode n = n
 -- whole copies and inodes: all the bytes; coded data: the index's strip of each block, in order
 unfoldable pub part : Policy → Kind → ℕ → List ℕ → List ℕ
 part (Copies copies) kind index bytes = bytes
-part (Coded d p) Block index bytes = strips_of_blocks d index (length bytes / 512) bytes
+part (Coded d p) Block index bytes = strips_of_blocks d index (length bytes / BLOCK_BYTES) bytes
 part (Coded d p) Inode index bytes = bytes
 
 -- the first of some parts

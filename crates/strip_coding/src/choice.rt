@@ -4,9 +4,10 @@ ghost use Rattle.std.specs.Prelude.{◌≡◌, ◌↔◌, ◌<◌, ◌≤◌, If
 ghost use Rattle.strip_coding.specs.Choice.{distinct_places, chosen_places};
 
 use gf256::TooFewStrips;
+use object_id::DATA_STRIPS_MAX;
 
-/// The most data strips that a block has.
-pub const MOST_DATA_STRIPS: usize = 16;
+/// The most data strips that a block has, as a length of arrays.
+pub const MOST_DATA_STRIPS: usize = DATA_STRIPS_MAX as usize;
 
 /// The first distinct indexes, up to the number of data strips, and the places at which they stand.
 #[derive(Clone, Copy)]

@@ -12,14 +12,15 @@ use crate::combine::combine;
 use crate::interpolate::fill_row;
 use crate::rows::parity_row;
 use gf256::TooFewStrips;
+use object_id::{BLOCK_BYTES, TARGETS_MAX};
 
 /// The places of the data strips in a block.
 const IN_ORDER: [usize; MOST_DATA_STRIPS] = [0, 1, 2, 3, 4, 5, 6, 7, 8, 9, 10, 11, 12, 13, 14, 15];
 
 /// Makes strip `i` of a block of `d` data strips.
-pub fn encode_block(d: u8, block: &[u8; 512], i: u8, out: &mut [u8])
+pub fn encode_block(d: u8, block: &[u8; BLOCK_BYTES as usize], i: u8, out: &mut [u8])
     requires width { IsTrue (is_width d) }
-    requires index { i < 31 }
+    requires index { i < TARGETS_MAX }
     requires room { length out.old ≡ strip_bytes d }
     ensures { out.new ≡ strip d block.now i }
 {
@@ -68,10 +69,10 @@ pub fn decode_block(
     d: u8,
     indexes: &[u8],
     strips: &[u8],
-    out: &mut [u8; 512],
+    out: &mut [u8; BLOCK_BYTES as usize],
 ) -> Result<(), TooFewStrips>
     requires width { IsTrue (is_width d) }
-    requires indexes { All (λ index. index < 31) indexes.now }
+    requires indexes { All (λ index. index < TARGETS_MAX) indexes.now }
     requires strips { length strips.now ≡ length indexes.now * strip_bytes d }
     ensures few { IsErr result ↔ (length (distinct_places indexes.now) < d) }
     ensures strips { OnOk result (HasStrips d indexes.now strips.now out.new) }
@@ -82,7 +83,7 @@ pub fn decode_block(
 {
     let count = d as usize;
     let choice = choose(count, indexes)?;
-    let width = 512 / count;
+    let width = BLOCK_BYTES as usize / count;
     for k in 0..count {
         let start = k * width;
         restore(
@@ -123,7 +124,7 @@ mod tests {
 
     /// Puts one of four strips to its place among those given.
     fn put_strip(block: &[u8; 512], index: u8, place: usize, given: &mut [u8; 512])
-        requires index { index < 31 }
+        requires index { index < TARGETS_MAX }
         requires place { place < 4 }
     {
         let start = place * 128;

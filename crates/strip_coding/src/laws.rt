@@ -8,10 +8,13 @@ ghost use Rattle.object_id.specs.declared.oid.Kind.{Kind};
 ghost use Rattle.object_id.specs.declared.oid.Kind.TheVariants.{Block};
 ghost use Rattle.object_id.specs.Policy.{IsPolicy, need_of};
 ghost use Rattle.object_id.specs.Piece.{laid_over};
-ghost use Rattle.gf256.specs.Polynomial.{AreBytes, ArePoints};
+ghost use Rattle.object_id.specs.Fields.{AreBytes};
+ghost use Rattle.gf256.specs.Polynomial.{ArePoints};
 ghost use Rattle.gf256.specs.Strip.{strip};
 ghost use Rattle.strip_coding.specs.Choice.{distinct_places, HasStrips};
 ghost use Rattle.strip_coding.specs.Part.{IsAligned, part_size, part, bytes_of_parts};
+
+use object_id::BLOCK_BYTES;
 
 /// What the part of an object is under an index.
 pub fn part_laws()
@@ -42,7 +45,7 @@ pub fn part_laws()
         → part policy kind index (laid_over bytes offset piece)
         ≡ laid_over (part policy kind index bytes) (part_size policy kind offset)
         (part policy kind index piece) }
-    ensures block { (d p index : ℕ) (block : List ℕ) → length block ≡ 512
+    ensures block { (d p index : ℕ) (block : List ℕ) → length block ≡ BLOCK_BYTES
         → part (Coded d p) Block index block ≡ strip d block index }
 {}
 

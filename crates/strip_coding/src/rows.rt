@@ -6,6 +6,8 @@ ghost use Rattle.std.specs.Prelude.{◌≡◌, ◌<◌, ◌≤◌, IsTrue};
 ghost use Rattle.gf256.specs.Strip.{coefficients, data_points};
 ghost use Rattle.object_id.specs.Policy.{is_width};
 
+use object_id::TARGETS_MAX;
+
 /// The rows of two data strips.
 pub const PARITY_2: [[u8; 2]; 29] = [
     [0x03, 0x02],
@@ -165,7 +167,7 @@ pub const PARITY_16: [[u8; 16]; 15] = [
 pub fn parity_row(d: usize, index: usize) -> &'static [u8]
     requires width { IsTrue (is_width d) }
     requires parity { d ≤ index }
-    requires index { index < 31 }
+    requires index { index < TARGETS_MAX }
     ensures { result.now ≡ coefficients (data_points d) (data_points d) index }
 {
     if d == 2 {

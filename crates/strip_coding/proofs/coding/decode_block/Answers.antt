@@ -5,8 +5,10 @@ use Rattle.std.specs.Prelude.{slice_index}
 use Rattle.std.specs.List.{All}
 use Rattle.std.proofs.lemmas.List.Elements.{All-from_get_or}
 use borrow.Rule.Slice.PartMut.{mid_of}
-use Rattle.gf256.specs.Polynomial.{AreBytes, ArePoints}
+use Rattle.object_id.specs.Fields.{AreBytes}
+use Rattle.gf256.specs.Polynomial.{ArePoints}
 use Rattle.gf256.specs.Strip.{block_through}
+use Rattle.gf256.proofs.Points.{bytes_of_all}
 use Rattle.strip_coding.specs.Choice.{strip_at, distinct_places, chosen_places, HasStrips}
 use Rattle.strip_coding.proofs.ChosenLaws.{chosen_points}
 use Rattle.strip_coding.proofs.DecodeLaws.{value_at, chosen_fit, part_fits, mid_width, next_strip, length-put_mid, restored_at, enough_from, written, has_strips, only_block}
@@ -71,7 +73,8 @@ enough c = enough_from (length (distinct_places c.args.indexes.now)) c.args.d c.
 
 strip_bytes : (c : goal.After-loop-k) → AreBytes c.args.strips.now
 strip_bytes c =
-    All-from_get_or (λ b. b < 2 ^ 8) c.args.strips.now 0 (λ i l. let fits = c.type_inv.strips i in omega arith)
+    bytes_of_all c.args.strips.now
+    (All-from_get_or (λ b. b < 2 ^ 8) c.args.strips.now 0 (λ i l. let fits = c.type_inv.strips i in omega arith))
 
 pub returns-clause-strips : goal.returns-clause-strips
 returns-clause-strips c =

@@ -1,6 +1,7 @@
 -- A data strip is copied, and a parity strip is the sum of the data strips by its coefficients.
 use Rattle.std.proofs.Common.{◌<◌, ◌^◌, length}
 use Rattle.std.proofs.lemmas.List.Elements.{All-from_get_or}
+use Rattle.gf256.proofs.Points.{bytes_of_all}
 use Rattle.strip_coding.proofs.CodingLaws.{rows_fit, data_within, encoded, copied}
 use Rattle.strip_coding.proofs.coding.encode_block.Goals as goal
 
@@ -15,7 +16,7 @@ combine-requires-clause-within c =
 pub returns-then-index-d : goal.returns-then-index-d
 returns-then-index-d c =
     copied c.args.d c.args.i (length c.args.out.now) c.args.block.now c.copy_from_slice.new.self c.requires.width
-    (All-from_get_or (λ b. b < 2 ^ 8) c.args.block.now 0 (λ k l. c.fits-block k), c.told-block) c.if-index-d.true c.requires.room c.copy_from_slice.ensures.after
+    (bytes_of_all c.args.block.now (All-from_get_or (λ b. b < 2 ^ 8) c.args.block.now 0 (λ k l. c.fits-block k)), c.told-block) c.if-index-d.true c.requires.room c.copy_from_slice.ensures.after
 
 pub returns-else-index-d : goal.returns-else-index-d
 returns-else-index-d c =

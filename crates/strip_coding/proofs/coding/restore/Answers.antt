@@ -1,6 +1,7 @@
 -- A strip that is at hand is copied, and another is the sum of those at hand by its coefficients.
 use Rattle.std.proofs.Common.{◌∙◌, ◌<◌, ◌^◌, ◌+◌, ◌*◌, sym, ap, map, length, get_or, arith}
 use Rattle.std.proofs.lemmas.List.Elements.{All-from_get_or}
+use Rattle.gf256.proofs.Points.{bytes_of_all}
 use Rattle.strip_coding.proofs.InterpolateLaws.{apart_from}
 use Rattle.strip_coding.proofs.CodingLaws.{at_hand, summed}
 use Rattle.strip_coding.proofs.coding.restore.Goals as goal
@@ -11,7 +12,8 @@ returns-in-Some c =
     ap (λ out. get_or out k 0) c.copy_from_slice.ensures.after
     ∙ at_hand c.args.points.now c.args.places.now c.args.strips.now c.args.index c.in-Some.m (length c.args.out.now) k
     c.requires.differ c.requires.both
-    (All-from_get_or (λ b. b < 2 ^ 8) c.args.strips.now 0 (λ i l. let fits = c.type_inv.strips i in omega arith))
+    (bytes_of_all c.args.strips.now
+    (All-from_get_or (λ b. b < 2 ^ 8) c.args.strips.now 0 (λ i l. let fits = c.type_inv.strips i in omega arith)))
     (sym c.place_of.ensures ∙ c.in-Some.is) h
 
 pub returns-in_default : goal.returns-in_default
