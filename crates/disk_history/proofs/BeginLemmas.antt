@@ -18,7 +18,7 @@ use Rattle.disk_history.specs.declared.requests.Requests.{Requests}
 use Rattle.disk_history.specs.declared.disks.DiskState.{DiskState}
 use Rattle.disk_history.specs.declared.writes.Write.{Write}
 use Rattle.disk_history.specs.declared.event.HistEvent.TheVariants.{WriteStart}
-use Rattle.disk_history.specs.Ledger.{Item, Disk, WriteRequest, Ledger, Open, ledger_after, changed_at, with_changed_disk, with_item, has_block}
+use Rattle.disk_history.specs.Ledger.{Item, Disk, WriteRequest, Ledger, Open, ledger_after, changed_at, with_item, has_block}
 use Rattle.disk_history.specs.Legal.{has_begun_to_write, has_place}
 use Rattle.disk_history.specs.CheckerState.{fate_in, fate_of, stray_of, is_answer, place_cmp, items_from, items_by, shown_disk, has_block_in, newest_in, ShowsRequest, AreWithin, IsLinked, IsWithin, IsWritten, WritesOne}
 use Rattle.disk_history.specs.CheckerLedger.{ShowsAll}
@@ -158,7 +158,7 @@ shows-stray requests begun disks writes ledger place coded bytes shows absent un
     item = record { request = Some place.req; bytes = bytes; coded = coded; mark = Open }
 
     written : ℕ → Option Disk
-    written = changed_at place.disk (with_changed_disk (with_item place.block item) (ledger.disks place.disk)) ledger.disks
+    written = changed_at place.disk (option_map (with_item place.block item) (ledger.disks place.disk)) ledger.disks
 
     gone : has_block (ledger.disks place.disk) place.block ≡ false
     gone = has_block_shown (fate_of requests) writes (get nat_cmp disks place.disk) (ledger.disks place.disk) place.block (shows.of_disk place.disk) ∙ absent
@@ -232,7 +232,7 @@ disk_written : (fates : ℕ → Fate) (disks written : BTreeMap ℕ DiskState) (
     → fates write.req ≡ Unanswered
     → items_from fates (reverse writes) write.earlier ≡ items_from fates (reverse writes) (newest_in found block)
     → (let item : Item = record { request = Some write.req; bytes = write.bytes.now; coded = write.coded; mark = Open } in
-    (q : ℕ) → changed_at disk (with_changed_disk (with_item block item) (ledger.disks disk)) ledger.disks q
+    (q : ℕ) → changed_at disk (option_map (with_item block item) (ledger.disks disk)) ledger.disks q
     ≡ option_map (shown_disk fates (writes ++ write ∷ [])) (get nat_cmp written q))
 disk_written fates disks written writes write ledger disk block None is shows within one unanswered same = absurd one
 disk_written fates disks written writes write ledger disk block (Some state) is shows within one unanswered same = λ q. go q (q == disk)
@@ -242,10 +242,10 @@ disk_written fates disks written writes write ledger disk block (Some state) is 
     item : Item
     item = record { request = Some write.req; bytes = write.bytes.now; coded = write.coded; mark = Open }
 
-    go : (q : ℕ) (b : Bool) → cond b (with_changed_disk (with_item block item) (ledger.disks disk)) (ledger.disks q)
+    go : (q : ℕ) (b : Bool) → cond b (option_map (with_item block item) (ledger.disks disk)) (ledger.disks q)
         ≡ option_map (shown_disk fates (writes ++ write ∷ [])) (cond b (Some one.0) (get nat_cmp disks q))
     go q true =
-        ap (with_changed_disk (with_item block item)) (shows disk ∙ ap (option_map (shown_disk fates writes)) is)
+        ap (option_map (with_item block item)) (shows disk ∙ ap (option_map (shown_disk fates writes)) is)
         ∙ ap Some (written_disk fates writes write state one.0 block one.2
         (subst (λ (found : Option DiskState). AreWithin found (length writes)) is (within disk)) unanswered same)
     go q false = shows q ∙ older_disk fates writes write (get nat_cmp disks q) (within q)
@@ -284,7 +284,7 @@ pub shows-begin : (requests begun : Requests) (disks written : BTreeMap ℕ Disk
     → ShowsAll begun written (writes ++ write ∷ []) (ledger_after ledger (WriteStart place.req place.disk place.block write.coded write.bytes.now))
 shows-begin requests begun disks written writes ledger place write shows own there unanswered earlier same one states places = record {
   of_disk = λ q. ap (λ b. (cond b changed ledger.disks) q) here
-      ∙ ap (λ (req : ℕ). changed_at place.disk (with_changed_disk (with_item place.block (item_of req)) (ledger.disks place.disk)) ledger.disks q) (sym own)
+      ∙ ap (λ (req : ℕ). changed_at place.disk (option_map (with_item place.block (item_of req)) (ledger.disks place.disk)) ledger.disks q) (sym own)
       ∙ disk_written (fate_of requests) disks written writes write ledger place.disk place.block (get nat_cmp disks place.disk) refl
       shows.of_disk shows.within one (ap (fate_of requests) own ∙ unanswered_fate (fate_of requests place.req) unanswered) same q
       ∙ ap (λ (fates : ℕ → Fate). option_map (shown_disk fates (writes ++ write ∷ [])) (get nat_cmp written q))
@@ -303,7 +303,7 @@ shows-begin requests begun disks written writes ledger place write shows own the
     item_of req = record { request = Some req; bytes = write.bytes.now; coded = write.coded; mark = Open }
 
     changed : ℕ → Option Disk
-    changed = changed_at place.disk (with_changed_disk (with_item place.block (item_of place.req)) (ledger.disks place.disk)) ledger.disks
+    changed = changed_at place.disk (option_map (with_item place.block (item_of place.req)) (ledger.disks place.disk)) ledger.disks
 
     here : has_block (ledger.disks place.disk) place.block ≡ true
     here = has_block_shown (fate_of requests) writes (get nat_cmp disks place.disk) (ledger.disks place.disk) place.block (shows.of_disk place.disk) ∙ there

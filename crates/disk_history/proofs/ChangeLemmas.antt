@@ -1,10 +1,11 @@
 -- What one event changes, and what stays through a legal history.
 use Rattle.std.proofs.Common.{◌≡◌, ℕ, ◌≢◌, ◌==◌, Bool, true, false, not, List, [], ◌∷◌, ◌++◌, map, filter, Option, Some, None, refl, sym, ap, ◌∙◌, cond}
+use Rattle.std.specs.Option.{option_map}
 use Rattle.std.specs.List.{list_any}
 use Rattle.std.proofs.lemmas.Bool.{eq-eqb, ne_eqb, or_parts}
 use Rattle.disk_history.specs.declared.event.HistEvent.{HistEvent}
 use Rattle.disk_history.specs.declared.event.HistEvent.TheVariants.{Create, Copy, Delete, WriteStart, WriteDone, WriteRefused, WriterLost, Read}
-use Rattle.disk_history.specs.Ledger.{Mark, Item, Disk, Ledger, Open, Acknowledged, Lost, is_item_of, item_with_mark, ledger_after, changed_at, with_changed_disk, with_items, with_item, has_block}
+use Rattle.disk_history.specs.Ledger.{Mark, Item, Disk, Ledger, Open, Acknowledged, Lost, is_item_of, item_with_mark, ledger_after, changed_at, with_items, with_item, has_block}
 use Rattle.disk_history.specs.Changes.{changed_disk, ended_request, named_request, items_in, blocks_in, is_deleted}
 
 -- ---- one event
@@ -24,10 +25,10 @@ other_disks_stay ledger (WriteStart req disk block coded bytes) q running apart 
     item = record { request = Some req; bytes = bytes; coded = coded; mark = Open }
 
     changed : ℕ → Option Disk
-    changed = changed_at disk (with_changed_disk (with_item block item) (ledger.disks disk)) ledger.disks
+    changed = changed_at disk (option_map (with_item block item) (ledger.disks disk)) ledger.disks
 
     go : (b : Bool) → (cond b changed ledger.disks) q ≡ ledger.disks q
-    go true = elsewhere disk (with_changed_disk (with_item block item) (ledger.disks disk)) ledger.disks q apart
+    go true = elsewhere disk (option_map (with_item block item) (ledger.disks disk)) ledger.disks q apart
     go false = refl
 other_disks_stay ledger (WriteDone req) q running apart = absurd (let no_end : Some req ≡ None → ⊥ = λ e. cc in no_end running)
 other_disks_stay ledger (WriteRefused req) q running apart = absurd (let no_end : Some req ≡ None → ⊥ = λ e. cc in no_end running)
@@ -65,7 +66,7 @@ items_changed : (change : List Item → List Item) (disks : ℕ → Option Disk)
     → items_in (with_items change disks disk) block ≡ change (items_in (disks disk) block)
 items_changed change disks disk block empty = go (disks disk)
   where
-    go : (found : Option Disk) → items_in (with_changed_disk (λ disk. record disk { items = λ block. change (disk.items block) }) found) block ≡ change (items_in found block)
+    go : (found : Option Disk) → items_in (option_map (λ (disk : Disk). record disk { items = λ block. change (disk.items block) }) found) block ≡ change (items_in found block)
     go None = sym empty
     go (Some disk) = refl
 
@@ -92,12 +93,12 @@ ends_keep_other_items ledger (Read disk at bytes) req q block ends none = absurd
 
 -- an end changes no disk but for its items
 end_blocks : (change : List Item → List Item) (found : Option Disk)
-    → blocks_in (with_changed_disk (λ disk. record disk { items = λ block. change (disk.items block) }) found) ≡ blocks_in found
+    → blocks_in (option_map (λ (disk : Disk). record disk { items = λ block. change (disk.items block) }) found) ≡ blocks_in found
 end_blocks change None = refl
 end_blocks change (Some disk) = refl
 
 end_deleted : (change : List Item → List Item) (found : Option Disk)
-    → is_deleted (with_changed_disk (λ disk. record disk { items = λ block. change (disk.items block) }) found) ≡ is_deleted found
+    → is_deleted (option_map (λ (disk : Disk). record disk { items = λ block. change (disk.items block) }) found) ≡ is_deleted found
 end_deleted change None = refl
 end_deleted change (Some disk) = refl
 
@@ -122,9 +123,9 @@ starts_keep_other_blocks ledger req disk block coded bytes other apart = go (has
     item = record { request = Some req; bytes = bytes; coded = coded; mark = Open }
 
     written : Option Disk
-    written = with_changed_disk (with_item block item) (ledger.disks disk)
+    written = option_map (with_item block item) (ledger.disks disk)
 
-    one : (found : Option Disk) → items_in (with_changed_disk (with_item block item) found) other ≡ items_in found other
+    one : (found : Option Disk) → items_in (option_map (with_item block item) found) other ≡ items_in found other
     one None = refl
     one (Some disk) = ap (λ b. cond b (disk.items block ++ item ∷ []) (disk.items other)) (ne_eqb other block apart)
 
@@ -142,9 +143,9 @@ here_is place new old = ap (λ b. cond b new (old place)) (eq-eqb place place re
 pub copy_is_origin : (ledger : Ledger) (old new : ℕ) (origin : Disk) → ledger.disks old ≡ Some origin
     → (ledger_after ledger (Copy old new)).disks new ≡ Some (record origin { deleted = false })
 copy_is_origin ledger old new origin is =
-    here_is new (with_changed_disk (λ disk. record disk { deleted = false }) (ledger.disks old)) ledger.disks ∙ ap (with_changed_disk (λ disk. record disk { deleted = false })) is
+    here_is new (option_map (λ (disk : Disk). record disk { deleted = false }) (ledger.disks old)) ledger.disks ∙ ap (option_map (λ (disk : Disk). record disk { deleted = false })) is
 
 pub deleted_keeps_items : (ledger : Ledger) (disk : ℕ) (found : Disk) → ledger.disks disk ≡ Some found
     → (ledger_after ledger (Delete disk)).disks disk ≡ Some (record found { deleted = true })
 deleted_keeps_items ledger disk found is =
-    here_is disk (with_changed_disk (λ disk. record disk { deleted = true }) (ledger.disks disk)) ledger.disks ∙ ap (with_changed_disk (λ disk. record disk { deleted = true })) is
+    here_is disk (option_map (λ (disk : Disk). record disk { deleted = true }) (ledger.disks disk)) ledger.disks ∙ ap (option_map (λ (disk : Disk). record disk { deleted = true })) is

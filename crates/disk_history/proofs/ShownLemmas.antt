@@ -15,7 +15,7 @@ use Rattle.disk_history.specs.declared.requests.RequestState.{RequestState}
 use Rattle.disk_history.specs.declared.requests.Requests.{Requests}
 use Rattle.disk_history.specs.declared.disks.DiskState.{DiskState}
 use Rattle.disk_history.specs.declared.writes.Write.{Write}
-use Rattle.disk_history.specs.Ledger.{Item, Disk, WriteRequest, Ledger, zeros_item, changed_at, with_changed_disk, with_items, with_ended_request}
+use Rattle.disk_history.specs.Ledger.{Item, Disk, WriteRequest, Ledger, zeros_item, changed_at, with_items, with_ended_request}
 use Rattle.disk_history.specs.Legal.{has_begun_to_write, has_place}
 use Rattle.disk_history.specs.CheckerState.{fate_in, fate_of, stray_in, stray_of, is_answer, may_end_in, place_cmp, items_from, items_by, shown_disk, ShowsRequest, AreWithin, IsWithin}
 use Rattle.disk_history.specs.CheckerLedger.{ShowsAll}
@@ -99,7 +99,7 @@ fate_of-end requests ended req state states q =
 turned_disk : (fates turned : ℕ → Fate) (change : List Item → List Item) (writes : List Write)
     → ((newest : Option ℕ) → items_from turned (reverse writes) newest ≡ change (items_from fates (reverse writes) newest))
     → (found : Option DiskState)
-    → with_changed_disk (λ disk. record disk { items = λ block. change (disk.items block) }) (option_map (shown_disk fates writes) found)
+    → option_map (λ (disk : Disk). record disk { items = λ block. change (disk.items block) }) (option_map (shown_disk fates writes) found)
     ≡ option_map (shown_disk turned writes) found
 turned_disk fates turned change writes same None = refl
 turned_disk fates turned change writes same (Some state) =
@@ -141,7 +141,7 @@ pub shows-end : (requests ended : Requests) (disks : BTreeMap ℕ DiskState) (wr
     → ended.places ≡ requests.places
     → ShowsAll ended disks writes (record { disks = with_items change ledger.disks; requests = with_ended_request req ledger.requests })
 shows-end requests ended disks writes ledger req fate change turns shows begun answer states places = record {
-  of_disk = λ q. ap (with_changed_disk (λ disk. record disk { items = λ block. change (disk.items block) })) (shows.of_disk q)
+  of_disk = λ q. ap (option_map (λ (disk : Disk). record disk { items = λ block. change (disk.items block) })) (shows.of_disk q)
       ∙ turned_disk (fate_of requests) (fate_of ended) change writes
       (items_from-turned (fate_of requests) (fate_of ended) change turns.append turns.zeros each (reverse writes)) (get nat_cmp disks q);
   of_request = λ q. subst (λ (found : Option RequestState). ShowsRequest found (with_ended_request req ledger.requests q)) (sym (there q)) (of_request q (q == req));

@@ -1,13 +1,13 @@
 -- What stays through a legal history: disks with their blocks, and acknowledged items.
 use Rattle.std.proofs.Common.{◌≡◌, ℕ, ◌==◌, ◌⊎◌, inl, inr, Bool, true, false, not, ◌&&◌, ◌||◌, List, [], ◌∷◌, ◌++◌, map, filter, Option, Some, None, refl, sym, ap, ◌∙◌, subst, cond, arith}
 use Rattle.std.specs.Prelude.{is_some, is_none}
-use Rattle.std.specs.Option.{option_and_then}
+use Rattle.std.specs.Option.{option_and_then, option_map}
 use Rattle.std.specs.List.{Contains, All}
 use Rattle.std.proofs.lemmas.Bool.{true≢false, false≢true, not-true, eqb-true, and_parts}
 use Rattle.std.proofs.lemmas.List.Elements.{All-nil, All-cons, All-push, All-map, All-filter, All-weaker, All-contains, Contains-append_left, Contains-append_right, Contains-append_cases, Contains-push, Contains-push_cases}
 use Rattle.disk_history.specs.declared.event.HistEvent.{HistEvent}
 use Rattle.disk_history.specs.declared.event.HistEvent.TheVariants.{Create, Copy, Delete, WriteStart, WriteDone, WriteRefused, WriterLost, Read}
-use Rattle.disk_history.specs.Ledger.{Mark, Item, Disk, WriteRequest, Ledger, Open, Acknowledged, Lost, empty_ledger, zeros_item, is_item_of, item_with_mark, ledger_after, changed_at, with_changed_disk, with_items, with_item, with_ended_request, has_block}
+use Rattle.disk_history.specs.Ledger.{Mark, Item, Disk, WriteRequest, Ledger, Open, Acknowledged, Lost, empty_ledger, zeros_item, is_item_of, item_with_mark, ledger_after, changed_at, with_items, with_item, with_ended_request, has_block}
 use Rattle.disk_history.specs.Legal.{is_acknowledged, has_begun_to_write, may_follow, ledger_from}
 use Rattle.disk_history.specs.Changes.{items_in, blocks_in}
 
@@ -51,7 +51,7 @@ absent_blocks (Some disk) blocks gone there = false≢true gone
 abbrev HasBlocks : ℕ → ℕ → Ledger → Type 0
 HasBlocks disk blocks ledger = blocks_in (ledger.disks disk) ≡ Some blocks
 
-kept_blocks : (change : Disk → Disk) → ((disk : Disk) → (change disk).blocks ≡ disk.blocks) → (found : Option Disk) → blocks_in (with_changed_disk change found) ≡ blocks_in found
+kept_blocks : (change : Disk → Disk) → ((disk : Disk) → (change disk).blocks ≡ disk.blocks) → (found : Option Disk) → blocks_in (option_map change found) ≡ blocks_in found
 kept_blocks change same None = refl
 kept_blocks change same (Some disk) = ap Some (same disk)
 
@@ -70,12 +70,12 @@ blocks_step q blocks ledger (Copy old new) there may = go (q == new) refl
     gone : is_none (ledger.disks new) ≡ true
     gone = (and_parts (is_some (ledger.disks old)) (is_none (ledger.disks new)) may).1
 
-    go : (b : Bool) → (q == new) ≡ b → blocks_in (cond b (with_changed_disk (λ disk. record disk { deleted = false }) (ledger.disks old)) (ledger.disks q)) ≡ Some blocks
+    go : (b : Bool) → (q == new) ≡ b → blocks_in (cond b (option_map (λ (disk : Disk). record disk { deleted = false }) (ledger.disks old)) (ledger.disks q)) ≡ Some blocks
     go true e = absurd (absent_blocks (ledger.disks new) blocks gone (ap (λ q. blocks_in (ledger.disks q)) (sym (eqb-true q new e)) ∙ there))
     go false e = there
 blocks_step q blocks ledger (Delete disk) there may = go (q == disk) refl
   where
-    go : (b : Bool) → (q == disk) ≡ b → blocks_in (cond b (with_changed_disk (λ disk. record disk { deleted = true }) (ledger.disks disk)) (ledger.disks q)) ≡ Some blocks
+    go : (b : Bool) → (q == disk) ≡ b → blocks_in (cond b (option_map (λ (disk : Disk). record disk { deleted = true }) (ledger.disks disk)) (ledger.disks q)) ≡ Some blocks
     go true e = kept_blocks (λ disk. record disk { deleted = true }) (λ disk. refl) (ledger.disks disk)
         ∙ ap (λ q. blocks_in (ledger.disks q)) (sym (eqb-true q disk e)) ∙ there
     go false e = there
@@ -85,7 +85,7 @@ blocks_step q blocks ledger (WriteStart req disk block coded bytes) there may = 
     item = record { request = Some req; bytes = bytes; coded = coded; mark = Open }
 
     written : Option Disk
-    written = with_changed_disk (with_item block item) (ledger.disks disk)
+    written = option_map (with_item block item) (ledger.disks disk)
 
     go : (b : Bool) → (q == disk) ≡ b → blocks_in (cond b written (ledger.disks q)) ≡ Some blocks
     go true e = kept_blocks (with_item block item) (λ disk. refl) (ledger.disks disk) ∙ ap (λ q. blocks_in (ledger.disks q)) (sym (eqb-true q disk e)) ∙ there
@@ -136,12 +136,12 @@ settled_more requests next more Lost None e = refl
 settled_more requests next more Lost (Some req) e = more req e
 
 -- items of a disk that changes in its deletion alone
-items_kept : (deleted : Bool) (found : Option Disk) (block : ℕ) → items_in (with_changed_disk (λ disk. record disk { deleted = deleted }) found) block ≡ items_in found block
+items_kept : (deleted : Bool) (found : Option Disk) (block : ℕ) → items_in (option_map (λ (disk : Disk). record disk { deleted = deleted }) found) block ≡ items_in found block
 items_kept deleted None block = refl
 items_kept deleted (Some disk) block = refl
 
 items_ended : (change : List Item → List Item) → change [] ≡ [] → (found : Option Disk) (block : ℕ)
-    → items_in (with_changed_disk (λ disk. record disk { items = λ block. change (disk.items block) }) found) block ≡ change (items_in found block)
+    → items_in (option_map (λ (disk : Disk). record disk { items = λ block. change (disk.items block) }) found) block ≡ change (items_in found block)
 items_ended change empty None block = sym empty
 items_ended change empty (Some disk) block = refl
 
@@ -187,12 +187,12 @@ settled_step ledger (Create disk blocks) settled may = λ q block. go q block (q
     go q block false = settled q block
 settled_step ledger (Copy old new) settled may = λ q block. go q block (q == new)
   where
-    go : (q block : ℕ) (b : Bool) → AreSettled ledger.requests (items_in (cond b (with_changed_disk (λ disk. record disk { deleted = false }) (ledger.disks old)) (ledger.disks q)) block)
+    go : (q block : ℕ) (b : Bool) → AreSettled ledger.requests (items_in (cond b (option_map (λ (disk : Disk). record disk { deleted = false }) (ledger.disks old)) (ledger.disks q)) block)
     go q block true = subst (AreSettled ledger.requests) (sym (items_kept false (ledger.disks old) block)) (settled old block)
     go q block false = settled q block
 settled_step ledger (Delete disk) settled may = λ q block. go q block (q == disk)
   where
-    go : (q block : ℕ) (b : Bool) → AreSettled ledger.requests (items_in (cond b (with_changed_disk (λ disk. record disk { deleted = true }) (ledger.disks disk)) (ledger.disks q)) block)
+    go : (q block : ℕ) (b : Bool) → AreSettled ledger.requests (items_in (cond b (option_map (λ (disk : Disk). record disk { deleted = true }) (ledger.disks disk)) (ledger.disks q)) block)
     go q block true = subst (AreSettled ledger.requests) (sym (items_kept true (ledger.disks disk) block)) (settled disk block)
     go q block false = settled q block
 settled_step ledger (WriteStart req disk at coded bytes) settled may = λ q block.
@@ -206,7 +206,7 @@ settled_step ledger (WriteStart req disk at coded bytes) settled may = λ q bloc
     item = record { request = Some req; bytes = bytes; coded = coded; mark = Open }
 
     written : Option Disk
-    written = with_changed_disk (with_item at item) (ledger.disks disk)
+    written = option_map (with_item at item) (ledger.disks disk)
 
     request : WriteRequest
     request = record {
@@ -223,7 +223,7 @@ settled_step ledger (WriteStart req disk at coded bytes) settled may = λ q bloc
         go false same = e
 
     one : (found : Option Disk) (block : ℕ) → AreSettled ledger.requests (items_in found at) → AreSettled ledger.requests (items_in found block)
-        → AreSettled ledger.requests (items_in (with_changed_disk (with_item at item) found) block)
+        → AreSettled ledger.requests (items_in (option_map (with_item at item) found) block)
     one None block here there = All-nil (SettledIn ledger.requests)
     one (Some disk) block here there = pick (block == at)
       where
@@ -341,12 +341,12 @@ item_step q block item acknowledged ledger (Copy old new) settled there may = go
     gone : is_none (ledger.disks new) ≡ true
     gone = (and_parts (is_some (ledger.disks old)) (is_none (ledger.disks new)) may).1
 
-    go : (b : Bool) → (q == new) ≡ b → Contains (items_in (cond b (with_changed_disk (λ disk. record disk { deleted = false }) (ledger.disks old)) (ledger.disks q)) block) item
+    go : (b : Bool) → (q == new) ≡ b → Contains (items_in (cond b (option_map (λ (disk : Disk). record disk { deleted = false }) (ledger.disks old)) (ledger.disks q)) block) item
     go true e = absurd (no_items (ledger.disks new) block item gone (subst (λ q. Contains (items_in (ledger.disks q) block) item) (eqb-true q new e) there))
     go false e = there
 item_step q block item acknowledged ledger (Delete disk) settled there may = go (q == disk) refl
   where
-    go : (b : Bool) → (q == disk) ≡ b → Contains (items_in (cond b (with_changed_disk (λ disk. record disk { deleted = true }) (ledger.disks disk)) (ledger.disks q)) block) item
+    go : (b : Bool) → (q == disk) ≡ b → Contains (items_in (cond b (option_map (λ (disk : Disk). record disk { deleted = true }) (ledger.disks disk)) (ledger.disks q)) block) item
     go true e = subst (λ (items : List Item). Contains items item) (sym (items_kept true (ledger.disks disk) block))
         (subst (λ q. Contains (items_in (ledger.disks q) block) item) (eqb-true q disk e) there)
     go false e = there
@@ -355,7 +355,7 @@ item_step q block item acknowledged ledger (WriteStart req disk at coded bytes) 
     new : Item
     new = record { request = Some req; bytes = bytes; coded = coded; mark = Open }
 
-    one : (found : Option Disk) → Contains (items_in found block) item → Contains (items_in (with_changed_disk (with_item at new) found) block) item
+    one : (found : Option Disk) → Contains (items_in found block) item → Contains (items_in (option_map (with_item at new) found) block) item
     one None here = here
     one (Some disk) here = pick (block == at) refl
       where
@@ -363,11 +363,11 @@ item_step q block item acknowledged ledger (WriteStart req disk at coded bytes) 
         pick true e = Contains-append_left (disk.items at) (new ∷ []) item (subst (λ n. Contains (disk.items n) item) (eqb-true block at e) here)
         pick false e = here
 
-    go : (b : Bool) → (q == disk) ≡ b → Contains (items_in (cond b (with_changed_disk (with_item at new) (ledger.disks disk)) (ledger.disks q)) block) item
+    go : (b : Bool) → (q == disk) ≡ b → Contains (items_in (cond b (option_map (with_item at new) (ledger.disks disk)) (ledger.disks q)) block) item
     go true e = one (ledger.disks disk) (subst (λ q. Contains (items_in (ledger.disks q) block) item) (eqb-true q disk e) there)
     go false e = there
 
-    whole : (b : Bool) → Contains (items_in ((cond b (changed_at disk (with_changed_disk (with_item at new) (ledger.disks disk)) ledger.disks) ledger.disks) q) block) item
+    whole : (b : Bool) → Contains (items_in ((cond b (changed_at disk (option_map (with_item at new) (ledger.disks disk)) ledger.disks) ledger.disks) q) block) item
     whole true = go (q == disk) refl
     whole false = there
 item_step q block item acknowledged ledger (WriteDone req) settled there may =

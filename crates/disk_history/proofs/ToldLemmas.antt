@@ -1,7 +1,7 @@
 -- A legal history's ledger has what the events tell: so each read is of the last acknowledged write or a later one.
 use Rattle.std.proofs.Common.{◌≡◌, ℕ, ◌<◌, ◌==◌, ◌⊎◌, inl, inr, Bool, true, false, not, ◌&&◌, ◌||◌, List, [], ◌∷◌, ◌++◌, map, filter, length, Option, Some, None, refl, sym, ap, ◌∙◌, subst, cond, rules, append_assoc, ◌↔◌}
 use Rattle.std.specs.Prelude.{replicate, nat_lt, IsSome, is_some, is_none}
-use Rattle.std.specs.Option.{option_and_then}
+use Rattle.std.specs.Option.{option_and_then, option_map}
 use Rattle.std.specs.Str.{bytes_eq}
 use Rattle.std.specs.List.{list_any}
 use Rattle.std.proofs.Math.Bool.{or-false, or-true}
@@ -15,7 +15,7 @@ use Rattle.disk_history.specs.declared.event.HistEvent.TheVariants.{Create, Copy
 use Rattle.disk_history.specs.declared.requests.Fate.{Fate}
 use Rattle.disk_history.specs.declared.requests.Fate.TheVariants.{Unanswered, Done, Refused, Abandoned}
 use Rattle.disk_history.specs.declared.writes.Write.{Write}
-use Rattle.disk_history.specs.Ledger.{Mark, Item, Disk, WriteRequest, Ledger, Open, Acknowledged, Lost, empty_ledger, zeros_item, is_item_of, item_with_mark, ledger_after, changed_at, with_changed_disk, with_items, with_item, has_block}
+use Rattle.disk_history.specs.Ledger.{Mark, Item, Disk, WriteRequest, Ledger, Open, Acknowledged, Lost, empty_ledger, zeros_item, is_item_of, item_with_mark, ledger_after, changed_at, with_items, with_item, has_block}
 use Rattle.disk_history.specs.Legal.{IsLegal, is_live_disk, is_writer_lost, is_torn, has_place, may_follow, may_read, ledger_from, standing}
 use Rattle.disk_history.specs.CheckerState.{is_answer, items_by}
 use Rattle.disk_history.specs.ReadableBytes.{BlockWrite, blocks_after, block_count_of, writes_after, writes_of, is_acknowledgement, is_refusal_event, is_lost_writer, is_delete, was_done, was_refused, was_lost, was_deleted, NoneDone, IsLastOrLater, IsReadable, IsTornBlock, MayBeRead}
@@ -126,15 +126,15 @@ tells_create events ledger disk blocks tells may = record {
     items q false = tells.items q
 
 tells_kept : (fates : ℕ → Fate) (writes : ℕ → List BlockWrite) (deleted : Bool) (found : Option Disk) → TellsDisk fates writes found
-    → TellsDisk fates writes (with_changed_disk (λ disk. record disk { deleted = deleted }) found)
+    → TellsDisk fates writes (option_map (λ (disk : Disk). record disk { deleted = deleted }) found)
 tells_kept fates writes deleted None tells = tt
 tells_kept fates writes deleted (Some disk) tells = tells
 
-deleted_set : (deleted : Bool) (found : Option Disk) → is_some found ≡ true → deleted_in (with_changed_disk (λ disk. record disk { deleted = deleted }) found) ≡ deleted
+deleted_set : (deleted : Bool) (found : Option Disk) → is_some found ≡ true → deleted_in (option_map (λ (disk : Disk). record disk { deleted = deleted }) found) ≡ deleted
 deleted_set deleted None e = absurd (false≢true e)
 deleted_set deleted (Some disk) e = refl
 
-count_kept : (deleted : Bool) (found : Option Disk) → blocks_in (with_changed_disk (λ disk. record disk { deleted = deleted }) found) ≡ blocks_in found
+count_kept : (deleted : Bool) (found : Option Disk) → blocks_in (option_map (λ (disk : Disk). record disk { deleted = deleted }) found) ≡ blocks_in found
 count_kept deleted None = refl
 count_kept deleted (Some disk) = refl
 
@@ -153,7 +153,7 @@ tells_copy events ledger old new tells may = record {
 }
   where
     copy : Option Disk
-    copy = with_changed_disk (λ disk. record disk { deleted = false }) (ledger.disks old)
+    copy = option_map (λ (disk : Disk). record disk { deleted = false }) (ledger.disks old)
 
     parts : (is_some (ledger.disks old) ≡ true) × (is_none (ledger.disks new) ≡ true)
     parts = and_parts (is_some (ledger.disks old)) (is_none (ledger.disks new)) may
@@ -190,7 +190,7 @@ tells_delete events ledger disk tells may = record {
 }
   where
     gone : Option Disk
-    gone = with_changed_disk (λ disk. record disk { deleted = true }) (ledger.disks disk)
+    gone = option_map (λ (disk : Disk). record disk { deleted = true }) (ledger.disks disk)
 
     deleted : (q : ℕ) (b : Bool) → (q == disk) ≡ b → deleted_in (cond b gone (ledger.disks q)) ≡ (was_deleted events q || (disk == q))
     deleted q true e = deleted_set true (ledger.disks disk) (live_some (ledger.disks disk) may)
@@ -226,7 +226,7 @@ started_disk : (fates : ℕ → Fate) (writes : ℕ → List BlockWrite) (req bl
     → fates req ≡ Unanswered → TellsDisk fates writes found
     → (let item : Item = record { request = Some req; bytes = bytes; coded = coded; mark = Open } in
     let write : BlockWrite = record { req = req; coded = coded; bytes = bytes } in
-    TellsDisk fates (changed_at block (write ∷ writes block) writes) (with_changed_disk (with_item block item) found))
+    TellsDisk fates (changed_at block (write ∷ writes block) writes) (option_map (with_item block item) found))
 started_disk fates writes req block coded bytes None unanswered tells = tt
 started_disk fates writes req block coded bytes (Some disk) unanswered tells = λ q below. go q below (q == block) refl
   where
@@ -298,26 +298,26 @@ tells_start events ledger req disk block coded bytes tells may = record {
     ended q true e = tells.ended req ∙ ap (λ q. is_answer (tells.fates q)) (sym (eqb-true q req e))
     ended q false e = tells.ended q
 
-    one_deleted : (found : Option Disk) → deleted_in (with_changed_disk (with_item block item) found) ≡ deleted_in found
+    one_deleted : (found : Option Disk) → deleted_in (option_map (with_item block item) found) ≡ deleted_in found
     one_deleted None = refl
     one_deleted (Some disk) = refl
 
-    here_deleted : (q : ℕ) (b : Bool) → (q == disk) ≡ b → deleted_in (cond b (with_changed_disk (with_item block item) (ledger.disks disk)) (ledger.disks q)) ≡ was_deleted events q
+    here_deleted : (q : ℕ) (b : Bool) → (q == disk) ≡ b → deleted_in (cond b (option_map (with_item block item) (ledger.disks disk)) (ledger.disks q)) ≡ was_deleted events q
     here_deleted q true e = one_deleted (ledger.disks disk) ∙ tells.deleted disk ∙ ap (was_deleted events) (sym (eqb-true q disk e))
     here_deleted q false e = tells.deleted q
 
     changed : ℕ → Option Disk
-    changed = changed_at disk (with_changed_disk (with_item block item) (ledger.disks disk)) ledger.disks
+    changed = changed_at disk (option_map (with_item block item) (ledger.disks disk)) ledger.disks
 
     deleted : (q : ℕ) (b : Bool) → deleted_in ((cond b changed ledger.disks) q) ≡ was_deleted events q
     deleted q true = here_deleted q (q == disk) refl
     deleted q false = tells.deleted q
 
-    one_counted : (found : Option Disk) → blocks_in (with_changed_disk (with_item block item) found) ≡ blocks_in found
+    one_counted : (found : Option Disk) → blocks_in (option_map (with_item block item) found) ≡ blocks_in found
     one_counted None = refl
     one_counted (Some disk) = refl
 
-    here_counted : (q : ℕ) (b : Bool) → (q == disk) ≡ b → blocks_in (cond b (with_changed_disk (with_item block item) (ledger.disks disk)) (ledger.disks q)) ≡ block_count_of events q
+    here_counted : (q : ℕ) (b : Bool) → (q == disk) ≡ b → blocks_in (cond b (option_map (with_item block item) (ledger.disks disk)) (ledger.disks q)) ≡ block_count_of events q
     here_counted q true e = one_counted (ledger.disks disk) ∙ tells.counted disk ∙ ap (block_count_of events) (sym (eqb-true q disk e))
     here_counted q false e = tells.counted q
 
@@ -325,7 +325,7 @@ tells_start events ledger req disk block coded bytes tells may = record {
     counted q true = here_counted q (q == disk) refl
     counted q false = tells.counted q
 
-    there : (q : ℕ) (b : Bool) → TellsDisk tells.fates (cond b grown (writes_of events q)) (cond b (with_changed_disk (with_item block item) (ledger.disks disk)) (ledger.disks q))
+    there : (q : ℕ) (b : Bool) → TellsDisk tells.fates (cond b grown (writes_of events q)) (cond b (option_map (with_item block item) (ledger.disks disk)) (ledger.disks q))
     there q true = started_disk tells.fates (writes_of events disk) req block coded bytes (ledger.disks disk) unanswered (tells.items disk)
     there q false = tells.items q
 
@@ -360,13 +360,13 @@ told_turned fates req fate change turns unanswered (write ∷ older) =
 
 ended_disk : (fates : ℕ → Fate) (req : ℕ) (fate : Fate) (change : List Item → List Item) → Turns change req fate → fates req ≡ Unanswered
     → (writes : ℕ → List BlockWrite) (found : Option Disk) → TellsDisk fates writes found
-    → TellsDisk (changed_at req fate fates) writes (with_changed_disk (λ disk. record disk { items = λ block. change (disk.items block) }) found)
+    → TellsDisk (changed_at req fate fates) writes (option_map (λ (disk : Disk). record disk { items = λ block. change (disk.items block) }) found)
 ended_disk fates req fate change turns unanswered writes None tells = tt
 ended_disk fates req fate change turns unanswered writes (Some disk) tells = λ block below.
     ap change (tells block below) ∙ told_turned fates req fate change turns unanswered (writes block)
 
 end_deleted : (change : List Item → List Item) (found : Option Disk)
-    → deleted_in (with_changed_disk (λ disk. record disk { items = λ block. change (disk.items block) }) found) ≡ deleted_in found
+    → deleted_in (option_map (λ (disk : Disk). record disk { items = λ block. change (disk.items block) }) found) ≡ deleted_in found
 end_deleted change None = refl
 end_deleted change (Some disk) = refl
 
@@ -387,7 +387,7 @@ end_told told_before is_fate fates req fate found told_all unanswered open_none 
         ∙ or-false (told_before q) ∙ told_all q
 
 end_counted : (change : List Item → List Item) (found : Option Disk)
-    → blocks_in (with_changed_disk (λ disk. record disk { items = λ block. change (disk.items block) }) found) ≡ blocks_in found
+    → blocks_in (option_map (λ (disk : Disk). record disk { items = λ block. change (disk.items block) }) found) ≡ blocks_in found
 end_counted change None = refl
 end_counted change (Some disk) = refl
 

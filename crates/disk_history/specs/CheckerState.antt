@@ -1,5 +1,6 @@
 -- What the checker keeps, and what it shows of the ledger.
 use Rattle.std.specs.Prelude.{◌≡◌, ℕ, ◌==◌, ◌<◌, Bool, true, false, not, ◌||◌, List, [], ◌∷◌, ◌++◌, length, reverse, Option, Some, None, nat_lt, if◌then◌else◌}
+use Rattle.std.specs.Option.{option_map}
 use Rattle.std.specs.Ordering.{nat_cmp, ordering_then}
 use Rattle.std.specs.declared.cmp.Ordering.{Ordering}
 use Rattle.std.specs.Str.{bytes_eq}
@@ -104,14 +105,10 @@ abbrev pub newest_in : Option DiskState → ℕ → Option ℕ
 newest_in None block = None
 newest_in (Some state) block = get nat_cmp state.newest block
 
--- a disk, deleted
-abbrev pub deleted_state : Option DiskState → Option DiskState
-deleted_state None = None
-deleted_state (Some state) = Some (record state { deleted = true })
-
 -- one disk deleted, and no other changed
 abbrev pub DeletesOne : BTreeMap ℕ DiskState → BTreeMap ℕ DiskState → ℕ → Type 0
-DeletesOne old new disk = (q : ℕ) → get nat_cmp new q ≡ (if is_at (nat_cmp disk) q then deleted_state (get nat_cmp old disk)
+DeletesOne old new disk = (q : ℕ) → get nat_cmp new q
+    ≡ (if is_at (nat_cmp disk) q then option_map (λ (state : DiskState). record state { deleted = true }) (get nat_cmp old disk)
     else get nat_cmp old q)
 
 -- after the block's newest write is set: the same disk but for that

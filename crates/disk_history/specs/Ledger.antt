@@ -1,5 +1,8 @@
 -- What a history says of disks: for each block the writes that count, in order, and what became of each request.
-use Rattle.std.specs.Prelude.{ℕ, ◌==◌, Bool, true, false, not, ◌||◌, List, [], ◌∷◌, ◌++◌, map, filter, replicate, Option, Some, None, nat_lt, if◌then◌else◌}
+use Rattle.std.specs.Prelude.{ℕ, ◌==◌, Bool, true, false, not, ◌||◌, List, [], ◌∷◌, ◌++◌, map, filter, Option, Some, None, nat_lt, if◌then◌else◌}
+use Rattle.std.specs.Option.{option_map}
+use Rattle.object_id.specs.declared.limits.TheConstants.{BLOCK_BYTES}
+use Rattle.object_id.specs.Fields.{zeros}
 use Rattle.disk_history.specs.declared.event.HistEvent.{HistEvent}
 use Rattle.disk_history.specs.declared.event.HistEvent.TheVariants.{Create, Copy, Delete, WriteStart, WriteDone, WriteRefused, WriterLost, Read}
 
@@ -43,7 +46,7 @@ changed_at place new old k = if k == place then new else old k
 
 -- the one item with which each block of a new disk begins: zeros, acknowledged
 abbrev pub zeros_item : Item
-zeros_item = record { request = None; bytes = replicate 512 0; coded = false; mark = Acknowledged }
+zeros_item = record { request = None; bytes = zeros BLOCK_BYTES; coded = false; mark = Acknowledged }
 
 -- whether the item is one of the request's
 abbrev pub is_item_of : ℕ → Item → Bool
@@ -57,14 +60,9 @@ is_item_of req item = is_number item.request
 abbrev pub item_with_mark : Mark → ℕ → Item → Item
 item_with_mark mark req item = if is_item_of req item then record item { mark = mark } else item
 
--- a disk changed, where it is there
-abbrev pub with_changed_disk : (Disk → Disk) → Option Disk → Option Disk
-with_changed_disk change None = None
-with_changed_disk change (Some disk) = Some (change disk)
-
 -- every disk, with the items of each block changed
 abbrev pub with_items : (List Item → List Item) → (ℕ → Option Disk) → ℕ → Option Disk
-with_items change disks number = with_changed_disk (λ disk. record disk { items = λ block. change (disk.items block) }) (disks number)
+with_items change disks number = option_map (λ (disk : Disk). record disk { items = λ block. change (disk.items block) }) (disks number)
 
 -- whether the disk has the block
 abbrev pub has_block : Option Disk → ℕ → Bool
@@ -85,14 +83,14 @@ ledger_after ledger (Create disk blocks) = record ledger {
   disks = changed_at disk (Some (record { blocks = blocks; items = λ block. zeros_item ∷ []; deleted = false })) ledger.disks;
 }
 ledger_after ledger (Copy old new) = record ledger {
-  disks = changed_at new (with_changed_disk (λ disk. record disk { deleted = false }) (ledger.disks old)) ledger.disks;
+  disks = changed_at new (option_map (λ (disk : Disk). record disk { deleted = false }) (ledger.disks old)) ledger.disks;
 }
 ledger_after ledger (Delete disk) = record ledger {
-  disks = changed_at disk (with_changed_disk (λ disk. record disk { deleted = true }) (ledger.disks disk)) ledger.disks;
+  disks = changed_at disk (option_map (λ (disk : Disk). record disk { deleted = true }) (ledger.disks disk)) ledger.disks;
 }
 ledger_after ledger (WriteStart req disk block coded bytes) = record {
   disks = if has_block (ledger.disks disk) block
-      then changed_at disk (with_changed_disk (with_item block (record {
+      then changed_at disk (option_map (with_item block (record {
         request = Some req;
         bytes = bytes;
         coded = coded;

@@ -3,6 +3,7 @@ use Rattle.std.specs.Prelude.{ℕ, ◌==◌, ◌<◌, ◌+◌, Bool, true, false
 use Rattle.std.specs.Option.{option_and_then}
 use Rattle.std.specs.Str.{bytes_eq}
 use Rattle.std.specs.List.{list_any}
+use Rattle.object_id.specs.declared.limits.TheConstants.{BLOCK_BYTES}
 use Rattle.disk_history.specs.declared.event.HistEvent.{HistEvent}
 use Rattle.disk_history.specs.declared.event.HistEvent.TheVariants.{Create, Copy, Delete, WriteStart, WriteDone, WriteRefused, WriterLost, Read}
 use Rattle.disk_history.specs.Ledger.{Mark, Open, Acknowledged, Lost, Item, Disk, WriteRequest, Ledger, empty_ledger, has_block, ledger_after}
@@ -62,13 +63,13 @@ may_follow ledger (Create disk blocks) = is_none (ledger.disks disk)
 may_follow ledger (Copy old new) = is_some (ledger.disks old) && is_none (ledger.disks new)
 may_follow ledger (Delete disk) = is_live_disk (ledger.disks disk)
 may_follow ledger (WriteStart req disk block coded bytes) =
-    length bytes == 512 && not (ledger.requests req).ended && not (has_place (ledger.requests req) disk block)
+    length bytes == BLOCK_BYTES && not (ledger.requests req).ended && not (has_place (ledger.requests req) disk block)
 may_follow ledger (WriteDone req) =
     has_begun_to_write (ledger.requests req) && not (ledger.requests req).ended && not (ledger.requests req).stray
 may_follow ledger (WriteRefused req) = has_begun_to_write (ledger.requests req) && not (ledger.requests req).ended
 may_follow ledger (WriterLost req) = has_begun_to_write (ledger.requests req) && not (ledger.requests req).ended
 may_follow ledger (Read disk block bytes) =
-    has_block (ledger.disks disk) block && length bytes == 512 && may_read (ledger.disks disk) block bytes
+    has_block (ledger.disks disk) block && length bytes == BLOCK_BYTES && may_read (ledger.disks disk) block bytes
 
 -- what one event leaves, or nothing where it may not come next
 abbrev pub ledger_step : Ledger → HistEvent → Option Ledger

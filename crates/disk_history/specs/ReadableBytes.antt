@@ -1,6 +1,8 @@
 -- What a history tells in its events alone: the writes of each block, and what became of each request.
-use Rattle.std.specs.Prelude.{◌≡◌, ℕ, ◌==◌, ◌<◌, Option, Some, None, length, Bool, true, false, List, [], ◌∷◌, ◌++◌, fold, replicate, ◌⊎◌}
+use Rattle.std.specs.Prelude.{◌≡◌, ℕ, ◌==◌, ◌<◌, Option, Some, None, length, Bool, true, false, List, [], ◌∷◌, ◌++◌, fold, ◌⊎◌}
 use Rattle.std.specs.List.{list_any, AllByRecursion}
+use Rattle.object_id.specs.declared.limits.TheConstants.{BLOCK_BYTES}
+use Rattle.object_id.specs.Fields.{zeros}
 use Rattle.disk_history.specs.declared.event.HistEvent.{HistEvent}
 use Rattle.disk_history.specs.declared.event.HistEvent.TheVariants.{Create, Copy, Delete, WriteStart, WriteDone, WriteRefused, WriterLost, Read}
 use Rattle.disk_history.specs.Ledger.{changed_at}
@@ -94,19 +96,19 @@ pub record IsLastOrLater (events : List HistEvent) (writes : List BlockWrite) (w
 abbrev pub IsReadable : List HistEvent → List BlockWrite → List ℕ → Type 0
 IsReadable events writes bytes =
     ((write : BlockWrite) × IsLastOrLater events writes write × (was_refused events write.req ≡ false) × (write.bytes ≡ bytes))
-    ⊎ (NoneDone events writes × (bytes ≡ replicate 512 0))
+    ⊎ (NoneDone events writes × (bytes ≡ zeros BLOCK_BYTES))
 
 -- A block is torn where the writer of its last acknowledged write or of a later one was lost, and the write was coded.
 abbrev pub IsTornBlock : List HistEvent → List BlockWrite → Type 0
 IsTornBlock events writes =
     (write : BlockWrite) × IsLastOrLater events writes write × (write.coded ≡ true) × (was_lost events write.req ≡ true)
 
--- Which read may come next: of a block of a disk that is there, of 512 bytes; and the disk was deleted, or the block is torn,
+-- Which read may come next: of the bytes of a block of a disk that is there; and the disk was deleted, or the block is torn,
 -- or the bytes are those of its last acknowledged write or of a later one.
 pub record MayBeRead (events : List HistEvent) (disk block : ℕ) (bytes : List ℕ) : Type 0 where
   pub count : ℕ
   pub there : block_count_of events disk ≡ Some count
   pub within : block < count
-  pub whole : length bytes ≡ 512
+  pub whole : length bytes ≡ BLOCK_BYTES
   pub given : (was_deleted events disk ≡ true) ⊎ (IsTornBlock events (writes_of events disk block)
       ⊎ IsReadable events (writes_of events disk block) bytes)

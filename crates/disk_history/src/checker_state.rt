@@ -11,7 +11,7 @@ use crate::disks::{self, DiskState, Disks};
 use crate::event::HistEvent;
 use crate::requests::{Fate, Place, Requests};
 use crate::writes::{self, Write};
-use object_id::NoMemory;
+use object_id::{BLOCK_BYTES, NoMemory};
 use std::alloc::Global;
 use std::collections::BTreeMap;
 
@@ -69,7 +69,7 @@ impl<'a> CheckerState<'a> {
         ensures { IfOk result (λ legal. Enters self.old self.new (events.WriteStart place.req place.disk place.block coded bytes.now)
             legal) }
     {
-        if bytes.len() != 512
+        if bytes.len() != BLOCK_BYTES as usize
             || self.requests.fate(place.req).is_answer()
             || self.requests.has(place)
         {
@@ -142,7 +142,7 @@ impl<'a> CheckerState<'a> {
         let Some(state) = self.disks.get(&disk) else {
             return false;
         };
-        if state.blocks <= block || bytes.len() != 512 {
+        if state.blocks <= block || bytes.len() != BLOCK_BYTES as usize {
             return false;
         }
         state.deleted || writes::may_give(&self.writes, &self.requests, state.newest(block), bytes)

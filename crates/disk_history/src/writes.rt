@@ -1,9 +1,11 @@
 //! The writes of a history, each linked to the one before it on its block.
-ghost use Rattle.std.specs.Prelude.{◌≡◌, ℕ, Option, None, Some, List, length, replicate, reverse};
+ghost use Rattle.std.specs.Prelude.{◌≡◌, ℕ, Option, None, Some, List, length, reverse};
+ghost use Rattle.object_id.specs.Fields.{zeros};
 ghost use Rattle.disk_history.specs.CheckerState.{fate_of, items_from, may_give as gives, says_of, IsLinked, IsWithin};
 ghost use Rattle.std.specs.Str.{bytes_eq};
 
 use crate::requests::{Fate, Requests};
+use object_id::BLOCK_BYTES;
 
 /// A write of a block: by which request, whether coded, its bytes, and the write of the block before it.
 #[derive(Clone, Copy)]
@@ -14,11 +16,11 @@ pub struct Write<'a> {
     pub earlier: Option<usize>,
 }
 
-/// Whether the 512 bytes are zeros.
+/// Whether the bytes are the zeros of a block.
 fn is_zeros(bytes: &[u8]) -> bool
-    ensures { result ≡ bytes_eq (replicate 512 0) bytes.now }
+    ensures { result ≡ bytes_eq (zeros BLOCK_BYTES) bytes.now }
 {
-    let zeros = [0; 512];
+    let zeros = [0; BLOCK_BYTES as usize];
     zeros.as_slice() == bytes
 }
 

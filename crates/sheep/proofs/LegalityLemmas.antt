@@ -1,7 +1,7 @@
 -- The history of a script of one disk is legal: after each statement every block ends in an acknowledged item with the block's bytes.
 use Rattle.std.proofs.Common.{◌≡◌, ◌≢◌, ◌⊎◌, ℕ, zero, suc, ◌+◌, ◌-◌, ◌/◌, ◌<◌, ◌≤◌, List, [], ◌∷◌, ◌++◌, length, map, refl, ap, sym, ◌∙◌, subst, inl, inr, rules, arith, if◌then◌else◌, Bool, true, false, not}
 use Rattle.std.specs.Prelude.{Option, Some, None, IsSome, filter, fold, unwrap_or, ◌&&◌}
-use Rattle.std.specs.Option.{option_and_then}
+use Rattle.std.specs.Option.{option_and_then, option_map}
 use Rattle.std.specs.List.{range_with_len}
 use Rattle.std.proofs.lemmas.Bool.{le-leb, leb-true, lt-ltb}
 use Rattle.std.proofs.lemmas.Bool.Decides.{eqb_tells, leb_tells}
@@ -16,7 +16,7 @@ use Rattle.cluster_script.specs.Statements.{disk_size, size_made, disk_name, nam
 use Rattle.cluster_script.specs.OneDisk.{MayFollow, EachMayFollow, IsOneDiskScript}
 use Rattle.disk_history.specs.declared.event.HistEvent.{HistEvent}
 use Rattle.disk_history.specs.declared.event.HistEvent.TheVariants as events
-use Rattle.disk_history.specs.Ledger.{Acknowledged, Item, Disk, WriteRequest, Ledger, empty_ledger, changed_at, with_changed_disk, is_item_of, item_with_mark, ledger_after}
+use Rattle.disk_history.specs.Ledger.{Acknowledged, Item, Disk, WriteRequest, Ledger, empty_ledger, changed_at, is_item_of, item_with_mark, ledger_after}
 use Rattle.disk_history.specs.Legal.{IsLegal, ledger_from, may_follow}
 use Rattle.disk_history.proofs.LegalLemmas.{ledger_from-append}
 use Rattle.sheep.specs.Blocks.{zero_block, size_after, block_after, block_of, piece_blocks, laid_on, ends_inside_disk, covers_block}
@@ -225,7 +225,7 @@ disk_acknowledged : (before : List Statement) (session offset count n vid size :
     → DiskIs (n + 1) (size / 512) (block_after size (before ++ Write session offset count pattern ∷ [])) (ledger_after new (events.WriteDone n)) vid
 disk_acknowledged before session offset count n vid size pattern ledger new left was begins inside = record {
   disk = record left { items = λ block. map (item_with_mark Acknowledged n) (left.items block) };
-  there = ap (with_changed_disk (λ disk. record disk { items = λ block. map (item_with_mark Acknowledged n) (disk.items block) })) begins.there;
+  there = ap (option_map (λ (disk : Disk). record disk { items = λ block. map (item_with_mark Acknowledged n) (disk.items block) })) begins.there;
   count = begins.blocks ∙ was.count;
   live = begins.live ∙ was.live;
   each = λ block within. elim (covers_cases offset count block) [
@@ -246,7 +246,7 @@ disk_refused : (before : List Statement) (session offset count n vid size : ℕ)
     → DiskIs (n + 1) (size / 512) (block_after size (before ++ Write session offset count pattern ∷ [])) (ledger_after new (events.WriteRefused n)) vid
 disk_refused before session offset count n vid size pattern ledger new left was begins outside = record {
   disk = record left { items = λ block. filter (λ item. not (is_item_of n item)) (left.items block) };
-  there = ap (with_changed_disk (λ disk. record disk { items = λ block. filter (λ item. not (is_item_of n item)) (disk.items block) })) begins.there;
+  there = ap (option_map (λ (disk : Disk). record disk { items = λ block. filter (λ item. not (is_item_of n item)) (disk.items block) })) begins.there;
   count = begins.blocks ∙ was.count;
   live = begins.live ∙ was.live;
   each = λ block within. subst (λ (items : List Item). BlockIs (n + 1) (block_after size (before ++ Write session offset count pattern ∷ []) block) items)
