@@ -1,5 +1,6 @@
 -- The first 16 bytes of a header, and what the refusals before its fields say.
 use Rattle.std.proofs.Common.{◌≡◌, ℕ, ◌+◌, ◌<◌, ◌≤◌, ◌^◌, Bool, true, false, cond, List, [], ◌∷◌, ◌++◌, length, drop, Option, Some, None, Result, Ok, Err, refl, sym, ap, subst, ◌∙◌, arith}
+use Rattle.std.specs.Option.{ok_or}
 use Rattle.std.specs.Prelude.{nat_lt, nat_eq, eqb, not}
 use Rattle.std.proofs.lemmas.Bool.Decides.{nat_tests}
 use Rattle.std.proofs.lemmas.List.{get_or-drop}
@@ -12,7 +13,7 @@ use Rattle.peer_proto.specs.declared.fault.PeerFault.TheVariants as faults
 use Rattle.object_id.specs.Fields.{AreBytes, u8_at}
 use Rattle.peer_proto.specs.Opcode.{opcode_byte, opcode_of}
 use Rattle.sheep_proto.specs.Headers.{common_bytes, common_at, IsCommon}
-use Rattle.peer_proto.specs.Header.{known_opcode, opcode_in, peer_header_in, ◌>>=◌, when, AnswersBytes}
+use Rattle.peer_proto.specs.Header.{opcode_in, peer_header_in, ◌>>=◌, when, AnswersBytes}
 use Rattle.std.proofs.lemmas.Nat.{from_le_bytes-to_le_bytes_2, from_le_bytes-to_le_bytes_4}
 
 -- ---- reading in steps
@@ -65,7 +66,7 @@ opcode_byte-of byte opcode h =
     chosen (eqb byte 0xA4) byte 0xA4 opcodes.List opcode _ refl refl h4 (λ h5.
     chosen (eqb byte 0xA5) byte 0xA5 opcodes.RecoverRead opcode None refl refl h5 (λ h6. absurd (cc h6))))))
 
-known-ok : (found : Option Opcode) (opcode : Opcode) → known_opcode found ≡ Ok opcode → found ≡ Some opcode
+known-ok : (found : Option Opcode) (opcode : Opcode) → ok_or found faults.UnknownOpcode ≡ Ok opcode → found ≡ Some opcode
 known-ok (Some o) opcode h = cc
 known-ok None opcode h = absurd cc
 
@@ -86,7 +87,7 @@ pub record HasHeader (bytes : List ℕ) (opcode : Opcode) : Type 0 where
   pub opcode_is : opcode_byte opcode ≡ u8_at 1 bytes
 
 tested : (short other : Bool) (bytes : List ℕ) (opcode : Opcode) → nat_lt (length bytes) 48 ≡ short → not (eqb (u8_at 0 bytes) 1) ≡ other
-    → cond short (Err faults.ShortHeader) (cond other (Err faults.VerMismatch) (known_opcode (opcode_of (u8_at 1 bytes)))) ≡ Ok opcode
+    → cond short (Err faults.ShortHeader) (cond other (Err faults.VerMismatch) (ok_or (opcode_of (u8_at 1 bytes)) faults.UnknownOpcode)) ≡ Ok opcode
     → HasHeader bytes opcode
 tested true other bytes opcode s o h = absurd cc
 tested false true bytes opcode s o h = absurd cc

@@ -1,5 +1,7 @@
 -- Requests: the bytes of each, and which bytes are no request.
 use Rattle.std.specs.Prelude.{ℕ, ◌%◌, ◌^◌, ◌<◌, ◌≤◌, ◌==◌, nat_lt, nat_le, Bool, not, ◌&&◌, List, [], ◌++◌, length, drop, Result}
+use Rattle.object_id.specs.declared.limits.TheConstants.{NODES_MAX, INDEX_MAX}
+use Rattle.object_id.specs.Node.{IsNode}
 use Rattle.object_id.specs.Oid.{IsOid}
 use Rattle.peer_proto.specs.declared.ask.PeerAsk.{PeerAsk}
 use Rattle.peer_proto.specs.declared.ask.PeerAsk.TheVariants as asks
@@ -62,16 +64,16 @@ ask_bytes req = ask_head_bytes (ask_head req) ++ ask_body req.ask
 
 -- what a request may ask for
 abbrev pub IsPeerAsk : PeerAsk → Type 0
-IsPeerAsk (asks.Create key size offset bytes) = IsOid key.oid × (key.index ≤ 30) × (size < 2 ^ 32) × (offset < 2 ^ 32)
+IsPeerAsk (asks.Create key size offset bytes) = IsOid key.oid × (key.index ≤ INDEX_MAX) × (size < 2 ^ 32) × (offset < 2 ^ 32)
     × (length bytes < 2 ^ 32)
-IsPeerAsk (asks.Write key offset bytes) = IsOid key.oid × (key.index ≤ 30) × (offset < 2 ^ 32) × (length bytes < 2 ^ 32)
-IsPeerAsk (asks.Read key offset size) = IsOid key.oid × (key.index ≤ 30) × (offset < 2 ^ 32) × (size < 2 ^ 32)
+IsPeerAsk (asks.Write key offset bytes) = IsOid key.oid × (key.index ≤ INDEX_MAX) × (offset < 2 ^ 32) × (length bytes < 2 ^ 32)
+IsPeerAsk (asks.Read key offset size) = IsOid key.oid × (key.index ≤ INDEX_MAX) × (offset < 2 ^ 32) × (size < 2 ^ 32)
 IsPeerAsk asks.List = Unit {0}
 IsPeerAsk (asks.RecoverRead oid level) = IsOid oid × IsEpoch level
 
 -- the requests that have a spelling
 pub record IsPeerReq (req : PeerReq) : Type 0 where
-  pub from : req.from.0 < 64
+  pub from : IsNode req.from.0
   pub number : req.number < 2 ^ 32
   pub epoch : IsEpoch req.epoch
   pub ask : IsPeerAsk req.ask
@@ -91,7 +93,7 @@ ask_head_at bytes = record {
 abbrev pub is_ask_head : AskHead → List ℕ → Bool
 is_ask_head head body =
     head.common.flags == 0 && not (head.common.epoch == 0) && head.common.data_length == length body
-    && nat_lt head.sender 64 && nat_le head.index 30 && nat_lt head.offset (2 ^ 32)
+    && nat_lt head.sender NODES_MAX && nat_le head.index INDEX_MAX && nat_lt head.offset (2 ^ 32)
 
 -- a request without a piece has index and offset 0
 abbrev pub has_no_piece : AskHead → Bool

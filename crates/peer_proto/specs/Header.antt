@@ -1,5 +1,6 @@
 -- What requests and replies have in common: a header of 48 bytes, and the refusals before its fields are looked at.
-use Rattle.std.specs.Prelude.{◌≡◌, ℕ, ◌^◌, ◌<◌, ◌≤◌, ◌==◌, nat_lt, Bool, not, List, length, Option, Some, None, Result, Ok, Err, if◌then◌else◌}
+use Rattle.std.specs.Prelude.{◌≡◌, ℕ, ◌^◌, ◌<◌, ◌≤◌, ◌==◌, nat_lt, Bool, not, List, length, Result, Ok, Err, if◌then◌else◌}
+use Rattle.std.specs.Option.{ok_or}
 use Rattle.object_id.specs.declared.node.Epoch.{Epoch}
 use Rattle.sheep_proto.specs.declared.common.Common.{Common}
 use Rattle.peer_proto.specs.declared.opcode.Opcode.{Opcode}
@@ -18,22 +19,18 @@ peer_fault headers.ShortHeader = ShortHeader
 peer_fault headers.VerMismatch = VerMismatch
 peer_fault headers.UnknownOpcode = UnknownOpcode
 
-abbrev pub known_opcode : Option Opcode → Result Opcode PeerFault
-known_opcode None = Err UnknownOpcode
-known_opcode (Some opcode) = Ok opcode
-
 -- the opcode of bytes that have a header of this version, or the first refusal
 abbrev pub opcode_in : List ℕ → Result Opcode PeerFault
 opcode_in bytes =
     if nat_lt (length bytes) HEADER_BYTES then Err ShortHeader else
-    if not (u8_at 0 bytes == VERSION) then Err VerMismatch else known_opcode (opcode_of (u8_at 1 bytes))
+    if not (u8_at 0 bytes == VERSION) then Err VerMismatch else ok_or (opcode_of (u8_at 1 bytes)) UnknownOpcode
 
 infixl 10 ◌>>=◌
 abbrev pub ◌>>=◌ : {A B : Type 0} → Result A PeerFault → (A → Result B PeerFault) → Result B PeerFault
 (Ok value) >>= next = next value
 (Err fault) >>= next = Err fault
 
--- the same, with the first 16 bytes
+-- the opcode with the first 16 bytes of the header, or the first refusal
 abbrev pub peer_header_in : List ℕ → Result (Opcode × Common) PeerFault
 peer_header_in bytes = opcode_in bytes >>= λ opcode. Ok (opcode, common_at bytes)
 

@@ -1,6 +1,7 @@
 -- Replies: the bytes of each, and which bytes are no reply.
 use Rattle.std.specs.Prelude.{◌≡◌, ℕ, ◌-◌, ◌%◌, ◌^◌, ◌<◌, ◌≤◌, ◌==◌, nat_lt, nat_le, Bool, false, not, ◌&&◌, ◌||◌, List, [], ◌++◌, length, drop, Option, Some, None, Result, Err, slice_index, All, if◌then◌else◌}
 use Rattle.std.specs.List.Sorted.{IsStrictlyIncreasing}
+use Rattle.object_id.specs.declared.limits.TheConstants.{INDEX_MAX}
 use Rattle.object_id.specs.declared.node.Epoch.{Epoch}
 use Rattle.object_id.specs.Oid.{IsOid}
 use Rattle.object_store.specs.declared.row.RowCopy.{RowCopy}
@@ -137,7 +138,7 @@ IsEnd (Some to) = IsEpoch to
 
 -- a row as a reply may have it: its bytes end at the last one that isn't 0
 pub record IsRow (row : RowCopy) : Type 0 where
-  pub index : row.index ≤ 30
+  pub index : row.index ≤ INDEX_MAX
   pub from : IsEpoch row.from
   pub to : IsEnd row.to
   pub size : row.length < 2 ^ 32
@@ -188,7 +189,7 @@ abbrev pub has_no_row : RowHead → Bool
 has_no_row row = row.index == 0 && row.from == 0 && row.to == 0 && row.size == 0
 
 abbrev pub fits_row_head : RowHead → List ℕ → Bool
-fits_row_head row body = nat_le row.index 30 && not (row.from == 0) && nat_le (length body) row.size && not (ends_in_zero body)
+fits_row_head row body = nat_le row.index INDEX_MAX && not (row.from == 0) && nat_le (length body) row.size && not (ends_in_zero body)
 
 abbrev pub is_refusal_result : ℕ → Bool
 is_refusal_result result = result == 0x81 || result == 0x82 || result == 0x83 || result == 0x02

@@ -9,7 +9,7 @@ use crate::fault::PeerFault;
 use crate::header::header_in;
 use crate::ids::oid_of;
 use crate::opcode::Opcode;
-use object_id::{Bytes, Epoch, NoMemory, NodeId};
+use object_id::{Bytes, Epoch, INDEX_MAX, NoMemory, NodeId};
 use object_store::Key;
 use sheep_proto::HEADER_BYTES;
 use std::alloc::Global;
@@ -28,7 +28,7 @@ pub fn encode_ask(alloc: Global, req: &PeerReq) -> Result<Bytes, NoMemory>
 /// Of which row a request speaks.
 fn key_of(head: &AskHead) -> Key
     requires oid { is_oid head.now.oid ≡ true }
-    requires index { head.now.index ≤ 30 }
+    requires index { head.now.index ≤ INDEX_MAX }
     ensures { result ≡ record { oid = head.now.oid; index = head.now.index } }
 {
     Key {

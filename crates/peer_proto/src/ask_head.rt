@@ -3,10 +3,9 @@ ghost use Rattle.sheep_proto.specs.Headers.{common_at};
 ghost use Rattle.peer_proto.specs.Ask.{ask_body, ask_head, ask_head_bytes, ask_head_at, head_with, is_ask_head, has_no_piece, has_fields, fits_ask};
 
 use crate::ask::{PeerAsk, PeerReq};
-use crate::header::{INDEX_MAX, NODES_MAX};
 use crate::ids::is_oid;
 use crate::opcode::Opcode;
-use object_id::{u32_at, u64_at};
+use object_id::{INDEX_MAX, NODES_MAX, u32_at, u64_at};
 use sheep_proto::{Common, HEADER_BYTES, put_common};
 
 /// The header of a request, field by field, as it stands in the bytes.

@@ -2,11 +2,10 @@ ghost use Rattle.std.specs.Prelude.{◌≡◌, ◌%◌, ◌^◌, ◌≤◌, leng
 ghost use Rattle.sheep_proto.specs.Headers.{common_at};
 ghost use Rattle.peer_proto.specs.Say.{form_byte, form_opcode, form_of, refusal_result, to_number, ends_in_zero, say_form, say_result, say_row, say_body, say_head, say_head_bytes, say_head_at, is_say_head, has_no_row, fits_row_head, is_refusal_result, has_form, fits_say, no_row};
 
-use crate::header::INDEX_MAX;
 use crate::ids::{ID_BYTES, are_id_bytes};
 use crate::opcode::Opcode;
 use crate::say::{PeerRsp, PeerSay, Refusal};
-use object_id::{Epoch, u16_at, u32_at, u64_at};
+use object_id::{Epoch, INDEX_MAX, u16_at, u32_at, u64_at};
 use sheep_proto::{Common, HEADER_BYTES, put_common};
 
 /// Which reply it is, as a byte of its header.

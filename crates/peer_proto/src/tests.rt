@@ -429,6 +429,34 @@ fn copies_messages(rt: HostRuntime) -> Result<(), Fail> {
     Ok(())
 }
 
+// A body that gives up at a long piece would meet every contract.
+#[test]
+fn spells_a_piece_of_the_greatest_length(rt: HostRuntime) -> Result<(), Fail> {
+    let alloc = rt.alloc();
+    let write = PeerReq {
+        from: NodeId(63),
+        number: 1,
+        epoch: Epoch(1),
+        ask: PeerAsk::Write {
+            key: Key {
+                oid: Oid::object(Vid(16_777_215), 1_048_575),
+                index: 30,
+            },
+            offset: 0,
+            bytes: Bytes::from_vec(vec![in alloc; 7; 1_048_576]?),
+        },
+    };
+    let spelled = encode_ask(alloc, &write)?;
+    assert_eq!(rt; spelled.as_slice().len(), 1_048_624);
+    let Ok(read) = decode_ask(alloc, spelled.as_slice()) else {
+        return Ok(assert!(rt; false, "not a request"));
+    };
+    assert!(rt;
+        matches!(&read.ask, PeerAsk::Write { key, bytes, .. } if key.index == 30 && bytes.len() == 1_048_576)
+    );
+    Ok(())
+}
+
 #[test]
 fn copies_works(rt: HostRuntime) -> Result<(), Fail> {
     let alloc = rt.alloc();
