@@ -14,7 +14,7 @@ use Rattle.vdi_directory.proofs.DeadTests.{test-finds-dead}
 use Rattle.epoch_log.specs.Epochs.{epoch_of, settled_of}
 use Rattle.object_store.specs.declared.fault.StoreFault.{StoreFault}
 use Rattle.object_store.specs.declared.key.Key.{Key}
-use Rattle.object_store.specs.Bytes.{zeros}
+use Rattle.object_id.specs.Fields.{zeros}
 use Rattle.object_store.specs.Rows.{is_open, is_kept, closed, closed_all, advanced_row, advanced, purged, has_ended_below, OpenFrom}
 use Rattle.object_store.specs.Store.{AllRows, SeenRow, rows_of, create_in, write_at, each, OpenUpTo}
 use Rattle.object_store.specs.Calls.{PurgeBelow, Has}

@@ -1,5 +1,6 @@
 -- What the worked peer leaves of its row.
 use Rattle.std.proofs.Common.{◌≡◌, ℕ, ◌+◌, ◌≤◌, false, cond, List, [], ◌∷◌, length, map, Option, Some, None, refl, ap, ◌∙◌, arith}
+use Rattle.std.specs.Option.{option_map_or}
 use Rattle.std.specs.FinMap as tree
 use Rattle.object_id.specs.declared.policy.Policy.{Policy}
 use Rattle.epoch_log.specs.Epochs.{settled_of}
@@ -52,7 +53,7 @@ pub row_closed : rows_of (peer_in_next_epoch (node 1) targets peer).rows key.oid
 row_closed =
     entered_rows (node 1) targets peer key.oid
     ∙ ap (map (row_entering (node 1) targets peer key.oid)) has_row
-    ∙ ap (λ (p : Option Policy). cond (has_at (node 1) targets 3 key.oid 0 p) row (closed 2 row) ∷ []) unknown
+    ∙ ap (λ (p : Option Policy). cond (option_map_or (has_at (node 1) targets 3 key.oid 0) p false) row (closed 2 row) ∷ []) unknown
 
 alive : is_dead_object (come_back whole_log peer) key.oid ≡ false
 unfolding come_back without_objects peer_settled_to closed_at_end log_effects is_dead state_of is_above

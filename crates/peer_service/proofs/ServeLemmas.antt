@@ -10,7 +10,8 @@ use Rattle.object_id.specs.declared.node.Epoch.{Epoch}
 use Rattle.object_store.specs.declared.fault.StoreFault.{StoreFault}
 use Rattle.object_store.specs.declared.fault.StoreFault.TheVariants.{OutOfObject}
 use Rattle.object_store.specs.declared.key.Key.{Key}
-use Rattle.object_store.specs.Bytes.{zeros, piece_at}
+use Rattle.object_id.specs.Fields.{zeros}
+use Rattle.object_store.specs.Bytes.{piece_at}
 use Rattle.object_store.specs.Rows.{is_open, is_open_at, open_at, changed}
 use Rattle.object_store.specs.Store.{AllRows, SeenRow, rows_of, open_row, value_within, on_open, write_in, create_in, create_at, write_at, read_at, copy_at}
 use Rattle.object_store.specs.Calls.{Create, Write, Has}

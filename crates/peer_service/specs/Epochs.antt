@@ -1,5 +1,6 @@
 -- Going to the next epoch, and settling one.
 use Rattle.std.specs.Prelude.{◌≡◌, ℕ, ◌+◌, ◌==◌, Bool, true, false, List, map, Option, None, Some, if◌then◌else◌}
+use Rattle.std.specs.Option.{option_map_or}
 use Rattle.std.specs.List.{AllByRecursion}
 use Rattle.object_id.specs.declared.node.NodeId.{NodeId}
 use Rattle.object_id.specs.declared.policy.Policy.{Policy}
@@ -10,19 +11,15 @@ use Rattle.object_store.specs.Rows.{is_open, is_kept, closed, purged}
 use Rattle.object_store.specs.Store.{SeenRow, rows_of, each}
 use Rattle.peer_service.specs.State.{Peer, object_policy}
 
--- whether this is the index
-abbrev pub is_index : ℕ → Option ℕ → Bool
-is_index index None = false
-is_index index (Some own) = own == index
+-- whether the targets of an object of this policy in an epoch have the node at the index
+abbrev pub has_at : NodeId → (ℕ → ℕ → Policy → List NodeId) → ℕ → ℕ → ℕ → Policy → Bool
+has_at me targets epoch oid index policy =
+    option_map_or (λ own. own == index) (index_among me (targets epoch oid policy) policy (kind_of oid)) false
 
--- whether the targets of an object of this policy in an epoch have the node at the index; an object that isn't known has none
-abbrev pub has_at : NodeId → (ℕ → ℕ → Policy → List NodeId) → ℕ → ℕ → ℕ → Option Policy → Bool
-has_at me targets epoch oid index None = false
-has_at me targets epoch oid index (Some policy) = is_index index (index_among me (targets epoch oid policy) policy (kind_of oid))
-
--- whether an open row of an object and an index stays open in the next epoch
+-- whether an open row of an object and an index stays open in the next epoch; that of an object that isn't known does not
 abbrev pub stays_open : NodeId → (ℕ → ℕ → Policy → List NodeId) → Peer → ℕ → ℕ → Bool
-stays_open me targets peer oid index = has_at me targets (peer.epoch + 1) oid index (object_policy peer oid)
+stays_open me targets peer oid index =
+    option_map_or (has_at me targets (peer.epoch + 1) oid index) (object_policy peer oid) false
 
 -- a row in the next epoch: it stays open, or ends with the epoch before
 abbrev pub row_entering : NodeId → (ℕ → ℕ → Policy → List NodeId) → Peer → ℕ → SeenRow → SeenRow

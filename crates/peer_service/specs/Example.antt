@@ -1,6 +1,7 @@
 -- A small peer, step by step: node 1 has read that node 2 joined, so it is at epoch 2.
 use Rattle.std.specs.Prelude.{ℕ, ◌^◌, List, [], ◌∷◌, ◌++◌, Some, None}
 use Rattle.std.specs.FinMap as tree
+use Rattle.object_id.specs.declared.limits.TheConstants.{VNODES_DEFAULT}
 use Rattle.object_id.specs.declared.node.NodeId.{NodeId}
 use Rattle.object_id.specs.declared.policy.Policy.{Policy}
 use Rattle.object_id.specs.declared.entry.Member.{Member}
@@ -16,13 +17,13 @@ use Rattle.peer_service.specs.State.{Peer}
 abbrev pub node : ℕ → NodeId
 node number = record { 0 = number }
 
--- the same as a member
+-- the member of a number, in zone 0
 abbrev pub member : ℕ → Member
-member number = record { node = node number; zone = 0; vnodes = 64 }
+member number = record { node = node number; zone = 0; vnodes = VNODES_DEFAULT }
 
 -- what the log has by now
 abbrev pub log : List Entry
-log = Format (member 0 ∷ member 1 ∷ []) ∷ Join (node 2) 0 64 ∷ []
+log = Format (member 0 ∷ member 1 ∷ []) ∷ Join (node 2) 0 VNODES_DEFAULT ∷ []
 
 -- the first data object of disk 1, whose id no entry granted
 abbrev pub key : Key
@@ -50,4 +51,4 @@ ended_row last = record row { to = Some (record { 0 = last }) }
 
 -- node 1 was lost at epoch 2, and has left; as it comes back it joins
 abbrev pub whole_log : List Entry
-whole_log = log ++ Leave (node 1) ∷ Join (node 1) 0 64 ∷ []
+whole_log = log ++ Leave (node 1) ∷ Join (node 1) 0 VNODES_DEFAULT ∷ []

@@ -9,7 +9,7 @@ epoch_refusal own requested =
     if nat_lt requested own then Some (OldEpoch (record { 0 = own })) else
     if nat_lt own requested then Some (NewEpoch (record { 0 = own })) else None
 
--- the same as an answer
+-- the refusal as an error, and else nothing
 abbrev pub ok_unless_refused : Option Refusal → Result (Unit {0}) Refusal
 ok_unless_refused None = Ok tt
 ok_unless_refused (Some refusal) = Err refusal

@@ -25,6 +25,6 @@ row_made key size offset piece peer =
     without_pending key.oid
     (record peer { rows = tree.insert peer.rows key.oid (create_in key.index peer.epoch size offset piece (rows_of peer.rows key.oid)) })
 
--- the same of a row that was recovered, by its first bytes
+-- a row that was recovered is made from its first bytes on, the others 0
 abbrev pub row_put : Key → ℕ → List ℕ → Peer → Peer
 row_put key size bytes peer = row_made key size 0 bytes peer

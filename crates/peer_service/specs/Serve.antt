@@ -85,7 +85,7 @@ MayServe peer (asks.Read key offset size) = EndsInside (offset + size) (open_row
 MayServe peer asks.List = Unit {0}
 MayServe peer (asks.RecoverRead oid level) = Unit {0}
 
--- the same as a test
+-- whether a piece ends inside an open row, where there is one
 abbrev pub ends_inside : ℕ → Option SeenRow → Bool
 ends_inside end None = true
 ends_inside end (Some row) = nat_le end (length row.bytes)

@@ -66,7 +66,7 @@ object_size spec Inode = INODE_BYTES
 abbrev pub row_size : Kind → VdiSpec → ℕ
 row_size kind spec = part_size spec.policy kind (object_size spec kind)
 
--- the same by the object's id, where it is known
+-- how many bytes each row of the object of an id has, where the id is known
 abbrev pub length_of_rows : Peer → ℕ → Option ℕ
 length_of_rows peer oid = option_map (row_size (kind_of oid)) (spec_of peer oid)
 

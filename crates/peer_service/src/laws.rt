@@ -1,6 +1,7 @@
 //! Laws of the definitions, for the proofs of the layers above: each is the contract of a function that does nothing.
 ghost use Rattle.std.specs.Prelude.{◌≡◌, ◌≢◌, ◌↔◌, ℕ, ◌+◌, ◌*◌, ◌^◌, ◌<◌, ◌≤◌, ◌&&◌, true, false, IsTrue, List, [], ◌∷◌, length, map, filter, Option, Some, None, Ok, if◌then◌else◌};
 ghost use Rattle.std.specs.FinMap as tree;
+ghost use Rattle.std.specs.Option.{option_map_or};
 ghost use Rattle.object_id.specs.declared.entry.Entry.{Entry};
 ghost use Rattle.object_id.specs.declared.node.Epoch.{Epoch};
 ghost use Rattle.object_id.specs.declared.node.NodeId.{NodeId};
@@ -10,7 +11,7 @@ ghost use Rattle.object_id.specs.declared.policy.Policy.TheVariants.{Copies, Cod
 ghost use Rattle.object_id.specs.Piece.{laid_over};
 ghost use Rattle.epoch_log.specs.Epochs.{epoch_of, settled_of};
 ghost use Rattle.object_store.specs.declared.key.Key.{Key};
-ghost use Rattle.object_store.specs.Bytes.{zeros};
+ghost use Rattle.object_id.specs.Fields.{zeros};
 ghost use Rattle.object_store.specs.Rows.{is_open, is_open_at, closed_all, advanced, purged, has_ended_below};
 ghost use Rattle.object_store.specs.Store.{AllRows, SeenRow, rows_of, open_row, create_at, read_at, copy_at, each, OpenUpTo};
 ghost use Rattle.object_store.specs.Calls.{Has};
@@ -113,7 +114,11 @@ pub fn entering_drops_no_row()
     ensures next { (me : NodeId) (targets : ℕ → ℕ → Policy → List NodeId) (peer : Peer) → (peer_in_next_epoch me targets peer).epoch
         ≡ peer.epoch + 1 }
     ensures stays { (me : NodeId) (targets : ℕ → ℕ → Policy → List NodeId) (peer : Peer) (oid index : ℕ)
-        → stays_open me targets peer oid index ≡ has_at me targets (peer.epoch + 1) oid index (object_policy peer oid) }
+        → stays_open me targets peer oid index
+        ≡ option_map_or (has_at me targets (peer.epoch + 1) oid index) (object_policy peer oid) false }
+    // No open row of an object that isn't known stays open.
+    ensures unknown { (me : NodeId) (targets : ℕ → ℕ → Policy → List NodeId) (peer : Peer) (oid index : ℕ)
+        → object_policy peer oid ≡ None → stays_open me targets peer oid index ≡ false }
     ensures rows { (me : NodeId) (targets : ℕ → ℕ → Policy → List NodeId) (peer : Peer) (oid : ℕ)
         → rows_of (peer_in_next_epoch me targets peer).rows oid ≡ map (row_entering me targets peer oid) (rows_of peer.rows oid) }
     ensures opened { (me : NodeId) (targets : ℕ → ℕ → Policy → List NodeId) (peer : Peer) (oid : ℕ)
@@ -193,11 +198,10 @@ pub fn a_peer_worked_out()
 
 /// Whole copies stay open on every target at index 0, strips on each target at its place among them.
 pub fn places_worked_out()
-    ensures copy { has_at (node 2) targets 3 key.oid 0 (Some (Copies 2)) ≡ true }
-    ensures strip { has_at (node 2) targets 3 key.oid 1 (Some (Coded 2 1)) ≡ true }
-    ensures other_strip { has_at (node 2) targets 3 key.oid 0 (Some (Coded 2 1)) ≡ false }
-    ensures other_node { has_at (node 0) targets 3 key.oid 0 (Some (Copies 2)) ≡ false }
-    ensures unknown { has_at (node 2) targets 3 key.oid 0 None ≡ false }
+    ensures copy { has_at (node 2) targets 3 key.oid 0 (Copies 2) ≡ true }
+    ensures strip { has_at (node 2) targets 3 key.oid 1 (Coded 2 1) ≡ true }
+    ensures other_strip { has_at (node 2) targets 3 key.oid 0 (Coded 2 1) ≡ false }
+    ensures other_node { has_at (node 0) targets 3 key.oid 0 (Copies 2) ≡ false }
 {}
 
 /// An inode has 4,198,968 bytes; a data object of shift 22 has 4 MiB, and of four data strips each row a fourth of that.

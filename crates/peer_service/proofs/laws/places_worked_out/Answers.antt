@@ -2,4 +2,4 @@ use Rattle.std.proofs.Common.{refl}
 use Rattle.peer_service.proofs.laws.places_worked_out.Goals as goal
 
 pub returns : goal.returns
-returns c = record { copy = refl; strip = refl; other_strip = refl; other_node = refl; unknown = refl }
+returns c = record { copy = refl; strip = refl; other_strip = refl; other_node = refl }
