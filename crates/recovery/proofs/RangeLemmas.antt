@@ -1,7 +1,7 @@
 -- What a tick asks can be spelled, and a recovery stays in range.
 use Rattle.std.proofs.Common.{◌≡◌, ◌⊎◌, inl, inr, ℕ, suc, ◌+◌, ◌-◌, ◌^◌, ◌<◌, ◌≤◌, ◌==◌, nat_lt, Bool, true, false, not, cond, ◌&&◌, List, [], ◌∷◌, length, map, filter, All, Contains, Option, None, Some, is_some, Ordering, Less, Equal, Greater, refl, ap, sym, subst, arith}
 use Rattle.std.specs.List.{list_any, range_with_len}
-use Rattle.std.specs.Option.{IfSome, option_map}
+use Rattle.std.specs.Option.{IfSome, option_map, option_map_or}
 use Rattle.std.specs.Ordering.{nat_cmp}
 use Rattle.std.specs.Cmp.{nat_cmp_total}
 use Rattle.std.specs.FinMap as tree
@@ -120,7 +120,7 @@ next_search_fine state range may =
 tick_is : (first : ℕ) (state : RecoveryState) → IsInRange state → IsFine (next_search state) → IsTick state.recovery (tick_messages first state)
 unfolding tick_messages
 tick_is first state range fine =
-    either (IsTick state.recovery) (is_listed state.recovery) (level_messages first state (next_search state)) (lists_asked first state.recovery)
+    either (IsTick state.recovery) (is_listed state.recovery) (option_map_or (level_messages first state) (next_search state) []) (lists_asked first state.recovery)
     (of_search (next_search state) fine)
     (record {
       few = subst (λ (n : ℕ). n ≤ 64) (sym (count_messages state.recovery first 0 asks.List state.recovery.lists.waiting)) range.waiting;
@@ -131,7 +131,7 @@ tick_is first state range fine =
     none = record { few = omega arith; asking = All-nil (IsAsking state.recovery) }
 
     of_level : (search : Search) (policy : Option Policy) → IfSome policy IsPolicy → IsSearchInRange search
-        → IsTick state.recovery (level_asked first state search policy)
+        → IsTick state.recovery (option_map_or (level_asked first state search) policy [])
     of_level search None known fine = none
     of_level search (Some policy) known fine =
         let nodes = asked_of state policy search in
@@ -146,7 +146,7 @@ tick_is first state range fine =
           asking = messages_ask state.recovery first wanted ask nodes (fine.oid, fine.level);
         }
 
-    of_search : (search : Option Search) → IsFine search → IsTick state.recovery (level_messages first state search)
+    of_search : (search : Option Search) → IsFine search → IsTick state.recovery (option_map_or (level_messages first state) search [])
     of_search None fine = none
     of_search (Some search) fine =
         of_level search (live_policy state.shown search.oid)
@@ -164,7 +164,7 @@ unfolding tick_sends tick_messages
 asked_by_own first state =
     All-map (λ (send : NodeId × PeerReq). send.1.from ≡ state.recovery.me) (λ (message : Message). (message.to, message.request))
     (tick_messages first state)
-    (either (All (IsIn state.recovery.me)) (is_listed state.recovery) (level_messages first state (next_search state)) (lists_asked first state.recovery)
+    (either (All (IsIn state.recovery.me)) (is_listed state.recovery) (option_map_or (level_messages first state) (next_search state) []) (lists_asked first state.recovery)
     (of_search (next_search state)) (to_each first 0 asks.List state.recovery.lists.waiting))
   where
     to_each : (first wanted : ℕ) (ask : PeerAsk) (nodes : List NodeId) → All (IsIn state.recovery.me) (messages_to state.recovery first wanted ask nodes)
@@ -173,13 +173,13 @@ asked_by_own first state =
         All-cons (IsIn state.recovery.me) (request_message state.recovery wanted ask (first, node)) (messages_to state.recovery (first + 1) wanted ask nodes)
         refl (to_each (first + 1) wanted ask nodes)
 
-    of_level : (search : Search) (policy : Option Policy) → All (IsIn state.recovery.me) (level_asked first state search policy)
+    of_level : (search : Search) (policy : Option Policy) → All (IsIn state.recovery.me) (option_map_or (level_asked first state search) policy [])
     of_level search None = All-nil (IsIn state.recovery.me)
     of_level search (Some policy) =
         to_each first (wanted_of policy (kind_of search.oid)) (asks.RecoverRead search.oid (record { 0 = search.level }))
         (asked_of state policy search)
 
-    of_search : (search : Option Search) → All (IsIn state.recovery.me) (level_messages first state search)
+    of_search : (search : Option Search) → All (IsIn state.recovery.me) (option_map_or (level_messages first state) search [])
     of_search None = All-nil (IsIn state.recovery.me)
     of_search (Some search) = of_level search (live_policy state.shown search.oid)
 
@@ -395,7 +395,7 @@ begun_in_range epoch members state may below range =
     let numbers : length (map (λ (node : NodeId). node.0) members) ≤ 64
     = length-le_from_below 64 (map (λ (node : NodeId). node.0) members)
     (sorted_from_strictly_increasing (map (λ (node : NodeId). node.0) members) may.ascend)
-    (All-map (λ (n : ℕ). n < 64) (λ (node : NodeId). node.0) members may.below_64) in
+    (All-map (λ (n : ℕ). n < 64) (λ (node : NodeId). node.0) members may.nodes) in
     let few : length members ≤ 64 = subst (λ (n : ℕ). n ≤ 64) (length-map members (λ (node : NodeId). node.0)) numbers in
     let above : 1 < epoch = may.above_1 in
     listed_range (at_start epoch members state)

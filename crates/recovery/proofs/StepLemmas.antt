@@ -1,5 +1,6 @@
 -- What a level and the end of a message come to.
 use Rattle.std.proofs.Common.{◌≡◌, ◌≢◌, ◌⊎◌, inl, inr, ℕ, ◌+◌, ◌-◌, ◌<◌, ◌≤◌, ◌==◌, nat_lt, Bool, true, false, cond, ◌||◌, List, [], ◌∷◌, length, map, Option, None, Some, unwrap_or, refl, ap, sym, ◌∙◌}
+use Rattle.std.specs.Option.{option_map_or}
 use Rattle.std.specs.List.{list_any, range_with_len}
 use Rattle.std.proofs.lemmas.Bool.{cond-true, eqb-true, ltb-true, ltb-false}
 use Rattle.object_id.specs.declared.node.Epoch.{Epoch}
@@ -74,17 +75,17 @@ pub numbers_of_tick : (first : ℕ) (state : RecoveryState) → AreNumbered firs
 unfolding tick_messages
 numbers_of_tick first state =
     either (AreNumbered first) (is_listed state.recovery)
-    (level_messages first state (next_search state)) (lists_asked first state.recovery)
+    (option_map_or (level_messages first state) (next_search state) []) (lists_asked first state.recovery)
     (of_search (next_search state))
     (numbers_of_messages state.recovery first 0 asks.List state.recovery.lists.waiting)
   where
-    of_level : (search : Search) (policy : Option Policy) → AreNumbered first (level_asked first state search policy)
+    of_level : (search : Search) (policy : Option Policy) → AreNumbered first (option_map_or (level_asked first state search) policy [])
     of_level search None = refl
     of_level search (Some policy) =
         numbers_of_messages state.recovery first (wanted_of policy (kind_of search.oid))
         (asks.RecoverRead search.oid (record { 0 = search.level })) (asked_of state policy search)
 
-    of_search : (search : Option Search) → AreNumbered first (level_messages first state search)
+    of_search : (search : Option Search) → AreNumbered first (option_map_or (level_messages first state) search [])
     of_search None = refl
     of_search (Some search) = of_level search (live_policy state.shown search.oid)
 

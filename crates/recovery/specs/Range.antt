@@ -1,7 +1,9 @@
 -- The range of a recovery: what holds of it in every state that it comes to, by which all that it asks can be spelled.
-use Rattle.std.specs.Prelude.{ℕ, ◌<◌, ◌≤◌, length, All}
+use Rattle.std.specs.Prelude.{ℕ, ◌≤◌, length, All}
 use Rattle.std.specs.Option.{IfSome}
 use Rattle.std.specs.FinMap as tree
+use Rattle.object_id.specs.declared.limits.TheConstants.{NODES_MAX}
+use Rattle.object_id.specs.Node.{IsNode}
 use Rattle.object_id.specs.declared.policy.Policy.{Policy}
 use Rattle.object_id.specs.Oid.{IsOid, kind_of}
 use Rattle.object_id.specs.Policy.{IsPolicy, wanted_of}
@@ -17,11 +19,11 @@ pub record IsSearchInRange (search : Search) : Type 0 where
 
 -- the node and the epochs have numbers that can be spelled, all objects have ids, and no more are asked than there may be
 pub record IsInRange (state : RecoveryState) : Type 0 where
-  pub me : state.recovery.me.0 < 64
+  pub me : IsNode state.recovery.me.0
   pub epoch : IsEpoch (record { 0 = state.recovery.epoch })
   pub settled : 1 ≤ state.shown.settled
   -- those that haven't named their objects are no more than there may be members, and an object has no more targets than wanted
-  pub waiting : length state.recovery.lists.waiting ≤ 64
+  pub waiting : length state.recovery.lists.waiting ≤ NODES_MAX
   pub policies : (oid : ℕ) → IfSome (state.shown.policy_of oid) IsPolicy
   pub targets : (level oid : ℕ) (policy : Policy) → length (state.shown.targets level oid policy) ≤ wanted_of policy (kind_of oid)
   -- the objects that were named, that the node has rows of, that are pending, and that is searched

@@ -1,7 +1,7 @@
 -- What a recovery sees of its node, and what it may make of that.
 use Rattle.std.specs.Prelude.{◌≡◌, ℕ, ◌≤◌, ◌==◌, nat_lt, nat_le, Bool, false, not, ◌&&◌, List, [], ◌∷◌, length, take, filter, Option, None, Some, is_some, if◌then◌else◌}
 use Rattle.std.specs.List.{list_any}
-use Rattle.std.specs.Option.{option_map}
+use Rattle.std.specs.Option.{option_map, option_map_or}
 use Rattle.std.specs.FinMap as tree
 use Rattle.object_id.specs.declared.node.NodeId.{NodeId}
 use Rattle.object_id.specs.declared.policy.Policy.{Policy}
@@ -56,20 +56,18 @@ is_pending_object oid (Some oids) = list_any (λ other. other == oid) oids
 abbrev pub index_in : NodeView → ℕ → ℕ → Policy → NodeId → Option ℕ
 index_in shown epoch oid policy node = index_among node (shown.targets epoch oid policy) policy (kind_of oid)
 
--- whether the node has no open row of the index that is its own
-abbrev pub lacks_part : AllRows → ℕ → Option ℕ → Bool
-lacks_part rows oid None = false
-lacks_part rows oid (Some index) = not (is_some (open_row rows (record { oid = oid; index = index })))
+-- whether there is no open row of an object and an index
+abbrev pub lacks_part : AllRows → ℕ → ℕ → Bool
+lacks_part rows oid index = not (is_some (open_row rows (record { oid = oid; index = index })))
 
 -- whether the node is a target of an object of this policy in an epoch, and has no open row of its index
-abbrev pub lacks : NodeId → ℕ → NodeView → ℕ → Option Policy → Bool
-lacks me epoch shown oid None = false
-lacks me epoch shown oid (Some policy) = lacks_part shown.rows oid (index_in shown epoch oid policy me)
+abbrev pub lacks_own_part : NodeId → ℕ → NodeView → ℕ → Policy → Bool
+lacks_own_part me epoch shown oid policy = option_map_or (lacks_part shown.rows oid) (index_in shown epoch oid policy me) false
 
 -- whether a node has to recover an object in an epoch: its id is known and not dead, and the node is one of the object's
 -- targets there and has no open row of its index
 abbrev pub is_to_recover : NodeId → ℕ → NodeView → ℕ → Bool
-is_to_recover me epoch shown oid = lacks me epoch shown oid (live_policy shown oid)
+is_to_recover me epoch shown oid = option_map_or (lacks_own_part me epoch shown oid) (live_policy shown oid) false
 
 -- whether a row is as the object's rows are at a level: it holds the level, its index is below the wanted number, and it
 -- has the length that they have

@@ -2,6 +2,8 @@
 use Rattle.std.specs.Prelude.{◌≡◌, ℕ, ◌-◌, ◌^◌, ◌<◌, ◌≤◌, ◌==◌, Bool, false, not, ◌&&◌, ◌||◌, IsTrue, List, [], ◌++◌, length, map, All, Option, None, Some, is_some, if◌then◌else◌}
 use Rattle.std.specs.List.{list_any, find}
 use Rattle.std.specs.List.Sorted.{IsStrictlyIncreasing}
+use Rattle.object_id.specs.declared.limits.TheConstants.{NODES_MAX}
+use Rattle.object_id.specs.Node.{IsNode}
 use Rattle.object_id.specs.declared.node.NodeId.{NodeId}
 use Rattle.object_store.specs.declared.row.RowCopy.{RowCopy}
 use Rattle.object_list.specs.Gathered.{GatheredLists, gathered_of_none, has_node}
@@ -109,10 +111,10 @@ pub record MayBegin (epoch : ℕ) (members : List NodeId) (state : RecoveryState
   pub own_epoch : epoch ≡ state.shown.epoch
   pub above_1 : 1 < epoch
   pub ascend : IsStrictlyIncreasing (map (λ (node : NodeId). node.0) members)
-  pub below_64 : All (λ (node : NodeId). node.0 < 64) members
+  pub nodes : All (λ (node : NodeId). IsNode node.0) members
   pub member : IsTrue (has_node state.recovery.me members)
 
 -- what a tick needs: that it has work, and numbers for its messages
 pub record MayTick (first : ℕ) (state : RecoveryState) : Type 0 where
   pub work : IsTrue (can_tick state)
-  pub room : first ≤ 2 ^ 32 - 64
+  pub room : first ≤ 2 ^ 32 - NODES_MAX

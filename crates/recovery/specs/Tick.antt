@@ -1,5 +1,6 @@
 -- A tick of a recovery: whom it asks for what.
 use Rattle.std.specs.Prelude.{ℕ, ◌-◌, not, ◌&&◌, List, [], ◌++◌, map, filter, Option, None, Some, if◌then◌else◌}
+use Rattle.std.specs.Option.{option_map_or}
 use Rattle.std.specs.List.{enumerate_from}
 use Rattle.object_id.specs.declared.node.NodeId.{NodeId}
 use Rattle.object_id.specs.declared.policy.Policy.{Policy}
@@ -36,9 +37,8 @@ asked_of state policy search =
     (state.shown.targets search.level search.oid policy)
 
 -- with a finished list, each of them is asked for its row of the level
-abbrev pub level_asked : ℕ → RecoveryState → Search → Option Policy → List Message
-level_asked first state search None = []
-level_asked first state search (Some policy) =
+abbrev pub level_asked : ℕ → RecoveryState → Search → Policy → List Message
+level_asked first state search policy =
     messages_to state.recovery first (wanted_of policy (kind_of search.oid))
     (asks.RecoverRead search.oid (record { 0 = search.level })) (asked_of state policy search)
 
@@ -52,15 +52,16 @@ or_next epoch (Some oid) None = Some (search_at oid (epoch - 1))
 abbrev pub next_search : RecoveryState → Option Search
 next_search state = or_next state.recovery.epoch (first_in state.shown.pending) (search_on state)
 
--- the messages to the search's level
-abbrev pub level_messages : ℕ → RecoveryState → Option Search → List Message
-level_messages first state None = []
-level_messages first state (Some search) = level_asked first state search (live_policy state.shown search.oid)
+-- the messages to the search's level; none where the object's id isn't known, or is dead
+abbrev pub level_messages : ℕ → RecoveryState → Search → List Message
+level_messages first state search = option_map_or (level_asked first state search) (live_policy state.shown search.oid) []
 
 -- the messages of a tick
 unfoldable pub tick_messages : ℕ → RecoveryState → List Message
 tick_messages first state =
-    if is_listed state.recovery then level_messages first state (next_search state) else lists_asked first state.recovery
+    if is_listed state.recovery
+    then option_map_or (level_messages first state) (next_search state) []
+    else lists_asked first state.recovery
 
 -- how they are sent
 unfoldable pub tick_sends : ℕ → RecoveryState → List (NodeId × PeerReq)

@@ -3,7 +3,7 @@ ghost use Rattle.std.specs.FinMap as tree;
 ghost use Rattle.object_store.specs.Store.{open_row};
 ghost use Rattle.recovery.specs.Shown.{NodeView, TargetsOf, live_policy, first_in, is_pending_object, own_row, shown_with_unfinished_list, shown_with_pending, shown_without_pending, with_row, IsUpTo};
 
-use object_id::{Epoch, NoMemory, NodeId, Oid, Policy};
+use object_id::{Epoch, NoMemory, NodeId, Oid, Policy, TARGETS_MAX};
 use object_store::{Key, OidList, RowCopy};
 
 /// What a recovery needs of its node: to see its rows, its settled epoch, what is pending, the placement and the
@@ -18,7 +18,7 @@ pub trait Rows {
 
     /// Writes the object's targets at the level to the front of `out`, and answers how many they are, with the object's
     /// policy; `None` exactly where its id isn't known or is dead.
-    fn targets(&self, level: Epoch, oid: Oid, out: &mut [NodeId; 31]) -> Option<(usize, Policy)>
+    fn targets(&self, level: Epoch, oid: Oid, out: &mut [NodeId; TARGETS_MAX]) -> Option<(usize, Policy)>
         requires from { 1 ≤ level.0 }
         requires to { level.0 ≤ (shown self.now).epoch }
         ensures { TargetsOf (shown self.now) level.0 oid out.new result (live_policy (shown self.now) oid) };
