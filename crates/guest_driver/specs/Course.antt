@@ -40,7 +40,7 @@ EntersAfter before payload piece rest Fetching = Unit {0}
 EntersAfter before payload piece rest Creating = Unit {0}
 EntersAfter before payload piece rest Entering = before ≡ Writes payload Creating piece rest
 
--- the same of every driver
+-- a driver writes an entry only after the creation of its object
 abbrev pub EntersWhatIsMade : Driver → Driver → Type 0
 EntersWhatIsMade before (Reads told piece rest) = Unit {0}
 EntersWhatIsMade before (Writes payload stage piece rest) = EntersAfter before payload piece rest stage
@@ -53,7 +53,7 @@ inode_at inode piece Fetching = inode
 inode_at inode piece Creating = inode
 inode_at inode piece Entering = table_with_entry inode piece
 
--- the same of every driver
+-- the session's inode once the work of its driver is done
 abbrev pub inode_after : Content → Driver → Content
 inode_after inode (Reads told piece rest) = inode
 inode_after inode (Writes payload stage piece rest) = inode_at inode piece stage

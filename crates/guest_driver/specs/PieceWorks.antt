@@ -64,6 +64,6 @@ abbrev pub write_entry : Content → Piece → ObjWork
 write_entry inode piece =
     Write (inode_number inode.vid) inode.spec.policy (INODE_HEADER_BYTES + 4 * piece.index) (u32_bytes inode.vid)
 
--- the same in the table that the session has
+-- the session's inode, whose table says so too
 abbrev pub table_with_entry : Content → Piece → Content
 table_with_entry inode piece = record inode { table = slice_set inode.table piece.index inode.vid }

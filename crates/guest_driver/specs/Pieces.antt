@@ -1,6 +1,7 @@
 -- How a request on a disk is cut: at the borders of objects, a piece for each object that it touches.
 use Rattle.std.specs.Prelude.{◌≡◌, ℕ, ◌+◌, ◌-◌, ◌*◌, ◌/◌, ◌%◌, ◌^◌, ◌≤◌, ◌==◌, ◌&&◌, not, min, max, Bool, List, length, map, slice_range}
 use Rattle.std.specs.List.{range_with_len}
+use Rattle.object_id.specs.declared.limits.TheConstants.{BLOCK_BYTES}
 use Rattle.peer_proto.specs.declared.guest.DiskAsk.{DiskAsk}
 use Rattle.peer_proto.specs.declared.guest.DiskAsk.TheVariants.{Read, Write}
 
@@ -23,7 +24,7 @@ size_of (Write offset bytes) = length bytes
 
 -- a request asks for whole blocks, and for one at least
 abbrev pub is_ask : DiskAsk → Bool
-is_ask ask = offset_of ask % 512 == 0 && size_of ask % 512 == 0 && not (size_of ask == 0)
+is_ask ask = offset_of ask % BLOCK_BYTES == 0 && size_of ask % BLOCK_BYTES == 0 && not (size_of ask == 0)
 
 -- the first object that a request touches; objects have 2^shift bytes
 abbrev pub first_index : ℕ → ℕ → ℕ
@@ -70,5 +71,5 @@ pub record IsPiece (shift : ℕ) (piece : Piece) : Type 0 where
 
 -- a piece goes by whole blocks
 pub record AreBlocks (piece : Piece) : Type 0 where
-  pub offset : piece.offset % 512 ≡ 0
-  pub size : piece.size % 512 ≡ 0
+  pub offset : piece.offset % BLOCK_BYTES ≡ 0
+  pub size : piece.size % BLOCK_BYTES ≡ 0

@@ -13,6 +13,8 @@ ghost use Rattle.guest_driver.specs.Driver.{Driver, read_on, write_on, begin_dri
 ghost use Rattle.guest_driver.specs.Course.{Goes, inode_after, driver_acts_from, has_object, read_act, told_of, write_acts, answers};
 ghost use Rattle.guest_driver.specs.InodeQueue.{InodeQueue, is_on_inode, requests_in, may_open_work, queue_with_waiting, queue_after_end, queue_after_start};
 
+use object_id::BLOCK_BYTES;
+
 /// The pieces of a request are the request, cut at the borders of objects.
 pub fn pieces_are_the_request()
     // Joined in their order they are its bytes.
@@ -23,7 +25,7 @@ pub fn pieces_are_the_request()
         → map (λ (piece : Piece). piece.index) (pieces shift offset size) ≡ indexes shift offset size }
     ensures inside { (shift offset size : ℕ) → 1 ≤ size → All (IsPiece shift) (pieces shift offset size) }
     // A request of whole blocks is cut in whole blocks.
-    ensures blocks { (shift offset size : ℕ) → 9 ≤ shift → 1 ≤ size → offset % 512 ≡ 0 → size % 512 ≡ 0
+    ensures blocks { (shift offset size : ℕ) → 9 ≤ shift → 1 ≤ size → offset % BLOCK_BYTES ≡ 0 → size % BLOCK_BYTES ≡ 0
         → All AreBlocks (pieces shift offset size) }
     // The objects of a request that ends inside the disk are the disk's.
     ensures there { (spec : VdiSpec) (offset size : ℕ) → 1 ≤ size → offset + size ≤ spec.size
