@@ -1,5 +1,6 @@
 -- What the invariant of the overlap gives at once.
 use Rattle.std.proofs.Common.{◌≡◌, ◌⊎◌, inl, inr, ⊎_elim, ℕ, zero, suc, ◌<◌, ◌==◌, ◌||◌, not, Bool, true, false, cond, List, [], ◌∷◌, length, filter, Option, Some, None, refl, subst, slice_get, Ok, arith}
+use Rattle.std.specs.Option.{option_map_or}
 use Rattle.std.specs.List.{last_or}
 use Rattle.std.specs.FinMap as tree
 use Rattle.std.proofs.lemmas.Bool.{eqb-true, or_left, or_cases}
@@ -132,7 +133,7 @@ pub settled-recovered : (log : List Entry) (hosts : Hosts) → TheSettledHaveRec
 settled-recovered log hosts = record {
   each = λ node above there. or_left
       (has_recovered log (settled_of log) node.0)
-      (is_putting_in (settled_of log) node.0 (tree.get hosts node.0))
+      (option_map_or (is_putting_in (settled_of log) node.0) (tree.get hosts node.0) false)
       (none-missing (has_recovered log (settled_of log)) node.0 (members_in log (settled_of log))
       (settled-complete log (settled_of log) above (greatest-passes (is_settled log) (epoch_of log) (omega arith))) there);
 }

@@ -1,7 +1,7 @@
 -- Every attempt of a run has a fate for each of its targets: the begun ones have, and what is told of a message keeps it so.
 use Rattle.std.proofs.Common.{◌≡◌, ℕ, zero, suc, ◌-◌, ◌&&◌, Bool, true, false, cond, List, [], ◌∷◌, ◌++◌, length, map, Option, Some, None, refl, sym, ap, ◌∙◌, subst}
 use Rattle.std.specs.List.{filter_map, cons_option, AllByRecursion}
-use Rattle.std.specs.Option.{option_map, option_and_then}
+use Rattle.std.specs.Option.{option_map, option_and_then, option_map_or}
 use Rattle.std.specs.FinMap as tree
 use Rattle.std.proofs.lemmas.List.{length-map}
 use Rattle.object_id.specs.declared.node.NodeId.{NodeId}
@@ -20,7 +20,7 @@ use Rattle.sheep_world.specs.World as worlds
 use Rattle.sheep_world.specs.World.{Packet, Host, World, host_at, message_at}
 use Rattle.sheep_world.specs.Step.{EventOutcome, step}
 use Rattle.overlap_law.specs.Attempts.{MessageFate, Flying, Doomed, AttemptRecord, has_message, fates_with, attempt_with_fate, attempts_with_fate, fate_by_answer, beginning, is_first, beginning_with, attempt_begun_with, numbers_given, attempts_begun_by}
-use Rattle.overlap_law.specs.BegunAttempts.{attempts_begun_in, attempts_begun, attempts_begun_for, attempts_after_delivery, attempts_after}
+use Rattle.overlap_law.specs.BegunAttempts.{attempts_begun_in, attempts_begun, attempts_after_delivery, attempts_after}
 use Rattle.overlap_law.specs.Past.{MomentWithPast, past_after_event, moment_after, run_on, first_moment, run_with_past}
 
 -- an attempt has a fate for each target
@@ -100,7 +100,7 @@ in-have (Some old) (Some new) = numbers-have new (numbers_given old.node new.nod
 attempts_begun-have : (node : ℕ) (old new : World) → HaveFates (attempts_begun node old new)
 attempts_begun-have node old new = in-have (host_at node old) (host_at node new)
 
-for-have : (session : Option ScriptSession) (old new : World) → HaveFates (attempts_begun_for session old new)
+for-have : (session : Option ScriptSession) (old new : World) → HaveFates (option_map_or (λ (asking : ScriptSession). attempts_begun asking.node old new) session [])
 for-have None old new = tt
 for-have (Some session) old new = attempts_begun-have session.node old new
 
@@ -116,7 +116,8 @@ event-has : (script : List Statement) (event : Event) (old new : World) (attempt
     → HaveFates (attempts_after script event old new attempts)
 unfolding attempts_after
 event-has script (Guest session) old new attempts have =
-    both-have attempts (attempts_begun_for (session_numbered script session) old new) have (for-have (session_numbered script session) old new)
+    both-have attempts (option_map_or (λ (asking : ScriptSession). attempts_begun asking.node old new) (session_numbered script session) []) have
+    (for-have (session_numbered script session) old new)
 event-has script (Deliver node number) old new attempts have =
     attempts_after_delivery-have (message_at (record { sender = node; number = number }) old) (record { sender = node; number = number }) old new attempts have
 event-has script (LoseRequest node number) old new attempts have =

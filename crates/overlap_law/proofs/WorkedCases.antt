@@ -91,7 +91,7 @@ what_answers_tell : (fate_of_say says.Success ≡ Served) × (fate_of_say says.N
 what_answers_tell = (refl, refl, refl)
 
 -- whoever is lost is beyond each epoch
-the_lost_are_beyond : (epoch : ℕ) (host : Host) → has_come_in epoch (Some (record host { is_lost = true })) ≡ true
+the_lost_are_beyond : (epoch : ℕ) (host : Host) → has_come_in epoch (record host { is_lost = true }) ≡ true
 the_lost_are_beyond epoch host = refl
 
 -- of two targets of which one counts there is enough for a copy, and not for two strips

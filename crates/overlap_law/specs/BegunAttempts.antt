@@ -1,5 +1,6 @@
 -- The attempts of a run after one event more: those that a step began, and the fates that it told.
 use Rattle.std.specs.Prelude.{ℕ, List, [], ◌++◌, Option, Some, None}
+use Rattle.std.specs.Option.{option_map_or}
 use Rattle.cluster_script.specs.declared.statement.Statement.{Statement}
 use Rattle.cluster_script.specs.Sessions.{ScriptSession, session_numbered}
 use Rattle.sheep_node.specs.declared.event.Event.{Event}
@@ -14,14 +15,9 @@ attempts_begun_in None new = []
 attempts_begun_in (Some old) None = []
 attempts_begun_in (Some old) (Some new) = attempts_begun_by old new
 
--- the same of a node, by its number
+-- the attempts that the step of the node of a number began
 abbrev pub attempts_begun : ℕ → World → World → List AttemptRecord
 attempts_begun node old new = attempts_begun_in (host_at node old) (host_at node new)
-
--- the same of the gateway of a session
-abbrev pub attempts_begun_for : Option ScriptSession → World → World → List AttemptRecord
-attempts_begun_for None old new = []
-attempts_begun_for (Some session) old new = attempts_begun session.node old new
 
 -- a message is delivered: a request's fate is told by the step that serves it, and a reply may begin attempts at the node
 -- that asked
@@ -33,7 +29,9 @@ attempts_after_delivery (Some (Reply from bytes)) name old new attempts = attemp
 
 -- the attempts after an event, which leads from one world to another
 unfoldable pub attempts_after : List Statement → Event → World → World → List AttemptRecord → List AttemptRecord
-attempts_after script (Guest session) old new attempts = attempts ++ attempts_begun_for (session_numbered script session) old new
+attempts_after script (Guest session) old new attempts = 
+    attempts
+    ++ option_map_or (λ (asking : ScriptSession). attempts_begun asking.node old new) (session_numbered script session) []
 attempts_after script (Deliver node number) old new attempts =
     attempts_after_delivery (message_at (record { sender = node; number = number }) old) (record {
       sender = node;

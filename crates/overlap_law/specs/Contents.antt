@@ -27,7 +27,7 @@ pub record HasBase (policy : Policy) (kind : Kind) (attempts : List AttemptRecor
   pub copies : is_quiet unit attempts ≡ false → is_in_strips policy kind ≡ false
       → Any (HasPartOf policy kind index bytes unit) (own ∷ later_on unit attempts)
 
--- the same of each unit that has an own base
+-- at each unit that has an own base the row has it, or a later attempt's bytes
 abbrev pub HasBases : Policy → Kind → List AttemptRecord → ℕ → List ℕ → Type 0
 HasBases policy kind attempts index bytes =
     (unit : ℕ) (own : AttemptRecord) → own_base_of unit attempts ≡ Some own → HasBase policy kind attempts index bytes unit own

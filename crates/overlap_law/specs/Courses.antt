@@ -66,7 +66,7 @@ IsOfTask effects good_id attempts disk vid (Tagging old inode) work = IsTagged d
 IsOfTask effects good_id attempts disk vid (Copying ids header) work = IsRead header.parent header work
 IsOfTask effects good_id attempts disk vid (Making entry opened) work = IsCreatedNow effects good_id attempts vid opened work
 
--- the same by what a command waits for
+-- a work that a command waits for is of its task
 abbrev pub IsOfStage : List Effect → (ℕ → Bool) → List AttemptRecord → Option Disk → OpStage → ObjWork → Type 0
 IsOfStage effects good_id attempts disk (Asked entry ask old) work = ⊥
 IsOfStage effects good_id attempts disk (Working vid task) work = IsOfTask effects good_id attempts disk vid task work
@@ -111,7 +111,7 @@ granted_by vid (Tagging old inode) = Some vid
 granted_by vid (Copying ids header) = Some vid
 granted_by vid (Making entry opened) = Some vid
 
--- the same by what a command waits for
+-- the id that was granted to a command, by what it waits for
 abbrev pub granted_at : OpStage → Option Vid
 granted_at (Asked entry ask disk) = None
 granted_at (Working vid task) = granted_by vid task

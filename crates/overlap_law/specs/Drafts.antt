@@ -1,6 +1,7 @@
 -- What is to be published: from where the table of its inode is, and that the inode was created.
 use Rattle.std.specs.Prelude.{◌≡◌, ℕ, ◌^◌, ◌<◌, Bool, true, List, [], ◌∷◌, slice_get, slice_index, is_some, Option, Some, None}
 use Rattle.std.specs.FinMap as tree
+use Rattle.object_id.specs.declared.limits.TheConstants.{OBJECTS_MAX}
 use Rattle.object_id.specs.declared.oid.Vid.{Vid}
 use Rattle.object_id.specs.declared.entry.Entry.{Entry}
 use Rattle.object_id.specs.declared.entry.Entry.TheVariants.{Format, Join, Leave, Reweight, Recovered, Reserve, Publish, Clone, Snapshot, Delete, Lock, Unlock}
@@ -29,7 +30,7 @@ abbrev pub IsDrawnFrom : List AttemptRecord → ℕ → ℕ → Option Vid → T
 IsDrawnFrom attempts index entry None = entry ≡ 0
 IsDrawnFrom attempts index entry (Some parent) = IsCandidate attempts parent.0 index entry
 
--- the same of an id, while its reservation stands
+-- while an id's reservation stands, an entry of its inode is drawn from what the id is made from
 abbrev pub IsDrawn : List Effect → List AttemptRecord → ℕ → ℕ → ℕ → Type 0
 IsDrawn effects attempts vid index entry =
     is_some (reservation_on (record { 0 = vid }) (reservations_of effects)) ≡ true
@@ -37,7 +38,8 @@ IsDrawn effects attempts vid index entry =
 
 -- the attempts on a reserved id's inode have such entries
 pub record ReservedInodesAreDrawn (effects : List Effect) (good_id : ℕ → Bool) (attempts : List AttemptRecord) : Type 0 where
-  pub each : EachAttempt attempts (λ j attempt. (vid index : ℕ) → object_of attempt ≡ inode_number vid → good_id vid ≡ true → index < 2 ^ 20
+  pub each : EachAttempt attempts (λ j attempt. (vid index : ℕ) → object_of attempt ≡ inode_number vid → good_id vid ≡ true
+      → index < OBJECTS_MAX
       → covers_unit (entry_unit index) attempt ≡ true → IsDrawn effects attempts vid index (entry_by index attempt))
 
 -- the id that an entry publishes

@@ -1,6 +1,6 @@
 -- The forms in which the invariant speaks of each node, attempt and row, and the words that several of its groups share.
 use Rattle.std.specs.Prelude.{◌≡◌, ℕ, nat_le, Bool, true, false, ◌&&◌, List, slice_get, Option, Some, None}
-use Rattle.std.specs.Option.{option_map}
+use Rattle.std.specs.Option.{option_map, option_map_or}
 use Rattle.std.specs.List.{list_any}
 use Rattle.std.specs.FinMap as tree
 use Rattle.object_id.specs.declared.node.NodeId.{NodeId}
@@ -50,14 +50,9 @@ EachRowOf rows oid P = (i : ℕ) (row : SeenRow) → slice_get (rows_of rows oid
 abbrev pub EachRow : Hosts → (ℕ → Host → ℕ → SeenRow → Type 0) → Type 0
 EachRow hosts P = EachHost hosts (λ n host. (oid : ℕ) → EachRowOf host.node.peer.rows oid (P n host oid))
 
--- the epoch of a node, that of a lost one when it was lost
-abbrev pub epoch_in : Option Host → ℕ
-epoch_in None = 0
-epoch_in (Some host) = host.node.peer.epoch
-
--- whether a node came to an epoch
+-- whether a node came to an epoch; a lost one has the epoch in which it was lost
 abbrev pub has_reached : Hosts → ℕ → NodeId → Bool
-has_reached hosts epoch node = nat_le epoch (epoch_in (tree.get hosts node.0))
+has_reached hosts epoch node = nat_le epoch (option_map_or (λ (host : Host). host.node.peer.epoch) (tree.get hosts node.0) 0)
 
 -- the last epoch that a row covers, at a node of an epoch: an open row covers that one
 abbrev pub end_of_row : ℕ → Option Epoch → ℕ
@@ -72,7 +67,7 @@ row_covers epoch level row = nat_le row.from.0 level && nat_le level (end_of_row
 abbrev pub has_row_at : ℕ → AllRows → ℕ → ℕ → Bool
 has_row_at epoch rows oid level = list_any (row_covers epoch level) (rows_of rows oid)
 
--- the same of a node
+-- whether a node has a row of the object that covers the level
 abbrev pub holds_level : Option Host → ℕ → ℕ → Bool
 holds_level None oid level = false
 holds_level (Some host) oid level = has_row_at host.node.peer.epoch host.node.peer.rows oid level

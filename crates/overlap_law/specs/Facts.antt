@@ -3,6 +3,7 @@ use Rattle.std.specs.Prelude.{◌≡◌, ℕ, ◌+◌, ◌*◌, ◌^◌, ◌==�
 use Rattle.std.specs.List.{find, list_any}
 use Rattle.std.specs.Option.{option_map_or}
 use Rattle.std.specs.FinMap as tree
+use Rattle.object_id.specs.declared.limits.TheConstants.{OBJECTS_MAX}
 use Rattle.object_id.specs.declared.node.NodeId.{NodeId}
 use Rattle.object_id.specs.declared.entry.Entry.{Entry}
 use Rattle.object_id.specs.Fields.{u32_at}
@@ -92,7 +93,7 @@ entry_in index bytes = u32_at (INODE_HEADER_BYTES + 4 * index) bytes
 abbrev pub is_made_create : ℕ → AttemptRecord → Bool
 is_made_create oid attempt = object_of attempt == oid && creates attempt && is_made attempt
 
--- two rows of an inode have the same where an attempt covers its table
+-- two rows of an inode agree where an attempt covers its table
 abbrev pub HaveOneTable : AttemptRecord → List ℕ → List ℕ → Type 0
 HaveOneTable attempt bytes others = (unit : ℕ) → INODE_HEADER_BYTES ≤ unit → covers_unit unit attempt ≡ true
     → row_bytes_at (policy_of attempt.work) (kind_of (object_of attempt)) unit bytes
@@ -101,7 +102,7 @@ HaveOneTable attempt bytes others = (unit : ℕ) → INODE_HEADER_BYTES ≤ unit
 -- Entries name made objects. An entry that says "own" stands in a copy of an inode only after a made create of its object; and
 -- where the last attempt on the inode is made, as that of an opening is, the copies that reach its epoch have one table
 pub record EntriesNameMadeObjects (hosts : Hosts) (vid : ℕ) (attempts : List AttemptRecord) : Type 0 where
-  pub own : EachHost hosts (λ n host. EachRowOf host.node.peer.rows (inode_number vid) (λ row. (index : ℕ) → index < 2 ^ 20
+  pub own : EachHost hosts (λ n host. EachRowOf host.node.peer.rows (inode_number vid) (λ row. (index : ℕ) → index < OBJECTS_MAX
       → entry_in index row.bytes ≡ vid → list_any (is_made_create (object_number vid index)) attempts ≡ true))
   pub one_table : (last : AttemptRecord) → last_of (attempts_on (inode_number vid) attempts) ≡ Some last → is_made last ≡ true
       → EachHost hosts (λ n host. EachRowOf host.node.peer.rows (inode_number vid)

@@ -1,6 +1,6 @@
 -- Live holders: whether enough nodes keep an object, and whether that was so of all objects that a disk is read from.
 use Rattle.std.specs.Prelude.{ℕ, ◌+◌, ◌-◌, ◌==◌, nat_le, Bool, true, false, not, ◌&&◌, ◌||◌, max, List, length, filter, map, IsTrue, Option, Some, None}
-use Rattle.std.specs.Option.{option_map}
+use Rattle.std.specs.Option.{option_map, option_map_or}
 use Rattle.std.specs.List.{find, list_any, list_all, range_with_len}
 use Rattle.object_id.specs.declared.node.NodeId.{NodeId}
 use Rattle.object_id.specs.declared.entry.Entry.{Entry}
@@ -48,7 +48,7 @@ epochs_between first last = range_with_len first (last + 1 - first)
 abbrev pub has_enough : (NodeId → ℕ → Bool) → ℕ → List NodeId → ℕ → Bool
 has_enough counts need targets epoch = nat_le need (length (filter (λ node. counts node epoch) targets))
 
--- the same of an object and its targets in an epoch
+-- whether enough of the targets of an object in an epoch count for it
 abbrev pub is_kept_in : (NodeId → ℕ → Bool) → List Entry → ℕ → Policy → ℕ → Bool
 is_kept_in counts log oid policy epoch =
     has_enough counts (need_of policy (kind_of oid)) (targets_by log epoch oid policy) epoch
@@ -59,14 +59,11 @@ abbrev pub is_available_since : (NodeId → ℕ → Bool) → List Entry → ℕ
 is_available_since counts log oid policy birth =
     list_all (is_kept_in counts log oid policy) (epochs_between (max birth (settled_of log)) (epoch_of log))
 
--- the same by the first attempt to create it; an object that isn't born needs no holders
-abbrev pub is_available_by : (NodeId → ℕ → Bool) → List Entry → ℕ → Option AttemptRecord → Bool
-is_available_by counts log oid None = true
-is_available_by counts log oid (Some create) = is_available_since counts log oid (policy_of create.work) create.epoch
-
--- whether an object is available, of these attempts
+-- whether an object is available, of these attempts: since the first one to create it. An object that isn't born needs no holders
 unfoldable pub is_available : (NodeId → ℕ → Bool) → List Entry → List AttemptRecord → ℕ → Bool
-is_available counts log attempts oid = is_available_by counts log oid (first_create oid attempts)
+is_available counts log attempts oid =
+    option_map_or (λ (create : AttemptRecord). is_available_since counts log oid (policy_of create.work) create.epoch)
+    (first_create oid attempts) true
 
 -- the objects that were born, in the order of their attempts
 abbrev pub born_objects : List AttemptRecord → List ℕ
@@ -96,7 +93,7 @@ is_live_object log attempts oid = is_object_among oid (born_objects attempts) &&
 abbrev pub is_good : List Entry → List AttemptRecord → List ℕ → ℕ → Bool
 is_good log attempts unavailable oid = is_live_object log attempts oid && not (is_object_among oid unavailable)
 
--- the same as a fact
+-- an object is good
 abbrev pub IsGood : List Entry → List AttemptRecord → List ℕ → ℕ → Type 0
 IsGood log attempts unavailable oid = IsTrue (is_good log attempts unavailable oid)
 

@@ -34,7 +34,7 @@ pub record HasRead (log : List Entry) (node : Node) : Type 0 where
   pub settled : node.peer.settled ≡ settled_of node.peer.entries
   pub members : (epoch : ℕ) → is_entered node.epochs epoch ≡ true → members_at node.epochs epoch ≡ members_in log epoch
 
--- the same of each node
+-- each node has what it has read of the log
 pub record NodesHaveRead (log : List Entry) (hosts : Hosts) : Type 0 where
   pub each : EachHost hosts (λ n host. HasRead log host.node)
 

@@ -43,7 +43,7 @@ pub record Overlap (moment : MomentWithPast) : Type 0 where
   pub no_items : RefusedHaveNoItems moment.past.refused moment.past.history
   pub nothing_made : RefusedMakeNothing moment.past.refused moment.past.lost moment.past.attempts
 
--- the same of a run of a script, whose requests the gateways have
+-- the invariant of a run of a script, whose requests the gateways have
 pub record OverlapOf (script : List Statement) (moment : MomentWithPast) : Type 0 where
   pub overlap : Overlap moment
   pub asked : RequestsAreTheScripts script moment.world

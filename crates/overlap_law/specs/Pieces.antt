@@ -3,6 +3,7 @@ use Rattle.std.specs.Prelude.{◌≡◌, ◌⊎◌, ℕ, ◌+◌, ◌*◌, ◌-�
 use Rattle.std.specs.List.{list_all}
 use Rattle.std.specs.FinMap as tree
 use Rattle.std.specs.Str.{bytes_eq}
+use Rattle.object_id.specs.declared.limits.TheConstants.{BLOCK_BYTES}
 use Rattle.object_store.specs.Bytes.{piece_at}
 use Rattle.disk_history.specs.Ledger.{Item, Open, Ledger, is_item_of}
 use Rattle.disk_history.specs.Ledger as histories
@@ -22,12 +23,12 @@ use Rattle.overlap_law.specs.WrittenBlocks.{IsBlockOfDisk, items_at, is_allowed,
 
 -- a block of an object is one of a piece
 pub record IsInPiece (piece : Piece) (unit : ℕ) : Type 0 where
-  pub first : piece.offset ≤ 512 * unit
-  pub last : 512 * unit < piece.offset + piece.size
+  pub first : piece.offset ≤ BLOCK_BYTES * unit
+  pub last : BLOCK_BYTES * unit < piece.offset + piece.size
 
 -- the bytes of a request for a block of a piece, among all its bytes
 abbrev pub bytes_for : List ℕ → Piece → ℕ → List ℕ
-bytes_for bytes piece unit = piece_at bytes (piece.place + (512 * unit - piece.offset)) 512
+bytes_for bytes piece unit = piece_at bytes (piece.place + (BLOCK_BYTES * unit - piece.offset)) BLOCK_BYTES
 
 -- the pieces that a request has still to write, those of a write alone, with its bytes
 abbrev pub left_of_ask : ℕ → DiskAsk → List Piece
@@ -51,7 +52,7 @@ driver_payload (Reads told piece rest) = []
 driver_payload (Writes payload stage piece rest) = payload
 driver_payload Answered = []
 
--- the same by where a request is
+-- the pieces that a request has still to write, by where it is
 abbrev pub left_to_write : ℕ → Course → List Piece
 left_to_write shift (Waiting ask) = left_of_ask shift ask
 left_to_write shift (Driving driver) = left_of_driver driver

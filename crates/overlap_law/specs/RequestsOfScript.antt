@@ -68,7 +68,7 @@ pub record IsRequestOfScript (script : List Statement) (world : World) (n : ℕ)
   pub number : started.req ≡ req
   pub course : IsCourseOf (ask_of_statement statement) (session_at request.session host.node).disk started.disk request.course
 
--- the same of each request of a node that isn't lost
+-- each request of a node that isn't lost is one of the script
 pub record RequestsAreTheScripts (script : List Statement) (world : World) : Type 0 where
   pub each : (n req : ℕ) (host : Host) (request : Request) → host_at n world ≡ Some host → host.is_lost ≡ false
       → tree.get host.node.requests req ≡ Some request → IsRequestOfScript script world n host req request
@@ -81,7 +81,7 @@ pub record IsForARequest (script : List Statement) (attempt : AttemptRecord) : T
   pub of_node : session.node ≡ attempt.gateway.0
   pub of_incarnation : session.incarnation ≡ attempt.incarnation
 
--- the same of each attempt
+-- each attempt is for a request of the script
 pub record AttemptsAreTheScripts (script : List Statement) (attempts : List AttemptRecord) : Type 0 where
   pub each : EachAttempt attempts (λ j attempt. IsForARequest script attempt)
 

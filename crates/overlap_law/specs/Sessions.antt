@@ -5,6 +5,7 @@ use Rattle.std.specs.FinMap as tree
 use Rattle.object_id.specs.declared.node.NodeId.{NodeId}
 use Rattle.object_id.specs.declared.entry.Entry.{Entry}
 use Rattle.object_id.specs.declared.entry.Entry.TheVariants.{Snapshot, Unlock}
+use Rattle.object_id.specs.Same.{is_same_entry}
 use Rattle.vdi_directory.specs.Effects.{holder_of}
 use Rattle.vdi_directory.specs.Decisions.{log_effects}
 use Rattle.peer_proto.specs.Work.{oid_of}
@@ -19,7 +20,6 @@ use Rattle.guest_driver.specs.InodeQueue.{is_on_inode}
 use Rattle.peer_proto.specs.declared.guest.VdiAsk.{VdiAsk}
 use Rattle.vdi_ops.specs.Op.{Op, entry_wanted}
 use Rattle.sheep_node.specs.State.{Node, Session, Request, Driving, Commanding}
-use Rattle.sheep_node.specs.Same.{is_same_entry}
 use Rattle.overlap_law.specs.Attempts.{AttemptRecord, object_of}
 use Rattle.overlap_law.specs.Words.{Hosts}
 use Rattle.overlap_law.specs.Each.{EachUp, EachAttempt}

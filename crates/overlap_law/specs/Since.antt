@@ -55,7 +55,7 @@ pub record HasWhatItOwes (Reads : Reading) (policy : Policy) (kind : Kind) (host
       ≡ true
       → (is_doomed hosts attempt ≡ true) ⊎ Reads attempts unit j index (row_bytes_at policy kind unit bytes))
 
--- the same of an object, by its policy
+-- a row of an object has what it owes, by the policy of the object
 abbrev pub IsSince : Policy → ℕ → Hosts → List AttemptRecord → NodeId → ℕ → ℕ → ℕ → List ℕ → Type 0
 IsSince policy oid hosts attempts node index end served_to bytes =
     HasWhatItOwes (reading_of policy oid) policy (kind_of oid) hosts (attempts_on oid attempts) node index end served_to bytes
@@ -73,7 +73,7 @@ pub record IsOfAttempts (kind : Kind) (policy : Policy) (attempts : List Attempt
       → SomeAttempt attempts (λ attempt. (covers_unit unit attempt ≡ true)
       × (row_bytes_at policy kind unit bytes ≡ unit_part_by index unit attempt.work))
 
--- the same of an object, if its rows are copies
+-- if the rows of an object are copies, a row is of its attempts
 abbrev pub IsCopyOfAttempts : Policy → ℕ → List AttemptRecord → ℕ → List ℕ → Type 0
 IsCopyOfAttempts policy oid attempts index bytes =
     is_in_strips policy (kind_of oid) ≡ false → IsOfAttempts (kind_of oid) policy (attempts_on oid attempts) index bytes

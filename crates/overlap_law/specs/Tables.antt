@@ -3,6 +3,7 @@ use Rattle.std.specs.Prelude.{◌≡◌, ◌≢◌, ◌⊎◌, ℕ, ◌+◌, ◌
 use Rattle.std.specs.Option.{option_map}
 use Rattle.std.specs.List.{list_any, list_all}
 use Rattle.std.specs.FinMap as tree
+use Rattle.object_id.specs.declared.limits.TheConstants.{OBJECTS_MAX}
 use Rattle.object_id.specs.declared.entry.Entry.{Entry}
 use Rattle.object_id.specs.declared.entry.VdiSpec.{VdiSpec}
 use Rattle.object_id.specs.Oid.{IsVid, inode_number, object_number}
@@ -65,7 +66,7 @@ pub record StandsFor (effects : List Effect) (attempts : List AttemptRecord) (vi
 -- the entries of an attempt on an inode stand for objects that were made by then
 pub record EntriesAreMade (effects : List Effect) (live : ℕ → Bool) (good_id : ℕ → Bool) (attempts : List AttemptRecord) : Type 0 where
   pub each : EachAttempt attempts (λ j attempt. (vid index : ℕ) → object_of attempt ≡ inode_number vid
-      → live (inode_number vid) ≡ true → good_id vid ≡ true → index < 2 ^ 20
+      → live (inode_number vid) ≡ true → good_id vid ≡ true → index < OBJECTS_MAX
       → covers_unit (entry_unit index) attempt ≡ true → entry_by index attempt ≢ 0
       → StandsFor effects attempts vid index attempt.epoch (entry_by index attempt))
 
@@ -73,7 +74,7 @@ pub record EntriesAreMade (effects : List Effect) (live : ℕ → Bool) (good_id
 -- never had from elsewhere with its own id in it
 pub record OwnEntriesAreMade (live : ℕ → Bool) (attempts : List AttemptRecord) : Type 0 where
   pub each : EachAttempt attempts (λ j attempt. (vid index : ℕ) → IsVid vid → object_of attempt ≡ inode_number vid
-      → live (inode_number vid) ≡ true → index < 2 ^ 20
+      → live (inode_number vid) ≡ true → index < OBJECTS_MAX
       → covers_unit (entry_unit index) attempt ≡ true → entry_by index attempt ≡ vid
       → IsCreated attempts (object_number vid index) attempt.epoch)
 

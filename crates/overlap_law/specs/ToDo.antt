@@ -1,6 +1,7 @@
 -- The works that are still to be made: what they would make is of objects that are there, and of bytes that may be read.
 use Rattle.std.specs.Prelude.{◌≡◌, ◌≢◌, ◌⊎◌, ℕ, ◌^◌, ◌<◌, Bool, true, false, List, slice_get, Some}
 use Rattle.std.specs.FinMap as tree
+use Rattle.object_id.specs.declared.limits.TheConstants.{OBJECTS_MAX}
 use Rattle.object_id.specs.Oid.{IsVid, inode_number, object_number}
 use Rattle.object_id.specs.Fields.{u32_at}
 use Rattle.object_id.specs.declared.entry.VdiSpec.{VdiSpec}
@@ -48,7 +49,7 @@ entry_made index work = u32_at 0 (bytes_by (entry_unit index) work)
 pub record IsEntryToDo (node : Node) (work : ObjWork) (vid index : ℕ) : Type 0 where
   pub to_do : IsToDo node work
   pub object : oid_of work ≡ inode_number vid
-  pub inside : index < 2 ^ 20
+  pub inside : index < OBJECTS_MAX
   pub covered : covers_by (entry_unit index) work ≡ true
 
 -- the entries of works stand for objects that are made by now; those that say "own" also where the disk wasn't available

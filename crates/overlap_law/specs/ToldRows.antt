@@ -6,9 +6,9 @@ use Rattle.object_id.specs.declared.node.Epoch.{Epoch}
 use Rattle.object_store.specs.declared.row.RowCopy.{RowCopy}
 use Rattle.object_list.specs.Gathered.{has_node}
 use Rattle.peer_proto.specs.declared.ask.PeerAsk.TheVariants as asks
-use Rattle.peer_proto.specs.declared.say.PeerSay.{PeerSay}
 use Rattle.peer_proto.specs.declared.say.PeerSay.TheVariants as says
 use Rattle.peer_proto.specs.declared.say.PeerRsp.{PeerRsp}
+use Rattle.peer_service.specs.Serve.{row_or_none}
 use Rattle.recovery.specs.Level.{is_of_search}
 use Rattle.recovery.specs.State.{Message, RowAnswer, Search, Recovery, all_unanswered, search_on}
 use Rattle.sheep_node.specs.State.{Node}
@@ -37,11 +37,6 @@ pub record IsListJoined (recovery : Recovery) (from : NodeId) (oids : List ℕ) 
 abbrev pub ToldObjects : Wire → ℕ → Recovery → NodeId → List ℕ → Type 0
 ToldObjects wire n recovery from oids = IsListUnderWay wire n recovery from recovery.epoch oids ⊎ IsListJoined recovery from oids
 
--- a node's reply to a RecoverRead
-abbrev pub recovery_answer : Option RowCopy → PeerSay
-recovery_answer None = says.NoRow
-recovery_answer (Some row) = says.Row row
-
 -- a node's row of an object at a level, or that it has none, is on its way to one of a node's recoveries
 pub record IsRowUnderWay (wire : Wire) (n : ℕ) (recovery : Recovery) (from : NodeId) (epoch oid level : ℕ) (row : Option RowCopy) : Type 0
   where
@@ -52,7 +47,7 @@ pub record IsRowUnderWay (wire : Wire) (n : ℕ) (recovery : Recovery) (from : N
     pub asked : message.request.ask ≡ asks.RecoverRead oid (record { 0 = level })
     pub of_epoch : message.request.epoch.0 ≡ epoch
     pub answering : IsAnswering wire (message_name n message.request.number) from reply
-    pub said : reply.say ≡ recovery_answer row
+    pub said : reply.say ≡ row_or_none row
 
 -- a search keeps it, while further answers of its level are awaited
 pub record IsRowKept (node : Node) (from : NodeId) (epoch oid level : ℕ) (row : Option RowCopy) : Type 0 where

@@ -1,11 +1,13 @@
 -- The units of an object: which of them a work covers, and the bytes that it has for them.
 use Rattle.std.specs.Prelude.{ℕ, ◌+◌, ◌*◌, ◌-◌, ◌/◌, nat_lt, nat_le, Bool, false, ◌&&◌, List, [], length, filter, fold, if◌then◌else◌}
+use Rattle.object_id.specs.declared.limits.TheConstants.{BLOCK_BYTES}
 use Rattle.object_id.specs.declared.oid.Kind.{Kind}
 use Rattle.object_id.specs.declared.oid.Kind.TheVariants.{Block, Inode}
 use Rattle.object_id.specs.declared.policy.Policy.{Policy}
 use Rattle.object_id.specs.Oid.{kind_of}
 use Rattle.object_id.specs.Piece.{laid_over}
-use Rattle.object_store.specs.Bytes.{zeros, piece_at}
+use Rattle.object_id.specs.Fields.{zeros}
+use Rattle.object_store.specs.Bytes.{piece_at}
 use Rattle.strip_coding.specs.Part.{part, part_size}
 use Rattle.inode.specs.declared.layout.TheConstants.{INODE_HEADER_BYTES}
 use Rattle.peer_proto.specs.declared.work.ObjWork.{ObjWork}
@@ -13,16 +15,16 @@ use Rattle.peer_proto.specs.declared.work.ObjWork.TheVariants.{Create, Write, Re
 use Rattle.peer_proto.specs.Work.{oid_of, policy_of}
 use Rattle.overlap_law.specs.Attempts.{AttemptRecord}
 
--- where a unit of an object begins: one of a data object has 512 bytes; one of an inode is a byte of the header, or an
+-- where a unit of an object begins: one of a data object is a block; one of an inode is a byte of the header, or an
 -- entry of the table
 abbrev pub unit_start : Kind → ℕ → ℕ
-unit_start Block unit = 512 * unit
+unit_start Block unit = BLOCK_BYTES * unit
 unit_start Inode unit =
     if nat_lt unit INODE_HEADER_BYTES then unit else INODE_HEADER_BYTES + 4 * (unit - INODE_HEADER_BYTES)
 
 -- how many bytes it has
 abbrev pub unit_size : Kind → ℕ → ℕ
-unit_size Block unit = 512
+unit_size Block unit = BLOCK_BYTES
 unit_size Inode unit = if nat_lt unit INODE_HEADER_BYTES then 1 else 4
 
 -- where it ends
@@ -31,7 +33,7 @@ unit_end kind unit = unit_start kind unit + unit_size kind unit
 
 -- the unit in which the byte at an offset stands
 abbrev pub unit_of : Kind → ℕ → ℕ
-unit_of Block offset = offset / 512
+unit_of Block offset = offset / BLOCK_BYTES
 unit_of Inode offset =
     if nat_lt offset INODE_HEADER_BYTES then offset else INODE_HEADER_BYTES + (offset - INODE_HEADER_BYTES) / 4
 

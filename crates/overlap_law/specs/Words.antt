@@ -45,7 +45,7 @@ is_served_by node (target ∷ targets) [] = false
 is_served_by node (target ∷ targets) (fate ∷ fates) =
     (target.0 == node.0 && is_served fate) || is_served_by node targets fates
 
--- the same of an attempt
+-- whether a node is a target of the attempt and has served it
 abbrev pub has_served : NodeId → AttemptRecord → Bool
 has_served node attempt = is_served_by node attempt.targets attempt.fates
 

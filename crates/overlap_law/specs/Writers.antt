@@ -1,5 +1,5 @@
 -- The one writer of an id: which works it may have open, and what every other attempt has come to.
-use Rattle.std.specs.Prelude.{◌≡◌, ◌⊎◌, ℕ, ◌≤◌, ◌<◌, ◌==◌, ◌&&◌, Bool, true, false, List, Option, Some, None}
+use Rattle.std.specs.Prelude.{◌≡◌, ◌⊎◌, ℕ, ◌≤◌, ◌<◌, ◌==◌, ◌&&◌, Bool, true, false, List, Option, Some, None, is_some, if◌then◌else◌}
 use Rattle.std.specs.List.{list_any}
 use Rattle.std.specs.FinMap as tree
 use Rattle.object_id.specs.declared.entry.Entry.{Entry}
@@ -46,14 +46,9 @@ pub record OnlyTheWriterWrites (log : List Entry) (hosts : Hosts) (attempts : Li
   pub each : EachUp hosts (λ n node. (req : ℕ) (work : Work) → tree.get node.gateway.works req ≡ Some work → is_making work.work ≡ true
       → IsTheWriters log attempts n req work node)
 
--- the epoch of a writer's grant; where there is no writer, the newest one
-abbrev pub bound_by : Option Holder → ℕ → ℕ → ℕ
-bound_by None newest granted = newest
-bound_by (Some holder) newest granted = granted
-
--- the same of an id, by the log
+-- the epoch in which an id's writer had its grant; where there is no writer, the newest one
 abbrev pub bound_of : List Entry → ℕ → ℕ
-bound_of log vid = bound_by (writer_of (log_effects log) vid) (epoch_of log) (granted_in log vid)
+bound_of log vid = if is_some (writer_of (log_effects log) vid) then granted_in log vid else epoch_of log
 
 -- an attempt is the writer's, under its grant
 pub record IsUnderTheGrant (log : List Entry) (attempt : AttemptRecord) (vid : ℕ) : Type 0 where

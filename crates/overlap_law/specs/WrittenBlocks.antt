@@ -3,6 +3,8 @@ use Rattle.std.specs.Prelude.{◌≡◌, ◌≢◌, ◌⊎◌, ℕ, ◌+◌, ◌
 use Rattle.std.specs.List.{list_any, list_all}
 use Rattle.std.specs.Str.{bytes_eq}
 use Rattle.std.specs.FinMap as tree
+use Rattle.object_id.specs.Fields.{zeros}
+use Rattle.object_id.specs.declared.limits.TheConstants.{BLOCK_BYTES}
 use Rattle.object_id.specs.declared.entry.VdiSpec.{VdiSpec}
 use Rattle.object_id.specs.declared.oid.Kind.TheVariants.{Block}
 use Rattle.object_id.specs.Oid.{object_number}
@@ -32,14 +34,14 @@ abbrev pub outcomes_by : Hosts → Bool → List AttemptRecord → List AttemptR
 outcomes_by hosts unmade all later (Some base) = base ∷ filter (may_come_out hosts) later
 outcomes_by hosts unmade all later None = if unmade then filter (λ attempt. not (is_doomed hosts attempt)) all else []
 
--- the same of the attempts on an object
+-- of the attempts on an object, those by whose bytes a unit may come to be read
 abbrev pub outcomes : Hosts → Bool → ℕ → List AttemptRecord → List AttemptRecord
 outcomes hosts unmade unit attempts =
     outcomes_by hosts unmade (covering unit attempts) (later_on unit attempts) (own_base_of unit attempts)
 
 -- how many blocks an object has
 abbrev pub blocks_per_object : VdiSpec → ℕ
-blocks_per_object spec = 2 ^ spec.shift / 512
+blocks_per_object spec = 2 ^ spec.shift / BLOCK_BYTES
 
 -- a block of a disk that is there: the disk's entry of the history, what it was made with, the object's index, the block in it
 pub record IsBlockOfDisk (ledger : Ledger) (effects : List Effect) (good_id : ℕ
@@ -89,7 +91,7 @@ pub record BlocksAreWritten (ledger : Ledger) (effects : List Effect) (good_id :
       → (entry : ℕ) × IsCandidate attempts vid index entry
   -- a hole is read as zeros
   pub holes : (vid index unit : ℕ) (disk : Disk) (spec : VdiSpec) → IsBlockOfDisk ledger effects good_id vid disk spec index unit
-      → IsCandidate attempts vid index 0 → is_allowed (items_at disk spec index unit) (replicate 512 0) ≡ true
+      → IsCandidate attempts vid index 0 → is_allowed (items_at disk spec index unit) (zeros BLOCK_BYTES) ≡ true
   -- an object that an entry names has a made attempt on the block
   pub made : (vid index unit home : ℕ) (disk : Disk) (spec : VdiSpec) → IsBlockOfDisk ledger effects good_id vid disk spec index unit
       → IsCandidate attempts vid index home → home ≢ 0 → is_torn_here spec (items_at disk spec index unit) ≡ false
