@@ -1,7 +1,7 @@
 -- Two entries of commands are found the same exactly where they are.
 use Rattle.std.proofs.Common.{◌≡◌, ℕ, nat_eq, ◌==◌, ◌&&◌, Bool, true, List, [], ◌∷◌, Option, Some, None, refl, ap, sym, ◌∙◌}
 use Rattle.std.specs.Cmp.Lexicographic.{pointwise, same_text}
-use Rattle.std.proofs.lemmas.Bool.{and_parts, eqb-true, eq-eqb}
+use Rattle.std.proofs.lemmas.Bool.{and_parts, eqb-true, eq-eqb, and_from}
 use Rattle.object_id.specs.declared.policy.Policy.{Policy}
 use Rattle.object_id.specs.declared.policy.Policy.TheVariants.{Copies, Coded}
 use Rattle.object_id.specs.declared.entry.VdiSpec.{VdiSpec}
@@ -111,19 +111,13 @@ waits_only entry ask op e = wanted_is entry (entry_wanted op) e
 
 -- the same, so found the same
 
-both : (a b : Bool) → a ≡ true → b ≡ true → (a && b) ≡ true
-both a b ea eb = ap (λ x. x && b) ea ∙ eb
-
-number_same : (n : ℕ) → (n == n) ≡ true
-number_same n = eq-eqb n n refl
-
 text_same : (text : List ℕ) → is_same_bytes text text ≡ true
 text_same [] = refl
-text_same (n ∷ text) = both (nat_eq n n) (pointwise nat_eq text text) (number_same n) (text_same text)
+text_same (n ∷ text) = and_from (nat_eq n n) (pointwise nat_eq text text) (eq-eqb n n refl) (text_same text)
 
 policy_same : (policy : Policy) → is_same_policy policy policy ≡ true
-policy_same (Copies c) = number_same c
-policy_same (Coded d p) = both (d == d) (p == p) (number_same d) (number_same p)
+policy_same (Copies c) = eq-eqb c c refl
+policy_same (Coded d p) = and_from (d == d) (p == p) (eq-eqb d d refl) (eq-eqb p p refl)
 
 tag_same : (tag : Option (List ℕ)) → is_same_tag tag tag ≡ true
 tag_same None = refl
@@ -131,10 +125,10 @@ tag_same (Some tag) = text_same tag
 
 origin_same : (origin : Origin) → is_same_origin origin origin ≡ true
 origin_same (Fresh spec) =
-    both (spec.size == spec.size) (is_same_policy spec.policy spec.policy && spec.shift == spec.shift) (number_same spec.size)
-    (both (is_same_policy spec.policy spec.policy) (spec.shift == spec.shift) (policy_same spec.policy) (number_same spec.shift))
+    and_from (spec.size == spec.size) (is_same_policy spec.policy spec.policy && spec.shift == spec.shift) (eq-eqb spec.size spec.size refl)
+    (and_from (is_same_policy spec.policy spec.policy) (spec.shift == spec.shift) (policy_same spec.policy) (eq-eqb spec.shift spec.shift refl))
 origin_same (SnapshotOf tag) = text_same tag
-origin_same (CloneOf base tag) = both (is_same_bytes base base) (is_same_bytes tag tag) (text_same base) (text_same tag)
+origin_same (CloneOf base tag) = and_from (is_same_bytes base base) (is_same_bytes tag tag) (text_same base) (text_same tag)
 
 entry_same : (entry : Entry) → is_of_command entry ≡ true → is_same_entry entry entry ≡ true
 entry_same (Format members) e = e
@@ -143,25 +137,25 @@ entry_same (Leave node) e = e
 entry_same (Reweight node vnodes) e = e
 entry_same (Recovered node epoch) e = e
 entry_same (Reserve by session name origin) e =
-    both (by.0 == by.0) (session == session && (is_same_bytes name name && is_same_origin origin origin)) (number_same by.0)
-    (both (session == session) (is_same_bytes name name && is_same_origin origin origin) (number_same session)
-    (both (is_same_bytes name name) (is_same_origin origin origin) (text_same name) (origin_same origin)))
-entry_same (Publish by vid) e = both (by.0 == by.0) (vid.0 == vid.0) (number_same by.0) (number_same vid.0)
-entry_same (Clone by vid) e = both (by.0 == by.0) (vid.0 == vid.0) (number_same by.0) (number_same vid.0)
+    and_from (by.0 == by.0) (session == session && (is_same_bytes name name && is_same_origin origin origin)) (eq-eqb by.0 by.0 refl)
+    (and_from (session == session) (is_same_bytes name name && is_same_origin origin origin) (eq-eqb session session refl)
+    (and_from (is_same_bytes name name) (is_same_origin origin origin) (text_same name) (origin_same origin)))
+entry_same (Publish by vid) e = and_from (by.0 == by.0) (vid.0 == vid.0) (eq-eqb by.0 by.0 refl) (eq-eqb vid.0 vid.0 refl)
+entry_same (Clone by vid) e = and_from (by.0 == by.0) (vid.0 == vid.0) (eq-eqb by.0 by.0 refl) (eq-eqb vid.0 vid.0 refl)
 entry_same (Snapshot by old vid) e =
-    both (by.0 == by.0) (old.0 == old.0 && vid.0 == vid.0) (number_same by.0)
-    (both (old.0 == old.0) (vid.0 == vid.0) (number_same old.0) (number_same vid.0))
+    and_from (by.0 == by.0) (old.0 == old.0 && vid.0 == vid.0) (eq-eqb by.0 by.0 refl)
+    (and_from (old.0 == old.0) (vid.0 == vid.0) (eq-eqb old.0 old.0 refl) (eq-eqb vid.0 vid.0 refl))
 entry_same (Delete by session name tag) e =
-    both (by.0 == by.0) (session == session && (is_same_bytes name name && is_same_tag tag tag)) (number_same by.0)
-    (both (session == session) (is_same_bytes name name && is_same_tag tag tag) (number_same session)
-    (both (is_same_bytes name name) (is_same_tag tag tag) (text_same name) (tag_same tag)))
+    and_from (by.0 == by.0) (session == session && (is_same_bytes name name && is_same_tag tag tag)) (eq-eqb by.0 by.0 refl)
+    (and_from (session == session) (is_same_bytes name name && is_same_tag tag tag) (eq-eqb session session refl)
+    (and_from (is_same_bytes name name) (is_same_tag tag tag) (text_same name) (tag_same tag)))
 entry_same (Lock by session name tag) e =
-    both (by.0 == by.0) (session == session && (is_same_bytes name name && is_same_tag tag tag)) (number_same by.0)
-    (both (session == session) (is_same_bytes name name && is_same_tag tag tag) (number_same session)
-    (both (is_same_bytes name name) (is_same_tag tag tag) (text_same name) (tag_same tag)))
+    and_from (by.0 == by.0) (session == session && (is_same_bytes name name && is_same_tag tag tag)) (eq-eqb by.0 by.0 refl)
+    (and_from (session == session) (is_same_bytes name name && is_same_tag tag tag) (eq-eqb session session refl)
+    (and_from (is_same_bytes name name) (is_same_tag tag tag) (text_same name) (tag_same tag)))
 entry_same (Unlock by session vid) e =
-    both (by.0 == by.0) (session == session && vid.0 == vid.0) (number_same by.0)
-    (both (session == session) (vid.0 == vid.0) (number_same session) (number_same vid.0))
+    and_from (by.0 == by.0) (session == session && vid.0 == vid.0) (eq-eqb by.0 by.0 refl)
+    (and_from (session == session) (vid.0 == vid.0) (eq-eqb session session refl) (eq-eqb vid.0 vid.0 refl))
 
 pub waits_each : (entry : Entry) (ask : VdiAsk) (op : Op) → is_of_command entry ≡ true → entry_wanted op ≡ Some entry
     → waits_for_entry entry (Commanding ask op) ≡ true
