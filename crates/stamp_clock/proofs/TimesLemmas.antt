@@ -1,9 +1,9 @@
 -- How often a number stands in a list of numbers.
-use Rattle.std.proofs.Common.{arith, ◌≡◌, ◌+◌, ◌<◌, ◌≤◌, ◌==◌, ℕ, Bool, true, false, cond, List, [], ◌∷◌, ◌++◌, All, refl}
+use Rattle.std.proofs.Common.{arith, ◌≡◌, ◌+◌, ◌<◌, ◌≤◌, ◌==◌, ℕ, Bool, true, false, cond, List, [], ◌∷◌, ◌++◌, All, Contains, get_or, ap, eq-eqb, refl}
 use Rattle.std.proofs.lemmas.Bool.{eqb-true}
 use Rattle.std.proofs.lemmas.List.Elements.{All-head, All-tail, All-weaker}
-use Rattle.std.proofs.lemmas.List.Sums.{sum_by-cons, sum_by-append}
-use Rattle.stamp_clock.specs.Stamps.{times}
+use Rattle.std.proofs.lemmas.List.Sums.{sum_by-cons, sum_by-append, get_or-le-sum_by}
+use Rattle.stamp_clock.specs.Stamps.{times, HasNoneTwice}
 
 -- once where the two numbers are the same
 abbrev pub once_if : Bool → ℕ
@@ -27,3 +27,14 @@ times-above end number (x ∷ xs) below past =
 
 pub below_more : (end more : ℕ) (numbers : List ℕ) → end ≤ more → All (λ number. number < end) numbers → All (λ number. number < more) numbers
 below_more end more numbers le below = All-weaker (λ number. number < end) (λ number. number < more) (λ number lt. omega arith) numbers below
+
+pub times-contains : (number : ℕ) (numbers : List ℕ) → Contains numbers number → 1 ≤ times number numbers
+times-contains number numbers is =
+    let here : once_if (get_or numbers is.0 number == number) ≡ once_if (number == number) = ap (λ other. once_if (other == number)) is.2 in
+    let one : once_if (number == number) ≡ 1 = rw (eq-eqb number number refl) refl in
+    omega (arith, here, one, get_or-le-sum_by (λ other. once_if (other == number)) numbers is.0 number is.1)
+
+-- no number stands in both parts of a list that has none twice
+pub parts_apart : (xs ys : List ℕ) → HasNoneTwice (xs ++ ys) → (number : ℕ) → Contains xs number → Contains ys number → ⊥
+parts_apart xs ys once number left right =
+    omega (arith, times-append number xs ys, once number, times-contains number xs left, times-contains number ys right)

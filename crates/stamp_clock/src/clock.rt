@@ -1,4 +1,4 @@
-ghost use Rattle.std.specs.Prelude.{◌≡◌, ◌+◌, ◌<◌, ◌≤◌, max, [], ◌∷◌, true, false, IfOk, OnErr, IsErr};
+ghost use Rattle.std.specs.Prelude.{◌≡◌, ◌+◌, ◌<◌, ◌≤◌, max, [], ◌∷◌, true, false, All, IfOk, OnErr, IsErr};
 ghost use Rattle.stamp_clock.specs.Stamps.{numbers_end, seats_max, HasNoneTwice};
 ghost use Rattle.stamp_clock.specs.Steps.{first_view};
 ghost use Rattle.stamp_clock.specs.Seat.{new_seats, joined_seat, IsSpentBy};
@@ -70,7 +70,8 @@ impl Clock {
         requires last { last ≤ numbers_end }
         requires some { 1 ≤ seats }
         requires most { seats ≤ seats_max }
-        ensures { IfOk result (λ made. (made.0.last ≡ last) × (made.1.items ≡ new_seats made.0.id seats)) }
+        ensures made { IfOk result (λ made. (made.0.last ≡ last) × (made.1.items ≡ new_seats made.0.id seats)) }
+        ensures seats { IfOk result (λ made. All (λ seat. seat.clock ≡ made.0.id) made.1.items) }
     {
         let (numbers, first) = begin(alloc)?;
         let seats = seats_from(alloc, &numbers.shared, first, seats)?;

@@ -12,13 +12,19 @@
 #![tactic(auto)]
 
 mod clock;
+mod laws;
 mod name;
 mod note;
 mod rule;
 mod seat;
 mod steps;
+#[cfg(test)]
+mod tests;
 
 pub use clock::{Clock, ClockSpent};
+pub use laws::{
+    a_stamp_is_above_what_was_brought, no_stamp_twice, numbers_of_a_seat, stamps_grow,
+};
 pub use name::ClockName;
 pub use note::Note;
 pub use seat::Seat;
