@@ -1,5 +1,5 @@
 -- What holds of every seat still holds when it learns, is joined or gives room away.
-use Rattle.std.proofs.Common.{arith, ◌≡◌, ◌+◌, ◌-◌, ◌<◌, ◌≤◌, ℕ, max, Bool, true, false, ◌||◌, List, [], ◌∷◌, ◌++◌, set, ap, refl}
+use Rattle.std.proofs.Common.{arith, ◌≡◌, ◌+◌, ◌-◌, ◌<◌, ◌≤◌, ℕ, max, Bool, true, false, ◌||◌, [], ◌∷◌, ◌++◌, set, ap, refl}
 use Rattle.std.proofs.lemmas.List.{append-nil, replicate-append-replicate}
 use Rattle.stamp_clock.specs.declared.rule.View.{View}
 use Rattle.stamp_clock.specs.Clock.{ClockId}

@@ -1,14 +1,14 @@
 -- Each kind of step keeps the rule of stamps, and shows what it tells.
-use Rattle.std.proofs.Common.{arith, ◌≡◌, ◌+◌, ◌-◌, ◌*◌, ◌^◌, ◌%◌, ◌<◌, ◌≤◌, ◌==◌, ℕ, max, Bool, true, false, cond, List, [], ◌∷◌, ◌++◌, All, set, sym, refl, subst, ◌∙◌, nat_lt}
-use Rattle.std.proofs.lemmas.Bool.{eqb-true, ltb-true, ltb-false}
+use Rattle.std.proofs.Common.{arith, ◌≡◌, ◌+◌, ◌-◌, ◌^◌, ◌%◌, ◌<◌, ◌≤◌, ◌==◌, ℕ, max, Bool, true, false, cond, List, [], ◌∷◌, ◌++◌, All, set, sym, refl, subst, ◌∙◌, nat_lt}
+use Rattle.std.proofs.lemmas.Bool.{eqb-true, ltb-true}
 use Rattle.std.proofs.lemmas.List.Elements.{All-nil, All-cons, All-append, All-push}
 use Rattle.std.proofs.lemmas.List.Sums.{sum_by_push}
 use mathlib.Core.Option.{some}
 use lib.ListN.{get_elem?}
 use Rattle.atomic_table.proofs.Lists.{set_else, set_again}
 use Rattle.stamp_clock.specs.declared.rule.View.{View}
-use Rattle.stamp_clock.specs.Stamps.{numbers_end, seats_max, times, draws_of, room_of, HasNoneTwice, IsUpTo, AreStamps}
-use Rattle.stamp_clock.specs.Steps.{first_view, view_after_draw, view_of_note, view_of_seat, view_without_seat, joined_view, empty_view, IsShown, IsDraw}
+use Rattle.stamp_clock.specs.Stamps.{numbers_end, times, draws_of, IsUpTo, AreStamps}
+use Rattle.stamp_clock.specs.Steps.{view_after_draw, view_of_note, view_of_seat, view_without_seat, joined_view, empty_view, IsShown, IsDraw}
 use Rattle.stamp_clock.proofs.TimesLemmas.{once_if, times-cons, times-append, below_more}
 use Rattle.stamp_clock.proofs.ViewLemmas.{sum_by-set_view, view-le-sum_by, up_to_at, up_to-set, draws_of-word}
 
@@ -32,7 +32,7 @@ drawn_once : (word : ℕ) (views : List View) (at : ℕ) (view : View) → AreSt
     → (number : ℕ) → (draws_of number (set views at (with_number view word)) ≤ 1) × (times number (word ∷ view.mine) ≤ 1)
 drawn_once word views at view rule is number =
     go (sum_by-set_view (λ other. times number other.mine) views at view (with_number view word) is) (times-cons number word view.mine)
-        (view-le-sum_by (λ other. times number other.mine) views at view is) (rule.once number) (word == number) refl
+    (view-le-sum_by (λ other. times number other.mine) views at view is) (rule.once number) (word == number) refl
   where
     go : draws_of number (set views at (with_number view word)) + times number view.mine ≡ draws_of number views + times number (word ∷ view.mine)
         → times number (word ∷ view.mine) ≡ once_if (word == number) + times number view.mine
@@ -57,7 +57,7 @@ draws_number word views at view rule is low =
     let up = up_to_at word views at view rule.each is in
     let room = sum_by-set_view (λ other. other.room) views at view new is in
     let below : All (λ number. number < word + 1) (word ∷ view.mine) =
-        All-cons (λ number. number < word + 1) word view.mine (omega arith) (below_more view.seen (word + 1) view.mine (omega (arith, up.seen)) up.mine) in (
+    All-cons (λ number. number < word + 1) word view.mine (omega arith) (below_more view.seen (word + 1) view.mine (omega (arith, up.seen)) up.mine) in (
       record {
         each = up_to-set word (word + 1) views at new (omega arith) rule.each (record { seen = omega arith; mine = below });
         once = λ number. (drawn_once word views at view rule is number).0;

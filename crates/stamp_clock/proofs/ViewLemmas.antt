@@ -1,12 +1,18 @@
 -- Sums and facts over the views of a clock, where one view is another one or a view is added.
-use Rattle.std.proofs.Common.{arith, ◌≡◌, ◌+◌, ◌<◌, ◌≤◌, ℕ, zero, suc, List, [], ◌∷◌, ◌++◌, All, sum_by, length, set, get_or, sym, subst, refl}
-use Rattle.std.proofs.lemmas.List.Elements.{All-get_or, All-set, All-push, All-weaker, All-head, All-tail}
+use Rattle.std.proofs.Common.{arith, ◌≡◌, ◌+◌, ◌<◌, ◌≤◌, ℕ, zero, suc, List, [], ◌∷◌, All, sum_by, length, set, get_or, slice_get, Some, sym, ap, subst, refl}
+use Rattle.std.proofs.lemmas.List.Elements.{All-get_or, All-set, All-weaker, All-head, All-tail}
 use Rattle.std.proofs.lemmas.List.Sums.{sum_by-set, sum_by-cons, get_or-le-sum_by}
 use mathlib.Core.Option.{some, some-injective, some-ne-none}
 use lib.ListN.{get_elem?}
 use Rattle.stamp_clock.specs.declared.rule.View.{View}
 use Rattle.stamp_clock.specs.Stamps.{times, draws_of, IsUpTo}
 use Rattle.stamp_clock.proofs.TimesLemmas.{times-above}
+
+-- a view as the table finds it
+pub found_at : (views : List View) (at : ℕ) (view : View) → slice_get views at ≡ Some view → get_elem? views at ≡ some view
+found_at [] at view is = absurd (cc)
+found_at (x ∷ xs) zero view is = let same : x ≡ view = cc in ap some same
+found_at (x ∷ xs) (suc at) view is = found_at xs at view is
 
 stands_at : (views : List View) (at : ℕ) (view : View) → get_elem? views at ≡ some view → (at < length views) × (get_or views at view ≡ view)
 stands_at [] at view is = absurd (some-ne-none view (sym is))
@@ -36,7 +42,7 @@ pub up_to-set : (word later : ℕ) (views : List View) (at : ℕ) (new : View) �
     → All (IsUpTo later) (set views at new)
 up_to-set word later views at new le each is =
     All-set (IsUpTo later) views at new is
-        (All-weaker (IsUpTo word) (IsUpTo later) (λ view up. record { seen = omega (arith, up.seen); mine = up.mine }) views each)
+    (All-weaker (IsUpTo word) (IsUpTo later) (λ view up. record { seen = omega (arith, up.seen); mine = up.mine }) views each)
 
 -- the next number was drawn by nobody yet
 pub draws_of-word : (word : ℕ) (views : List View) → All (IsUpTo word) views → draws_of word views ≡ 0

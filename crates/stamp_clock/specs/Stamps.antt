@@ -1,6 +1,6 @@
 -- The rule of stamps. A clock has one word, the next number. Each of its seats and notes has a view: the numbers that it
 -- drew, what it has seen, and how many draws it may still make past the last number.
-use Rattle.std.specs.Prelude.{◌+◌, ◌^◌, ◌<◌, ◌≤◌, ◌==◌, ℕ, List, All, count_by, sum_by}
+use Rattle.std.specs.Prelude.{◌≡◌, ◌+◌, ◌^◌, ◌<◌, ◌≤◌, ◌==◌, ℕ, List, All, count_by, sum_by, slice_get, Some}
 use Rattle.stamp_clock.specs.declared.rule.View.{View}
 
 -- numbers from here on are no stamps
@@ -38,3 +38,8 @@ pub record AreStamps (word : ℕ) (views : List View) : Type 0 where
   pub once : (number : ℕ) → draws_of number views ≤ 1
   pub room : room_of views ≤ seats_max
   pub ends : word + room_of views ≤ numbers_end + seats_max
+
+-- the rule holds, and the view stands at this place
+pub record IsViewAt (word : ℕ) (views : List View) (place : ℕ) (view : View) : Type 0 where
+  pub rule : AreStamps word views
+  pub stands : slice_get views place ≡ Some view

@@ -1,5 +1,5 @@
 -- The four kinds of step, and what each makes of the views and tells.
-use Rattle.std.specs.Prelude.{◌≡◌, ◌+◌, ◌-◌, ◌<◌, ◌≤◌, ℕ, max, nat_lt, List, [], ◌∷◌, ◌++◌, All, if◌then◌else◌}
+use Rattle.std.specs.Prelude.{◌≡◌, ◌+◌, ◌-◌, ◌<◌, ◌≤◌, ℕ, max, nat_lt, [], ◌∷◌, ◌++◌, All, if◌then◌else◌}
 use Rattle.stamp_clock.specs.declared.rule.View.{View}
 use Rattle.stamp_clock.specs.Stamps.{numbers_end, seats_max, HasNoneTwice}
 

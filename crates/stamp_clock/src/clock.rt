@@ -106,8 +106,8 @@ impl Clock {
         requires note { note.clock ≡ self.now.id }
         ensures { seat.new ≡ record seat.old { seen = max seat.old.seen note.seen } }
     {
-        let Note { token } = note;
-        steps::join(&self.numbers.shared, &mut seat.token, token);
+        let Note { token: brought } = note;
+        steps::join(&self.numbers.shared, &mut seat.token, brought);
     }
 
     /// Joins a seat into a seat. Of the numbers that the two drew, none was drawn twice.
@@ -123,16 +123,17 @@ impl Clock {
         let _ = steps::look(&self.numbers.shared, &mut seat.token);
     }
 
-    /// The next number, which is the seat's alone, and above all that it has seen.
+    /// The next number: no other draw gets it, and it isn't below what the seat has seen. Past the last number every draw is
+    /// `ClockSpent`, and so is each further one of a seat that was answered so.
     pub fn draw(&self, seat: &mut Seat) -> Result<u64, ClockSpent>
         requires { seat.old.clock ≡ self.now.id }
         ensures ok { IfOk result (λ number. (seat.old.spent ≡ false) × (number < self.now.last)
             × (seat.new ≡ record seat.old { mine = number ∷ seat.old.mine; seen = number + 1 })) }
         ensures above { IfOk result (λ number. seat.old.seen ≤ number) }
 
-        // A seat that was answered so before makes no step.
+        // A seat that was answered so before, or one joined into it, makes no step.
         ensures again { seat.old.spent ≡ true → IsErr result × (seat.new ≡ seat.old) }
-        // Another one found a number, and it is the last or past it.
+        // Another one found a number, which is `last` or above it.
         ensures spent { seat.old.spent ≡ false → OnErr result (IsSpentBy self.now.last seat.old seat.new) }
     {
         if seat.spent {

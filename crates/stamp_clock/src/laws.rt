@@ -1,6 +1,8 @@
 //! The promises on stamps: each is the contract of a call.
-ghost use Rattle.std.specs.Prelude.{◌≡◌, ◌<◌, ℕ, All, Contains, IfOk, false};
-ghost use Rattle.stamp_clock.specs.Stamps.{HasNoneTwice};
+ghost use Rattle.std.specs.Prelude.{◌≡◌, ◌≢◌, ◌+◌, ◌<◌, ◌≤◌, ℕ, List, [], ◌∷◌, ◌++◌, All, Contains, Some, slice_get, slice_set, IfOk, false};
+ghost use Rattle.stamp_clock.specs.declared.rule.View.{View};
+ghost use Rattle.stamp_clock.specs.Stamps.{AreStamps, HasNoneTwice, IsViewAt};
+ghost use Rattle.stamp_clock.specs.Steps.{first_view, view_after_draw, view_of_note, view_of_seat, view_without_seat, joined_view, empty_view};
 
 use crate::clock::{Clock, ClockSpent};
 use crate::seat::Seat;
@@ -50,3 +52,18 @@ pub fn no_stamp_twice(clock: &Clock, seat: &mut Seat, other: Seat)
 {
     clock.join(seat, other);
 }
+
+/// The rule holds of a new clock, and each kind of step keeps it, whichever view it is of.
+pub fn steps_keep_the_rule()
+    ensures opening { AreStamps 0 (first_view ∷ []) }
+    ensures fetch_add { (word : ℕ) (views : List View) (place : ℕ) (view : View) → IsViewAt word views place view → 0 < view.room
+        → AreStamps (word + 1) (slice_set views place (view_after_draw view word)) }
+    ensures split_note { (word : ℕ) (views : List View) (place : ℕ) (view : View) → IsViewAt word views place view
+        → AreStamps word (views ++ view_of_note view ∷ []) }
+    ensures split_seat { (word : ℕ) (views : List View) (place : ℕ) (view : View) → IsViewAt word views place view → 1 < view.room
+        → AreStamps word (slice_set views place (view_without_seat view) ++ view_of_seat view ∷ []) }
+    ensures join { (word : ℕ) (views : List View) (place other_place : ℕ) (view other : View) → IsViewAt word views place view
+        → IsViewAt word views other_place other → other_place ≢ place
+        → AreStamps word (slice_set (slice_set views place (joined_view view other)) other_place empty_view) }
+    ensures load { (word : ℕ) (views : List View) (place : ℕ) (view : View) → IsViewAt word views place view → view.seen ≤ word }
+{}

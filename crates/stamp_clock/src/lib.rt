@@ -24,6 +24,7 @@ mod tests;
 pub use clock::{Clock, ClockSpent};
 pub use laws::{
     a_stamp_is_above_what_was_brought, no_stamp_twice, numbers_of_a_seat, stamps_grow,
+    steps_keep_the_rule,
 };
 pub use name::ClockName;
 pub use note::Note;

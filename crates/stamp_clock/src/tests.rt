@@ -183,6 +183,9 @@ fn a_stamp_in_a_thread_is_above_what_another_brought(rt: HostRuntime) -> Result<
     let (Some(maker), Some(taker)) = (seats.pop(), seats.pop()) else {
         panic!(rt; "two seats");
     };
-    assert_eq!(rt; hand_over::<Brand, HostRuntime>(&rt, &clock, maker, taker), Ok((0, 1)));
+    assert_eq!(rt;
+        hand_over::<Brand, HostRuntime>(&rt, &clock, maker, taker),
+        Ok((0, 1))
+    );
     Ok(())
 }

@@ -1,4 +1,4 @@
-use Rattle.std.proofs.Common.{◌≡◌, ◌+◌, ◌-◌, ◌∙◌, ap, get_or, arith}
+use Rattle.std.proofs.Common.{◌≡◌, ◌+◌, ◌-◌, ◌∙◌, ap, get_or}
 use Rattle.stamp_clock.specs.Stamps.{seats_max}
 use Rattle.stamp_clock.specs.Seat.{new_seat}
 use Rattle.stamp_clock.proofs.SeatLemmas.{new_seats_more}
@@ -8,6 +8,6 @@ pub loop-preserved : goal.loop-preserved
 loop-preserved c =
     let clock = c.args.word.now.table_id in
     let first : c.index_mut.result.now ≡ new_seat clock (seats_max + 1 - c.loop.counter) =
-        c.index_mut.ensures.value ∙ ap (λ seats. get_or seats 0 c.index_mut.result.now) c.loop.invariant in
+    c.index_mut.ensures.value ∙ ap (λ seats. get_or seats 0 c.index_mut.result.now) c.loop.invariant in
     rw (c.in_ok-push-2.ensures.items, c.loop.invariant, c.split-seat.ensures.left, c.split-seat.ensures.seat, first)
-        (new_seats_more clock c.loop.counter c.loop.auto.counter)
+    (new_seats_more clock c.loop.counter c.loop.auto.counter)

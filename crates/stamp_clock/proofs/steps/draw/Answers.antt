@@ -1,4 +1,4 @@
-use Rattle.std.proofs.Common.{arith, ◌≡◌, ◌+◌, ◌%◌, ◌^◌, refl, slice_index}
+use Rattle.std.proofs.Common.{arith, ◌≡◌, ◌+◌, refl, slice_index}
 use Rattle.atomic_table.specs.Table.{keeps}
 use Rattle.stamp_clock.specs.Steps.{view_after_draw}
 use Rattle.stamp_clock.proofs.StepLemmas.{draw_keeps, word-no_wrap}
