@@ -134,7 +134,8 @@ impl Clock {
         // A seat that was answered so before, or one joined into it, makes no step.
         ensures again { seat.old.spent ≡ true → IsErr result × (seat.new ≡ seat.old) }
         // Another one found a number, which is `last` or above it.
-        ensures spent { seat.old.spent ≡ false → OnErr result (IsSpentBy self.now.last seat.old seat.new) }
+        ensures past { seat.old.spent ≡ false → OnErr result (IsSpentBy self.now.last seat.old seat.new) }
+        ensures spent { OnErr result (seat.new.spent ≡ true) }
     {
         if seat.spent {
             return Err(ClockSpent);

@@ -1,5 +1,5 @@
 //! The promises on stamps: each is the contract of a call.
-ghost use Rattle.std.specs.Prelude.{◌≡◌, ◌≢◌, ◌+◌, ◌<◌, ◌≤◌, ℕ, List, [], ◌∷◌, ◌++◌, All, Contains, Some, slice_get, slice_set, IfOk, false};
+ghost use Rattle.std.specs.Prelude.{◌≡◌, ◌≢◌, ◌+◌, ◌<◌, ◌≤◌, ℕ, List, [], ◌∷◌, ◌++◌, All, Contains, Some, slice_get, slice_set, IfOk, OnErr, ◌⊎◌, true, false};
 ghost use Rattle.stamp_clock.specs.declared.rule.View.{View};
 ghost use Rattle.stamp_clock.specs.Stamps.{AreStamps, HasNoneTwice, IsViewAt};
 ghost use Rattle.stamp_clock.specs.Steps.{first_view, view_after_draw, view_of_note, view_of_seat, view_without_seat, joined_view, empty_view};
@@ -21,7 +21,9 @@ pub fn numbers_of_a_seat(seat: &Seat)
 /// A seat's next number is above each that it drew.
 pub fn stamps_grow(clock: &Clock, seat: &mut Seat) -> Result<u64, ClockSpent>
     requires { seat.old.clock ≡ clock.now.id }
-    ensures { IfOk result (λ stamp. All (λ earlier. earlier < stamp) seat.old.mine) }
+    ensures above { IfOk result (λ stamp. All (λ earlier. earlier < stamp) seat.old.mine) }
+    ensures drawn { IfOk result (λ stamp. seat.new.mine ≡ stamp ∷ seat.old.mine) }
+    ensures spent { OnErr result (seat.new.spent ≡ true) }
 {
     numbers_of_a_seat(seat);
     clock.draw(seat)
@@ -35,7 +37,11 @@ pub fn a_stamp_is_above_what_was_brought(
 ) -> Result<(u64, u64), ClockSpent>
     requires maker { maker.old.clock ≡ clock.now.id }
     requires taker { taker.old.clock ≡ clock.now.id }
-    ensures { IfOk result (λ stamps. stamps.0 < stamps.1) }
+    ensures above { IfOk result (λ stamps. stamps.0 < stamps.1) }
+    // The first is the maker's, the second the taker's.
+    ensures made { IfOk result (λ stamps. maker.new.mine ≡ stamps.0 ∷ maker.old.mine) }
+    ensures taken { IfOk result (λ stamps. taker.new.mine ≡ stamps.1 ∷ taker.old.mine) }
+    ensures spent { OnErr result ((maker.new.spent ≡ true) ⊎ (taker.new.spent ≡ true)) }
 {
     let sent = clock.draw(maker)?;
     let note = clock.note(maker);
@@ -44,7 +50,7 @@ pub fn a_stamp_is_above_what_was_brought(
     Ok((sent, received))
 }
 
-/// Two seats drew no number both. They are joined, which shows it.
+/// No number was drawn by both of two seats. Joining them shows it.
 pub fn no_stamp_twice(clock: &Clock, seat: &mut Seat, other: Seat)
     requires seat { seat.old.clock ≡ clock.now.id }
     requires other { other.clock ≡ clock.now.id }
