@@ -10,7 +10,7 @@ use Rattle.cluster_script.specs.declared.statement.Statement.TheVariants.{Cluste
 use Rattle.cluster_script.specs.declared.draft.Totals.{Totals}
 use Rattle.cluster_script.specs.Statements.{is_setting, is_cluster, is_create, is_open, is_close, is_request, read_bytes, write_bytes}
 use Rattle.cluster_script.specs.OneDisk.{MayFollow}
-use Rattle.cluster_script.specs.Totals.{IsTotal, counted}
+use Rattle.cluster_script.specs.Totals.{IsTotal, totals_after}
 
 and_true : (b : Bool) → (b && true) ≡ b
 and_true true = refl
@@ -34,7 +34,7 @@ sum_more f n before s so_far = so_far_plus ∙ sym (sum_by-append f before (s �
 
 -- a statement that may follow leaves the counters within a script's limits
 within : (before : List Statement) (totals : Totals) (s : Statement) → IsTotal before totals → MayFollow before s
-    → ((counted totals s).requests ≤ REQUESTS_MAX) × ((counted totals s).read_bytes ≤ READ_BYTES_MAX) × ((counted totals s).write_bytes ≤ WRITE_BYTES_MAX)
+    → ((totals_after totals s).requests ≤ REQUESTS_MAX) × ((totals_after totals s).read_bytes ≤ READ_BYTES_MAX) × ((totals_after totals s).write_bytes ≤ WRITE_BYTES_MAX)
 within before totals (Cluster nodes) total follows = (omega arith, omega arith, omega arith)
 within before totals (Session session node) total follows = (omega arith, omega arith, omega arith)
 within before totals (Create session policy shift name size) total follows = (omega (arith, follows.0.room), omega arith, omega arith)
@@ -44,7 +44,7 @@ within before totals (Read session offset bytes) total follows = (omega (arith, 
 within before totals (Write session offset bytes pattern) total follows = (omega (arith, follows.0.room), omega arith, omega (arith, follows.4))
 within before totals s total follows = absurd follows
 
-pub total_more : (before : List Statement) (totals : Totals) (s : Statement) → IsTotal before totals → MayFollow before s → IsTotal (before ++ s ∷ []) (counted totals s)
+pub total_more : (before : List Statement) (totals : Totals) (s : Statement) → IsTotal before totals → MayFollow before s → IsTotal (before ++ s ∷ []) (totals_after totals s)
 total_more before totals s total follows =
     let most = within before totals s total follows in
     record {

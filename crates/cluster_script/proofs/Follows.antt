@@ -11,8 +11,8 @@ use Rattle.std.proofs.lemmas.Slice.Eq.{bytes_eq-Decides}
 use Rattle.cluster_script.specs.declared.limits.TheConstants.{NAME_BYTES_MAX}
 use Rattle.cluster_script.specs.declared.statement.Statement.{Statement}
 use Rattle.cluster_script.specs.declared.statement.Statement.TheVariants.{Cluster, Session, Create, OpenDisk, Close, Read, Write}
-use Rattle.cluster_script.specs.Statements.{is_setting, is_cluster, is_create, is_open, is_close, is_request, declared, has, requests_of, disk_name, disk_size}
-use Rattle.cluster_script.specs.OneDisk.{IsDiskOpen, MayFollow, EachMayFollow, IsOneDiskScript, IsName}
+use Rattle.cluster_script.specs.Statements.{is_setting, is_cluster, is_create, is_open, is_close, is_request, is_session_declared, has, requests_of, disk_name, disk_size}
+use Rattle.cluster_script.specs.OneDisk.{IsDiskOpen, MayFollow, EachMayFollow, IsOneDiskScript, IsPrintedName}
 use Rattle.cluster_script.specs.Words.{is_name, is_name_byte}
 use Rattle.cluster_script.specs.OneDiskRequests.{is_disk_open, is_disk_named}
 
@@ -46,7 +46,7 @@ not_dash (byte ∷ rest) passed e =
     absurd cc
 
 -- a name by the tests is a name
-pub name_of_test : (name : List ℕ) → is_name name ≡ true → IsName name
+pub name_of_test : (name : List ℕ) → is_name name ≡ true → IsPrintedName name
 name_of_test name named =
     let last = and_parts (nat_le 1 (length name) && nat_le (length name) NAME_BYTES_MAX && list_all is_name_byte name) (not (starts_with nat_eq name (codes "-"))) named in
     let third = and_parts (nat_le 1 (length name) && nat_le (length name) NAME_BYTES_MAX) (list_all is_name_byte name) last.0 in
@@ -81,11 +81,11 @@ pub named_disk : (name : List ℕ) (before : List Statement) → is_disk_named n
 named_disk name before named = same_name name (disk_name before) (sym (is_named_in_option name (disk_name before)) ∙ named)
 
 -- each session that is declared is session 1
-one_session : (session : ℕ) (before rest : List Statement) → EachMayFollow before rest → declared session rest ≡ true → session ≡ 1
+one_session : (session : ℕ) (before rest : List Statement) → EachMayFollow before rest → is_session_declared session rest ≡ true → session ≡ 1
 one_session session before [] each found = absurd cc
 one_session session before (Cluster nodes ∷ rest) each found = one_session session (before ++ Cluster nodes ∷ []) rest each.1 found
 one_session session before (Session number node ∷ rest) each found =
-    elim (or_cases (number == session) (declared session rest) found) [
+    elim (or_cases (number == session) (is_session_declared session rest) found) [
       | inl same ↦ sym (eqb-true number session same) ∙ each.0.2
       | inr later ↦ one_session session (before ++ Session number node ∷ []) rest each.1 later
     ]
@@ -111,7 +111,7 @@ no_setting before (s ∷ rest) each settings none = absurd each.0
 pub nothing_before : (before : List Statement) → IsOneDiskScript before → list_all is_setting before ≡ true → has is_cluster before ≡ false → before ≡ []
 nothing_before before each settings none = no_setting [] before each settings none
 
-pub only_session : (session : ℕ) (before : List Statement) → IsOneDiskScript before → declared session before ≡ true → session ≡ 1
+pub only_session : (session : ℕ) (before : List Statement) → IsOneDiskScript before → is_session_declared session before ≡ true → session ≡ 1
 only_session session before each found = one_session session [] before each found
 
 -- one statement more

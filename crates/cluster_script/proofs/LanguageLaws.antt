@@ -10,16 +10,16 @@ use Rattle.cluster_script.specs.declared.limits.TheConstants.{SHIFT_DEFAULT}
 use Rattle.cluster_script.specs.declared.statement.Statement.{Statement}
 use Rattle.cluster_script.specs.declared.statement.Statement.TheVariants.{Cluster, Session, Create, OpenDisk, Close, Read, Write}
 use Rattle.cluster_script.specs.Statements.{is_cluster, has, disk_name}
-use Rattle.cluster_script.specs.OneDisk.{MayFollow, EachMayFollow, IsOneDiskScript, MayRequest, IsName, IsDiskSize, IsPattern}
+use Rattle.cluster_script.specs.OneDisk.{MayFollow, EachMayFollow, IsOneDiskScript, MayRequest, IsPrintedName, IsDiskSize, IsPattern}
 use Rattle.cluster_script.specs.Settings.{nodes_set}
-use Rattle.cluster_script.specs.Nodes.{is_used, failed_from, IsThere}
-use Rattle.cluster_script.specs.Language.{MaySet, MayAsk, IsTag, IsByte, MayStand, EachMayStand, IsScript}
+use Rattle.cluster_script.specs.Nodes.{is_node_used, failed_from, IsNodeThere}
+use Rattle.cluster_script.specs.Language.{MaySet, MayAsk, IsPrintedTag, IsByte, MayStand, EachMayStand, IsScript}
 use Rattle.cluster_script.proofs.Follows.{one_disk_more}
 
 -- node 0 is an opening member where a cluster of one node stands
-uses-zero : (before rest : List Statement) → EachMayFollow before rest → has is_cluster rest ≡ true → is_used 0 rest ≡ true
+uses-zero : (before rest : List Statement) → EachMayFollow before rest → has is_cluster rest ≡ true → is_node_used 0 rest ≡ true
 uses-zero before [] each there = absurd cc
-uses-zero before (Cluster nodes ∷ rest) each there = subst (λ (n : ℕ). is_used 0 (Cluster n ∷ rest) ≡ true) (sym each.0.1) refl
+uses-zero before (Cluster nodes ∷ rest) each there = subst (λ (n : ℕ). is_node_used 0 (Cluster n ∷ rest) ≡ true) (sym each.0.1) refl
 uses-zero before (Session session node ∷ rest) each there = uses-zero (before ++ Session session node ∷ []) rest each.1 there
 uses-zero before (Create session policy shift name size ∷ rest) each there = uses-zero (before ++ Create session policy shift name size ∷ []) rest each.1 there
 uses-zero before (OpenDisk session name tag ∷ rest) each there = uses-zero (before ++ OpenDisk session name tag ∷ []) rest each.1 there
@@ -41,12 +41,12 @@ none-fails node before (Write session offset bytes pattern ∷ rest) each = none
 none-fails node before (s ∷ rest) each = absurd each.0
 
 -- the disk's name is one
-disk-is-named : (name : List ℕ) (before rest : List Statement) → EachMayFollow before rest → disk_name rest ≡ Some name → IsName name
+disk-is-named : (name : List ℕ) (before rest : List Statement) → EachMayFollow before rest → disk_name rest ≡ Some name → IsPrintedName name
 disk-is-named name before [] each made = absurd cc
 disk-is-named name before (Cluster nodes ∷ rest) each made = disk-is-named name (before ++ Cluster nodes ∷ []) rest each.1 made
 disk-is-named name before (Session session node ∷ rest) each made = disk-is-named name (before ++ Session session node ∷ []) rest each.1 made
 disk-is-named name before (Create session policy shift own size ∷ rest) each made =
-    let same : own ≡ name = cc in subst (λ (n : List ℕ). IsName n) same each.0.4
+    let same : own ≡ name = cc in subst (λ (n : List ℕ). IsPrintedName n) same each.0.4
 disk-is-named name before (OpenDisk session own tag ∷ rest) each made = disk-is-named name (before ++ OpenDisk session own tag ∷ []) rest each.1 made
 disk-is-named name before (Close session ∷ rest) each made = disk-is-named name (before ++ Close session ∷ []) rest each.1 made
 disk-is-named name before (Read session offset bytes ∷ rest) each made = disk-is-named name (before ++ Read session offset bytes ∷ []) rest each.1 made
@@ -76,14 +76,14 @@ stands before (Session session node) script may = (
   may.1,
   omega (arith, may.2),
   omega (arith, may.2),
-  subst (λ (n : ℕ). IsThere n before) (sym may.3) (record { used = uses-zero [] before script may.0; stands = none-fails 0 [] before script }),
+  subst (λ (n : ℕ). IsNodeThere n before) (sym may.3) (record { used = uses-zero [] before script may.0; stands = none-fails 0 [] before script }),
 )
 stands before (Create session policy shift name size) script may =
     (may-ask before session may.0, may.4, disk-spec policy shift size may.2 may.3 may.5)
 stands before (OpenDisk session name tag) script may =
     (may-ask before session may.0, disk-is-named name [] before script may.1, no-tag tag may.3)
   where
-    no-tag : (tag : Option (List ℕ)) → tag ≡ None → IsTag tag
+    no-tag : (tag : Option (List ℕ)) → tag ≡ None → IsPrintedTag tag
     no-tag None none = tt
     no-tag (Some given) none = absurd cc
 stands before (Close session) script may = may-ask before session may.0

@@ -11,22 +11,22 @@ use Rattle.cluster_script.specs.declared.statement.Statement.{Statement}
 use Rattle.cluster_script.specs.declared.fault.LineCause.{LineCause}
 use Rattle.cluster_script.specs.declared.fault.ReadError.{ReadError}
 use Rattle.cluster_script.specs.declared.fault.ReadError.TheVariants as errors
-use Rattle.cluster_script.specs.Reading.{Fails}
+use Rattle.cluster_script.specs.ReadResults.{FailsLine}
 use Rattle.cluster_script.specs.Words.{lines_of}
-use Rattle.cluster_script.specs.Script.{StatementReader, words_read, line_at, added, script_of, IsTaken}
+use Rattle.cluster_script.specs.Script.{StatementReader, statement_of_words, line_at, with_statement, script_of, IsLineTaken}
 use Rattle.cluster_script.proofs.Pieces.{one_part}
 
 abbrev pub is_feed : ℕ → Bool
 is_feed byte = byte == 10
 
-length_added : (before : List Statement) (s : Option Statement) → length (added before s) ≤ length before + 1
+length_added : (before : List Statement) (s : Option Statement) → length (with_statement before s) ≤ length before + 1
 length_added before None = omega arith
 length_added before (Some s) = omega (arith, length-append before (s ∷ []))
 
 module _ (reader : StatementReader) where
   -- an empty line says nothing
   empty_line : (before : List Statement) → line_at reader before [] ≡ Ok None
-  unfolding line_at words_read
+  unfolding line_at statement_of_words
   empty_line before = rw (is_utf8-from_IsUtf8 [] IsUtf8-nil) refl
 
   -- where nothing is left the statements are those so far
@@ -39,7 +39,7 @@ module _ (reader : StatementReader) where
   no_line before number = refl
 
   pub script_takes : (before : List Statement) (number : ℕ) (line : List ℕ) (lines : List (List ℕ)) (s : Option Statement)
-      → line_at reader before line ≡ Ok s → script_of reader before number (line ∷ lines) ≡ script_of reader (added before s) (number + 1) lines
+      → line_at reader before line ≡ Ok s → script_of reader before number (line ∷ lines) ≡ script_of reader (with_statement before s) (number + 1) lines
   unfolding script_of
   script_takes before number line lines s taken = rw (taken, script_of) refl
 
@@ -51,7 +51,7 @@ module _ (reader : StatementReader) where
   -- a text's first line and the lines after it, where a rest without line feed is the last line
   pub script_goes_on : (before : List Statement) (number : ℕ) (text : List ℕ) (s : Option Statement)
       → line_at reader before (before_first is_feed text) ≡ Ok s
-      → script_of reader before number (lines_of text) ≡ script_of reader (added before s) (number + 1) (lines_of (after_first is_feed text))
+      → script_of reader before number (lines_of text) ≡ script_of reader (with_statement before s) (number + 1) (lines_of (after_first is_feed text))
   script_goes_on before number text s taken =
       elim (cases_lt (position_or_len is_feed text) (length text)) [
         | inl lt ↦
@@ -61,9 +61,9 @@ module _ (reader : StatementReader) where
             let one = one_part is_feed text past in
             ap (script_of reader before number) (one.0 ∙ ap (λ (t : List ℕ). t ∷ []) (sym one.1))
             ∙ script_takes before number (before_first is_feed text) [] s taken
-            ∙ no_line (added before s) (number + 1)
-            ∙ sym (script_ends (added before s) (number + 1))
-            ∙ ap (λ (t : List ℕ). script_of reader (added before s) (number + 1) (lines_of t)) (sym one.2)
+            ∙ no_line (with_statement before s) (number + 1)
+            ∙ sym (script_ends (with_statement before s) (number + 1))
+            ∙ ap (λ (t : List ℕ). script_of reader (with_statement before s) (number + 1) (lines_of t)) (sym one.2)
       ]
 
   pub script_is_bad : (before : List Statement) (number : ℕ) (text : List ℕ) (cause : LineCause)
@@ -81,14 +81,14 @@ module _ (reader : StatementReader) where
 
   -- what a line that was taken leaves to read
   pub script_after : (before after : List Statement) (number : ℕ) (text : List ℕ)
-      → IsTaken before after (line_at reader before (before_first is_feed text))
+      → IsLineTaken before after (line_at reader before (before_first is_feed text))
       → (script_of reader before number (lines_of text) ≡ script_of reader after (number + 1) (lines_of (after_first is_feed text))) × (length after ≤ length before + 1)
   script_after before after number text taken =
       (rw taken.2 (script_goes_on before number text taken.0 taken.1), rw taken.2 (length_added before taken.0))
 
 -- a cause that stopped the reading of a line
-pub stopped_by : (error : ReadError) (cause : LineCause) (read : Result (Option Statement) LineCause) → error ≡ errors.Cause cause → Fails error read → read ≡ Err cause
-stopped_by error cause read same fails = subst (λ (e : ReadError). Fails e read) same fails
+pub stopped_by : (error : ReadError) (cause : LineCause) (read : Result (Option Statement) LineCause) → error ≡ errors.Cause cause → FailsLine error read → read ≡ Err cause
+stopped_by error cause read same fails = subst (λ (e : ReadError). FailsLine e read) same fails
 
 -- a line is text where it was taken as text
 pub is_text : {A E : Type 0} (r : Result A E) (line : List ℕ) (P : A → Type 0) (Q : E → Type 0)

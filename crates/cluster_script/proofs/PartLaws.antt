@@ -13,32 +13,32 @@ use Rattle.cluster_script.specs.declared.statement.Statement.TheVariants as line
 use Rattle.cluster_script.specs.declared.fault.LineCause.{LineCause}
 use Rattle.cluster_script.specs.declared.fault.LineCause.TheVariants as causes
 use Rattle.cluster_script.specs.declared.limits.TheConstants.{BLOCK, SIZE_MAX, SHIFT_DEFAULT, NODES_MAX, SESSION_MAX, SESSIONS_MAX}
-use Rattle.cluster_script.specs.Statements.{is_setting, is_cluster, is_request, read_bytes, write_bytes, has, declared}
+use Rattle.cluster_script.specs.Statements.{is_setting, is_cluster, is_request, read_bytes, write_bytes, has, is_session_declared}
 use Rattle.cluster_script.specs.Settings.{is_set, nodes_set}
-use Rattle.cluster_script.specs.Nodes.{uses, is_used, failed_by, failed_from, is_failed, is_there}
-use Rattle.cluster_script.specs.Words.{Word, has_bytes, lines_of, words_of, says_nothing, word_at, keyword_at, is_next, option_at, end_of, name_at}
-use Rattle.cluster_script.specs.Numbers.{is_digits, number_of, ranged, number_at, blocks_at}
-use Rattle.cluster_script.specs.Requests.{has_room, within, is_colon, copies_in, policy_at, create_at, disk_at, open_at, close_at, read_at, span_at, byte_at, named_pattern_at, pattern_at, write_at, copy_verb_at, verb_at, request_at}
-use Rattle.cluster_script.specs.ClusterLines.{setting_at, there_at, session_at, happening_at}
-use Rattle.cluster_script.specs.Script.{asking, asked_at, told_at, statement_at, words_read, line_at, added, script_of, script_in}
+use Rattle.cluster_script.specs.Nodes.{uses_node, is_node_used, failed_by, failed_from, is_failed, is_node_there}
+use Rattle.cluster_script.specs.Words.{Word, has_bytes, lines_of, words_of, says_nothing, word_at, keyword_at, is_next_word, option_at, end_of_words, name_word_at}
+use Rattle.cluster_script.specs.Numbers.{is_digits, number_of, number_in_range, plain_number_at, blocks_at}
+use Rattle.cluster_script.specs.Requests.{has_room, request_within_limits, is_colon, copies_in, policy_option_at, create_request_at, disk_words_at, open_request_at, close_request_at, read_request_at, span_at, pattern_byte_at, named_pattern_at, pattern_at, write_request_at, copy_verb_at, verb_at, vdi_request_at}
+use Rattle.cluster_script.specs.ClusterLines.{setting_at, there_at, session_line_at, happening_at}
+use Rattle.cluster_script.specs.Script.{asking_session, session_request_at, statement_behind_cluster, statement_at, statement_of_words, line_at, with_statement, script_of, script_in}
 use Rattle.cluster_script.specs.OneDiskRequests.{is_disk_open, is_disk_named, disk_verb_at}
-use Rattle.cluster_script.specs.OneDiskRequests.{create_at as create_of_one, open_at as open_of_one, write_at as write_of_one, verb_at as verb_of_one, request_at as request_of_one}
+use Rattle.cluster_script.specs.OneDiskRequests.{one_disk_create_at as create_of_one, one_disk_open_at as open_of_one, one_disk_write_at as write_of_one, one_disk_verb_at as verb_of_one, one_disk_request_at as request_of_one}
 use Rattle.cluster_script.specs.OneDiskLines.{may_set, cluster_at}
-use Rattle.cluster_script.specs.OneDiskLines.{session_at as session_of_one, asking as asking_of_one, asked_at as asked_of_one, statement_at as statement_of_one, script_in as script_of_one}
+use Rattle.cluster_script.specs.OneDiskLines.{one_disk_session_at as session_of_one, one_disk_asking_session as asking_of_one, one_disk_asked_at as asked_of_one, one_disk_statement_at as statement_of_one, one_disk_script_in as script_of_one}
 use Rattle.cluster_script.specs.Spelling.{IsNumber, IsPolicyWord}
 use Rattle.cluster_script.proofs.ReadingParts.{read-on, test-passed, either-way, same-word, keyword-read, name-read, range-kept, number-read, blocks-read}
-use Rattle.cluster_script.proofs.SpelledLemmas.{number-digits, number-no-keyword, name-no-option, ranged-within, number_at-spelled, blocks_at-spelled}
+use Rattle.cluster_script.proofs.SpelledLemmas.{number-digits, number-no-keyword, name-no-option, number_in_range-request_within_limits, plain_number_at-spelled, blocks_at-spelled}
 use Rattle.cluster_script.proofs.LineSteps.{script_takes, script_stops}
 
 -- within wider limits the same number is read
 number-wider : (low high least most : ℕ) (words : List Word) (x : ℕ × List Word) → least ≤ low → high ≤ most
-    → number_at low high words ≡ Ok x → number_at least most words ≡ Ok x
+    → plain_number_at low high words ≡ Ok x → plain_number_at least most words ≡ Ok x
 number-wider low high least most words x below above read =
     let number = number-read low high words x read in
     let least_holds : least ≤ x.0 = omega (arith, below, number.least) in
     let most_holds : x.0 ≤ most = omega (arith, above, number.most) in
-    subst (λ (w : List Word). number_at least most w ≡ Ok x) (sym number.parted)
-    (number_at-spelled least most x.0 number.word x.1 number.spelled least_holds most_holds)
+    subst (λ (w : List Word). plain_number_at least most w ≡ Ok x) (sym number.parted)
+    (plain_number_at-spelled least most x.0 number.word x.1 number.spelled least_holds most_holds)
 
 blocks-wider : (low high least most : ℕ) (words : List Word) (x : ℕ × List Word) → least ≤ low → high ≤ most
     → blocks_at low high words ≡ Ok x → blocks_at least most words ≡ Ok x
@@ -50,11 +50,11 @@ blocks-wider low high least most words x below above read =
     (blocks_at-spelled least most x.0 size.word x.1 size.spelled least_holds most_holds size.whole)
 
 -- a name is no option
-no-option : (option : Word) (words : List Word) (name : Word × List Word) → slice_get option 0 ≡ Some 45 → name_at words ≡ Ok name
-    → is_next option words ≡ false
+no-option : (option : Word) (words : List Word) (name : Word × List Word) → slice_get option 0 ≡ Some 45 → name_word_at words ≡ Ok name
+    → is_next_word option words ≡ false
 no-option option words name dash read =
     let named = name-read words name read in
-    subst (λ (w : List Word). is_next option w ≡ false) (sym named.0) (name-no-option name.0 option named.1 dash)
+    subst (λ (w : List Word). is_next_word option w ≡ false) (sym named.0) (name-no-option name.0 option named.1 dash)
 
 no-colon : (word : Word) → list_all is_ascii_digit word ≡ true → list_any is_colon word ≡ false
 no-colon [] digits = refl
@@ -72,8 +72,8 @@ one-copy word one =
 
 -- `-c 1`
 copies-read : (words rest : List Word) (copies : ℕ × List Word) → keyword_at (codes "-c") words ≡ Ok rest
-    → number_at 1 1 rest ≡ Ok copies → option_at (codes "-c") policy_at (Copies 3) words ≡ Ok (Copies copies.0, copies.1)
-unfolding keyword_at policy_at
+    → plain_number_at 1 1 rest ≡ Ok copies → option_at (codes "-c") policy_option_at (Copies 3) words ≡ Ok (Copies copies.0, copies.1)
+unfolding keyword_at policy_option_at
 copies-read words rest copies given read =
     let number = number-read 1 1 rest copies read in
     let one : copies.0 ≡ 1 = omega (arith, number.least, number.most) in
@@ -82,23 +82,23 @@ copies-read words rest copies given read =
 
 -- `fill BYTE`
 fill-read : (words rest : List Word) (byte : ℕ × List Word) → keyword_at (codes "fill") words ≡ Ok rest
-    → number_at 0 255 rest ≡ Ok byte → pattern_at words ≡ Ok (Fill byte.0, byte.1)
-unfolding pattern_at named_pattern_at byte_at
+    → plain_number_at 0 255 rest ≡ Ok byte → pattern_at words ≡ Ok (Fill byte.0, byte.1)
+unfolding pattern_at named_pattern_at pattern_byte_at
 fill-read words rest byte named read = rw (keyword-read (codes "fill") words rest named, read)
 
 -- a request within limits is itself
-asks : (before : List Statement) (made s : Statement) → is_request made ≡ true → within before made ≡ Ok s → is_request s ≡ true
+asks : (before : List Statement) (made s : Statement) → is_request made ≡ true → request_within_limits before made ≡ Ok s → is_request s ≡ true
 asks before made s request taken =
     subst (λ (x : Statement). is_request x ≡ true)
     (test-passed (has_room (read_bytes made) (write_bytes made) before) made s causes.TooMany taken).1 request
 
 module _ (before : List Statement) (session : ℕ) (words : List Word) (s : Statement) where
-  create-same : create_of_one before session words ≡ Ok s → (create_at before session words ≡ Ok s) × (is_request s ≡ true)
-  unfolding create_of_one create_at
+  create-same : create_of_one before session words ≡ Ok s → (create_request_at before session words ≡ Ok s) × (is_request s ≡ true)
+  unfolding create_of_one create_request_at
   create-same read =
-      read-on (keyword_at (codes "-c") words) _ s read (λ rest given e1. read-on (number_at 1 1 rest) _ s e1 (λ copies one e2.
-      read-on (name_at copies.1) _ s e2 (λ name named e3. read-on (blocks_at BLOCK SIZE_MAX name.1) _ s e3 (λ size sized e4.
-      read-on (end_of size.1) _ s e4 (λ end ended e5. (
+      read-on (keyword_at (codes "-c") words) _ s read (λ rest given e1. read-on (plain_number_at 1 1 rest) _ s e1 (λ copies one e2.
+      read-on (name_word_at copies.1) _ s e2 (λ name named e3. read-on (blocks_at BLOCK SIZE_MAX name.1) _ s e3 (λ size sized e4.
+      read-on (end_of_words size.1) _ s e4 (λ end ended e5. (
         rw (
           copies-read words rest copies given one,
           no-option (codes "-z") copies.1 name refl named,
@@ -109,38 +109,38 @@ module _ (before : List Statement) (session : ℕ) (words : List Word) (s : Stat
         asks before (lines.Create session (Copies copies.0) SHIFT_DEFAULT name.0 size.0) s refl e5,
       ))))))
 
-  open-same : open_of_one before session words ≡ Ok s → (open_at before session words ≡ Ok s) × (is_request s ≡ true)
-  unfolding open_of_one open_at disk_at
+  open-same : open_of_one before session words ≡ Ok s → (open_request_at before session words ≡ Ok s) × (is_request s ≡ true)
+  unfolding open_of_one open_request_at disk_words_at
   open-same read =
-      read-on (name_at words) _ s read (λ name named e1.
+      read-on (name_word_at words) _ s read (λ name named e1.
       read-on (if is_disk_named name.0 before then Ok name.1 else Err causes.Word) _ s e1 (λ rest made e2.
-      read-on (end_of rest) _ s e2 (λ end ended e3.
+      read-on (end_of_words rest) _ s e2 (λ end ended e3.
       let same = (test-passed (is_disk_named name.0 before) name.1 rest causes.Word made).1 in (
         rw (
           no-option (codes "-s") words name refl named,
           named,
-          subst (λ (w : List Word). end_of w ≡ Ok end) (sym same) ended,
+          subst (λ (w : List Word). end_of_words w ≡ Ok end) (sym same) ended,
         ) e3,
         asks before (lines.OpenDisk session name.0 None) s refl e3,
       ))))
 
-  close-same : close_at before session words ≡ Ok s → (close_at before session words ≡ Ok s) × (is_request s ≡ true)
-  unfolding close_at
-  close-same read = (read, read-on (end_of words) _ s read (λ end ended e1. asks before (lines.Close session) s refl e1))
+  close-same : close_request_at before session words ≡ Ok s → (close_request_at before session words ≡ Ok s) × (is_request s ≡ true)
+  unfolding close_request_at
+  close-same read = (read, read-on (end_of_words words) _ s read (λ end ended e1. asks before (lines.Close session) s refl e1))
 
-  read-same : read_at before session words ≡ Ok s → (read_at before session words ≡ Ok s) × (is_request s ≡ true)
-  unfolding read_at
+  read-same : read_request_at before session words ≡ Ok s → (read_request_at before session words ≡ Ok s) × (is_request s ≡ true)
+  unfolding read_request_at
   read-same read = (
     read,
-    read-on (span_at words) _ s read (λ span spanned e1. read-on (end_of span.2) _ s e1 (λ end ended e2.
+    read-on (span_at words) _ s read (λ span spanned e1. read-on (end_of_words span.2) _ s e1 (λ end ended e2.
         asks before (lines.Read session span.0 span.1) s refl e2)),
   )
 
-  write-same : write_of_one before session words ≡ Ok s → (write_at before session words ≡ Ok s) × (is_request s ≡ true)
-  unfolding write_of_one write_at
+  write-same : write_of_one before session words ≡ Ok s → (write_request_at before session words ≡ Ok s) × (is_request s ≡ true)
+  unfolding write_of_one write_request_at
   write-same read =
       read-on (span_at words) _ s read (λ span spanned e1. read-on (keyword_at (codes "fill") span.2) _ s e1 (λ rest given e2.
-      read-on (number_at 0 255 rest) _ s e2 (λ byte numbered e3. read-on (end_of byte.1) _ s e3 (λ end ended e4. (
+      read-on (plain_number_at 0 255 rest) _ s e2 (λ byte numbered e3. read-on (end_of_words byte.1) _ s e3 (λ end ended e4. (
         rw (spanned, fill-read span.2 rest byte given numbered, ended) e4,
         asks before (lines.Write session span.0 span.1 (Fill byte.0)) s refl e4,
       )))))
@@ -159,9 +159,9 @@ in-turn true read s answers = answers
 in-turn false read s answers = absurd cc
 
 disk-verb-same : (before : List Statement) (session : ℕ) (verb : Word) (words : List Word) (s : Statement)
-    → disk_verb_at before session verb words ≡ Ok s → ((if bytes_eq verb (codes "close") then close_at before session words
-    else if bytes_eq verb (codes "read") then read_at before session words
-    else if bytes_eq verb (codes "write") then write_at before session words
+    → disk_verb_at before session verb words ≡ Ok s → ((if bytes_eq verb (codes "close") then close_request_at before session words
+    else if bytes_eq verb (codes "read") then read_request_at before session words
+    else if bytes_eq verb (codes "write") then write_request_at before session words
     else copy_verb_at before session verb words) ≡ Ok s) × (is_request s ≡ true)
 unfolding disk_verb_at
 disk-verb-same before session verb words s read =
@@ -180,8 +180,8 @@ verb-same before session verb words s read =
     read
 
 request-same : (before : List Statement) (session : ℕ) (words : List Word) (s : Statement)
-    → request_of_one before session words ≡ Ok s → (request_at before session words ≡ Ok s) × (is_request s ≡ true)
-unfolding request_of_one request_at
+    → request_of_one before session words ≡ Ok s → (vdi_request_at before session words ≡ Ok s) × (is_request s ≡ true)
+unfolding request_of_one vdi_request_at
 request-same before session words s read =
     read-on (keyword_at (codes "vdi") words) _ s read (λ rest given e1. read-on (word_at rest) _ s e1 (λ verb worded e2.
     let same = verb-same before session verb.0 verb.1 s e2 in
@@ -189,7 +189,7 @@ request-same before session words s read =
 
 -- node 0 is there once the statements say a cluster
 record NodeStands (before : List Statement) : Type 0 where
-  used : has is_cluster before ≡ true → is_used 0 before ≡ true
+  used : has is_cluster before ≡ true → is_node_used 0 before ≡ true
   stands : is_failed 0 before ≡ false
 
 -- a statement that leaves node 0 there
@@ -208,20 +208,20 @@ none-fails-by (lines.Fail node) leaves = absurd cc
 none-fails-by (lines.Back node) leaves = absurd cc
 none-fails-by s leaves = refl
 
-cluster-uses : (s : Statement) → Leaves s → has is_cluster (s ∷ []) ≡ true → is_used 0 (s ∷ []) ≡ true
-cluster-uses (lines.Cluster nodes) leaves one = rw leaves
-cluster-uses s leaves one = absurd cc
+cluster-uses_node : (s : Statement) → Leaves s → has is_cluster (s ∷ []) ≡ true → is_node_used 0 (s ∷ []) ≡ true
+cluster-uses_node (lines.Cluster nodes) leaves one = rw leaves
+cluster-uses_node s leaves one = absurd cc
 
 stands-more : (before : List Statement) (s : Statement) → NodeStands before → Leaves s → NodeStands (before ++ s ∷ [])
 stands-more before s stands leaves = record {
-  used = λ there. list_any-append (uses 0) before (s ∷ [])
+  used = λ there. list_any-append (uses_node 0) before (s ∷ [])
       ∙ used (or_cases _ _ (sym (list_any-append is_cluster before (s ∷ [])) ∙ there));
   stands = failed-more before s false ∙ ap (λ (was : Bool). failed_by 0 was s) stands.stands ∙ none-fails-by s leaves;
 }
   where
-    used : (has is_cluster before ≡ true) ⊎ (has is_cluster (s ∷ []) ≡ true) → (is_used 0 before || is_used 0 (s ∷ [])) ≡ true
-    used (inl earlier) = or_left (is_used 0 before) (is_used 0 (s ∷ [])) (stands.used earlier)
-    used (inr now) = or_right (is_used 0 before) (is_used 0 (s ∷ [])) (cluster-uses s leaves now)
+    used : (has is_cluster before ≡ true) ⊎ (has is_cluster (s ∷ []) ≡ true) → (is_node_used 0 before || is_node_used 0 (s ∷ [])) ≡ true
+    used (inl earlier) = or_left (is_node_used 0 before) (is_node_used 0 (s ∷ [])) (stands.used earlier)
+    used (inr now) = or_right (is_node_used 0 before) (is_node_used 0 (s ∷ [])) (cluster-uses_node s leaves now)
 
 nodes-set : (before : List Statement) → is_set nodes_set before ≡ has is_cluster before
 nodes-set [] = refl
@@ -229,14 +229,14 @@ nodes-set (lines.Cluster nodes ∷ rest) = refl
 nodes-set (s ∷ rest) = nodes-set rest
 
 cluster-same : (before : List Statement) (words : List Word) (s : Statement) → cluster_at before words ≡ Ok s
-    → (not (is_next (codes "info") words) ≡ true)
+    → (not (is_next_word (codes "info") words) ≡ true)
     × (setting_at (λ nodes. lines.Cluster nodes) nodes_set NODES_MAX before words ≡ Ok s) × Leaves s
 unfolding cluster_at setting_at
 cluster-same before words s read =
-    read-on (if may_set is_cluster before && not (is_next (codes "info") words) then Ok words else Err causes.Word) _ s read
-    (λ turn turned e1. read-on (number_at 1 1 turn) _ s e1 (λ nodes numbered e2. read-on (end_of nodes.1) _ s e2 (λ end ended e3.
-    let test = test-passed (may_set is_cluster before && not (is_next (codes "info") words)) words turn causes.Word turned in
-    let holds = and_parts (may_set is_cluster before) (not (is_next (codes "info") words)) test.0 in
+    read-on (if may_set is_cluster before && not (is_next_word (codes "info") words) then Ok words else Err causes.Word) _ s read
+    (λ turn turned e1. read-on (plain_number_at 1 1 turn) _ s e1 (λ nodes numbered e2. read-on (end_of_words nodes.1) _ s e2 (λ end ended e3.
+    let test = test-passed (may_set is_cluster before && not (is_next_word (codes "info") words)) words turn causes.Word turned in
+    let holds = and_parts (may_set is_cluster before) (not (is_next_word (codes "info") words)) test.0 in
     let may = and_parts (list_all is_setting before) (not (has is_cluster before)) holds.0 in
     let number = number-read 1 1 turn nodes numbered in
     let one : nodes.0 ≡ 1 = omega (arith, number.least, number.most) in
@@ -245,17 +245,17 @@ cluster-same before words s read =
     (holds.1, rw (may.0, nodes-set before, may.1, test.1, wider, ended) e3, subst (λ (x : Statement). Leaves x) said one))))
 
 session-same : (before : List Statement) (words : List Word) (s : Statement) → has is_cluster before ≡ true → NodeStands before
-    → session_of_one before words ≡ Ok s → (session_at before words ≡ Ok s) × Leaves s
-unfolding session_of_one session_at there_at
+    → session_of_one before words ≡ Ok s → (session_line_at before words ≡ Ok s) × Leaves s
+unfolding session_of_one session_line_at there_at
 session-same before words s there stands read =
-    read-on (number_at 1 1 words) _ s read (λ session numbered e1.
-    read-on (if declared session.0 before then Err causes.Twice else Ok session.1) _ s e1 (λ rest new e2.
-    read-on (keyword_at (codes "node") rest) _ s e2 (λ place given e3. read-on (number_at 0 0 place) _ s e3 (λ node placed e4.
-    read-on (end_of node.1) _ s e4 (λ end ended e5.
+    read-on (plain_number_at 1 1 words) _ s read (λ session numbered e1.
+    read-on (if is_session_declared session.0 before then Err causes.Twice else Ok session.1) _ s e1 (λ rest new e2.
+    read-on (keyword_at (codes "node") rest) _ s e2 (λ place given e3. read-on (plain_number_at 0 0 place) _ s e3 (λ node placed e4.
+    read-on (end_of_words node.1) _ s e4 (λ end ended e5.
     let number = number-read 0 0 place node placed in
     let zero : 0 ≡ node.0 = omega (arith, number.most) in
-    let zero_there : is_there 0 before ≡ true = rw (stands.used there, stands.stands) in
-    let node_there = subst (λ (n : ℕ). is_there n before ≡ true) zero zero_there in
+    let zero_there : is_node_there 0 before ≡ true = rw (stands.used there, stands.stands) in
+    let node_there = subst (λ (n : ℕ). is_node_there n before ≡ true) zero zero_there in
     let said : lines.Session session.0 node.0 ≡ s = cc in (
       rw (
         number-wider 1 1 1 SESSIONS_MAX words session (omega arith) (omega arith) numbered,
@@ -274,22 +274,22 @@ request-leaves (lines.Session session node) request = tt
 request-leaves s request = request
 
 cluster-line : (before : List Statement) (first : Word) (words : List Word) (s : Statement) → bytes_eq first (codes "cluster") ≡ true
-    → not (is_next (codes "info") words) ≡ true → setting_at (λ nodes. lines.Cluster nodes) nodes_set NODES_MAX before words ≡ Ok s
+    → not (is_next_word (codes "info") words) ≡ true → setting_at (λ nodes. lines.Cluster nodes) nodes_set NODES_MAX before words ≡ Ok s
     → statement_at before first words ≡ Ok s
 unfolding statement_at
 cluster-line before first words s named set read = rw (named, set) read
 
 session-line : (before : List Statement) (words : List Word) (s : Statement) → has is_cluster before ≡ true
-    → session_at before words ≡ Ok s → statement_at before (codes "session") words ≡ Ok s
-unfolding statement_at told_at happening_at
+    → session_line_at before words ≡ Ok s → statement_at before (codes "session") words ≡ Ok s
+unfolding statement_at statement_behind_cluster happening_at
 session-line before words s there read = rw there read
 
 asked-same : (before : List Statement) (first : Word) (words : List Word) (s : Statement) → has is_cluster before ≡ true
     → is_digits first ≡ true → asked_of_one before first words ≡ Ok s → (statement_at before first words ≡ Ok s) × Leaves s
-unfolding asked_of_one asking_of_one statement_at told_at asked_at asking
+unfolding asked_of_one asking_of_one statement_at statement_behind_cluster session_request_at asking_session
 asked-same before first words s there digits read =
     read-on (asking_of_one before first) _ s read (λ session asked e1. read-on (number_of first) _ session asked (λ number spelled e2.
-    read-on (ranged 1 SESSION_MAX number) _ session e2 (λ one kept e3.
+    read-on (number_in_range 1 SESSION_MAX number) _ session e2 (λ one kept e3.
     let range = range-kept 1 SESSION_MAX number one kept in
     let same = request-same before session words s e1 in (
       rw (
@@ -302,7 +302,7 @@ asked-same before first words s there digits read =
         digits,
         spelled,
         range.0,
-        ranged-within 1 SESSIONS_MAX one range.1 (omega (arith, range.2)),
+        number_in_range-request_within_limits 1 SESSIONS_MAX one range.1 (omega (arith, range.2)),
         e3,
       ) same.0,
       request-leaves s same.1,
@@ -325,24 +325,24 @@ statement-same before first words s stands read =
     (λ none e4. absurd cc))))
 
 words-same : (before : List Statement) (words : List Word) (said : Option Statement) → NodeStands before
-    → words_read statement_of_one before words ≡ Ok said
-    → (words_read statement_at before words ≡ Ok said) × NodeStands (added before said)
-unfolding words_read
+    → statement_of_words statement_of_one before words ≡ Ok said
+    → (statement_of_words statement_at before words ≡ Ok said) × NodeStands (with_statement before said)
+unfolding statement_of_words
 words-same before [] None stands read = (read, stands)
 words-same before [] (Some s) stands read = absurd cc
 words-same before (first ∷ rest) said stands read =
     either-way (says_nothing (first ∷ rest)) _ _ said read
     (λ nothing e1.
     let same : None ≡ said = cc in
-    (rw nothing e1, subst (λ (x : Option Statement). NodeStands (added before x)) same stands))
+    (rw nothing e1, subst (λ (x : Option Statement). NodeStands (with_statement before x)) same stands))
     (λ some e1. read-on _ _ said e1 (λ s stated e2.
     let same = statement-same before first rest s stands stated in
     let one : Some s ≡ said = cc in
-    (rw (some, same.0) e2, subst (λ (x : Option Statement). NodeStands (added before x)) one (stands-more before s stands same.1))))
+    (rw (some, same.0) e2, subst (λ (x : Option Statement). NodeStands (with_statement before x)) one (stands-more before s stands same.1))))
 
 line-same : (before : List Statement) (line : List ℕ) (said : Option Statement) → NodeStands before
     → line_at statement_of_one before line ≡ Ok said
-    → (line_at statement_at before line ≡ Ok said) × NodeStands (added before said)
+    → (line_at statement_at before line ≡ Ok said) × NodeStands (with_statement before said)
 unfolding line_at
 line-same before line said stands read =
     either-way (is_utf8 line) _ _ said read
@@ -354,12 +354,12 @@ lines-same : (text : List (List ℕ)) (before : List Statement) (number : ℕ) (
 unfolding script_of
 lines-same [] before number statements stands read = read
 lines-same (line ∷ rest) before number statements stands read =
-    go (line_at statement_of_one before line) refl (λ said. lines-same rest (added before said) (number + 1) statements)
+    go (line_at statement_of_one before line) refl (λ said. lines-same rest (with_statement before said) (number + 1) statements)
   where
     go : (found : Result (Option Statement) LineCause) → line_at statement_of_one before line ≡ found
-        → ((said : Option Statement) → NodeStands (added before said)
-        → script_of statement_of_one (added before said) (number + 1) rest ≡ Ok statements
-        → script_of statement_at (added before said) (number + 1) rest ≡ Ok statements)
+        → ((said : Option Statement) → NodeStands (with_statement before said)
+        → script_of statement_of_one (with_statement before said) (number + 1) rest ≡ Ok statements
+        → script_of statement_at (with_statement before said) (number + 1) rest ≡ Ok statements)
         → script_of statement_at before number (line ∷ rest) ≡ Ok statements
     go (Ok said) reading goes_on =
         let same = line-same before line said stands reading in

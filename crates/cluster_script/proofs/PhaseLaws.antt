@@ -9,8 +9,8 @@ use Rattle.cluster_script.specs.declared.statement.Pattern.{Pattern}
 use Rattle.cluster_script.specs.declared.statement.Statement.{Statement}
 use Rattle.cluster_script.specs.declared.statement.Statement.TheVariants.{Cluster, Vnodes, Tries, Limit, Zone}
 use Rattle.cluster_script.specs.Statements.{is_setting, is_request, requests_of}
-use Rattle.cluster_script.specs.Asked.{session_of, byte_of, payload_of}
-use Rattle.cluster_script.specs.Phases.{Phase, is_barrier, stretched, stretches, phases_from, phases_of}
+use Rattle.cluster_script.specs.NumberedRequests.{session_of, byte_of, payload_of}
+use Rattle.cluster_script.specs.Phases.{Phase, is_barrier, stretches_with, stretches, phases_from, phases_of}
 
 -- a statement is a request exactly where a session asks
 pub session_of-there : (s : Statement) → is_some (session_of s) ≡ is_request s
@@ -55,10 +55,10 @@ total : List (List Statement) → ℕ
 total [] = 0
 total (stretch ∷ rest) = count_by is_request stretch + total rest
 
-total-stretched : (s : Statement) (parts : List (List Statement)) → total (stretched s parts) ≡ one s + total parts
+total-stretches_with : (s : Statement) (parts : List (List Statement)) → total (stretches_with s parts) ≡ one s + total parts
 unfolding total
-total-stretched s [] = omega (arith, count-cons s [])
-total-stretched s (first ∷ rest) = go (is_barrier s)
+total-stretches_with s [] = omega (arith, count-cons s [])
+total-stretches_with s (first ∷ rest) = go (is_barrier s)
   where
     go : (ends : Bool) → total (if ends then (s ∷ []) ∷ first ∷ rest else (s ∷ first) ∷ rest) ≡ one s + total (first ∷ rest)
     go true = omega (arith, count-cons s [])
@@ -67,7 +67,7 @@ total-stretched s (first ∷ rest) = go (is_barrier s)
 total-stretches : (statements : List Statement) → total (stretches statements) ≡ count_by is_request statements
 unfolding total
 total-stretches [] = refl
-total-stretches (s ∷ rest) = total-stretched s (stretches rest) ∙ ap (λ n. one s + n) (total-stretches rest) ∙ sym (count-cons s rest)
+total-stretches (s ∷ rest) = total-stretches_with s (stretches rest) ∙ ap (λ n. one s + n) (total-stretches rest) ∙ sym (count-cons s rest)
 
 -- numbers that go on
 range-join : (a m n : ℕ) → range_with_len a m ++ range_with_len (a + m) n ≡ range_with_len a (m + n)

@@ -6,7 +6,7 @@ use Rattle.std.proofs.lemmas.Bool.{and_parts, not-true, not-false, leb-true, ltb
 use Rattle.object_id.specs.Policy.{IsPolicy, is_width}
 use Rattle.object_id.specs.declared.policy.Policy.{Policy}
 use Rattle.object_id.specs.declared.policy.Policy.TheVariants.{Copies, Coded}
-use Rattle.object_id.specs.declared.entry.TheConstants.{SHIFT_MIN, SHIFT_MAX}
+use Rattle.object_id.specs.declared.limits.TheConstants.{SHIFT_MIN, SHIFT_MAX}
 use Rattle.cluster_script.specs.declared.statement.Pattern.{Pattern}
 use Rattle.cluster_script.specs.declared.statement.Pattern.TheVariants as patterns
 use Rattle.cluster_script.specs.declared.statement.Statement.{Statement}
@@ -14,18 +14,18 @@ use Rattle.cluster_script.specs.declared.statement.Statement.TheVariants.{Cluste
 use Rattle.cluster_script.specs.declared.fault.LineCause.{LineCause}
 use Rattle.cluster_script.specs.declared.fault.LineCause.TheVariants as causes
 use Rattle.cluster_script.specs.declared.limits.TheConstants.{BLOCK, SHIFT_DEFAULT, LENGTH_MAX, NODES_MAX, VNODES_MAX, TRIES_MAX, LIMIT_MAX, SESSIONS_MAX, LOSSES_MAX, REQUESTS_MAX, READ_BYTES_MAX, WRITE_BYTES_MAX}
-use Rattle.cluster_script.specs.Statements.{is_setting, is_cluster, has, declared, is_request, read_bytes, write_bytes}
+use Rattle.cluster_script.specs.Statements.{is_setting, is_cluster, has, is_session_declared, is_request, read_bytes, write_bytes}
 use Rattle.cluster_script.specs.Settings.{is_set, nodes_set, vnodes_set, tries_set, limit_set, zone_set}
 use Rattle.cluster_script.specs.Phases.{losses_from}
-use Rattle.cluster_script.specs.Nodes.{is_used, is_failed, is_there, IsThere}
-use Rattle.cluster_script.specs.OneDisk.{IsName, IsSpan}
-use Rattle.cluster_script.specs.Language.{MaySet, HasCluster, MayAsk, IsTag, IsByte, MayStand}
-use Rattle.cluster_script.specs.Words.{Word, is_next, option_at}
+use Rattle.cluster_script.specs.Nodes.{is_node_used, is_failed, is_node_there, IsNodeThere}
+use Rattle.cluster_script.specs.OneDisk.{IsPrintedName, IsSpan}
+use Rattle.cluster_script.specs.Language.{MaySet, HasCluster, MayAsk, IsPrintedTag, IsByte, MayStand}
+use Rattle.cluster_script.specs.Words.{Word, is_next_word, option_at}
 use Rattle.cluster_script.specs.Numbers.{is_digits, number_of}
-use Rattle.cluster_script.specs.Requests.{has_room, within, is_colon, strips_in, copies_in, policy_of, policy_at, shift_at, tag_at, create_at, disk_at, open_at, close_at, span_at, read_at, byte_at, named_pattern_at, pattern_at, write_at, snapshot_at, clone_at, delete_at, copy_verb_at, verb_at, request_at}
-use Rattle.cluster_script.specs.ClusterLines.{setting_at, zone_at, there_at, session_at, fail_at, join_at, reweight_at, back_at, lose_at, alone_at, followed_at, barrier_at, happening_at}
-use Rattle.cluster_script.specs.Script.{asking, asked_at, told_at, statement_at}
-use Rattle.cluster_script.specs.Spelling.{IsNumber, IsSize, IsPolicyWord, IsOption, IsAsked, IsAskedOfDisk, IsPatternWords, IsSpelled}
+use Rattle.cluster_script.specs.Requests.{has_room, request_within_limits, is_colon, strips_in, copies_in, policy_of_word, policy_option_at, shift_option_at, tag_at, create_request_at, disk_words_at, open_request_at, close_request_at, span_at, read_request_at, pattern_byte_at, named_pattern_at, pattern_at, write_request_at, snapshot_request_at, clone_request_at, delete_request_at, copy_verb_at, verb_at, vdi_request_at}
+use Rattle.cluster_script.specs.ClusterLines.{setting_at, zone_at, there_at, session_line_at, fail_at, join_at, reweight_at, back_at, lose_at, alone_at, followed_at, barrier_at, happening_at}
+use Rattle.cluster_script.specs.Script.{asking_session, session_request_at, statement_behind_cluster, statement_at}
+use Rattle.cluster_script.specs.Spelling.{IsNumber, IsSize, IsPolicyWord, IsOption, IsRequestWords, IsAskedOfDisk, IsPatternWords, IsSpelled}
 use Rattle.cluster_script.proofs.ReadingParts.{read-on, test-passed, test-failed, either-way, same-word, word-chosen, word-read, keyword-read, end-read, name-read, option-read, range-kept, number-read, blocks-read}
 
 -- words spell a statement, and it may stand there
@@ -97,23 +97,23 @@ followed-read expected said words s e =
 -- behind `cluster`
 module _ (before : List Statement) (cluster : HasCluster before) where
   there-read : (words : List Word) (node : ℕ × List Word) → there_at before words ≡ Ok node
-      → (word : Word) × (words ≡ word ∷ node.1) × IsNumber node.0 word × IsThere node.0 before
+      → (word : Word) × (words ≡ word ∷ node.1) × IsNumber node.0 word × IsNodeThere node.0 before
   unfolding there_at
   there-read words node e =
       read-on _ _ _ e (λ number answered e1.
-      let passed = test-passed (is_there number.0 before) number node causes.Unknown e1 in
-      let parts = and_parts (is_used number.0 before) (not (is_failed number.0 before)) passed.0 in
+      let passed = test-passed (is_node_there number.0 before) number node causes.Unknown e1 in
+      let parts = and_parts (is_node_used number.0 before) (not (is_failed number.0 before)) passed.0 in
       let read = number-read 0 (NODES_MAX - 1) words number answered in
-      let there : IsThere number.0 before = record { used = parts.0; stands = not-true (is_failed number.0 before) parts.1 } in
-      subst (λ (n : ℕ × List Word). (word : Word) × (words ≡ word ∷ n.1) × IsNumber n.0 word × IsThere n.0 before) passed.1
+      let there : IsNodeThere number.0 before = record { used = parts.0; stands = not-true (is_failed number.0 before) parts.1 } in
+      subst (λ (n : ℕ × List Word). (word : Word) × (words ≡ word ∷ n.1) × IsNumber n.0 word × IsNodeThere n.0 before) passed.1
       (read.word, read.parted, read.spelled, there))
 
-  session-reads : (words : List Word) (s : Statement) → session_at before words ≡ Ok s → Reads before (codes "session" ∷ words) s
-  unfolding session_at
+  session-reads : (words : List Word) (s : Statement) → session_line_at before words ≡ Ok s → Reads before (codes "session" ∷ words) s
+  unfolding session_line_at
   session-reads words s e =
       read-on _ _ _ e (λ session answered e1. read-on _ _ _ e1 (λ rest new e2. read-on _ _ _ e2 (λ place keyword e3.
       read-on _ _ _ e3 (λ node gateway e4. read-on _ _ _ e4 (λ end ended e5.
-      let once = test-failed (declared session.0 before) session.1 rest causes.Twice new in
+      let once = test-failed (is_session_declared session.0 before) session.1 rest causes.Twice new in
       let a = number-read 1 SESSIONS_MAX words session answered in
       let at = keyword-read (codes "node") rest place keyword in
       let b = there-read place node gateway in
@@ -139,7 +139,7 @@ module _ (before : List Statement) (cluster : HasCluster before) where
   join-reads words s e =
       read-on _ _ _ e (λ node answered e1. read-on _ _ _ e1 (λ rest new e2. read-on _ _ _ e2 (λ end ended e3.
       let a = number-read 0 (NODES_MAX - 1) words node answered in
-      let once = test-failed (is_used node.0 before) node.1 rest causes.Twice new in
+      let once = test-failed (is_node_used node.0 before) node.1 rest causes.Twice new in
       let none = end-read rest end ended in
       let parted : a.word ∷ [] ≡ words = cc in
       let said : Join node.0 ≡ s = cc in
@@ -222,8 +222,8 @@ record IsWithin (before : List Statement) (asked s : Statement) : Type 0 where
   reads : sum_by read_bytes before + read_bytes asked ≤ READ_BYTES_MAX
   writes : sum_by write_bytes before + write_bytes asked ≤ WRITE_BYTES_MAX
 
-within-read : (before : List Statement) (asked s : Statement) → within before asked ≡ Ok s → IsWithin before asked s
-within-read before asked s e =
+request_within_limits-read : (before : List Statement) (asked s : Statement) → request_within_limits before asked ≡ Ok s → IsWithin before asked s
+request_within_limits-read before asked s e =
     let passed = test-passed (has_room (read_bytes asked) (write_bytes asked) before) asked s causes.TooMany e in
     let counted = nat_lt (count_by is_request before) REQUESTS_MAX in
     let reading = nat_le (sum_by read_bytes before + read_bytes asked) READ_BYTES_MAX in
@@ -255,24 +255,24 @@ copies-kept word policy e =
     let parts = and_parts (nat_le 1 copies) (nat_le copies 31) passed.0 in
     subst IsPolicy passed.1 (leb-true 1 copies parts.0, leb-true copies 31 parts.1))
 
-policy-kept : (word : Word) (policy : Policy) → policy_of word ≡ Ok policy → IsPolicy policy
+policy-kept : (word : Word) (policy : Policy) → policy_of_word word ≡ Ok policy → IsPolicy policy
 policy-kept word policy e =
     either-way (list_any is_colon word) (strips_in word) (copies_in word) policy e
     (λ colon read. strips-kept word policy read) (λ none read. copies-kept word policy read)
 
-policy-read : (words : List Word) (policy : Policy × List Word) → policy_at words ≡ Ok policy
+policy-read : (words : List Word) (policy : Policy × List Word) → policy_option_at words ≡ Ok policy
     → (word : Word) × (words ≡ word ∷ policy.1) × IsPolicyWord policy.0 word × IsPolicy policy.0
-unfolding policy_at
+unfolding policy_option_at
 policy-read words policy e =
     read-on _ _ _ e (λ word read e1. read-on _ _ _ e1 (λ own spelled e2.
     let same : (own, word.1) ≡ policy = cc in
     subst (λ (p : Policy × List Word). (w : Word) × (words ≡ w ∷ p.1) × IsPolicyWord p.0 w × IsPolicy p.0) same
     (word.0, word-read words word read, spelled, policy-kept word.0 own spelled)))
 
-policy-option-read : (words : List Word) (policy : Policy × List Word) → option_at (codes "-c") policy_at (Copies 3) words ≡ Ok policy
+policy-option-read : (words : List Word) (policy : Policy × List Word) → option_at (codes "-c") policy_option_at (Copies 3) words ≡ Ok policy
     → (c : List Word) × (words ≡ c ++ policy.1) × IsOption (codes "-c") IsPolicyWord (Copies 3) policy.0 c × IsPolicy policy.0
 policy-option-read words policy e =
-    elim (option-read (codes "-c") policy_at (Copies 3) words policy e) [
+    elim (option-read (codes "-c") policy_option_at (Copies 3) words policy e) [
       | inl default ↦
           ([], default.0, inl (refl, default.1), subst IsPolicy (sym default.1) (omega arith, omega arith))
       | inr given ↦
@@ -284,11 +284,11 @@ policy-option-read words policy e =
           )
     ]
 
-shift-option-read : (words : List Word) (shift : ℕ × List Word) → option_at (codes "-z") shift_at SHIFT_DEFAULT words ≡ Ok shift
+shift-option-read : (words : List Word) (shift : ℕ × List Word) → option_at (codes "-z") shift_option_at SHIFT_DEFAULT words ≡ Ok shift
     → (z : List Word) × (words ≡ z ++ shift.1) × IsOption (codes "-z") IsNumber SHIFT_DEFAULT shift.0 z
     × (SHIFT_MIN ≤ shift.0) × (shift.0 ≤ SHIFT_MAX)
 shift-option-read words shift e =
-    elim (option-read (codes "-z") shift_at SHIFT_DEFAULT words shift e) [
+    elim (option-read (codes "-z") shift_option_at SHIFT_DEFAULT words shift e) [
       | inl default ↦
           ([], default.0, inl (refl, default.1), omega (arith, default.1), omega (arith, default.1))
       | inr given ↦
@@ -318,9 +318,9 @@ span-read words span e =
       record { below = omega (arith, a.most); start = a.whole; least = b.least; most = b.most; whole = b.whole },
     )))
 
-byte-read : (said : ℕ → Pattern) (words : List Word) (pattern : Pattern × List Word) → byte_at said words ≡ Ok pattern
+byte-read : (said : ℕ → Pattern) (words : List Word) (pattern : Pattern × List Word) → pattern_byte_at said words ≡ Ok pattern
     → (number : ℕ) × (byte : Word) × (words ≡ byte ∷ pattern.1) × (said number ≡ pattern.0) × IsNumber number byte × (number < 2 ^ 8)
-unfolding byte_at
+unfolding pattern_byte_at
 byte-read said words pattern e =
     read-on _ _ _ e (λ byte answered e1.
     let read = number-read 0 255 words byte answered in
@@ -362,7 +362,7 @@ pattern-read words pattern e =
     (name.0, named.0, word-read words name read ∙ ap (λ (w : List Word). name.0 ∷ w) named.1, named.2, named.3))
 
 tag-read : (words : List Word) (tag : Option Word × List Word) → tag_at words ≡ Ok tag
-    → (name : Word) × (words ≡ name ∷ tag.1) × (tag.0 ≡ Some name) × IsName name
+    → (name : Word) × (words ≡ name ∷ tag.1) × (tag.0 ≡ Some name) × IsPrintedName name
 unfolding tag_at
 tag-read words tag e =
     read-on _ _ _ e (λ name named e1.
@@ -381,55 +381,55 @@ NamesDisk name tag words =
 
 names-disk : (words rest : List Word) (name : Word) (tag : Option Word) → option_at (codes "-s") tag_at None words ≡ Ok (tag, rest)
     → rest ≡ name ∷ []
-    → NamesDisk name tag words × IsTag tag
+    → NamesDisk name tag words × IsPrintedTag tag
 names-disk words rest name tag e last =
     elim (option-read (codes "-s") tag_at None words (tag, rest) e) [
       | inl default ↦
-          subst (λ (t : Option Word). NamesDisk name t words × IsTag t) (sym default.1)
+          subst (λ (t : Option Word). NamesDisk name t words × IsPrintedTag t) (sym default.1)
           (λ session word verb spelled. (word, ap (λ (w : List Word). word ∷ codes "vdi" ∷ verb ∷ w) (default.0 ∙ last), spelled), tt)
       | inr given ↦
           let read = tag-read given.0 (tag, rest) given.2 in
           let parted : words ≡ codes "-s" ∷ read.0 ∷ name ∷ [] =
           given.1 ∙ ap (λ (w : List Word). codes "-s" ∷ w) (read.1 ∙ ap (λ (w : List Word). read.0 ∷ w) last) in
-          subst (λ (t : Option Word). NamesDisk name t words × IsTag t) (sym read.2)
+          subst (λ (t : Option Word). NamesDisk name t words × IsPrintedTag t) (sym read.2)
           (λ session word verb spelled. (word, ap (λ (w : List Word). word ∷ codes "vdi" ∷ verb ∷ w) parted, spelled), read.3)
     ]
 
 -- a disk, where nothing follows it
-disk-read : (words : List Word) (disk : Word × Option Word × List Word) → disk_at words ≡ Ok disk → disk.2 ≡ []
-    → NamesDisk disk.0 disk.1 words × IsName disk.0 × IsTag disk.1
-unfolding disk_at
+disk-read : (words : List Word) (disk : Word × Option Word × List Word) → disk_words_at words ≡ Ok disk → disk.2 ≡ []
+    → NamesDisk disk.0 disk.1 words × IsPrintedName disk.0 × IsPrintedTag disk.1
+unfolding disk_words_at
 disk-read words disk e none =
     read-on (option_at (codes "-s") tag_at None words) _ _ e (λ tag tagged e1. read-on _ _ _ e1 (λ name named e2.
     let own = name-read tag.1 name named in
     let same : (name.0, tag.0, name.1) ≡ disk = cc in
     let ends : name.1 ≡ [] = ap (λ (d : Word × Option Word × List Word). d.2) same ∙ none in
     let names = names-disk words tag.1 name.0 tag.0 tagged (own.0 ∙ ap (λ (w : List Word). name.0 ∷ w) ends) in
-    subst (λ (d : Word × Option Word × List Word). NamesDisk d.0 d.1 words × IsName d.0 × IsTag d.1) same
+    subst (λ (d : Word × Option Word × List Word). NamesDisk d.0 d.1 words × IsPrintedName d.0 × IsPrintedTag d.1) same
     (names.0, own.1, names.1)))
 
 -- a request of a session that is declared, behind its number, which a word spells
-module _ (before : List Statement) (session : ℕ) (known : declared session before ≡ true)
+module _ (before : List Statement) (session : ℕ) (known : is_session_declared session before ≡ true)
     (word : Word) (spelled : IsNumber session word) where
   -- words behind the verb ask for what is read
   abbrev Asks : Word → List Word → Statement → Type 0
   Asks verb words s = Reads before (word ∷ codes "vdi" ∷ verb ∷ words) s
 
-  as-asked : (verb : Word) (words rest : List Word) → words ≡ rest → IsAsked session verb rest (word ∷ codes "vdi" ∷ verb ∷ words)
+  as-asked : (verb : Word) (words rest : List Word) → words ≡ rest → IsRequestWords session verb rest (word ∷ codes "vdi" ∷ verb ∷ words)
   as-asked verb words rest same = (word, ap (λ (w : List Word). word ∷ codes "vdi" ∷ verb ∷ w) same, spelled)
 
-  stays-within : (verb : Word) (words : List Word) (asked s : Statement) → within before asked ≡ Ok s
+  stays-within : (verb : Word) (words : List Word) (asked s : Statement) → request_within_limits before asked ≡ Ok s
       → IsSpelled asked (word ∷ codes "vdi" ∷ verb ∷ words) → (IsWithin before asked s → MayAsk before session → MayStand before asked)
       → Asks verb words s
   stays-within verb words asked s e says may =
-      let kept = within-read before asked s e in
+      let kept = request_within_limits-read before asked s e in
       subst (Asks verb words) kept.said (says, may kept (record { declared = known; room = kept.room }))
 
-  create-reads : (words : List Word) (s : Statement) → create_at before session words ≡ Ok s → Asks (codes "create") words s
-  unfolding create_at
+  create-reads : (words : List Word) (s : Statement) → create_request_at before session words ≡ Ok s → Asks (codes "create") words s
+  unfolding create_request_at
   create-reads words s e =
-      read-on (option_at (codes "-c") policy_at (Copies 3) words) _ _ e (λ policy chosen e1.
-      read-on (option_at (codes "-z") shift_at SHIFT_DEFAULT policy.1) _ _ e1 (λ shift sized e2.
+      read-on (option_at (codes "-c") policy_option_at (Copies 3) words) _ _ e (λ policy chosen e1.
+      read-on (option_at (codes "-z") shift_option_at SHIFT_DEFAULT policy.1) _ _ e1 (λ shift sized e2.
       read-on _ _ _ e2 (λ name named e3. read-on _ _ _ e3 (λ size measured e4. read-on _ _ _ e4 (λ end ended e5.
       let c = policy-option-read words policy chosen in
       let z = shift-option-read policy.1 shift sized in
@@ -444,23 +444,23 @@ module _ (before : List Statement) (session : ℕ) (known : declared session bef
       (c.0, z.0, b.word, as-asked (codes "create") words (c.0 ++ z.0 ++ name.0 ∷ b.word ∷ []) parted, c.2, z.2, b.spelled)
       (λ kept ask. (ask, own.1, record { shift = (z.3, z.4); policy = c.3; size = (b.least, b.most); blocks = b.whole })))))))
 
-  open-reads : (words : List Word) (s : Statement) → open_at before session words ≡ Ok s → Asks (codes "open") words s
-  unfolding open_at
+  open-reads : (words : List Word) (s : Statement) → open_request_at before session words ≡ Ok s → Asks (codes "open") words s
+  unfolding open_request_at
   open-reads words s e =
       read-on _ _ _ e (λ disk named e1. read-on _ _ _ e1 (λ end ended e2.
       let read = disk-read words disk named (end-read disk.2 end ended) in
       stays-within (codes "open") words (OpenDisk session disk.0 disk.1) s e2
       (read.0 session word (codes "open") spelled) (λ kept ask. (ask, read.1, read.2))))
 
-  close-reads : (words : List Word) (s : Statement) → close_at before session words ≡ Ok s → Asks (codes "close") words s
-  unfolding close_at
+  close-reads : (words : List Word) (s : Statement) → close_request_at before session words ≡ Ok s → Asks (codes "close") words s
+  unfolding close_request_at
   close-reads words s e =
       read-on _ _ _ e (λ end ended e1.
       stays-within (codes "close") words (Close session) s e1
       (as-asked (codes "close") words [] (end-read words end ended)) (λ kept ask. ask))
 
-  read-reads : (words : List Word) (s : Statement) → read_at before session words ≡ Ok s → Asks (codes "read") words s
-  unfolding read_at
+  read-reads : (words : List Word) (s : Statement) → read_request_at before session words ≡ Ok s → Asks (codes "read") words s
+  unfolding read_request_at
   read-reads words s e =
       read-on _ _ _ e (λ span measured e1. read-on _ _ _ e1 (λ end ended e2.
       let read = span-read words span measured in
@@ -470,8 +470,8 @@ module _ (before : List Statement) (session : ℕ) (known : declared session bef
       (read.0, read.1, as-asked (codes "read") words (read.0 ∷ read.1 ∷ []) parted, read.3, read.4)
       (λ kept ask. (ask, read.5, kept.reads))))
 
-  write-reads : (words : List Word) (s : Statement) → write_at before session words ≡ Ok s → Asks (codes "write") words s
-  unfolding write_at
+  write-reads : (words : List Word) (s : Statement) → write_request_at before session words ≡ Ok s → Asks (codes "write") words s
+  unfolding write_request_at
   write-reads words s e =
       read-on _ _ _ e (λ span measured e1. read-on _ _ _ e1 (λ pattern filled e2. read-on _ _ _ e2 (λ end ended e3.
       let read = span-read words span measured in
@@ -490,8 +490,8 @@ module _ (before : List Statement) (session : ℕ) (known : declared session bef
       )
       (λ kept ask. (ask, read.5, full.4, kept.writes)))))
 
-  snapshot-reads : (words : List Word) (s : Statement) → snapshot_at before session words ≡ Ok s → Asks (codes "snapshot") words s
-  unfolding snapshot_at
+  snapshot-reads : (words : List Word) (s : Statement) → snapshot_request_at before session words ≡ Ok s → Asks (codes "snapshot") words s
+  unfolding snapshot_request_at
   snapshot-reads words s e =
       read-on _ _ _ e (λ option keyword e1. read-on _ _ _ e1 (λ tag named e2. read-on _ _ _ e2 (λ end ended e3.
       let own = name-read option tag named in
@@ -501,8 +501,8 @@ module _ (before : List Statement) (session : ℕ) (known : declared session bef
       stays-within (codes "snapshot") words (Snapshot session tag.0) s e3
       (as-asked (codes "snapshot") words (codes "-s" ∷ tag.0 ∷ []) parted) (λ kept ask. (ask, own.1)))))
 
-  clone-reads : (words : List Word) (s : Statement) → clone_at before session words ≡ Ok s → Asks (codes "clone") words s
-  unfolding clone_at
+  clone-reads : (words : List Word) (s : Statement) → clone_request_at before session words ≡ Ok s → Asks (codes "clone") words s
+  unfolding clone_request_at
   clone-reads words s e =
       read-on _ _ _ e (λ option keyword e1. read-on _ _ _ e1 (λ tag tagged e2. read-on _ _ _ e2 (λ base based e3.
       read-on _ _ _ e3 (λ name named e4. read-on _ _ _ e4 (λ end ended e5.
@@ -515,8 +515,8 @@ module _ (before : List Statement) (session : ℕ) (known : declared session bef
       stays-within (codes "clone") words (Clone session base.0 tag.0 name.0) s e5
       (as-asked (codes "clone") words (codes "-s" ∷ tag.0 ∷ base.0 ∷ name.0 ∷ []) parted) (λ kept ask. (ask, b.1, a.1, c.1)))))))
 
-  delete-reads : (words : List Word) (s : Statement) → delete_at before session words ≡ Ok s → Asks (codes "delete") words s
-  unfolding delete_at
+  delete-reads : (words : List Word) (s : Statement) → delete_request_at before session words ≡ Ok s → Asks (codes "delete") words s
+  unfolding delete_request_at
   delete-reads words s e =
       read-on _ _ _ e (λ disk named e1. read-on _ _ _ e1 (λ end ended e2.
       let read = disk-read words disk named (end-read disk.2 end ended) in
@@ -543,8 +543,8 @@ module _ (before : List Statement) (session : ℕ) (known : declared session bef
       (λ e7. verb-chosen verb (codes "delete") words _ _ s e7 (delete-reads words s)
       (λ e8. absurd cc))))))))
 
-  request-reads : (words : List Word) (s : Statement) → request_at before session words ≡ Ok s → Reads before (word ∷ words) s
-  unfolding request_at
+  request-reads : (words : List Word) (s : Statement) → vdi_request_at before session words ≡ Ok s → Reads before (word ∷ words) s
+  unfolding vdi_request_at
   request-reads words s e =
       read-on _ _ _ e (λ vdi keyword e1. read-on _ _ _ e1 (λ verb answered e2.
       let next = keyword-read (codes "vdi") words vdi keyword in
@@ -553,23 +553,23 @@ module _ (before : List Statement) (session : ℕ) (known : declared session bef
       renamed before word (codes "vdi" ∷ verb.0 ∷ verb.1) words s s parted refl
       (verb-reads verb.0 verb.1 s e2)))
 
-asking-read : (before : List Statement) (word : Word) (session : ℕ) → asking before word ≡ Ok session
-    → IsNumber session word × (declared session before ≡ true)
-unfolding asking
-asking-read before word session e =
+asking_session-read : (before : List Statement) (word : Word) (session : ℕ) → asking_session before word ≡ Ok session
+    → IsNumber session word × (is_session_declared session before ≡ true)
+unfolding asking_session
+asking_session-read before word session e =
     read-on _ _ _ e (λ number spelled e1. read-on _ _ _ e1 (λ ranged-in kept e2.
-    let passed = test-passed (declared ranged-in before) ranged-in session causes.Unknown e2 in
-    let within = range-kept 1 SESSIONS_MAX number ranged-in kept in
-    (spelled ∙ ap (λ (n : ℕ). Ok n) (within.0 ∙ passed.1), subst (λ (n : ℕ). declared n before ≡ true) passed.1 passed.0)))
+    let passed = test-passed (is_session_declared ranged-in before) ranged-in session causes.Unknown e2 in
+    let request_within_limits = range-kept 1 SESSIONS_MAX number ranged-in kept in
+    (spelled ∙ ap (λ (n : ℕ). Ok n) (request_within_limits.0 ∙ passed.1), subst (λ (n : ℕ). is_session_declared n before ≡ true) passed.1 passed.0)))
 
-told-reads : (before : List Statement) (first : Word) (words : List Word) (s : Statement) → told_at before first words ≡ Ok s
+told-reads : (before : List Statement) (first : Word) (words : List Word) (s : Statement) → statement_behind_cluster before first words ≡ Ok s
     → Reads before (first ∷ words) s
-unfolding told_at asked_at
+unfolding statement_behind_cluster session_request_at
 told-reads before first words s e =
     either-way (not (has is_cluster before)) _ _ s e (λ alone e1. absurd cc)
     (λ behind e1. either-way (is_digits first) _ _ s e1
     (λ digits asked. read-on _ _ _ asked (λ session answered e2.
-    let of-session = asking-read before first session answered in
+    let of-session = asking_session-read before first session answered in
     request-reads before session of-session.1 first of-session.0 words s e2))
     (λ other. happening-reads before (not-false (has is_cluster before) behind) first words s))
 
@@ -578,9 +578,9 @@ pub what-reads : (before : List Statement) (first : Word) (rest : List Word) (s 
     → IsSpelled s (first ∷ rest) × MayStand before s
 unfolding statement_at
 what-reads before first rest s e =
-    either-way (bytes_eq first (codes "cluster") && not (is_next (codes "info") rest)) _ _ s e
+    either-way (bytes_eq first (codes "cluster") && not (is_next_word (codes "info") rest)) _ _ s e
     (λ chosen read.
-    let named = and_parts (bytes_eq first (codes "cluster")) (not (is_next (codes "info") rest)) chosen in
+    let named = and_parts (bytes_eq first (codes "cluster")) (not (is_next_word (codes "info") rest)) chosen in
     let same = same-word first (codes "cluster") named.0 in
     subst (λ (w : Word). Reads before (w ∷ rest) s) (sym same)
     (setting-reads (codes "cluster") (λ nodes. Cluster nodes) nodes_set NODES_MAX before rest s

@@ -6,10 +6,10 @@ use Rattle.std.proofs.lemmas.Slice.Eq.{bytes_eq-Decides}
 use Rattle.cluster_script.specs.declared.fault.LineCause.{LineCause}
 use Rattle.cluster_script.specs.declared.fault.LineCause.TheVariants as causes
 use Rattle.cluster_script.specs.declared.limits.TheConstants.{BLOCK}
-use Rattle.cluster_script.specs.OneDisk.{IsName}
-use Rattle.cluster_script.specs.Reading.{◌>>=◌}
-use Rattle.cluster_script.specs.Words.{Word, word_at, keyword_at, is_next, option_at, end_of, is_name, name_at}
-use Rattle.cluster_script.specs.Numbers.{number_of, size_of, ranged, aligned, number_at, blocks_at}
+use Rattle.cluster_script.specs.OneDisk.{IsPrintedName}
+use Rattle.cluster_script.specs.ReadResults.{◌>>=◌}
+use Rattle.cluster_script.specs.Words.{Word, word_at, keyword_at, is_next_word, option_at, end_of_words, is_name, name_word_at}
+use Rattle.cluster_script.specs.Numbers.{number_of, size_of_word, number_in_range, aligned_number, plain_number_at, blocks_at}
 use Rattle.cluster_script.proofs.Follows.{name_of_test}
 
 -- what has a value where reading went on behind it
@@ -57,17 +57,17 @@ keyword-read expected words rest e =
     let same = same-word word.0 expected passed.0 in
     word-read words word read ∙ ap (λ (w : Word). w ∷ word.1) same ∙ ap (λ (t : List Word). expected ∷ t) passed.1)
 
-pub end-read : (words : List Word) (end : Unit {0}) → end_of words ≡ Ok end → words ≡ []
+pub end-read : (words : List Word) (end : Unit {0}) → end_of_words words ≡ Ok end → words ≡ []
 end-read [] end e = refl
 end-read (first ∷ rest) end e = absurd cc
 
-pub name-read : (words : List Word) (name : Word × List Word) → name_at words ≡ Ok name → (words ≡ name.0 ∷ name.1) × IsName name.0
-unfolding name_at
+pub name-read : (words : List Word) (name : Word × List Word) → name_word_at words ≡ Ok name → (words ≡ name.0 ∷ name.1) × IsPrintedName name.0
+unfolding name_word_at
 name-read words name e =
     read-on _ _ _ e (λ word read tested.
     let passed = test-passed (is_name word.0) word name causes.Word tested in (
       word-read words word read ∙ ap (λ (w : Word × List Word). w.0 ∷ w.1) passed.1,
-      subst (λ (w : Word × List Word). IsName w.0) passed.1 (name_of_test word.0 passed.0),
+      subst (λ (w : Word × List Word). IsPrintedName w.0) passed.1 (name_of_test word.0 passed.0),
     ))
 
 -- what an option gives: its default, or what is read behind its name
@@ -76,13 +76,13 @@ pub option-read : {A : Type 0} (name : Word) (read : List Word → Result (A × 
     → option_at name read default words ≡ Ok value
     → ((words ≡ value.1) × (value.0 ≡ default)) ⊎ ((rest : List Word) × (words ≡ name ∷ rest) × (read rest ≡ Ok value))
 option-read {A = A} name read default words value e =
-    either-way (is_next name words) _ _ value e
+    either-way (is_next_word name words) _ _ value e
     (λ next given. read-on _ _ _ given (λ rest keyword answers. inr (rest, keyword-read name words rest keyword, answers)))
     (λ absent left.
     let same : (default, words) ≡ value = cc in
     inl (ap (λ (v : A × List Word). v.1) same, ap (λ (v : A × List Word). v.0) (sym same)))
 
-pub range-kept : (low high number within : ℕ) → ranged low high number ≡ Ok within → (number ≡ within) × (low ≤ within) × (within ≤ high)
+pub range-kept : (low high number within : ℕ) → number_in_range low high number ≡ Ok within → (number ≡ within) × (low ≤ within) × (within ≤ high)
 range-kept low high number within e =
     let passed = test-passed (nat_le low number && nat_le number high) number within causes.Range e in
     let parts = and_parts (nat_le low number) (nat_le number high) passed.0 in (
@@ -91,7 +91,7 @@ range-kept low high number within e =
       subst (λ (n : ℕ). n ≤ high) passed.1 (leb-true number high parts.1),
     )
 
-pub blocks-whole : (number whole : ℕ) → aligned number ≡ Ok whole → (number ≡ whole) × (whole % BLOCK ≡ 0)
+pub blocks-whole : (number whole : ℕ) → aligned_number number ≡ Ok whole → (number ≡ whole) × (whole % BLOCK ≡ 0)
 blocks-whole number whole e =
     let passed = test-passed (number % BLOCK == 0) number whole causes.Unaligned e in
     (passed.1, subst (λ (n : ℕ). n % BLOCK ≡ 0) passed.1 (eqb-true (number % BLOCK) 0 passed.0))
@@ -104,9 +104,9 @@ pub record IsNumberRead (low high : ℕ) (words : List Word) (number : ℕ × Li
   pub least : low ≤ number.0
   pub most : number.0 ≤ high
 
-pub number-read : (low high : ℕ) (words : List Word) (number : ℕ × List Word) → number_at low high words ≡ Ok number
+pub number-read : (low high : ℕ) (words : List Word) (number : ℕ × List Word) → plain_number_at low high words ≡ Ok number
     → IsNumberRead low high words number
-unfolding number_at
+unfolding plain_number_at
 number-read low high words number e =
     read-on _ _ _ e (λ word read e1. read-on _ _ _ e1 (λ plain spelled e2. read-on _ _ _ e2 (λ within kept e3.
     let same : (within, word.1) ≡ number = cc in
@@ -123,7 +123,7 @@ number-read low high words number e =
 pub record IsBlocksRead (low high : ℕ) (words : List Word) (size : ℕ × List Word) : Type 0 where
   pub word : Word
   pub parted : words ≡ word ∷ size.1
-  pub spelled : size_of word ≡ Ok size.0
+  pub spelled : size_of_word word ≡ Ok size.0
   pub least : low ≤ size.0
   pub most : size.0 ≤ high
   pub whole : size.0 % BLOCK ≡ 0

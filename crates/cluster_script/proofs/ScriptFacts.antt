@@ -9,8 +9,8 @@ use Rattle.std.proofs.lemmas.List.Sums.{sum_by-append}
 use Rattle.cluster_script.specs.declared.limits.TheConstants.{NODES_MAX, SESSIONS_MAX, READ_BYTES_MAX, WRITE_BYTES_MAX}
 use Rattle.cluster_script.specs.declared.statement.Statement.{Statement}
 use Rattle.cluster_script.specs.declared.statement.Statement.TheVariants.{Cluster, Session, Read, Write, Fail, Join, Back}
-use Rattle.cluster_script.specs.Statements.{is_cluster, declares, declared, read_bytes, write_bytes}
-use Rattle.cluster_script.specs.Nodes.{uses, is_used, failed_by, failed_from, is_failed}
+use Rattle.cluster_script.specs.Statements.{is_cluster, declares, is_session_declared, read_bytes, write_bytes}
+use Rattle.cluster_script.specs.Nodes.{uses_node, is_node_used, failed_by, failed_from, is_failed}
 use Rattle.cluster_script.specs.Language.{HasCluster, MayStand, EachMayStand, IsScript}
 
 -- what a statement of a kind shows, where it may stand, holds where there is one
@@ -38,19 +38,19 @@ declaring session first later (Session number node) may found =
     ((omega (arith, may.2), omega (arith, may.3)), any-before is_cluster first (Session number node ∷ later) may.0)
 declaring session first later s may found = absurd cc
 
-pub declared-session : (before : List Statement) (session : ℕ) → IsScript before → declared session before ≡ true
+pub is_session_declared-session : (before : List Statement) (session : ℕ) → IsScript before → is_session_declared session before ≡ true
     → IsSessionNumber session × HasCluster before
-declared-session before session script found =
+is_session_declared-session before session script found =
     kind-shows (declares session) (λ statements. IsSessionNumber session × HasCluster statements) (declaring session) [] before script found
 
 -- a used node has a number of nodes
-using : (node : ℕ) (first later : List Statement) (s : Statement) → MayStand first s → uses node s ≡ true → node < NODES_MAX
+using : (node : ℕ) (first later : List Statement) (s : Statement) → MayStand first s → uses_node node s ≡ true → node < NODES_MAX
 using node first later (Cluster nodes) may found = let less : node < nodes = ltb-true node nodes found in omega (arith, may.2)
 using node first later (Join number) may found = let same : number ≡ node = eqb-true number node found in omega (arith, may.1)
 using node first later s may found = absurd cc
 
-pub used-node : (before : List Statement) (node : ℕ) → IsScript before → is_used node before ≡ true → node < NODES_MAX
-used-node before node script found = kind-shows (uses node) (λ statements. node < NODES_MAX) (using node) [] before script found
+pub used-node : (before : List Statement) (node : ℕ) → IsScript before → is_node_used node before ≡ true → node < NODES_MAX
+used-node before node script found = kind-shows (uses_node node) (λ statements. node < NODES_MAX) (using node) [] before script found
 
 -- a failed node was used: a `fail` says it of a node that is there
 abbrev fails : ℕ → Statement → Bool
@@ -77,16 +77,16 @@ some-fails node was (s ∷ rest) failed = go s (some-fails node (failed_by node 
     go (Back number) later = back (number == node) later
     go s later = later
 
-failing-uses : (node : ℕ) (first later : List Statement) (s : Statement) → MayStand first s → fails node s ≡ true
-    → is_used node (first ++ s ∷ later) ≡ true
-failing-uses node first later (Fail number) may found =
-    any-before (uses node) first (Fail number ∷ later) (subst (λ (n : ℕ). is_used n first ≡ true) (eqb-true number node found) may.1.used)
-failing-uses node first later s may found = absurd cc
+failing-uses_node : (node : ℕ) (first later : List Statement) (s : Statement) → MayStand first s → fails node s ≡ true
+    → is_node_used node (first ++ s ∷ later) ≡ true
+failing-uses_node node first later (Fail number) may found =
+    any-before (uses_node node) first (Fail number ∷ later) (subst (λ (n : ℕ). is_node_used n first ≡ true) (eqb-true number node found) may.1.used)
+failing-uses_node node first later s may found = absurd cc
 
 pub failed-node : (before : List Statement) (node : ℕ) → IsScript before → is_failed node before ≡ true → node < NODES_MAX
 failed-node before node script failed =
     used-node before node script
-    (kind-shows (fails node) (λ statements. is_used node statements ≡ true) (failing-uses node) [] before script
+    (kind-shows (fails node) (λ statements. is_node_used node statements ≡ true) (failing-uses_node node) [] before script
     (some-fails node false before failed))
 
 -- a sum over the statements stays within its limit

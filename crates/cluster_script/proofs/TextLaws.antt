@@ -12,8 +12,8 @@ use Rattle.cluster_script.specs.declared.fault.LineCause.{LineCause}
 use Rattle.cluster_script.specs.Language.{MayStand, EachMayStand, IsScript}
 use Rattle.cluster_script.specs.Words.{Word, has_bytes, lines_of, words_of, says_nothing}
 use Rattle.cluster_script.specs.Numbers.{number_of}
-use Rattle.cluster_script.specs.Script.{statement_at, words_read, line_at, added, script_of, script_in}
-use Rattle.cluster_script.specs.Spelling.{IsAsked, IsSpelled, IsSaid, IsLine, AreLines, statements_said, IsText, IsBadLine}
+use Rattle.cluster_script.specs.Script.{statement_at, statement_of_words, line_at, with_statement, script_of, script_in}
+use Rattle.cluster_script.specs.Spelling.{IsRequestWords, IsSpelled, IsSaid, IsLine, AreLines, statements_said, IsScriptText, IsBadLine}
 use Rattle.cluster_script.proofs.ReadingParts.{read-on, either-way}
 use Rattle.cluster_script.proofs.ReadLemmas.{what-reads}
 use Rattle.cluster_script.proofs.SpelledLemmas.{number-digits, what-is-spelled}
@@ -29,7 +29,7 @@ digits-say number (byte ∷ rest) read =
     let low = leb-true 48 byte (and_parts (nat_le 48 byte) (nat_le byte 57) one.0).0 in
     rw (ne_eqb 35 byte (λ same. omega (arith, same, low)))
 
-asked-says : (session : ℕ) {verb : Word} {rest words : List Word} → IsAsked session verb rest words → says_nothing words ≡ false
+asked-says : (session : ℕ) {verb : Word} {rest words : List Word} → IsRequestWords session verb rest words → says_nothing words ≡ false
 asked-says session asked = rw asked.1 (digits-say session asked.0 asked.2)
 
 -- words that spell a statement say something
@@ -82,24 +82,24 @@ abbrev MaySay : List Statement → Option Statement → Type 0
 MaySay before None = Unit {0}
 MaySay before (Some s) = MayStand before s
 
-pub script-added : (before : List Statement) (said : Option Statement) → IsScript before → MaySay before said → IsScript (added before said)
-script-added before None script may = script
-script-added before (Some s) script may = each-more [] before s script may
+pub script-with_statement : (before : List Statement) (said : Option Statement) → IsScript before → MaySay before said → IsScript (with_statement before said)
+script-with_statement before None script may = script
+script-with_statement before (Some s) script may = each-more [] before s script may
 
 -- the statements that lines say, and those of one line before them
-said-added : (before : List Statement) (said : Option Statement) (later : List (Option Statement))
-    → added before said ++ statements_said later ≡ before ++ statements_said (said ∷ later)
-said-added before None later = refl
-said-added before (Some s) later = append_assoc before (s ∷ []) (statements_said later)
+said-with_statement : (before : List Statement) (said : Option Statement) (later : List (Option Statement))
+    → with_statement before said ++ statements_said later ≡ before ++ statements_said (said ∷ later)
+said-with_statement before None later = refl
+said-with_statement before (Some s) later = append_assoc before (s ∷ []) (statements_said later)
 
 -- what a line says in a script may stand there
-may-say : (before rest : List Statement) (said : Option Statement) → IsScript (added before said ++ rest) → MaySay before said
+may-say : (before rest : List Statement) (said : Option Statement) → IsScript (with_statement before said ++ rest) → MaySay before said
 may-say before rest None script = tt
-may-say before rest (Some s) script = statement-stands before [] s (each-begins [] (added before (Some s)) rest script)
+may-say before rest (Some s) script = statement-stands before [] s (each-begins [] (with_statement before (Some s)) rest script)
 
-words-taken : (before : List Statement) (words : List Word) (said : Option Statement) → words_read statement_at before words ≡ Ok said
+words-taken : (before : List Statement) (words : List Word) (said : Option Statement) → statement_of_words statement_at before words ≡ Ok said
     → IsSaid said words × MaySay before said
-unfolding words_read
+unfolding statement_of_words
 words-taken before [] None taken = (refl, tt)
 words-taken before [] (Some s) taken = absurd cc
 words-taken before (first ∷ rest) said taken =
@@ -120,8 +120,8 @@ line-taken before line said taken =
     (λ none e1. absurd cc)
 
 words-said : (before : List Statement) (words : List Word) (said : Option Statement) → IsScript before → IsSaid said words
-    → MaySay before said → words_read statement_at before words ≡ Ok said
-unfolding words_read
+    → MaySay before said → statement_of_words statement_at before words ≡ Ok said
+unfolding statement_of_words
 words-said before words None script says may = rw says
 words-said before [] (Some s) script says may = absurd (nothing-says s says)
 words-said before (first ∷ rest) (Some s) script says may =
@@ -142,18 +142,18 @@ lines-said [] later [] before number says script = rw (append-nil before, add-ze
 lines-said [] later (said ∷ others) before number says script = absurd says
 lines-said (line ∷ first) later [] before number says script = absurd says
 lines-said (line ∷ first) later (said ∷ others) before number says script =
-    let whole = subst (λ (b : List Statement). IsScript b) (sym (said-added before said others)) script in
+    let whole = subst (λ (b : List Statement). IsScript b) (sym (said-with_statement before said others)) script in
     let may = may-say before (statements_said others) said whole in
     let now = each-begins [] before (statements_said (said ∷ others)) script in
     script_takes statement_at before number line (first ++ later) said (line-said before line said now says.0 may)
-    ∙ lines-said first later others (added before said) (number + 1) says.1 whole
+    ∙ lines-said first later others (with_statement before said) (number + 1) says.1 whole
     ∙ counted
   where
-    counted : script_of statement_at (added before said ++ statements_said others) (number + 1 + length first) later
+    counted : script_of statement_at (with_statement before said ++ statements_said others) (number + 1 + length first) later
         ≡ script_of statement_at (before ++ statements_said (said ∷ others)) (number + length (line ∷ first)) later
     counted =
         let passed : number + 1 + length first ≡ number + length (line ∷ first) = omega arith in
-        ap (λ (b : List Statement). script_of statement_at b (number + 1 + length first) later) (said-added before said others)
+        ap (λ (b : List Statement). script_of statement_at b (number + 1 + length first) later) (said-with_statement before said others)
         ∙ ap (λ (n : ℕ). script_of statement_at (before ++ statements_said (said ∷ others)) n later) passed
 
 -- lines say statements that make a script of those before them
@@ -169,17 +169,17 @@ lines-taken [] before number statements script taken =
     let same : before ≡ statements = cc in
     (subst (λ (b : List Statement). IsScript b) same script, ([], tt, append-nil before ∙ same))
 lines-taken (line ∷ rest) before number statements script taken =
-    go (line_at statement_at before line) refl (λ said now. lines-taken rest (added before said) (number + 1) statements now)
+    go (line_at statement_at before line) refl (λ said now. lines-taken rest (with_statement before said) (number + 1) statements now)
   where
     go : (read : Result (Option Statement) LineCause) → line_at statement_at before line ≡ read
-        → ((said : Option Statement) → IsScript (added before said)
-        → script_of statement_at (added before said) (number + 1) rest ≡ Ok statements → AreTaken (added before said) rest statements)
+        → ((said : Option Statement) → IsScript (with_statement before said)
+        → script_of statement_at (with_statement before said) (number + 1) rest ≡ Ok statements → AreTaken (with_statement before said) rest statements)
         → AreTaken before (line ∷ rest) statements
     go (Ok said) reading goes_on =
         let says = line-taken before line said reading in
-        let others = goes_on said (script-added before said script says.1)
+        let others = goes_on said (script-with_statement before said script says.1)
         (sym (script_takes statement_at before number line rest said reading) ∙ taken) in
-        (others.0, (said ∷ others.1.0, (says.0, others.1.1), sym (said-added before said others.1.0) ∙ others.1.2))
+        (others.0, (said ∷ others.1.0, (says.0, others.1.1), sym (said-with_statement before said others.1.0) ∙ others.1.2))
     go (Err cause) reading goes_on =
         let stops = script_stops statement_at before number line rest cause reading in
         absurd cc
@@ -201,16 +201,16 @@ lines-bad : (text : List (List ℕ)) (before : List Statement) (from number : �
 unfolding script_of
 lines-bad [] before from number cause script stopped = absurd cc
 lines-bad (line ∷ rest) before from number cause script stopped =
-    go (line_at statement_at before line) refl (λ s now. lines-bad rest (added before s) (from + 1) number cause now)
+    go (line_at statement_at before line) refl (λ s now. lines-bad rest (with_statement before s) (from + 1) number cause now)
   where
     go : (read : Result (Option Statement) LineCause) → line_at statement_at before line ≡ read
-        → ((s : Option Statement) → IsScript (added before s)
-        → script_of statement_at (added before s) (from + 1) rest ≡ Err (number, cause)
-        → BadBehind (added before s) (from + 1) rest number cause)
+        → ((s : Option Statement) → IsScript (with_statement before s)
+        → script_of statement_at (with_statement before s) (from + 1) rest ≡ Err (number, cause)
+        → BadBehind (with_statement before s) (from + 1) rest number cause)
         → BadBehind before from (line ∷ rest) number cause
     go (Ok s) reading goes_on =
         let says = line-taken before line s reading in
-        let behind = goes_on s (script-added before s script says.1)
+        let behind = goes_on s (script-with_statement before s script says.1)
         (sym (script_takes statement_at before from line rest s reading) ∙ stopped) in
         record {
           first = line ∷ behind.first;
@@ -220,8 +220,8 @@ lines-bad (line ∷ rest) before from number cause script stopped =
           counted = omega (arith, behind.counted);
           said = s ∷ behind.said;
           good = (says.0, behind.good);
-          script = rw (← said-added before s behind.said) behind.script;
-          bad = rw (← said-added before s behind.said) behind.bad;
+          script = rw (← said-with_statement before s behind.said) behind.script;
+          bad = rw (← said-with_statement before s behind.said) behind.bad;
         }
     go (Err other) reading goes_on =
         let stops = script_stops statement_at before from line rest other reading in
@@ -241,14 +241,14 @@ lines-bad (line ∷ rest) before from number cause script stopped =
 
 -- a text is read as the script that its lines say
 pub text-script : (text : List ℕ) (statements : List Statement)
-    → script_in text ≡ Ok statements ↔ IsScript statements × IsText text statements
+    → script_in text ≡ Ok statements ↔ IsScript statements × IsScriptText text statements
 unfolding script_of
 text-script text statements = (
   λ taken. let all = lines-taken (lines_of text) [] 1 statements tt taken in (all.0, all.1),
   λ says. back says.0 says.1,
 )
   where
-    back : IsScript statements → IsText text statements → script_in text ≡ Ok statements
+    back : IsScript statements → IsScriptText text statements → script_in text ≡ Ok statements
     back script says =
         ap (script_of statement_at [] 1) (sym (append-nil (lines_of text)))
         ∙ lines-said (lines_of text) [] says.0 [] 1 says.1 (subst (λ (b : List Statement). IsScript b) (sym says.2) script)

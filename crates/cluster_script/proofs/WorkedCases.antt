@@ -6,12 +6,12 @@ use Rattle.cluster_script.specs.declared.statement.Pattern.TheVariants.{Fill, St
 use Rattle.cluster_script.specs.declared.statement.Statement.{Statement}
 use Rattle.cluster_script.specs.declared.statement.Statement.TheVariants as lines
 use Rattle.cluster_script.specs.Settings.{nodes_of, vnodes_of, tries_of, limit_of, zone_of, opening_members}
-use Rattle.cluster_script.specs.Asked.{request_at, numbers_of_session, payload_of}
+use Rattle.cluster_script.specs.NumberedRequests.{request_at, numbers_of_session, payload_of}
 use Rattle.cluster_script.specs.Phases.{phases_of, phase_of_request}
 use Rattle.cluster_script.specs.Sessions.{sessions_of}
 
 -- Two nodes in one zone, and a third one that joins. The disk is written, a node fails and comes back, and a session of
--- its second life reads; what stands behind the last barrier ends by settling.
+-- its second incarnation reads; what stands behind the last barrier ends by settling.
 abbrev script : List Statement
 script =
     lines.Cluster 2 ∷ lines.Zone 1 0 ∷ lines.Vnodes 8
@@ -67,7 +67,7 @@ the_fourth_is_of_the_third = refl
 
 -- session 1 is declared behind `back 1`, session 2 before it
 its_sessions : sessions_of script
-    ≡ record { number = 1; node = 1; life = 2 } ∷ record { number = 2; node = 1; life = 1 } ∷ []
+    ≡ record { number = 1; node = 1; incarnation = 2 } ∷ record { number = 2; node = 1; incarnation = 1 } ∷ []
 its_sessions = refl
 
 its_fourth_request : request_at script 4 ≡ Some (lines.OpenDisk 1 (97 ∷ []) None)

@@ -7,11 +7,11 @@ use Rattle.cluster_script.specs.declared.statement.Statement.{Statement}
 use Rattle.cluster_script.specs.declared.statement.Statement.TheVariants as lines
 use Rattle.cluster_script.specs.declared.fault.LineCause.{LineCause}
 use Rattle.cluster_script.specs.declared.fault.LineCause.TheVariants as causes
-use Rattle.cluster_script.specs.Words.{words_of, keyword_at, name_at}
-use Rattle.cluster_script.specs.Numbers.{scaled, size_of, number_at, blocks_at}
+use Rattle.cluster_script.specs.Words.{words_of, keyword_at, name_word_at}
+use Rattle.cluster_script.specs.Numbers.{scaled_number, size_of_word, plain_number_at, blocks_at}
 use Rattle.cluster_script.specs.Requests as requests
 use Rattle.cluster_script.specs.ClusterLines as cluster
-use Rattle.cluster_script.specs.Script.{asking, asked_at, told_at, statement_at, words_read}
+use Rattle.cluster_script.specs.Script.{asking_session, session_request_at, statement_behind_cluster, statement_at, statement_of_words}
 
 -- a line, and what it is read as
 abbrev Row : Type 0
@@ -19,7 +19,7 @@ Row = List ℕ × Result (Option Statement) LineCause
 
 -- each line of a table is read behind these statements as the table says
 abbrev AreRead : List Statement → List Row → Type 0
-AreRead before table = map (λ (row : Row). words_read statement_at before (words_of row.0)) table ≡ map (λ (row : Row). row.1) table
+AreRead before table = map (λ (row : Row). statement_of_words statement_at before (words_of row.0)) table ≡ map (λ (row : Row). row.1) table
 
 -- three nodes, of which one is failed, a fourth that joins, a session, and 9,000 losses of the phase
 abbrev cluster_so_far : List Statement
@@ -150,13 +150,13 @@ first_lines =
     []
 
 lines_are_read : AreRead cluster_so_far lines_of_a_cluster
-unfolding words_read statement_at cluster.setting_at told_at cluster.zone_at cluster.happening_at asked_at cluster.barrier_at cluster.session_at cluster.fail_at cluster.reweight_at cluster.back_at cluster.lose_at asking cluster.join_at cluster.followed_at cluster.alone_at number_at cluster.there_at scaled keyword_at requests.request_at requests.verb_at requests.create_at requests.open_at requests.close_at requests.read_at requests.write_at requests.copy_verb_at name_at requests.policy_at requests.disk_at requests.span_at requests.snapshot_at requests.clone_at requests.delete_at blocks_at requests.strips_in requests.tag_at size_of requests.pattern_at requests.named_pattern_at requests.byte_at requests.copies_in
+unfolding statement_of_words statement_at cluster.setting_at statement_behind_cluster cluster.zone_at cluster.happening_at session_request_at cluster.barrier_at cluster.session_line_at cluster.fail_at cluster.reweight_at cluster.back_at cluster.lose_at asking_session cluster.join_at cluster.followed_at cluster.alone_at plain_number_at cluster.there_at scaled_number keyword_at requests.vdi_request_at requests.verb_at requests.create_request_at requests.open_request_at requests.close_request_at requests.read_request_at requests.write_request_at requests.copy_verb_at name_word_at requests.policy_option_at requests.disk_words_at requests.span_at requests.snapshot_request_at requests.clone_request_at requests.delete_request_at blocks_at requests.strips_in requests.tag_at size_of_word requests.pattern_at requests.named_pattern_at requests.pattern_byte_at requests.copies_in
 lines_are_read = refl
 
 settings_are_read : AreRead (lines.Cluster 3 ∷ lines.Zone 0 9 ∷ []) lines_behind_settings
-unfolding words_read statement_at cluster.setting_at cluster.zone_at told_at number_at cluster.happening_at scaled cluster.session_at keyword_at cluster.there_at cluster.barrier_at cluster.followed_at cluster.alone_at
+unfolding statement_of_words statement_at cluster.setting_at cluster.zone_at statement_behind_cluster plain_number_at cluster.happening_at scaled_number cluster.session_line_at keyword_at cluster.there_at cluster.barrier_at cluster.followed_at cluster.alone_at
 settings_are_read = refl
 
 the_first_line_is_read : AreRead [] first_lines
-unfolding words_read statement_at cluster.setting_at told_at cluster.zone_at number_at scaled
+unfolding statement_of_words statement_at cluster.setting_at statement_behind_cluster cluster.zone_at plain_number_at scaled_number
 the_first_line_is_read = refl

@@ -20,8 +20,8 @@ use Rattle.object_id.specs.declared.policy.Policy.{Policy}
 use Rattle.object_id.specs.declared.policy.Policy.TheVariants.{Copies, Coded}
 use Rattle.object_id.specs.Policy.{is_width, IsPolicy}
 use Rattle.cluster_script.specs.Words.{Word, has_bytes, lines_of, words_of, is_name_byte}
-use Rattle.cluster_script.specs.Numbers.{is_digits, digits_value, scaled, number_of, last_byte, size_of}
-use Rattle.cluster_script.specs.Requests.{is_colon, strips_in, copies_in, policy_of}
+use Rattle.cluster_script.specs.Numbers.{is_digits, digits_value, scaled_number, number_of, last_byte, size_of_word}
+use Rattle.cluster_script.specs.Requests.{is_colon, strips_in, copies_in, policy_of_word}
 use Rattle.cluster_script.specs.Writing.{policy_word}
 use Rattle.cluster_script.proofs.Pieces.{is_space, first_kept}
 use Rattle.cluster_script.proofs.LineSteps.{is_feed}
@@ -137,14 +137,14 @@ value-of-decimal n lt = digits_value-decimal numerals n lt
 
 -- the digits that are a number are read as it
 pub decimal-is-number : (n : ℕ) → n < 2 ^ 64 → number_of (decimal n) ≡ Ok n
-unfolding scaled
+unfolding scaled_number
 decimal-is-number n lt =
     let same : digits_value (decimal n) * 1 ≡ n = omega (arith, value-of-decimal n lt) in
     rw (digits-of-decimal n lt, same, lt-ltb n (2 ^ 64) lt) refl
 
 -- and as a size, since no suffix is a digit
-pub decimal-is-size : (n : ℕ) → n < 2 ^ 64 → size_of (decimal n) ≡ Ok n
-unfolding size_of
+pub decimal-is-size : (n : ℕ) → n < 2 ^ 64 → size_of_word (decimal n) ≡ Ok n
+unfolding size_of_word
 decimal-is-size n lt =
     let some : 0 < length (decimal n) = (decimal_is_IsNumeral n lt).0.0 in
     let last = digit-of n (length (decimal n) - 1) lt (omega (arith, some)) in
@@ -184,7 +184,7 @@ width-at-most : (d : ℕ) → is_width d ≡ true → d ≤ 16
 width-at-most d is = grind (arith, is)
 
 -- a policy's word is read as it
-pub policy-is-read : (policy : Policy) → IsPolicy policy → policy_of (policy_word policy) ≡ Ok policy
+pub policy-is-read : (policy : Policy) → IsPolicy policy → policy_of_word (policy_word policy) ≡ Ok policy
 unfolding strips_in copies_in
 policy-is-read (Copies copies) is =
     let lt : copies < 2 ^ 64 = omega (arith, is.1) in

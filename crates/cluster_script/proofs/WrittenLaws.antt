@@ -7,23 +7,23 @@ use Rattle.cluster_script.specs.declared.statement.Pattern.{Pattern}
 use Rattle.cluster_script.specs.declared.statement.Pattern.TheVariants as patterns
 use Rattle.cluster_script.specs.declared.statement.Statement.{Statement}
 use Rattle.cluster_script.specs.declared.statement.Statement.TheVariants.{Cluster, Vnodes, Tries, Limit, Session, Create, OpenDisk, Close, Read, Write, Snapshot, Clone, Delete, Fail, Join, Lose, Settle, ListNodes, ListVdis, ClusterInfo, Dump, Zone, Reweight, Back}
-use Rattle.cluster_script.specs.OneDisk.{IsName, IsSpan}
-use Rattle.cluster_script.specs.Language.{MayAsk, IsTag, MayStand, EachMayStand, IsScript}
+use Rattle.cluster_script.specs.OneDisk.{IsPrintedName, IsSpan}
+use Rattle.cluster_script.specs.Language.{MayAsk, IsPrintedTag, MayStand, EachMayStand, IsScript}
 use Rattle.cluster_script.specs.Words.{Word, lines_of}
 use Rattle.cluster_script.specs.Script.{script_in}
-use Rattle.cluster_script.specs.Spelling.{IsNumber, IsOneNumber, IsTwoNumbers, IsAsked, IsAskedOfDisk, IsPatternWords, IsSpelled, IsLine, AreLines, statements_said}
+use Rattle.cluster_script.specs.Spelling.{IsNumber, IsOneNumber, IsTwoNumbers, IsRequestWords, IsAskedOfDisk, IsPatternWords, IsSpelled, IsLine, AreLines, statements_said}
 use Rattle.cluster_script.specs.Writing.{policy_word, tag_words, asked_words, words_for, text_for}
-use Rattle.cluster_script.proofs.ScriptFacts.{declared-session, used-node, failed-node}
+use Rattle.cluster_script.proofs.ScriptFacts.{is_session_declared-session, used-node, failed-node}
 use Rattle.cluster_script.proofs.WritingLemmas.{is_word, are_words, printed-is-word, words-joined, joined-text, joined-line, decimal-is-number, decimal-is-size, decimal-is-word, policy-is-read, policy-is-word}
 use Rattle.cluster_script.proofs.SpelledLemmas.{each-printed}
-use Rattle.cluster_script.proofs.TextLaws.{script-added, text-script}
+use Rattle.cluster_script.proofs.TextLaws.{script-with_statement, text-script}
 
 -- the words for a statement spell it, and each is a word
 abbrev IsWritten : Statement → Type 0
 IsWritten s = IsSpelled s (words_for s) × (are_words (words_for s) ≡ true)
 
 -- a name is a word
-name-word : (name : Word) → IsName name → is_word name ≡ true
+name-word : (name : Word) → IsPrintedName name → is_word name ≡ true
 name-word name named = printed-is-word name named.some (each-printed name named.printed)
 
 -- a keyword and numbers
@@ -41,18 +41,18 @@ two-numbers keyword first second is first_lt second_lt = (
 
 -- the number of a session that may ask is small
 session-below : (before : List Statement) (session : ℕ) → IsScript before → MayAsk before session → session < 2 ^ 64
-session-below before session script may = let most = (declared-session before session script may.declared).0.1 in omega (arith, most)
+session-below before session script may = let most = (is_session_declared-session before session script may.declared).0.1 in omega (arith, most)
 
 -- what a session asks, in words
 asked : (before : List Statement) (session : ℕ) (verb : Word) (rest : List Word) → IsScript before → MayAsk before session
     → are_words (verb ∷ rest) ≡ true
-    → IsAsked session verb rest (asked_words session verb rest) × (are_words (asked_words session verb rest) ≡ true)
+    → IsRequestWords session verb rest (asked_words session verb rest) × (are_words (asked_words session verb rest) ≡ true)
 asked before session verb rest script may are =
     let lt = session-below before session script may in
     ((decimal session, refl, decimal-is-number session lt), rw (decimal-is-word session lt) are)
 
 asked-of-disk : (before : List Statement) (session : ℕ) (verb name : Word) (tag : Option Word) → IsScript before → MayAsk before session
-    → is_word verb ≡ true → IsName name → IsTag tag
+    → is_word verb ≡ true → IsPrintedName name → IsPrintedTag tag
     → IsAskedOfDisk session verb name tag (asked_words session verb (tag_words tag ++ name ∷ []))
     × (are_words (asked_words session verb (tag_words tag ++ name ∷ [])) ≡ true)
 asked-of-disk before session verb name None script may is named tagged =
@@ -177,7 +177,7 @@ lines-for before [] script each = (record { text = is_utf8-from_IsUtf8 [] IsUtf8
 lines-for before (s ∷ rest) script each =
     let are = (written before s script each.0).1 in
     subst (λ (lines : List (List ℕ)). AreLines lines (said_by (s ∷ rest))) (sym (joined-line (words_for s) (text_for rest) are))
-    (line-for before s script each.0, lines-for (before ++ s ∷ []) rest (script-added before (Some s) script each.0) each.1)
+    (line-for before s script each.0, lines-for (before ++ s ∷ []) rest (script-with_statement before (Some s) script each.0) each.1)
 
 -- the text of a script is read as it
 pub written-script : (statements : List Statement) → IsScript statements → script_in (text_for statements) ≡ Ok statements

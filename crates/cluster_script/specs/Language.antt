@@ -7,11 +7,11 @@ use Rattle.cluster_script.specs.declared.statement.Pattern.TheVariants as patter
 use Rattle.cluster_script.specs.declared.statement.Statement.{Statement}
 use Rattle.cluster_script.specs.declared.statement.Statement.TheVariants.{Cluster, Vnodes, Tries, Limit, Session, Create, OpenDisk, Close, Read, Write, Snapshot, Clone, Delete, Fail, Join, Lose, Settle, ListNodes, ListVdis, ClusterInfo, Dump, Zone, Reweight, Back}
 use Rattle.cluster_script.specs.declared.limits.TheConstants.{NODES_MAX, VNODES_MAX, TRIES_MAX, LIMIT_MAX, SESSIONS_MAX, LOSSES_MAX, REQUESTS_MAX, READ_BYTES_MAX, WRITE_BYTES_MAX}
-use Rattle.cluster_script.specs.Statements.{is_setting, is_cluster, declared, is_request, read_bytes, write_bytes, has}
-use Rattle.cluster_script.specs.OneDisk.{IsName, IsSpan}
+use Rattle.cluster_script.specs.Statements.{is_setting, is_cluster, is_session_declared, is_request, read_bytes, write_bytes, has}
+use Rattle.cluster_script.specs.OneDisk.{IsPrintedName, IsSpan}
 use Rattle.cluster_script.specs.Settings.{is_set, nodes_set, vnodes_set, tries_set, limit_set, zone_set}
 use Rattle.cluster_script.specs.Phases.{losses_from}
-use Rattle.cluster_script.specs.Nodes.{is_used, is_failed, IsThere}
+use Rattle.cluster_script.specs.Nodes.{is_node_used, is_failed, IsNodeThere}
 
 -- a setting stands before every other statement, and nothing before it sets the same
 pub record MaySet (before : List Statement) (set : Statement → Option ℕ) : Type 0 where
@@ -24,13 +24,13 @@ HasCluster before = has is_cluster before ≡ true
 
 -- one request more of a session that is declared, so behind a `cluster`
 pub record MayAsk (before : List Statement) (session : ℕ) : Type 0 where
-  pub declared : declared session before ≡ true
+  pub declared : is_session_declared session before ≡ true
   pub room : count_by is_request before < REQUESTS_MAX
 
 -- a tag, where one is given, is printed like a name
-abbrev pub IsTag : Option (List ℕ) → Type 0
-IsTag None = Unit {0}
-IsTag (Some tag) = IsName tag
+abbrev pub IsPrintedTag : Option (List ℕ) → Type 0
+IsPrintedTag None = Unit {0}
+IsPrintedTag (Some tag) = IsPrintedName tag
 
 -- the byte that a pattern says is one
 abbrev pub IsByte : Pattern → Type 0
@@ -44,20 +44,20 @@ MayStand before (Vnodes vnodes) = MaySet before vnodes_set × (1 ≤ vnodes) × 
 MayStand before (Tries tries) = MaySet before tries_set × (1 ≤ tries) × (tries ≤ TRIES_MAX)
 MayStand before (Limit limit) = MaySet before limit_set × (1 ≤ limit) × (limit ≤ LIMIT_MAX)
 MayStand before (Session session node) =
-    HasCluster before × (declared session before ≡ false) × (1 ≤ session) × (session ≤ SESSIONS_MAX) × IsThere node before
+    HasCluster before × (is_session_declared session before ≡ false) × (1 ≤ session) × (session ≤ SESSIONS_MAX) × IsNodeThere node before
 MayStand before (Create session policy shift name size) =
-    MayAsk before session × IsName name × IsSpec (record { size = size; policy = policy; shift = shift })
-MayStand before (OpenDisk session name tag) = MayAsk before session × IsName name × IsTag tag
+    MayAsk before session × IsPrintedName name × IsSpec (record { size = size; policy = policy; shift = shift })
+MayStand before (OpenDisk session name tag) = MayAsk before session × IsPrintedName name × IsPrintedTag tag
 MayStand before (Close session) = MayAsk before session
 MayStand before (Read session offset length) =
     MayAsk before session × IsSpan offset length × (sum_by read_bytes before + length ≤ READ_BYTES_MAX)
 MayStand before (Write session offset length pattern) =
     MayAsk before session × IsSpan offset length × IsByte pattern × (sum_by write_bytes before + length ≤ WRITE_BYTES_MAX)
-MayStand before (Snapshot session tag) = MayAsk before session × IsName tag
-MayStand before (Clone session base tag name) = MayAsk before session × IsName base × IsName tag × IsName name
-MayStand before (Delete session name tag) = MayAsk before session × IsName name × IsTag tag
-MayStand before (Fail node) = HasCluster before × IsThere node before
-MayStand before (Join node) = HasCluster before × (node < NODES_MAX) × (is_used node before ≡ false)
+MayStand before (Snapshot session tag) = MayAsk before session × IsPrintedName tag
+MayStand before (Clone session base tag name) = MayAsk before session × IsPrintedName base × IsPrintedName tag × IsPrintedName name
+MayStand before (Delete session name tag) = MayAsk before session × IsPrintedName name × IsPrintedTag tag
+MayStand before (Fail node) = HasCluster before × IsNodeThere node before
+MayStand before (Join node) = HasCluster before × (node < NODES_MAX) × (is_node_used node before ≡ false)
 MayStand before (Lose count) = HasCluster before × (losses_from 0 before + count ≤ LOSSES_MAX)
 MayStand before Settle = HasCluster before
 MayStand before ListNodes = HasCluster before
@@ -65,7 +65,7 @@ MayStand before ListVdis = HasCluster before
 MayStand before ClusterInfo = HasCluster before
 MayStand before Dump = HasCluster before
 MayStand before (Zone node zone) = MaySet before (zone_set node) × (node < NODES_MAX) × (zone < NODES_MAX)
-MayStand before (Reweight node vnodes) = HasCluster before × IsThere node before × (1 ≤ vnodes) × (vnodes ≤ VNODES_MAX)
+MayStand before (Reweight node vnodes) = HasCluster before × IsNodeThere node before × (1 ≤ vnodes) × (vnodes ≤ VNODES_MAX)
 MayStand before (Back node) = HasCluster before × (is_failed node before ≡ true)
 
 -- each statement may stand after those before it

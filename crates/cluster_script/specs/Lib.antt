@@ -1,12 +1,12 @@
 pub mod Statements
 pub mod Settings
-pub mod Asked
+pub mod NumberedRequests
 pub mod Phases
 pub mod Sessions
 pub mod Nodes
 pub mod OneDisk
 pub mod Language
-pub mod Reading
+pub mod ReadResults
 pub mod Words
 pub mod Numbers
 pub mod Requests

@@ -5,14 +5,14 @@ use Rattle.cluster_script.specs.declared.statement.Statement.{Statement}
 use Rattle.cluster_script.specs.declared.statement.Statement.TheVariants.{Cluster, Fail, Join, Back}
 
 -- a statement makes this node an opening member, or joins it
-abbrev pub uses : ℕ → Statement → Bool
-uses node (Cluster nodes) = nat_lt node nodes
-uses node (Join number) = number == node
-uses node s = false
+abbrev pub uses_node : ℕ → Statement → Bool
+uses_node node (Cluster nodes) = nat_lt node nodes
+uses_node node (Join number) = number == node
+uses_node node s = false
 
 -- a node is an opening member, or was named by a join
-abbrev pub is_used : ℕ → List Statement → Bool
-is_used node before = list_any (uses node) before
+abbrev pub is_node_used : ℕ → List Statement → Bool
+is_node_used node before = list_any (uses_node node) before
 
 -- whether a node is failed after a statement; `fail` and `back` decide, and no other one
 abbrev pub failed_by : ℕ → Bool → Statement → Bool
@@ -30,10 +30,10 @@ abbrev pub is_failed : ℕ → List Statement → Bool
 is_failed node before = failed_from node false before
 
 -- whether a node is there
-abbrev pub is_there : ℕ → List Statement → Bool
-is_there node before = is_used node before && not (is_failed node before)
+abbrev pub is_node_there : ℕ → List Statement → Bool
+is_node_there node before = is_node_used node before && not (is_failed node before)
 
 -- a node that is there: it was used, and isn't failed
-pub record IsThere (node : ℕ) (before : List Statement) : Type 0 where
-  pub used : is_used node before ≡ true
+pub record IsNodeThere (node : ℕ) (before : List Statement) : Type 0 where
+  pub used : is_node_used node before ≡ true
   pub stands : is_failed node before ≡ false

@@ -5,7 +5,7 @@ use Rattle.std.specs.Char.{is_ascii_digit}
 use Rattle.cluster_script.specs.declared.fault.LineCause.{LineCause}
 use Rattle.cluster_script.specs.declared.fault.LineCause.TheVariants as causes
 use Rattle.cluster_script.specs.declared.limits.TheConstants.{BLOCK}
-use Rattle.cluster_script.specs.Reading.{◌>>=◌}
+use Rattle.cluster_script.specs.ReadResults.{◌>>=◌}
 use Rattle.cluster_script.specs.Words.{Word, has_bytes, word_at}
 
 -- digits alone, and at least one; 48 is `0`
@@ -17,12 +17,13 @@ abbrev pub digits_value : Word → ℕ
 digits_value digits = fold (λ value digit. value * 10 + (digit - 48)) 0 digits
 
 -- so many times the number that the digits are
-unfoldable pub scaled : ℕ → Word → Result ℕ LineCause
-scaled scale word = if is_digits word && nat_lt (digits_value word * scale) (2 ^ 64) then Ok (digits_value word * scale) else Err causes.Number
+unfoldable pub scaled_number : ℕ → Word → Result ℕ LineCause
+scaled_number scale word = if is_digits word && nat_lt (digits_value word * scale) (2 ^ 64) then Ok (digits_value word * scale)
+    else Err causes.Number
 
 -- the number that a word is
 abbrev pub number_of : Word → Result ℕ LineCause
-number_of word = scaled 1 word
+number_of word = scaled_number 1 word
 
 -- where a suffix stands
 abbrev pub last_byte : Word → ℕ
@@ -33,34 +34,34 @@ abbrev pub front : Word → Word
 front word = take (length word - 1) word
 
 -- the size that a word is: K, M and G (75, 77 and 71) stand for 2^10, 2^20 and 2^30
-unfoldable pub size_of : Word → Result ℕ LineCause
-size_of word =
-    if last_byte word == 75 then scaled (2 ^ 10) (front word)
-    else if last_byte word == 77 then scaled (2 ^ 20) (front word)
-    else if last_byte word == 71 then scaled (2 ^ 30) (front word)
+unfoldable pub size_of_word : Word → Result ℕ LineCause
+size_of_word word =
+    if last_byte word == 75 then scaled_number (2 ^ 10) (front word)
+    else if last_byte word == 77 then scaled_number (2 ^ 20) (front word)
+    else if last_byte word == 71 then scaled_number (2 ^ 30) (front word)
     else number_of word
 
 -- a number within limits
-abbrev pub ranged : ℕ → ℕ → ℕ → Result ℕ LineCause
-ranged low high number = if nat_le low number && nat_le number high then Ok number else Err causes.Range
+abbrev pub number_in_range : ℕ → ℕ → ℕ → Result ℕ LineCause
+number_in_range low high number = if nat_le low number && nat_le number high then Ok number else Err causes.Range
 
 -- a number of whole blocks
-abbrev pub aligned : ℕ → Result ℕ LineCause
-aligned number = if number % BLOCK == 0 then Ok number else Err causes.Unaligned
+abbrev pub aligned_number : ℕ → Result ℕ LineCause
+aligned_number number = if number % BLOCK == 0 then Ok number else Err causes.Unaligned
 
 -- a plain number within limits, and the words after it
-unfoldable pub number_at : ℕ → ℕ → List Word → Result (ℕ × List Word) LineCause
-number_at low high words = do
+unfoldable pub plain_number_at : ℕ → ℕ → List Word → Result (ℕ × List Word) LineCause
+plain_number_at low high words = do
   word ← word_at words
   number ← number_of word.0
-  within ← ranged low high number
+  within ← number_in_range low high number
   Ok (within, word.1)
 
 -- a size in whole blocks within limits, and the words after it
 unfoldable pub blocks_at : ℕ → ℕ → List Word → Result (ℕ × List Word) LineCause
 blocks_at low high words = do
   word ← word_at words
-  number ← size_of word.0
-  within ← ranged low high number
-  whole ← aligned within
+  number ← size_of_word word.0
+  within ← number_in_range low high number
+  whole ← aligned_number within
   Ok (whole, word.1)

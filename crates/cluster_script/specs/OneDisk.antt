@@ -6,10 +6,10 @@ use Rattle.cluster_script.specs.declared.statement.Pattern.TheVariants.{Fill, St
 use Rattle.cluster_script.specs.declared.statement.Statement.{Statement}
 use Rattle.cluster_script.specs.declared.statement.Statement.TheVariants.{Cluster, Session, Create, OpenDisk, Close, Read, Write}
 use Rattle.cluster_script.specs.declared.limits.TheConstants.{BLOCK, NAME_BYTES_MAX, SIZE_MAX, LENGTH_MAX, REQUESTS_MAX, READ_BYTES_MAX, WRITE_BYTES_MAX, SHIFT_DEFAULT}
-use Rattle.cluster_script.specs.Statements.{is_cluster, declared, is_open, is_close, is_request, read_bytes, write_bytes, has, requests_of, disk_name, disk_size}
+use Rattle.cluster_script.specs.Statements.{is_cluster, is_session_declared, is_open, is_close, is_request, read_bytes, write_bytes, has, requests_of, disk_name, disk_size}
 
 -- 1 to 255 printed bytes without a blank, of which the first isn't `-` (45)
-pub record IsName (name : List ℕ) : Type 0 where
+pub record IsPrintedName (name : List ℕ) : Type 0 where
   pub some : 1 ≤ length name
   pub short : length name ≤ NAME_BYTES_MAX
   pub printed : All (λ byte. (33 ≤ byte) × (byte ≤ 126)) name
@@ -35,7 +35,7 @@ IsPattern (Step byte) = ⊥
 -- one request more of session 1, which is declared
 pub record MayRequest (before : List Statement) (session : ℕ) : Type 0 where
   pub one : session ≡ 1
-  pub declared : declared session before ≡ true
+  pub declared : is_session_declared session before ≡ true
   pub room : count_by is_request before < REQUESTS_MAX
 
 -- the disk is made and opened, and not closed
@@ -49,10 +49,10 @@ pub record IsDiskOpen (before : List Statement) : Type 0 where
 abbrev pub MayFollow : List Statement → Statement → Type 0
 MayFollow before (Cluster nodes) = (before ≡ []) × (nodes ≡ 1)
 MayFollow before (Session session node) =
-    (has is_cluster before ≡ true) × (declared session before ≡ false) × (session ≡ 1) × (node ≡ 0)
+    (has is_cluster before ≡ true) × (is_session_declared session before ≡ false) × (session ≡ 1) × (node ≡ 0)
 MayFollow before (Create session policy shift name size) =
     MayRequest before session × (requests_of before ≡ []) × (policy ≡ Copies 1) × (shift ≡ SHIFT_DEFAULT)
-    × IsName name × IsDiskSize size
+    × IsPrintedName name × IsDiskSize size
 MayFollow before (OpenDisk session name tag) =
     MayRequest before session × (disk_name before ≡ Some name) × (has is_open before ≡ false) × (tag ≡ None)
 MayFollow before (Close session) = MayRequest before session × IsDiskOpen before

@@ -9,10 +9,10 @@ use Rattle.cluster_script.specs.declared.fault.LineCause.{LineCause}
 use Rattle.cluster_script.specs.declared.fault.LineCause.TheVariants as causes
 use Rattle.cluster_script.specs.declared.limits.TheConstants.{BLOCK, SIZE_MAX, SHIFT_DEFAULT}
 use Rattle.cluster_script.specs.Statements.{is_create, is_open, is_close, is_request, has, disk_name}
-use Rattle.cluster_script.specs.Reading.{◌>>=◌}
-use Rattle.cluster_script.specs.Words.{Word, word_at, keyword_at, name_at, end_of}
-use Rattle.cluster_script.specs.Numbers.{number_at, blocks_at}
-use Rattle.cluster_script.specs.Requests.{within, close_at, span_at, read_at}
+use Rattle.cluster_script.specs.ReadResults.{◌>>=◌}
+use Rattle.cluster_script.specs.Words.{Word, word_at, keyword_at, name_word_at, end_of_words}
+use Rattle.cluster_script.specs.Numbers.{plain_number_at, blocks_at}
+use Rattle.cluster_script.specs.Requests.{request_within_limits, close_request_at, span_at, read_request_at}
 
 -- the disk is made and opened, and not closed
 abbrev pub is_disk_open : List Statement → Bool
@@ -23,51 +23,53 @@ abbrev pub is_disk_named : Word → List Statement → Bool
 is_disk_named name before = option_map_or (λ disk. bytes_eq disk name) (disk_name before) false
 
 -- `-c 1 NAME SIZE`: the first request
-unfoldable pub create_at : List Statement → ℕ → List Word → Result Statement LineCause
-create_at before session words = do
+unfoldable pub one_disk_create_at : List Statement → ℕ → List Word → Result Statement LineCause
+one_disk_create_at before session words = do
   option ← keyword_at (codes "-c") words
-  copies ← number_at 1 1 option
-  name ← name_at copies.1
+  copies ← plain_number_at 1 1 option
+  name ← name_word_at copies.1
   size ← blocks_at BLOCK SIZE_MAX name.1
-  end ← end_of size.1
-  within before (Create session (Copies copies.0) SHIFT_DEFAULT name.0 size.0)
+  end ← end_of_words size.1
+  request_within_limits before (Create session (Copies copies.0) SHIFT_DEFAULT name.0 size.0)
 
 -- `NAME`: opens the disk that was made
-unfoldable pub open_at : List Statement → ℕ → List Word → Result Statement LineCause
-open_at before session words = do
-  name ← name_at words
+unfoldable pub one_disk_open_at : List Statement → ℕ → List Word → Result Statement LineCause
+one_disk_open_at before session words = do
+  name ← name_word_at words
   rest ← if is_disk_named name.0 before then Ok name.1 else Err causes.Word
-  end ← end_of rest
-  within before (OpenDisk session name.0 None)
+  end ← end_of_words rest
+  request_within_limits before (OpenDisk session name.0 None)
 
 -- `OFFSET LENGTH fill BYTE`
-unfoldable pub write_at : List Statement → ℕ → List Word → Result Statement LineCause
-write_at before session words = do
+unfoldable pub one_disk_write_at : List Statement → ℕ → List Word → Result Statement LineCause
+one_disk_write_at before session words = do
   span ← span_at words
   fill ← keyword_at (codes "fill") span.2
-  byte ← number_at 0 255 fill
-  end ← end_of byte.1
-  within before (Write session span.0 span.1 (Fill byte.0))
+  byte ← plain_number_at 0 255 fill
+  end ← end_of_words byte.1
+  request_within_limits before (Write session span.0 span.1 (Fill byte.0))
 
 -- after the open the disk is read and written, and at last closed
 unfoldable pub disk_verb_at : List Statement → ℕ → Word → List Word → Result Statement LineCause
 disk_verb_at before session verb words =
     if not (is_disk_open before) then Err causes.Word
-    else if bytes_eq verb (codes "close") then close_at before session words
-    else if bytes_eq verb (codes "read") then read_at before session words
-    else if bytes_eq verb (codes "write") then write_at before session words
+    else if bytes_eq verb (codes "close") then close_request_at before session words
+    else if bytes_eq verb (codes "read") then read_request_at before session words
+    else if bytes_eq verb (codes "write") then one_disk_write_at before session words
     else Err causes.Word
 
 -- the first request is a create and the second an open; a verb out of its turn is a bad word
-unfoldable pub verb_at : List Statement → ℕ → Word → List Word → Result Statement LineCause
-verb_at before session verb words =
-    if bytes_eq verb (codes "create") then (if count_by is_request before == 0 then create_at before session words else Err causes.Word)
-    else if bytes_eq verb (codes "open") then (if has is_create before && not (has is_open before) then open_at before session words else Err causes.Word)
+unfoldable pub one_disk_verb_at : List Statement → ℕ → Word → List Word → Result Statement LineCause
+one_disk_verb_at before session verb words =
+    if bytes_eq verb (codes "create") then (if count_by is_request before == 0 then one_disk_create_at before session words
+    else Err causes.Word)
+    else if bytes_eq verb (codes "open") then (if has is_create before && not (has is_open before)
+    then one_disk_open_at before session words else Err causes.Word)
     else disk_verb_at before session verb words
 
 -- `vdi` and the verb
-unfoldable pub request_at : List Statement → ℕ → List Word → Result Statement LineCause
-request_at before session words = do
+unfoldable pub one_disk_request_at : List Statement → ℕ → List Word → Result Statement LineCause
+one_disk_request_at before session words = do
   vdi ← keyword_at (codes "vdi") words
   verb ← word_at vdi
-  verb_at before session verb.0 verb.1
+  one_disk_verb_at before session verb.0 verb.1

@@ -44,14 +44,14 @@ pub record Phase : Type 0 where
   pub barrier : Statement
 
 -- a statement before the stretches behind it: a barrier is a stretch's end, any other one belongs to the first stretch
-abbrev pub stretched : Statement → List (List Statement) → List (List Statement)
-stretched s [] = (s ∷ []) ∷ []
-stretched s (first ∷ rest) = if is_barrier s then (s ∷ []) ∷ first ∷ rest else (s ∷ first) ∷ rest
+abbrev pub stretches_with : Statement → List (List Statement) → List (List Statement)
+stretches_with s [] = (s ∷ []) ∷ []
+stretches_with s (first ∷ rest) = if is_barrier s then (s ∷ []) ∷ first ∷ rest else (s ∷ first) ∷ rest
 
 -- the statements in stretches, each up to its barrier; the last one may have none
 abbrev pub stretches : List Statement → List (List Statement)
 stretches [] = []
-stretches (s ∷ rest) = stretched s (stretches rest)
+stretches (s ∷ rest) = stretches_with s (stretches rest)
 
 -- the phase that a stretch is, whose first request has this number; without a barrier it ends by settling
 abbrev pub phase_from : ℕ → List Statement → Phase

@@ -12,8 +12,8 @@ use Rattle.cluster_script.specs.declared.fault.LineCause.{LineCause}
 use Rattle.cluster_script.specs.declared.limits.TheConstants.{SHIFT_DEFAULT}
 use Rattle.cluster_script.specs.Language.{IsScript}
 use Rattle.cluster_script.specs.Words.{Word, lines_of, words_of, says_nothing}
-use Rattle.cluster_script.specs.Numbers.{number_of, size_of}
-use Rattle.cluster_script.specs.Requests.{policy_of}
+use Rattle.cluster_script.specs.Numbers.{number_of, size_of_word}
+use Rattle.cluster_script.specs.Requests.{policy_of_word}
 use Rattle.cluster_script.specs.Script.{line_at, statement_at}
 
 -- digits that are this number
@@ -22,11 +22,11 @@ IsNumber number word = number_of word ≡ Ok number
 
 -- digits and a suffix, where there is one, that are this size
 abbrev pub IsSize : ℕ → Word → Type 0
-IsSize size word = size_of word ≡ Ok size
+IsSize size word = size_of_word word ≡ Ok size
 
 -- a number of copies, or `D:P`
 abbrev pub IsPolicyWord : Policy → Word → Type 0
-IsPolicyWord policy word = policy_of word ≡ Ok policy
+IsPolicyWord policy word = policy_of_word word ≡ Ok policy
 
 -- an option: its name and a word that spells the value, or nothing for its default
 abbrev pub IsOption : {A : Type 0} → Word → (A → Word → Type 0) → A → A → List Word → Type 0
@@ -43,13 +43,13 @@ IsTwoNumbers keyword first second words =
     (a b : Word) × (words ≡ keyword ∷ a ∷ b ∷ []) × IsNumber first a × IsNumber second b
 
 -- what a session asks: its number, `vdi`, a verb, and the words behind it
-abbrev pub IsAsked : ℕ → Word → List Word → List Word → Type 0
-IsAsked session verb rest words = (word : Word) × (words ≡ word ∷ codes "vdi" ∷ verb ∷ rest) × IsNumber session word
+abbrev pub IsRequestWords : ℕ → Word → List Word → List Word → Type 0
+IsRequestWords session verb rest words = (word : Word) × (words ≡ word ∷ codes "vdi" ∷ verb ∷ rest) × IsNumber session word
 
 -- `[-s TAG] NAME`, behind a verb
 abbrev pub IsAskedOfDisk : ℕ → Word → Word → Option Word → List Word → Type 0
-IsAskedOfDisk session verb name None words = IsAsked session verb (name ∷ []) words
-IsAskedOfDisk session verb name (Some tag) words = IsAsked session verb (codes "-s" ∷ tag ∷ name ∷ []) words
+IsAskedOfDisk session verb name None words = IsRequestWords session verb (name ∷ []) words
+IsAskedOfDisk session verb name (Some tag) words = IsRequestWords session verb (codes "-s" ∷ tag ∷ name ∷ []) words
 
 -- `fill BYTE` or `step BYTE`
 abbrev pub IsPatternWords : Pattern → Word → Word → Type 0
@@ -65,17 +65,17 @@ IsSpelled (Limit limit) words = IsOneNumber (codes "limit") limit words
 IsSpelled (Session session node) words =
     (a b : Word) × (words ≡ codes "session" ∷ a ∷ codes "node" ∷ b ∷ []) × IsNumber session a × IsNumber node b
 IsSpelled (Create session policy shift name size) words =
-    (c z : List Word) × (word : Word) × IsAsked session (codes "create") (c ++ z ++ name ∷ word ∷ []) words
+    (c z : List Word) × (word : Word) × IsRequestWords session (codes "create") (c ++ z ++ name ∷ word ∷ []) words
     × IsOption (codes "-c") IsPolicyWord (Copies 3) policy c × IsOption (codes "-z") IsNumber SHIFT_DEFAULT shift z × IsSize size word
 IsSpelled (OpenDisk session name tag) words = IsAskedOfDisk session (codes "open") name tag words
-IsSpelled (Close session) words = IsAsked session (codes "close") [] words
+IsSpelled (Close session) words = IsRequestWords session (codes "close") [] words
 IsSpelled (Read session offset length) words =
-    (a b : Word) × IsAsked session (codes "read") (a ∷ b ∷ []) words × IsSize offset a × IsSize length b
+    (a b : Word) × IsRequestWords session (codes "read") (a ∷ b ∷ []) words × IsSize offset a × IsSize length b
 IsSpelled (Write session offset length pattern) words =
-    (a b name byte : Word) × IsAsked session (codes "write") (a ∷ b ∷ name ∷ byte ∷ []) words
+    (a b name byte : Word) × IsRequestWords session (codes "write") (a ∷ b ∷ name ∷ byte ∷ []) words
     × IsSize offset a × IsSize length b × IsPatternWords pattern name byte
-IsSpelled (Snapshot session tag) words = IsAsked session (codes "snapshot") (codes "-s" ∷ tag ∷ []) words
-IsSpelled (Clone session base tag name) words = IsAsked session (codes "clone") (codes "-s" ∷ tag ∷ base ∷ name ∷ []) words
+IsSpelled (Snapshot session tag) words = IsRequestWords session (codes "snapshot") (codes "-s" ∷ tag ∷ []) words
+IsSpelled (Clone session base tag name) words = IsRequestWords session (codes "clone") (codes "-s" ∷ tag ∷ base ∷ name ∷ []) words
 IsSpelled (Delete session name tag) words = IsAskedOfDisk session (codes "delete") name tag words
 IsSpelled (Fail node) words = IsOneNumber (codes "fail") node words
 IsSpelled (Join node) words = IsOneNumber (codes "join") node words
@@ -111,8 +111,8 @@ abbrev pub statements_said : List (Option Statement) → List Statement
 statements_said said = filter_map (λ s. s) said
 
 -- the lines of a text say these statements
-abbrev pub IsText : List ℕ → List Statement → Type 0
-IsText text statements = (said : List (Option Statement)) × AreLines (lines_of text) said × (statements_said said ≡ statements)
+abbrev pub IsScriptText : List ℕ → List Statement → Type 0
+IsScriptText text statements = (said : List (Option Statement)) × AreLines (lines_of text) said × (statements_said said ≡ statements)
 
 -- the first bad line of a text: the lines before it say a script, behind which this line has the cause
 pub record IsBadLine (text : List ℕ) (number : ℕ) (cause : LineCause) : Type 0 where

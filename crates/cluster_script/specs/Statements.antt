@@ -91,8 +91,8 @@ abbrev pub has : (Statement → Bool) → List Statement → Bool
 has kind statements = list_any kind statements
 
 -- whether a session is declared by one of them
-abbrev pub declared : ℕ → List Statement → Bool
-declared number statements = list_any (declares number) statements
+abbrev pub is_session_declared : ℕ → List Statement → Bool
+is_session_declared number statements = list_any (declares number) statements
 
 -- the requests among them, in order
 abbrev pub requests_of : List Statement → List Statement

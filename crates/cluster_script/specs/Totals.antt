@@ -21,8 +21,8 @@ pub record IsTotal (before : List Statement) (totals : Totals) : Type 0 where
   pub writes_most : totals.write_bytes ≤ WRITE_BYTES_MAX
 
 -- the counters with one statement more
-abbrev pub counted : Totals → Statement → Totals
-counted totals s = record {
+abbrev pub totals_after : Totals → Statement → Totals
+totals_after totals s = record {
   settings_only = totals.settings_only && is_setting s;
   has_cluster = totals.has_cluster || is_cluster s;
   has_create = totals.has_create || is_create s;

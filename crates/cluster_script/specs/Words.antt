@@ -4,7 +4,7 @@ use Rattle.std.specs.List.{slice_split, list_all, starts_with}
 use Rattle.cluster_script.specs.declared.fault.LineCause.{LineCause}
 use Rattle.cluster_script.specs.declared.fault.LineCause.TheVariants as causes
 use Rattle.cluster_script.specs.declared.limits.TheConstants.{NAME_BYTES_MAX}
-use Rattle.cluster_script.specs.Reading.{◌>>=◌}
+use Rattle.cluster_script.specs.ReadResults.{◌>>=◌}
 
 -- a word is its bytes
 abbrev pub Word : Type 0
@@ -39,20 +39,21 @@ keyword_at expected words = do
   if bytes_eq word.0 expected then Ok word.1 else Err causes.Word
 
 -- the next word is this very one
-abbrev pub is_next : Word → List Word → Bool
-is_next expected [] = false
-is_next expected (first ∷ rest) = bytes_eq first expected
+abbrev pub is_next_word : Word → List Word → Bool
+is_next_word expected [] = false
+is_next_word expected (first ∷ rest) = bytes_eq first expected
 
 -- an option that may stand there: what is read behind its name, or else its default
-abbrev pub option_at : {A : Type 0} → Word → (List Word → Result (A × List Word) LineCause) → A → List Word → Result (A × List Word) LineCause
-option_at name read default words = if is_next name words then (do
+abbrev pub option_at : {A : Type 0} → Word → (List Word → Result (A × List Word) LineCause) → A → List Word
+    → Result (A × List Word) LineCause
+option_at name read default words = if is_next_word name words then (do
   rest ← keyword_at name words
   read rest) else Ok (default, words)
 
 -- no word is left
-abbrev pub end_of : List Word → Result (Unit {0}) LineCause
-end_of [] = Ok tt
-end_of (first ∷ rest) = Err causes.Word
+abbrev pub end_of_words : List Word → Result (Unit {0}) LineCause
+end_of_words [] = Ok tt
+end_of_words (first ∷ rest) = Err causes.Word
 
 -- 0x21 to 0x7e
 abbrev pub is_name_byte : ℕ → Bool
@@ -60,10 +61,11 @@ is_name_byte byte = nat_le 33 byte && nat_le byte 126
 
 -- 1 to 255 such bytes, of which the first isn't `-`
 abbrev pub is_name : Word → Bool
-is_name word = nat_le 1 (length word) && nat_le (length word) NAME_BYTES_MAX && list_all is_name_byte word && not (starts_with nat_eq word (codes "-"))
+is_name word = nat_le 1 (length word) && nat_le (length word) NAME_BYTES_MAX && list_all is_name_byte word
+    && not (starts_with nat_eq word (codes "-"))
 
 -- a name, and the words after it
-unfoldable pub name_at : List Word → Result (Word × List Word) LineCause
-name_at words = do
+unfoldable pub name_word_at : List Word → Result (Word × List Word) LineCause
+name_word_at words = do
   word ← word_at words
   if is_name word.0 then Ok word else Err causes.Word

@@ -1,11 +1,11 @@
 ghost use Rattle.std.specs.Prelude.{◌≡◌, ◌≤◌, ◌<◌, ◌+◌, ◌^◌, ◌==◌, ◌&&◌, not, false, ◌∷◌, ◌++◌, [], length, count_by, sum_by, Some, IsTrue, OnOk, OnErr};
 ghost use Rattle.std.specs.List.{list_all};
 ghost use Rattle.std.specs.Option.{option_copied};
-ghost use Rattle.cluster_script.specs.Statements.{is_setting, is_cluster, is_create, is_open, is_request, read_bytes, write_bytes, has, requests_of, declares, declared, name_made, disk_name};
+ghost use Rattle.cluster_script.specs.Statements.{is_setting, is_cluster, is_create, is_open, is_request, read_bytes, write_bytes, has, requests_of, declares, is_session_declared, name_made, disk_name};
 ghost use Rattle.cluster_script.specs.OneDisk.{IsDiskOpen, MayFollow, IsOneDiskScript};
 ghost use Rattle.cluster_script.specs.Requests.{has_room};
 ghost use Rattle.cluster_script.specs.OneDiskRequests.{is_disk_open, is_disk_named};
-ghost use Rattle.cluster_script.specs.Totals.{IsTotal, counted};
+ghost use Rattle.cluster_script.specs.Totals.{IsTotal, totals_after};
 
 use crate::limits::{READ_BYTES_MAX, REQUESTS_MAX, WRITE_BYTES_MAX};
 use crate::statement::Statement;
@@ -48,7 +48,7 @@ impl Totals {
         requires requests { self.requests + 1 < 2 ^ 32 }
         requires reads { self.read_bytes + read_bytes s.now < 2 ^ 64 }
         requires writes { self.write_bytes + write_bytes s.now < 2 ^ 64 }
-        ensures { result ≡ counted self s.now }
+        ensures { result ≡ totals_after self s.now }
     {
         match s {
             Statement::Cluster { .. } => Totals {
@@ -194,7 +194,7 @@ impl Draft {
 
     /// Whether a session of this number is declared. Looks at the statements up to its own.
     pub fn declares(&self, session: u64) -> bool
-        ensures declared { result ≡ declared session self.now }
+        ensures declared { result ≡ is_session_declared session self.now }
         // No other session is ever declared.
         ensures one { IsTrue result → session ≡ 1 }
     {
@@ -230,7 +230,7 @@ impl Draft {
 }
 
 fn is_declared(session: u64, before: &[Statement]) -> bool
-    ensures { result ≡ declared session before.now }
+    ensures { result ≡ is_session_declared session before.now }
 {
     for s in before {
         if declares(session, s) {

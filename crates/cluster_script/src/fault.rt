@@ -7,19 +7,21 @@ use thiserror::Error;
 /// What is wrong with the first bad word of a line. Where one word has several causes, the one listed first is given.
 #[derive(Clone, Copy, Debug, PartialEq, Eq)]
 pub enum LineCause {
-    /// A word isn't one of those that may stand there, is missing or too many, or is no name.
+    /// A word isn't one of those that may stand there, is missing or is one too many; a name or tag isn't printed like one; a
+    /// setting stands behind another statement or a second time; a statement that is no setting stands before `cluster`.
     Word = 1,
-    /// A number isn't digits, with its suffix where one is allowed, or isn't below 2^64.
+    /// A number isn't digits, with its suffix if one is allowed, or isn't below 2^64.
     Number = 2,
-    /// A number is outside its limits.
+    /// A number is outside its limits, or two numbers `D:P` are no policy.
     Range = 3,
-    /// A size, offset or length isn't in whole blocks.
+    /// A size, offset or length isn't a multiple of 512.
     Unaligned = 4,
-    /// A session was declared before.
+    /// A session was declared before, the number of a node that joins was used before, or a node's zone was set before.
     Twice = 5,
-    /// A session wasn't declared.
+    /// A request's session wasn't declared; a node that is named isn't there or is failed, or one that comes back isn't failed.
     Unknown = 6,
-    /// The line makes the requests, the bytes read or the bytes written more than a script may have.
+    /// The line makes the requests, the bytes read, the bytes written or a phase's losses more than a script may have. It is
+    /// found after all words of the line.
     TooMany = 7,
     /// The line isn't UTF-8. Nothing else of it was looked at.
     NotUtf8 = 8,

@@ -4,19 +4,19 @@ ghost use Rattle.std.specs.List.{range_with_len, AllPairs};
 ghost use Rattle.cluster_script.specs.declared.statement.Pattern.{Pattern};
 ghost use Rattle.cluster_script.specs.declared.statement.Statement.{Statement as Line};
 ghost use Rattle.cluster_script.specs.declared.statement.Statement.TheVariants as lines;
-ghost use Rattle.cluster_script.specs.Statements.{is_request, requests_of, declared};
+ghost use Rattle.cluster_script.specs.Statements.{is_request, requests_of, is_session_declared};
 ghost use Rattle.cluster_script.specs.OneDisk.{IsOneDiskScript};
-ghost use Rattle.cluster_script.specs.Nodes.{is_used};
+ghost use Rattle.cluster_script.specs.Nodes.{is_node_used};
 ghost use Rattle.cluster_script.specs.Language.{MayStand, IsScript};
 ghost use Rattle.cluster_script.specs.declared.fault.LineCause.{LineCause};
 ghost use Rattle.cluster_script.specs.Words.{Word};
 ghost use Rattle.cluster_script.specs.Script.{statement_at, script_in};
 ghost use Rattle.cluster_script.specs.OneDiskLines as one_disk;
-ghost use Rattle.cluster_script.specs.Spelling.{IsSpelled, IsText, IsBadLine};
+ghost use Rattle.cluster_script.specs.Spelling.{IsSpelled, IsScriptText, IsBadLine};
 ghost use Rattle.cluster_script.specs.Writing.{text_for};
-ghost use Rattle.cluster_script.specs.Asked.{session_of, payload_of};
+ghost use Rattle.cluster_script.specs.NumberedRequests.{session_of, payload_of};
 ghost use Rattle.cluster_script.specs.Phases.{Phase, phases_of};
-ghost use Rattle.cluster_script.specs.Sessions.{Session, sessions_of, session_numbered};
+ghost use Rattle.cluster_script.specs.Sessions.{ScriptSession, sessions_of, session_numbered};
 
 /// The requests of a script are what its sessions ask for, and a write has as many bytes as its length says.
 pub fn what_is_asked()
@@ -32,8 +32,9 @@ pub fn each_request_is_of_a_phase()
 
 /// A session of a number is there exactly where one is declared, and the sessions ascend by number.
 pub fn each_session_is_declared()
-    ensures declared { (statements : List Line) (number : ℕ) → is_some (session_numbered statements number) ≡ declared number statements }
-    ensures order { (statements : List Line) → AllPairs (λ (a b : Session). a.number ≤ b.number) (sessions_of statements) }
+    ensures declared { (statements : List Line) (number : ℕ) → is_some (session_numbered statements number)
+        ≡ is_session_declared number statements }
+    ensures order { (statements : List Line) → AllPairs (λ (a b : ScriptSession). a.number ≤ b.number) (sessions_of statements) }
 {}
 
 /// A script of one disk is a script of the whole language.
@@ -44,9 +45,9 @@ pub fn one_disk_scripts_are_scripts()
 /// In a script each statement may stand after those before it: so the number of a join is new, and no session is declared twice.
 pub fn each_statement_stands()
     ensures stands { (before rest : List Line) (s : Line) → IsScript (before ++ s ∷ rest) → MayStand before s }
-    ensures joined { (before rest : List Line) (node : ℕ) → IsScript (before ++ lines.Join node ∷ rest) → is_used node before ≡ false }
+    ensures joined { (before rest : List Line) (node : ℕ) → IsScript (before ++ lines.Join node ∷ rest) → is_node_used node before ≡ false }
     ensures sessions { (before rest : List Line) (session node : ℕ) → IsScript (before ++ lines.Session session node ∷ rest)
-        → declared session before ≡ false }
+        → is_session_declared session before ≡ false }
 {}
 
 /// The words of a line are read as a statement where they spell it, and it may stand behind the statements before it.
@@ -59,7 +60,8 @@ pub fn a_line_reads_as_it_is_spelled()
 
 /// A text is read as the script that its lines say; where they say none, its first bad line is found.
 pub fn a_text_reads_as_its_script()
-    ensures script { (text : List ℕ) (statements : List Line) → script_in text ≡ Ok statements ↔ IsScript statements × IsText text statements }
+    ensures script { (text : List ℕ) (statements : List Line) → script_in text ≡ Ok statements ↔ IsScript statements
+        × IsScriptText text statements }
     ensures bad { (text : List ℕ) (number : ℕ) (cause : LineCause) → script_in text ≡ Err (number, cause) ↔ IsBadLine text number cause }
 {}
 
@@ -70,5 +72,5 @@ pub fn every_script_can_be_written()
 
 /// What is taken today as a script of one disk is read so in the whole language.
 pub fn one_disk_texts_read_the_same()
-    ensures { (text : List ℕ) (statements : List Line) → one_disk.script_in text ≡ Ok statements → script_in text ≡ Ok statements }
+    ensures { (text : List ℕ) (statements : List Line) → one_disk.one_disk_script_in text ≡ Ok statements → script_in text ≡ Ok statements }
 {}

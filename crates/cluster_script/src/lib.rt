@@ -11,7 +11,7 @@
 //! each of them, which may stand after which, how a text is read, and with which cause it is refused. Laws tie these
 //! together, and what [`parse`] takes is read the same there. What a cluster takes from a script is defined over all of
 //! it: its settings and opening members, its requests by number and by session, its phases, and its sessions with the
-//! lives of their gateways. Of the workspace the crate stands on `object_id` alone.
+//! incarnations of their gateways. Of the workspace the crate stands on `object_id` alone.
 #![tactic(auto)]
 
 mod draft;

@@ -1,11 +1,11 @@
 ghost use Rattle.std.specs.Prelude.{◌≡◌, true, codes, IfOk, IfErr, IfSome, OnOk};
 ghost use Rattle.std.specs.Str.{is_utf8};
-ghost use Rattle.cluster_script.specs.Statements.{is_cluster, has, declared};
+ghost use Rattle.cluster_script.specs.Statements.{is_cluster, has, is_session_declared};
 ghost use Rattle.cluster_script.specs.OneDisk.{MayFollow};
-ghost use Rattle.cluster_script.specs.Reading.{Gives, Fails, GivesInMemory};
-ghost use Rattle.cluster_script.specs.Words.{words_of, is_next};
-ghost use Rattle.cluster_script.specs.Script.{line_at, IsTaken};
-ghost use Rattle.cluster_script.specs.OneDiskLines.{cluster_at, session_at, asking, asked_at, statement_at};
+ghost use Rattle.cluster_script.specs.ReadResults.{GivesLine, FailsLine, GivesInMemory};
+ghost use Rattle.cluster_script.specs.Words.{words_of, is_next_word};
+ghost use Rattle.cluster_script.specs.Script.{line_at, IsLineTaken};
+ghost use Rattle.cluster_script.specs.OneDiskLines.{cluster_at, one_disk_session_at, one_disk_asking_session, one_disk_asked_at, one_disk_statement_at};
 
 use crate::draft::Draft;
 use crate::fault::{LineCause, ReadError};
@@ -19,8 +19,8 @@ use std::str::from_utf8;
 
 /// Reads a line after the statements before it, and adds its statement, if it has one.
 pub fn take_line(alloc: Global, draft: &mut Draft, line: &[u8]) -> Result<(), ReadError>
-    ensures ok { OnOk result (IsTaken draft.old draft.new (line_at statement_at draft.old line.now)) }
-    ensures err { IfErr result (λ error. Fails error (line_at statement_at draft.old line.now)) }
+    ensures ok { OnOk result (IsLineTaken draft.old draft.new (line_at one_disk_statement_at draft.old line.now)) }
+    ensures err { IfErr result (λ error. FailsLine error (line_at one_disk_statement_at draft.old line.now)) }
 {
     if let Some(s) = statement_in(alloc, draft, line)? {
         draft.push(s)?;
@@ -29,9 +29,9 @@ pub fn take_line(alloc: Global, draft: &mut Draft, line: &[u8]) -> Result<(), Re
 }
 
 /// The statement of a line after those before it; `None` where the line says nothing.
-#[tactic(auto, unfolding(crate::specs::Script::line_at, crate::specs::Script::words_read))]
+#[tactic(auto, unfolding(crate::specs::Script::line_at, crate::specs::Script::statement_of_words))]
 fn statement_in(alloc: Global, before: &Draft, line: &[u8]) -> Result<Option<Statement>, ReadError>
-    ensures line { GivesInMemory (λ s. s) result (line_at statement_at before.now line.now) }
+    ensures line { GivesInMemory (λ s. s) result (line_at one_disk_statement_at before.now line.now) }
     ensures follows { IfOk result (λ s. IfSome s (MayFollow before.now)) }
 {
     if !is_text(line) {
@@ -52,14 +52,14 @@ fn is_text(line: &[u8]) -> bool
 }
 
 /// The statement that the first word begins.
-#[tactic(auto, unfolding(crate::specs::OneDiskLines::statement_at))]
+#[tactic(auto, unfolding(crate::specs::OneDiskLines::one_disk_statement_at))]
 fn statement(
     alloc: Global,
     before: &Draft,
     first: &[u8],
     line: &[u8],
 ) -> Result<Statement, ReadError>
-    ensures statement { GivesInMemory (λ s. s) result (statement_at before.now first.now (words_of line.now)) }
+    ensures statement { GivesInMemory (λ s. s) result (one_disk_statement_at before.now first.now (words_of line.now)) }
     ensures follows { IfOk result (MayFollow before.now) }
 {
     if is_word(first, b"cluster") {
@@ -80,7 +80,7 @@ fn statement(
 /// `cluster N`. It stands first, and `cluster info` is no setting.
 #[tactic(auto, unfolding(crate::specs::OneDiskLines::cluster_at))]
 fn cluster(before: &Draft, line: &[u8]) -> Result<Statement, LineCause>
-    ensures statement { Gives (λ s. s) result (cluster_at before.now (words_of line.now)) }
+    ensures statement { GivesLine (λ s. s) result (cluster_at before.now (words_of line.now)) }
     ensures follows { IfOk result (MayFollow before.now) }
 {
     if !before.is_settings_only() || before.has_cluster() || is_info(line) {
@@ -94,7 +94,7 @@ fn cluster(before: &Draft, line: &[u8]) -> Result<Statement, LineCause>
 }
 
 fn is_info(line: &[u8]) -> bool
-    ensures { result ≡ is_next (codes "info") (words_of line.now) }
+    ensures { result ≡ is_next_word (codes "info") (words_of line.now) }
 {
     match next_word(line) {
         None => false,
@@ -103,10 +103,10 @@ fn is_info(line: &[u8]) -> bool
 }
 
 /// `session S node N`.
-#[tactic(auto, unfolding(crate::specs::OneDiskLines::session_at))]
+#[tactic(auto, unfolding(crate::specs::OneDiskLines::one_disk_session_at))]
 fn session(before: &Draft, line: &[u8]) -> Result<Statement, LineCause>
     requires { has is_cluster before.now ≡ true }
-    ensures statement { Gives (λ s. s) result (session_at before.now (words_of line.now)) }
+    ensures statement { GivesLine (λ s. s) result (one_disk_session_at before.now (words_of line.now)) }
     ensures follows { IfOk result (MayFollow before.now) }
 {
     let (session, rest) = number(1, 1, line)?;
@@ -123,9 +123,9 @@ fn session(before: &Draft, line: &[u8]) -> Result<Statement, LineCause>
 }
 
 /// A request of the session that the first word names.
-#[tactic(auto, unfolding(crate::specs::OneDiskLines::asked_at))]
+#[tactic(auto, unfolding(crate::specs::OneDiskLines::one_disk_asked_at))]
 fn asked(alloc: Global, before: &Draft, first: &[u8], line: &[u8]) -> Result<Statement, ReadError>
-    ensures statement { GivesInMemory (λ s. s) result (asked_at before.now first.now (words_of line.now)) }
+    ensures statement { GivesInMemory (λ s. s) result (one_disk_asked_at before.now first.now (words_of line.now)) }
     ensures follows { IfOk result (MayFollow before.now) }
 {
     let session = declared_session(before, first)?;
@@ -133,10 +133,10 @@ fn asked(alloc: Global, before: &Draft, first: &[u8], line: &[u8]) -> Result<Sta
 }
 
 /// The number of a declared session.
-#[tactic(auto, unfolding(crate::specs::OneDiskLines::asking))]
+#[tactic(auto, unfolding(crate::specs::OneDiskLines::one_disk_asking_session))]
 fn declared_session(before: &Draft, word: &[u8]) -> Result<u32, LineCause>
-    ensures session { result ≡ asking before.now word.now }
-    ensures declared { IfOk result (λ number. (declared number before.now ≡ true) × (number ≡ 1)) }
+    ensures session { result ≡ one_disk_asking_session before.now word.now }
+    ensures declared { IfOk result (λ number. (is_session_declared number before.now ≡ true) × (number ≡ 1)) }
 {
     let number = number_in(word)?;
     let session = within_limits(1, SESSION_MAX, number)?;

@@ -1,9 +1,9 @@
 ghost use Rattle.std.specs.Prelude.{◌≡◌, ◌≤◌, ◌^◌, ◌%◌, true, nat_lt, Some, None, if◌then◌else◌, IfOk};
 ghost use Rattle.std.specs.List.{list_all};
 ghost use Rattle.std.specs.Char.{is_ascii_digit};
-ghost use Rattle.cluster_script.specs.Reading.{Gives};
+ghost use Rattle.cluster_script.specs.ReadResults.{GivesLine};
 ghost use Rattle.cluster_script.specs.Words.{words_of};
-ghost use Rattle.cluster_script.specs.Numbers.{is_digits, digits_value, scaled as scaled_of, number_of, size_of, ranged, aligned, number_at, blocks_at};
+ghost use Rattle.cluster_script.specs.Numbers.{is_digits, digits_value, scaled_number as scaled_of, number_of, size_of_word, number_in_range, aligned_number, plain_number_at, blocks_at};
 
 use crate::fault::LineCause;
 use crate::limits::BLOCK;
@@ -38,7 +38,7 @@ fn decimal(digits: &[u8]) -> Option<u64>
 }
 
 /// So many times the number that a word is.
-#[tactic(auto, unfolding(crate::specs::Numbers::scaled))]
+#[tactic(auto, unfolding(crate::specs::Numbers::scaled_number))]
 fn scaled(scale: u64, word: &[u8]) -> Result<u64, LineCause>
     requires { 1 ≤ scale }
     ensures { result ≡ scaled_of scale word.now }
@@ -63,9 +63,9 @@ pub fn number_in(word: &[u8]) -> Result<u64, LineCause>
 }
 
 /// The size in bytes that a word is, with its suffix.
-#[tactic(auto, unfolding(crate::specs::Numbers::size_of))]
+#[tactic(auto, unfolding(crate::specs::Numbers::size_of_word))]
 fn size_in(word: &[u8]) -> Result<u64, LineCause>
-    ensures { result ≡ size_of word.now }
+    ensures { result ≡ size_of_word word.now }
 {
     match word.split_last() {
         Some((b'K', digits)) => scaled(1 << 10, digits),
@@ -77,7 +77,7 @@ fn size_in(word: &[u8]) -> Result<u64, LineCause>
 
 /// The number, where it is from `low` to `high`.
 pub fn within_limits(low: u64, high: u64, number: u64) -> Result<u64, LineCause>
-    ensures range { result ≡ ranged low high number }
+    ensures range { result ≡ number_in_range low high number }
     ensures limits { IfOk result (λ n. (low ≤ n) × (n ≤ high)) }
 {
     if low <= number && number <= high {
@@ -89,7 +89,7 @@ pub fn within_limits(low: u64, high: u64, number: u64) -> Result<u64, LineCause>
 
 /// The number, where it is one of whole blocks.
 fn in_blocks(number: u64) -> Result<u64, LineCause>
-    ensures whole { result ≡ aligned number }
+    ensures whole { result ≡ aligned_number number }
     ensures same { IfOk result (λ n. n ≡ number) }
 {
     if number % BLOCK == 0 {
@@ -100,9 +100,9 @@ fn in_blocks(number: u64) -> Result<u64, LineCause>
 }
 
 /// A plain number from `low` to `high`, and what follows it.
-#[tactic(auto, unfolding(crate::specs::Numbers::number_at))]
+#[tactic(auto, unfolding(crate::specs::Numbers::plain_number_at))]
 pub fn number(low: u64, high: u64, line: &[u8]) -> Result<(u64, &[u8]), LineCause>
-    ensures number { Gives (λ x. (x.0, words_of x.1.now)) result (number_at low high (words_of line.now)) }
+    ensures number { GivesLine (λ x. (x.0, words_of x.1.now)) result (plain_number_at low high (words_of line.now)) }
     ensures limits { IfOk result (λ x. (low ≤ x.0) × (x.0 ≤ high)) }
 {
     let (found, rest) = word(line)?;
@@ -114,7 +114,7 @@ pub fn number(low: u64, high: u64, line: &[u8]) -> Result<(u64, &[u8]), LineCaus
 /// A size in whole blocks from `low` to `high` bytes, and what follows it.
 #[tactic(auto, unfolding(crate::specs::Numbers::blocks_at))]
 pub fn blocks(low: u64, high: u64, line: &[u8]) -> Result<(u64, &[u8]), LineCause>
-    ensures number { Gives (λ x. (x.0, words_of x.1.now)) result (blocks_at low high (words_of line.now)) }
+    ensures number { GivesLine (λ x. (x.0, words_of x.1.now)) result (blocks_at low high (words_of line.now)) }
     ensures limits { IfOk result (λ x. (low ≤ x.0) × (x.0 ≤ high)) }
     ensures whole { IfOk result (λ x. x.0 % BLOCK ≡ 0) }
 {

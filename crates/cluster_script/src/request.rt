@@ -1,10 +1,10 @@
 ghost use Rattle.std.specs.Prelude.{◌≡◌, true, false, [], IfOk};
-ghost use Rattle.cluster_script.specs.Statements.{is_open, has, requests_of, declared};
+ghost use Rattle.cluster_script.specs.Statements.{is_open, has, requests_of, is_session_declared};
 ghost use Rattle.cluster_script.specs.OneDisk.{MayFollow, IsDiskOpen, IsSpan};
-ghost use Rattle.cluster_script.specs.Reading.{Gives, GivesInMemory};
+ghost use Rattle.cluster_script.specs.ReadResults.{GivesLine, GivesInMemory};
 ghost use Rattle.cluster_script.specs.Words.{words_of};
-ghost use Rattle.cluster_script.specs.Requests.{close_at, span_at, read_at};
-ghost use Rattle.cluster_script.specs.OneDiskRequests.{create_at, open_at, write_at, disk_verb_at, verb_at, request_at};
+ghost use Rattle.cluster_script.specs.Requests.{close_request_at, span_at, read_request_at};
+ghost use Rattle.cluster_script.specs.OneDiskRequests.{one_disk_create_at, one_disk_open_at, one_disk_write_at, disk_verb_at, one_disk_verb_at, one_disk_request_at};
 
 use crate::draft::Draft;
 use crate::fault::{LineCause, ReadError};
@@ -16,7 +16,7 @@ use object_id::{Bytes, Policy};
 use std::alloc::Global;
 
 /// A request of the session, from its word `vdi` on.
-#[tactic(auto, unfolding(crate::specs::OneDiskRequests::request_at))]
+#[tactic(auto, unfolding(crate::specs::OneDiskRequests::one_disk_request_at))]
 pub fn request(
     alloc: Global,
     before: &Draft,
@@ -24,8 +24,8 @@ pub fn request(
     line: &[u8],
 ) -> Result<Statement, ReadError>
     requires one { session ≡ 1 }
-    requires declared { declared session before.now ≡ true }
-    ensures request { GivesInMemory (λ s. s) result (request_at before.now session (words_of line.now)) }
+    requires declared { is_session_declared session before.now ≡ true }
+    ensures request { GivesInMemory (λ s. s) result (one_disk_request_at before.now session (words_of line.now)) }
     ensures follows { IfOk result (MayFollow before.now) }
 {
     let rest = keyword(b"vdi", line)?;
@@ -34,7 +34,7 @@ pub fn request(
 }
 
 /// What the verb asks for. The first request is a create, and the second an open.
-#[tactic(auto, unfolding(crate::specs::OneDiskRequests::verb_at))]
+#[tactic(auto, unfolding(crate::specs::OneDiskRequests::one_disk_verb_at))]
 fn asked(
     alloc: Global,
     before: &Draft,
@@ -43,8 +43,8 @@ fn asked(
     line: &[u8],
 ) -> Result<Statement, ReadError>
     requires one { session ≡ 1 }
-    requires declared { declared session before.now ≡ true }
-    ensures request { GivesInMemory (λ s. s) result (verb_at before.now session verb.now (words_of line.now)) }
+    requires declared { is_session_declared session before.now ≡ true }
+    ensures request { GivesInMemory (λ s. s) result (one_disk_verb_at before.now session verb.now (words_of line.now)) }
     ensures follows { IfOk result (MayFollow before.now) }
 {
     if is_word(verb, b"create") {
@@ -73,8 +73,8 @@ fn asked_of_open_disk(
     line: &[u8],
 ) -> Result<Statement, LineCause>
     requires one { session ≡ 1 }
-    requires declared { declared session before.now ≡ true }
-    ensures request { Gives (λ s. s) result (disk_verb_at before.now session verb.now (words_of line.now)) }
+    requires declared { is_session_declared session before.now ≡ true }
+    ensures request { GivesLine (λ s. s) result (disk_verb_at before.now session verb.now (words_of line.now)) }
     ensures follows { IfOk result (MayFollow before.now) }
 {
     if !before.has_open_disk() {
@@ -93,12 +93,12 @@ fn asked_of_open_disk(
 }
 
 /// `-c 1 NAME SIZE`.
-#[tactic(auto, unfolding(crate::specs::OneDiskRequests::create_at))]
+#[tactic(auto, unfolding(crate::specs::OneDiskRequests::one_disk_create_at))]
 fn create(alloc: Global, before: &Draft, session: u32, line: &[u8]) -> Result<Statement, ReadError>
     requires one { session ≡ 1 }
-    requires declared { declared session before.now ≡ true }
+    requires declared { is_session_declared session before.now ≡ true }
     requires turn { requests_of before.now ≡ [] }
-    ensures request { GivesInMemory (λ s. s) result (create_at before.now session (words_of line.now)) }
+    ensures request { GivesInMemory (λ s. s) result (one_disk_create_at before.now session (words_of line.now)) }
     ensures follows { IfOk result (MayFollow before.now) }
 {
     let rest = keyword(b"-c", line)?;
@@ -119,7 +119,7 @@ fn create(alloc: Global, before: &Draft, session: u32, line: &[u8]) -> Result<St
 }
 
 /// `NAME`, that of the disk that was made.
-#[tactic(auto, unfolding(crate::specs::OneDiskRequests::open_at))]
+#[tactic(auto, unfolding(crate::specs::OneDiskRequests::one_disk_open_at))]
 fn open_disk(
     alloc: Global,
     before: &Draft,
@@ -127,9 +127,9 @@ fn open_disk(
     line: &[u8],
 ) -> Result<Statement, ReadError>
     requires one { session ≡ 1 }
-    requires declared { declared session before.now ≡ true }
+    requires declared { is_session_declared session before.now ≡ true }
     requires turn { has is_open before.now ≡ false }
-    ensures request { GivesInMemory (λ s. s) result (open_at before.now session (words_of line.now)) }
+    ensures request { GivesInMemory (λ s. s) result (one_disk_open_at before.now session (words_of line.now)) }
     ensures follows { IfOk result (MayFollow before.now) }
 {
     let (name, rest) = name(line)?;
@@ -148,12 +148,12 @@ fn open_disk(
 }
 
 /// Nothing follows the verb.
-#[tactic(auto, unfolding(crate::specs::Requests::close_at))]
+#[tactic(auto, unfolding(crate::specs::Requests::close_request_at))]
 fn close(before: &Draft, session: u32, line: &[u8]) -> Result<Statement, LineCause>
     requires one { session ≡ 1 }
-    requires declared { declared session before.now ≡ true }
+    requires declared { is_session_declared session before.now ≡ true }
     requires turn { IsDiskOpen before.now }
-    ensures request { Gives (λ s. s) result (close_at before.now session (words_of line.now)) }
+    ensures request { GivesLine (λ s. s) result (close_request_at before.now session (words_of line.now)) }
     ensures follows { IfOk result (MayFollow before.now) }
 {
     end(line)?;
@@ -166,7 +166,7 @@ fn close(before: &Draft, session: u32, line: &[u8]) -> Result<Statement, LineCau
 /// `OFFSET LENGTH`, in bytes and whole blocks, and what follows.
 #[tactic(auto, unfolding(crate::specs::Requests::span_at))]
 fn span(line: &[u8]) -> Result<(u64, u32, &[u8]), LineCause>
-    ensures span { Gives (λ x. (x.0, x.1, words_of x.2.now)) result (span_at (words_of line.now)) }
+    ensures span { GivesLine (λ x. (x.0, x.1, words_of x.2.now)) result (span_at (words_of line.now)) }
     ensures is_span { IfOk result (λ x. IsSpan x.0 x.1) }
 {
     let (offset, rest) = blocks(0, u64::MAX, line)?;
@@ -175,12 +175,12 @@ fn span(line: &[u8]) -> Result<(u64, u32, &[u8]), LineCause>
 }
 
 /// `OFFSET LENGTH`.
-#[tactic(auto, unfolding(crate::specs::Requests::read_at))]
+#[tactic(auto, unfolding(crate::specs::Requests::read_request_at))]
 fn read(before: &Draft, session: u32, line: &[u8]) -> Result<Statement, LineCause>
     requires one { session ≡ 1 }
-    requires declared { declared session before.now ≡ true }
+    requires declared { is_session_declared session before.now ≡ true }
     requires turn { IsDiskOpen before.now }
-    ensures request { Gives (λ s. s) result (read_at before.now session (words_of line.now)) }
+    ensures request { GivesLine (λ s. s) result (read_request_at before.now session (words_of line.now)) }
     ensures follows { IfOk result (MayFollow before.now) }
 {
     let (offset, length, rest) = span(line)?;
@@ -196,12 +196,12 @@ fn read(before: &Draft, session: u32, line: &[u8]) -> Result<Statement, LineCaus
 }
 
 /// `OFFSET LENGTH fill BYTE`.
-#[tactic(auto, unfolding(crate::specs::OneDiskRequests::write_at))]
+#[tactic(auto, unfolding(crate::specs::OneDiskRequests::one_disk_write_at))]
 fn write(before: &Draft, session: u32, line: &[u8]) -> Result<Statement, LineCause>
     requires one { session ≡ 1 }
-    requires declared { declared session before.now ≡ true }
+    requires declared { is_session_declared session before.now ≡ true }
     requires turn { IsDiskOpen before.now }
-    ensures request { Gives (λ s. s) result (write_at before.now session (words_of line.now)) }
+    ensures request { GivesLine (λ s. s) result (one_disk_write_at before.now session (words_of line.now)) }
     ensures follows { IfOk result (MayFollow before.now) }
 {
     let (offset, length, rest) = span(line)?;

@@ -1,8 +1,8 @@
 ghost use Rattle.std.specs.Prelude.{◌≡◌, ◌≤◌, ◌<◌, [], length, IfOk};
 ghost use Rattle.cluster_script.specs.OneDisk.{IsOneDiskScript};
 ghost use Rattle.cluster_script.specs.Settings.{nodes_set, vnodes_set, tries_set, limit_set, nodes_of, vnodes_of, tries_of, limit_of};
-ghost use Rattle.cluster_script.specs.Script.{Answers};
-ghost use Rattle.cluster_script.specs.OneDiskLines.{script_in};
+ghost use Rattle.cluster_script.specs.Script.{AnswersText};
+ghost use Rattle.cluster_script.specs.OneDiskLines.{one_disk_script_in};
 
 use crate::draft::Draft;
 use crate::fault::{ReadError, ScriptFault};
@@ -126,7 +126,7 @@ fn limit_set(statement: &Statement) -> Option<u32>
 /// Reads a text. A script is answered as its statements; else the answer is the first bad line, from 1, and its cause.
 pub fn parse(alloc: Global, text: &[u8]) -> Result<Script, ScriptFault>
     requires { length text.now ≤ TEXT_BYTES_MAX }
-    ensures exact { Answers result (script_in text.now) }
+    ensures exact { AnswersText result (one_disk_script_in text.now) }
     ensures one_disk { IfOk result IsOneDiskScript }
 {
     let mut draft = Draft::new(alloc);

@@ -1,8 +1,8 @@
 ghost use Rattle.std.specs.Prelude.{◌≡◌, ◌<◌, ◌==◌, ◌∷◌, [], length, nat_eq, bytes_eq, codes, position, IsTrue, IfOk, MatchOption};
 ghost use Rattle.std.specs.List.{before_first, after_first, list_all};
-ghost use Rattle.cluster_script.specs.OneDisk.{IsName};
-ghost use Rattle.cluster_script.specs.Reading.{Gives};
-ghost use Rattle.cluster_script.specs.Words.{words_of, says_nothing, word_at, keyword_at, end_of, is_name_byte, is_name, name_at};
+ghost use Rattle.cluster_script.specs.OneDisk.{IsPrintedName};
+ghost use Rattle.cluster_script.specs.ReadResults.{GivesLine};
+ghost use Rattle.cluster_script.specs.Words.{words_of, says_nothing, word_at, keyword_at, end_of_words, is_name_byte, is_name, name_word_at};
 
 use crate::fault::LineCause;
 use crate::limits::NAME_BYTES_MAX;
@@ -53,7 +53,7 @@ pub fn is_silent(line: &[u8]) -> bool
 
 /// The first word of the rest of a line, which must have one, and what follows it.
 pub fn word(line: &[u8]) -> Result<(&[u8], &[u8]), LineCause>
-    ensures { Gives (λ x. (x.0.now, words_of x.1.now)) result (word_at (words_of line.now)) }
+    ensures { GivesLine (λ x. (x.0.now, words_of x.1.now)) result (word_at (words_of line.now)) }
 {
     match next_word(line) {
         None => Err(LineCause::Word),
@@ -71,7 +71,7 @@ pub fn is_word(word: &[u8], expected: &[u8]) -> bool
 /// What follows this very word.
 #[tactic(auto, unfolding(crate::specs::Words::keyword_at))]
 pub fn keyword<'a>(expected: &[u8], line: &'a [u8]) -> Result<&'a [u8], LineCause>
-    ensures { Gives (λ x. words_of x.now) result (keyword_at expected.now (words_of line.now)) }
+    ensures { GivesLine (λ x. words_of x.now) result (keyword_at expected.now (words_of line.now)) }
 {
     let (found, rest) = word(line)?;
     if is_word(found, expected) {
@@ -83,7 +83,7 @@ pub fn keyword<'a>(expected: &[u8], line: &'a [u8]) -> Result<&'a [u8], LineCaus
 
 /// A line ends here: it has no word left.
 pub fn end(line: &[u8]) -> Result<(), LineCause>
-    ensures { result ≡ end_of (words_of line.now) }
+    ensures { result ≡ end_of_words (words_of line.now) }
 {
     match next_word(line) {
         None => Ok(()),
@@ -95,7 +95,7 @@ pub fn end(line: &[u8]) -> Result<(), LineCause>
 #[tactic(auto, using(crate::proofs::Follows::name_of_test))]
 pub fn may_be_name(word: &[u8]) -> bool
     ensures name { result ≡ is_name word.now }
-    ensures is_name { IsTrue result → IsName word.now }
+    ensures is_name { IsTrue result → IsPrintedName word.now }
 {
     if word.is_empty() || word.len() > NAME_BYTES_MAX || !is_printed(word) {
         return false;
@@ -110,10 +110,10 @@ fn is_printed(word: &[u8]) -> bool
 }
 
 /// A disk's name, and what follows it.
-#[tactic(auto, unfolding(crate::specs::Words::name_at))]
+#[tactic(auto, unfolding(crate::specs::Words::name_word_at))]
 pub fn name(line: &[u8]) -> Result<(&[u8], &[u8]), LineCause>
-    ensures name { Gives (λ x. (x.0.now, words_of x.1.now)) result (name_at (words_of line.now)) }
-    ensures is_name { IfOk result (λ x. IsName x.0.now) }
+    ensures name { GivesLine (λ x. (x.0.now, words_of x.1.now)) result (name_word_at (words_of line.now)) }
+    ensures is_name { IfOk result (λ x. IsPrintedName x.0.now) }
 {
     let (found, rest) = word(line)?;
     if may_be_name(found) {

@@ -1,4 +1,4 @@
--- What a write that begins leaves the checker's books to show.
+-- What a write that begins leaves the checker's state to show.
 use Rattle.std.proofs.Common.{◌≡◌, ℕ, ◌+◌, ◌<◌, ◌==◌, Bool, true, false, not, ◌&&◌, ◌||◌, List, [], ◌∷◌, ◌++◌, length, reverse, Option, Some, None, refl, sym, ap, ◌∙◌, subst, cond, arith, length-append}
 use Rattle.std.specs.Option.{option_map}
 use Rattle.std.specs.Ordering.{nat_cmp, is_eq, ordering_then}
@@ -18,10 +18,10 @@ use Rattle.disk_history.specs.declared.requests.Requests.{Requests}
 use Rattle.disk_history.specs.declared.disks.DiskState.{DiskState}
 use Rattle.disk_history.specs.declared.writes.Write.{Write}
 use Rattle.disk_history.specs.declared.event.HistEvent.TheVariants.{WriteStart}
-use Rattle.disk_history.specs.Ledger.{Item, Disk, Request, Ledger, Open, after, changed_at, with_disk, with_item, has_block}
-use Rattle.disk_history.specs.Legal.{is_started, has_place}
-use Rattle.disk_history.specs.Books.{fate_in, fate_of, stray_of, is_answer, place_cmp, items_from, items_by, shown_disk, has_block_in, newest_in, ShowsRequest, AreWithin, IsLinked, IsWithin, IsWritten, WritesOne}
-use Rattle.disk_history.specs.Shown.{ShowsAll}
+use Rattle.disk_history.specs.Ledger.{Item, Disk, WriteRequest, Ledger, Open, ledger_after, changed_at, with_changed_disk, with_item, has_block}
+use Rattle.disk_history.specs.Legal.{has_begun_to_write, has_place}
+use Rattle.disk_history.specs.CheckerState.{fate_in, fate_of, stray_of, is_answer, place_cmp, items_from, items_by, shown_disk, has_block_in, newest_in, ShowsRequest, AreWithin, IsLinked, IsWithin, IsWritten, WritesOne}
+use Rattle.disk_history.specs.CheckerLedger.{ShowsAll}
 use Rattle.disk_history.proofs.ItemLemmas.{items_from-older, within_more}
 use Rattle.disk_history.proofs.ShownLemmas.{at-eqb, unanswered_fate, ended_shown, stray_shown}
 
@@ -48,7 +48,7 @@ same_fates requests begun req stray unanswered states =
     parts q false e = refl
 
 started_more : (places : List (ℕ × ℕ)) (place : ℕ × ℕ) (stray ended : Bool)
-    → is_started (record { places = places ++ place ∷ []; stray = stray; ended = ended }) ≡ true
+    → has_begun_to_write (record { places = places ++ place ∷ []; stray = stray; ended = ended }) ≡ true
 started_more [] place stray ended = refl
 started_more (first ∷ places) place stray ended = refl
 
@@ -81,7 +81,7 @@ one_more false true = refl
 one_more false false = refl
 
 -- the ledger's request, with one more place
-abbrev more : Ledger → Place → Bool → Request
+abbrev more : Ledger → Place → Bool → WriteRequest
 more ledger place stray = record {
   places = (ledger.requests place.req).places ++ (place.disk, place.block) ∷ [];
   stray = (ledger.requests place.req).stray || stray;
@@ -140,7 +140,7 @@ pub shows-stray : (requests begun : Requests) (disks : BTreeMap ℕ DiskState) (
     → is_answer (fate_of requests place.req) ≡ false
     → ((q : ℕ) → get nat_cmp begun.states q ≡ cond (is_at (nat_cmp place.req) q) (Some (record { stray = stray_of requests place.req || true; fate = Unanswered })) (get nat_cmp requests.states q))
     → ((other : Place) → contains place_cmp begun.places other ≡ cond (is_at (place_cmp place) other) true (contains place_cmp requests.places other))
-    → ShowsAll begun disks writes (after ledger (WriteStart place.req place.disk place.block coded bytes))
+    → ShowsAll begun disks writes (ledger_after ledger (WriteStart place.req place.disk place.block coded bytes))
 shows-stray requests begun disks writes ledger place coded bytes shows absent unanswered states places = record {
   of_disk = λ q. ap (λ there. (cond there written ledger.disks) q) gone ∙ shows.of_disk q
       ∙ ap (λ (fates : ℕ → Fate). option_map (shown_disk fates writes) (get nat_cmp disks q))
@@ -158,7 +158,7 @@ shows-stray requests begun disks writes ledger place coded bytes shows absent un
     item = record { request = Some place.req; bytes = bytes; coded = coded; mark = Open }
 
     written : ℕ → Option Disk
-    written = changed_at place.disk (with_disk (with_item place.block item) (ledger.disks place.disk)) ledger.disks
+    written = changed_at place.disk (with_changed_disk (with_item place.block item) (ledger.disks place.disk)) ledger.disks
 
     gone : has_block (ledger.disks place.disk) place.block ≡ false
     gone = has_block_shown (fate_of requests) writes (get nat_cmp disks place.disk) (ledger.disks place.disk) place.block (shows.of_disk place.disk) ∙ absent
@@ -232,7 +232,7 @@ disk_written : (fates : ℕ → Fate) (disks written : BTreeMap ℕ DiskState) (
     → fates write.req ≡ Unanswered
     → items_from fates (reverse writes) write.earlier ≡ items_from fates (reverse writes) (newest_in found block)
     → (let item : Item = record { request = Some write.req; bytes = write.bytes.now; coded = write.coded; mark = Open } in
-    (q : ℕ) → changed_at disk (with_disk (with_item block item) (ledger.disks disk)) ledger.disks q
+    (q : ℕ) → changed_at disk (with_changed_disk (with_item block item) (ledger.disks disk)) ledger.disks q
     ≡ option_map (shown_disk fates (writes ++ write ∷ [])) (get nat_cmp written q))
 disk_written fates disks written writes write ledger disk block None is shows within one unanswered same = absurd one
 disk_written fates disks written writes write ledger disk block (Some state) is shows within one unanswered same = λ q. go q (q == disk)
@@ -242,10 +242,10 @@ disk_written fates disks written writes write ledger disk block (Some state) is 
     item : Item
     item = record { request = Some write.req; bytes = write.bytes.now; coded = write.coded; mark = Open }
 
-    go : (q : ℕ) (b : Bool) → cond b (with_disk (with_item block item) (ledger.disks disk)) (ledger.disks q)
+    go : (q : ℕ) (b : Bool) → cond b (with_changed_disk (with_item block item) (ledger.disks disk)) (ledger.disks q)
         ≡ option_map (shown_disk fates (writes ++ write ∷ [])) (cond b (Some one.0) (get nat_cmp disks q))
     go q true =
-        ap (with_disk (with_item block item)) (shows disk ∙ ap (option_map (shown_disk fates writes)) is)
+        ap (with_changed_disk (with_item block item)) (shows disk ∙ ap (option_map (shown_disk fates writes)) is)
         ∙ ap Some (written_disk fates writes write state one.0 block one.2
         (subst (λ (found : Option DiskState). AreWithin found (length writes)) is (within disk)) unanswered same)
     go q false = shows q ∙ older_disk fates writes write (get nat_cmp disks q) (within q)
@@ -281,10 +281,10 @@ pub shows-begin : (requests begun : Requests) (disks written : BTreeMap ℕ Disk
     → WritesOne (get nat_cmp disks place.disk) disks written place.disk place.block (length writes)
     → ((q : ℕ) → get nat_cmp begun.states q ≡ cond (is_at (nat_cmp place.req) q) (Some (record { stray = stray_of requests place.req || false; fate = Unanswered })) (get nat_cmp requests.states q))
     → ((other : Place) → contains place_cmp begun.places other ≡ cond (is_at (place_cmp place) other) true (contains place_cmp requests.places other))
-    → ShowsAll begun written (writes ++ write ∷ []) (after ledger (WriteStart place.req place.disk place.block write.coded write.bytes.now))
+    → ShowsAll begun written (writes ++ write ∷ []) (ledger_after ledger (WriteStart place.req place.disk place.block write.coded write.bytes.now))
 shows-begin requests begun disks written writes ledger place write shows own there unanswered earlier same one states places = record {
   of_disk = λ q. ap (λ b. (cond b changed ledger.disks) q) here
-      ∙ ap (λ (req : ℕ). changed_at place.disk (with_disk (with_item place.block (item_of req)) (ledger.disks place.disk)) ledger.disks q) (sym own)
+      ∙ ap (λ (req : ℕ). changed_at place.disk (with_changed_disk (with_item place.block (item_of req)) (ledger.disks place.disk)) ledger.disks q) (sym own)
       ∙ disk_written (fate_of requests) disks written writes write ledger place.disk place.block (get nat_cmp disks place.disk) refl
       shows.of_disk shows.within one (ap (fate_of requests) own ∙ unanswered_fate (fate_of requests place.req) unanswered) same q
       ∙ ap (λ (fates : ℕ → Fate). option_map (shown_disk fates (writes ++ write ∷ [])) (get nat_cmp written q))
@@ -303,7 +303,7 @@ shows-begin requests begun disks written writes ledger place write shows own the
     item_of req = record { request = Some req; bytes = write.bytes.now; coded = write.coded; mark = Open }
 
     changed : ℕ → Option Disk
-    changed = changed_at place.disk (with_disk (with_item place.block (item_of place.req)) (ledger.disks place.disk)) ledger.disks
+    changed = changed_at place.disk (with_changed_disk (with_item place.block (item_of place.req)) (ledger.disks place.disk)) ledger.disks
 
     here : has_block (ledger.disks place.disk) place.block ≡ true
     here = has_block_shown (fate_of requests) writes (get nat_cmp disks place.disk) (ledger.disks place.disk) place.block (shows.of_disk place.disk) ∙ there
@@ -322,9 +322,9 @@ pub shows-begin-told : (requests begun : Requests) (disks written : BTreeMap ℕ
     → WritesOne (get nat_cmp disks place.disk) disks written place.disk place.block count
     → ((q : ℕ) → get nat_cmp begun.states q ≡ cond (is_at (nat_cmp place.req) q) (Some (record { stray = stray_of requests place.req || false; fate = Unanswered })) (get nat_cmp requests.states q))
     → ((other : Place) → contains place_cmp begun.places other ≡ cond (is_at (place_cmp place) other) true (contains place_cmp requests.places other))
-    → ShowsAll begun written pushed (after ledger (WriteStart place.req place.disk place.block write.coded write.bytes.now))
+    → ShowsAll begun written pushed (ledger_after ledger (WriteStart place.req place.disk place.block write.coded write.bytes.now))
 shows-begin-told requests begun disks written writes slice pushed count newest ledger place write slice_is pushed_is count_is newest_is shows own there unanswered earlier same one states places =
-    subst (λ (all : List Write). ShowsAll begun written all (after ledger (WriteStart place.req place.disk place.block write.coded write.bytes.now))) (sym pushed_is)
+    subst (λ (all : List Write). ShowsAll begun written all (ledger_after ledger (WriteStart place.req place.disk place.block write.coded write.bytes.now))) (sym pushed_is)
     (shows-begin requests begun disks written writes ledger place write shows own there unanswered
     (subst (λ (all : List Write). IsWithin write.earlier (length all)) slice_is earlier)
     (subst (λ (all : List Write). items_from (fate_of requests) (reverse all) write.earlier
@@ -334,7 +334,7 @@ shows-begin-told requests begun disks written writes slice pushed count newest l
     states places)
 
 -- the tests that the code makes are those of the ledger
-pub may_start_told : (count : ℕ) (found : Option RequestState) (request : Request) (disk block : ℕ) (had : Bool) → count ≡ 512
+pub may_start_told : (count : ℕ) (found : Option RequestState) (request : WriteRequest) (disk block : ℕ) (had : Bool) → count ≡ 512
     → ShowsRequest found request → is_answer (fate_in found) ≡ false → has_place request disk block ≡ had → had ≡ false
     → true ≡ (count == 512 && not request.ended && not (has_place request disk block))
 may_start_told count found request disk block had long shown unanswered same new =

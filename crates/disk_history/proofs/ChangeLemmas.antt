@@ -4,7 +4,7 @@ use Rattle.std.specs.List.{list_any}
 use Rattle.std.proofs.lemmas.Bool.{eq-eqb, ne_eqb, or_parts}
 use Rattle.disk_history.specs.declared.event.HistEvent.{HistEvent}
 use Rattle.disk_history.specs.declared.event.HistEvent.TheVariants.{Create, Copy, Delete, WriteStart, WriteDone, WriteRefused, WriterLost, Read}
-use Rattle.disk_history.specs.Ledger.{Mark, Item, Disk, Ledger, Open, Acknowledged, Lost, is_of, marked, after, changed_at, with_disk, with_items, with_item, has_block}
+use Rattle.disk_history.specs.Ledger.{Mark, Item, Disk, Ledger, Open, Acknowledged, Lost, is_item_of, item_with_mark, ledger_after, changed_at, with_changed_disk, with_items, with_item, has_block}
 use Rattle.disk_history.specs.Changes.{changed_disk, ended_request, named_request, items_in, blocks_in, is_deleted}
 
 -- ---- one event
@@ -14,7 +14,7 @@ elsewhere : {X : Type 0} (place : ℕ) (new : X) (old : ℕ → X) (q : ℕ) →
 elsewhere place new old q apart = ap (λ b. cond b new (old q)) (ne_eqb q place (λ same. apart (ap Some (sym same))))
 
 pub other_disks_stay : (ledger : Ledger) (event : HistEvent) (disk : ℕ) → ended_request event ≡ None → ¬ (changed_disk event ≡ Some disk)
-    → (after ledger event).disks disk ≡ ledger.disks disk
+    → (ledger_after ledger event).disks disk ≡ ledger.disks disk
 other_disks_stay ledger (Create disk blocks) q running apart = elsewhere disk _ ledger.disks q apart
 other_disks_stay ledger (Copy old new) q running apart = elsewhere new _ ledger.disks q apart
 other_disks_stay ledger (Delete disk) q running apart = elsewhere disk _ ledger.disks q apart
@@ -24,10 +24,10 @@ other_disks_stay ledger (WriteStart req disk block coded bytes) q running apart 
     item = record { request = Some req; bytes = bytes; coded = coded; mark = Open }
 
     changed : ℕ → Option Disk
-    changed = changed_at disk (with_disk (with_item block item) (ledger.disks disk)) ledger.disks
+    changed = changed_at disk (with_changed_disk (with_item block item) (ledger.disks disk)) ledger.disks
 
     go : (b : Bool) → (cond b changed ledger.disks) q ≡ ledger.disks q
-    go true = elsewhere disk (with_disk (with_item block item) (ledger.disks disk)) ledger.disks q apart
+    go true = elsewhere disk (with_changed_disk (with_item block item) (ledger.disks disk)) ledger.disks q apart
     go false = refl
 other_disks_stay ledger (WriteDone req) q running apart = absurd (let no_end : Some req ≡ None → ⊥ = λ e. cc in no_end running)
 other_disks_stay ledger (WriteRefused req) q running apart = absurd (let no_end : Some req ≡ None → ⊥ = λ e. cc in no_end running)
@@ -35,7 +35,7 @@ other_disks_stay ledger (WriterLost req) q running apart = absurd (let no_end : 
 other_disks_stay ledger (Read disk block bytes) q running apart = refl
 
 pub other_requests_stay : (ledger : Ledger) (event : HistEvent) (req : ℕ) → ¬ (named_request event ≡ Some req)
-    → (after ledger event).requests req ≡ ledger.requests req
+    → (ledger_after ledger event).requests req ≡ ledger.requests req
 other_requests_stay ledger (Create disk blocks) q apart = refl
 other_requests_stay ledger (Copy old new) q apart = refl
 other_requests_stay ledger (Delete disk) q apart = refl
@@ -46,18 +46,18 @@ other_requests_stay ledger (WriterLost req) q apart = elsewhere req _ ledger.req
 other_requests_stay ledger (Read disk block bytes) q apart = refl
 
 -- lists without an item of the request are told nothing
-unmarked : (mark : Mark) (req : ℕ) (items : List Item) → list_any (is_of req) items ≡ false → map (marked mark req) items ≡ items
+unmarked : (mark : Mark) (req : ℕ) (items : List Item) → list_any (is_item_of req) items ≡ false → map (item_with_mark mark req) items ≡ items
 unmarked mark req [] none = refl
 unmarked mark req (item ∷ items) none =
-    let parts = or_parts (is_of req item) (list_any (is_of req) items) none in
-    ap (λ b. (cond b (record item { mark = mark }) item) ∷ map (marked mark req) items) parts.0
+    let parts = or_parts (is_item_of req item) (list_any (is_item_of req) items) none in
+    ap (λ b. (cond b (record item { mark = mark }) item) ∷ map (item_with_mark mark req) items) parts.0
     ∙ ap (λ (rest : List Item). item ∷ rest) (unmarked mark req items parts.1)
 
-untaken : (req : ℕ) (items : List Item) → list_any (is_of req) items ≡ false → filter (λ item. not (is_of req item)) items ≡ items
+untaken : (req : ℕ) (items : List Item) → list_any (is_item_of req) items ≡ false → filter (λ item. not (is_item_of req item)) items ≡ items
 untaken req [] none = refl
 untaken req (item ∷ items) none =
-    let parts = or_parts (is_of req item) (list_any (is_of req) items) none in
-    let rest : List Item = filter (λ item. not (is_of req item)) items in
+    let parts = or_parts (is_item_of req item) (list_any (is_item_of req) items) none in
+    let rest : List Item = filter (λ item. not (is_item_of req item)) items in
     ap (λ b. cond (not b) (item ∷ rest) rest) parts.0
     ∙ ap (λ (rest : List Item). item ∷ rest) (untaken req items parts.1)
 
@@ -65,66 +65,66 @@ items_changed : (change : List Item → List Item) (disks : ℕ → Option Disk)
     → items_in (with_items change disks disk) block ≡ change (items_in (disks disk) block)
 items_changed change disks disk block empty = go (disks disk)
   where
-    go : (found : Option Disk) → items_in (with_disk (λ disk. record disk { items = λ block. change (disk.items block) }) found) block ≡ change (items_in found block)
+    go : (found : Option Disk) → items_in (with_changed_disk (λ disk. record disk { items = λ block. change (disk.items block) }) found) block ≡ change (items_in found block)
     go None = sym empty
     go (Some disk) = refl
 
 pub ends_keep_other_items : (ledger : Ledger) (event : HistEvent) (req disk block : ℕ) → ended_request event ≡ Some req
-    → list_any (is_of req) (items_in (ledger.disks disk) block) ≡ false
-    → items_in ((after ledger event).disks disk) block ≡ items_in (ledger.disks disk) block
+    → list_any (is_item_of req) (items_in (ledger.disks disk) block) ≡ false
+    → items_in ((ledger_after ledger event).disks disk) block ≡ items_in (ledger.disks disk) block
 ends_keep_other_items ledger (Create disk blocks) req q block ends none = absurd (let no_end : None ≡ Some req → ⊥ = λ e. cc in no_end ends)
 ends_keep_other_items ledger (Copy old new) req q block ends none = absurd (let no_end : None ≡ Some req → ⊥ = λ e. cc in no_end ends)
 ends_keep_other_items ledger (Delete disk) req q block ends none = absurd (let no_end : None ≡ Some req → ⊥ = λ e. cc in no_end ends)
 ends_keep_other_items ledger (WriteStart number disk at coded bytes) req q block ends none = absurd (let no_end : None ≡ Some req → ⊥ = λ e. cc in no_end ends)
 ends_keep_other_items ledger (WriteDone number) req q block ends none =
     let same : number ≡ req = cc in
-    items_changed (map (marked Acknowledged number)) ledger.disks q block refl
-    ∙ unmarked Acknowledged number (items_in (ledger.disks q) block) (ap (λ n. list_any (is_of n) (items_in (ledger.disks q) block)) same ∙ none)
+    items_changed (map (item_with_mark Acknowledged number)) ledger.disks q block refl
+    ∙ unmarked Acknowledged number (items_in (ledger.disks q) block) (ap (λ n. list_any (is_item_of n) (items_in (ledger.disks q) block)) same ∙ none)
 ends_keep_other_items ledger (WriteRefused number) req q block ends none =
     let same : number ≡ req = cc in
-    items_changed (filter (λ item. not (is_of number item))) ledger.disks q block refl
-    ∙ untaken number (items_in (ledger.disks q) block) (ap (λ n. list_any (is_of n) (items_in (ledger.disks q) block)) same ∙ none)
+    items_changed (filter (λ item. not (is_item_of number item))) ledger.disks q block refl
+    ∙ untaken number (items_in (ledger.disks q) block) (ap (λ n. list_any (is_item_of n) (items_in (ledger.disks q) block)) same ∙ none)
 ends_keep_other_items ledger (WriterLost number) req q block ends none =
     let same : number ≡ req = cc in
-    items_changed (map (marked Lost number)) ledger.disks q block refl
-    ∙ unmarked Lost number (items_in (ledger.disks q) block) (ap (λ n. list_any (is_of n) (items_in (ledger.disks q) block)) same ∙ none)
+    items_changed (map (item_with_mark Lost number)) ledger.disks q block refl
+    ∙ unmarked Lost number (items_in (ledger.disks q) block) (ap (λ n. list_any (is_item_of n) (items_in (ledger.disks q) block)) same ∙ none)
 ends_keep_other_items ledger (Read disk at bytes) req q block ends none = absurd (let no_end : None ≡ Some req → ⊥ = λ e. cc in no_end ends)
 
 -- an end changes no disk but for its items
 end_blocks : (change : List Item → List Item) (found : Option Disk)
-    → blocks_in (with_disk (λ disk. record disk { items = λ block. change (disk.items block) }) found) ≡ blocks_in found
+    → blocks_in (with_changed_disk (λ disk. record disk { items = λ block. change (disk.items block) }) found) ≡ blocks_in found
 end_blocks change None = refl
 end_blocks change (Some disk) = refl
 
 end_deleted : (change : List Item → List Item) (found : Option Disk)
-    → is_deleted (with_disk (λ disk. record disk { items = λ block. change (disk.items block) }) found) ≡ is_deleted found
+    → is_deleted (with_changed_disk (λ disk. record disk { items = λ block. change (disk.items block) }) found) ≡ is_deleted found
 end_deleted change None = refl
 end_deleted change (Some disk) = refl
 
 pub ends_keep_disks : (ledger : Ledger) (event : HistEvent) (req disk : ℕ) → ended_request event ≡ Some req
-    → (blocks_in ((after ledger event).disks disk) ≡ blocks_in (ledger.disks disk)) × (is_deleted ((after ledger event).disks disk) ≡ is_deleted (ledger.disks disk))
+    → (blocks_in ((ledger_after ledger event).disks disk) ≡ blocks_in (ledger.disks disk)) × (is_deleted ((ledger_after ledger event).disks disk) ≡ is_deleted (ledger.disks disk))
 ends_keep_disks ledger (Create disk blocks) req q ends = absurd (let no_end : None ≡ Some req → ⊥ = λ e. cc in no_end ends)
 ends_keep_disks ledger (Copy old new) req q ends = absurd (let no_end : None ≡ Some req → ⊥ = λ e. cc in no_end ends)
 ends_keep_disks ledger (Delete disk) req q ends = absurd (let no_end : None ≡ Some req → ⊥ = λ e. cc in no_end ends)
 ends_keep_disks ledger (WriteStart number disk at coded bytes) req q ends = absurd (let no_end : None ≡ Some req → ⊥ = λ e. cc in no_end ends)
-ends_keep_disks ledger (WriteDone number) req q ends = (end_blocks (map (marked Acknowledged number)) (ledger.disks q), end_deleted (map (marked Acknowledged number)) (ledger.disks q))
+ends_keep_disks ledger (WriteDone number) req q ends = (end_blocks (map (item_with_mark Acknowledged number)) (ledger.disks q), end_deleted (map (item_with_mark Acknowledged number)) (ledger.disks q))
 ends_keep_disks ledger (WriteRefused number) req q ends =
-    (end_blocks (filter (λ item. not (is_of number item))) (ledger.disks q), end_deleted (filter (λ item. not (is_of number item))) (ledger.disks q))
-ends_keep_disks ledger (WriterLost number) req q ends = (end_blocks (map (marked Lost number)) (ledger.disks q), end_deleted (map (marked Lost number)) (ledger.disks q))
+    (end_blocks (filter (λ item. not (is_item_of number item))) (ledger.disks q), end_deleted (filter (λ item. not (is_item_of number item))) (ledger.disks q))
+ends_keep_disks ledger (WriterLost number) req q ends = (end_blocks (map (item_with_mark Lost number)) (ledger.disks q), end_deleted (map (item_with_mark Lost number)) (ledger.disks q))
 ends_keep_disks ledger (Read disk at bytes) req q ends = absurd (let no_end : None ≡ Some req → ⊥ = λ e. cc in no_end ends)
 
 -- a write that begins changes the items of its block alone
 pub starts_keep_other_blocks : (ledger : Ledger) (req disk block : ℕ) (coded : Bool) (bytes : List ℕ) (other : ℕ) → other ≢ block
-    → items_in ((after ledger (WriteStart req disk block coded bytes)).disks disk) other ≡ items_in (ledger.disks disk) other
+    → items_in ((ledger_after ledger (WriteStart req disk block coded bytes)).disks disk) other ≡ items_in (ledger.disks disk) other
 starts_keep_other_blocks ledger req disk block coded bytes other apart = go (has_block (ledger.disks disk) block)
   where
     item : Item
     item = record { request = Some req; bytes = bytes; coded = coded; mark = Open }
 
     written : Option Disk
-    written = with_disk (with_item block item) (ledger.disks disk)
+    written = with_changed_disk (with_item block item) (ledger.disks disk)
 
-    one : (found : Option Disk) → items_in (with_disk (with_item block item) found) other ≡ items_in found other
+    one : (found : Option Disk) → items_in (with_changed_disk (with_item block item) found) other ≡ items_in found other
     one None = refl
     one (Some disk) = ap (λ b. cond b (disk.items block ++ item ∷ []) (disk.items other)) (ne_eqb other block apart)
 
@@ -140,11 +140,11 @@ here_is : {X : Type 0} (place : ℕ) (new : X) (old : ℕ → X) → changed_at 
 here_is place new old = ap (λ b. cond b new (old place)) (eq-eqb place place refl)
 
 pub copy_is_origin : (ledger : Ledger) (old new : ℕ) (origin : Disk) → ledger.disks old ≡ Some origin
-    → (after ledger (Copy old new)).disks new ≡ Some (record origin { deleted = false })
+    → (ledger_after ledger (Copy old new)).disks new ≡ Some (record origin { deleted = false })
 copy_is_origin ledger old new origin is =
-    here_is new (with_disk (λ disk. record disk { deleted = false }) (ledger.disks old)) ledger.disks ∙ ap (with_disk (λ disk. record disk { deleted = false })) is
+    here_is new (with_changed_disk (λ disk. record disk { deleted = false }) (ledger.disks old)) ledger.disks ∙ ap (with_changed_disk (λ disk. record disk { deleted = false })) is
 
 pub deleted_keeps_items : (ledger : Ledger) (disk : ℕ) (found : Disk) → ledger.disks disk ≡ Some found
-    → (after ledger (Delete disk)).disks disk ≡ Some (record found { deleted = true })
+    → (ledger_after ledger (Delete disk)).disks disk ≡ Some (record found { deleted = true })
 deleted_keeps_items ledger disk found is =
-    here_is disk (with_disk (λ disk. record disk { deleted = true }) (ledger.disks disk)) ledger.disks ∙ ap (with_disk (λ disk. record disk { deleted = true })) is
+    here_is disk (with_changed_disk (λ disk. record disk { deleted = true }) (ledger.disks disk)) ledger.disks ∙ ap (with_changed_disk (λ disk. record disk { deleted = true })) is

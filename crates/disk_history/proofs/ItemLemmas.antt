@@ -14,9 +14,9 @@ use Rattle.std.proofs.Math.Seq.{get_or-append_seam}
 use Rattle.disk_history.specs.declared.requests.Fate.{Fate}
 use Rattle.disk_history.specs.declared.requests.Fate.TheVariants.{Unanswered, Done, Refused, Abandoned}
 use Rattle.disk_history.specs.declared.writes.Write.{Write}
-use Rattle.disk_history.specs.Ledger.{Mark, Open, Acknowledged, Lost, Item, zeros_item, is_of, marked}
-use Rattle.disk_history.specs.Legal.{is_acknowledged, is_lost, standing}
-use Rattle.disk_history.specs.Books.{items_by, is_place, items_from, IsWithin, IsLinked, may_give, says_of}
+use Rattle.disk_history.specs.Ledger.{Mark, Open, Acknowledged, Lost, Item, zeros_item, is_item_of, item_with_mark}
+use Rattle.disk_history.specs.Legal.{is_acknowledged, is_writer_lost, standing}
+use Rattle.disk_history.specs.CheckerState.{items_by, is_place, items_from, IsWithin, IsLinked, may_give, says_of}
 
 -- how many steps a walk from a place has at most
 abbrev pub steps_left : Option ℕ → ℕ
@@ -38,15 +38,15 @@ or_both false false false true = refl
 or_both false false false false = refl
 
 gives-kept : (kept : List Item) (item : Item) (bytes : List ℕ)
-    → (list_any (λ item. item.coded && is_lost item) (kept ++ item ∷ []) || list_any (λ item. bytes_eq item.bytes bytes) (kept ++ item ∷ []))
-    ≡ (((item.coded && is_lost item) || bytes_eq item.bytes bytes)
-    || (list_any (λ item. item.coded && is_lost item) kept || list_any (λ item. bytes_eq item.bytes bytes) kept))
+    → (list_any (λ item. item.coded && is_writer_lost item) (kept ++ item ∷ []) || list_any (λ item. bytes_eq item.bytes bytes) (kept ++ item ∷ []))
+    ≡ (((item.coded && is_writer_lost item) || bytes_eq item.bytes bytes)
+    || (list_any (λ item. item.coded && is_writer_lost item) kept || list_any (λ item. bytes_eq item.bytes bytes) kept))
 gives-kept kept item bytes =
-    ap (λ b. b || list_any (λ item. bytes_eq item.bytes bytes) (kept ++ item ∷ [])) (list_any-append (λ item. item.coded && is_lost item) kept (item ∷ []))
-    ∙ ap (λ b. (list_any (λ item. item.coded && is_lost item) kept || ((item.coded && is_lost item) || false)) || b)
+    ap (λ b. b || list_any (λ item. bytes_eq item.bytes bytes) (kept ++ item ∷ [])) (list_any-append (λ item. item.coded && is_writer_lost item) kept (item ∷ []))
+    ∙ ap (λ b. (list_any (λ item. item.coded && is_writer_lost item) kept || ((item.coded && is_writer_lost item) || false)) || b)
     (list_any-append (λ item. bytes_eq item.bytes bytes) kept (item ∷ []))
-    ∙ or_both (list_any (λ item. item.coded && is_lost item) kept) (list_any (λ item. bytes_eq item.bytes bytes) kept)
-    (item.coded && is_lost item) (bytes_eq item.bytes bytes)
+    ∙ or_both (list_any (λ item. item.coded && is_writer_lost item) kept) (list_any (λ item. bytes_eq item.bytes bytes) kept)
+    (item.coded && is_writer_lost item) (bytes_eq item.bytes bytes)
 
 open_says : (coded same rest : Bool) → (((coded && false) || same) || rest) ≡ unwrap_or (cond same (Some true) None) rest
 open_says true true rest = refl
@@ -67,7 +67,7 @@ lost_says false true rest = refl
 lost_says false false rest = refl
 
 abbrev gives_of : List ℕ → List Item → Bool
-gives_of bytes kept = list_any (λ item. item.coded && is_lost item) kept || list_any (λ item. bytes_eq item.bytes bytes) kept
+gives_of bytes kept = list_any (λ item. item.coded && is_writer_lost item) kept || list_any (λ item. bytes_eq item.bytes bytes) kept
 
 -- what a write says of a read, before the items under it are asked
 pub gives-says : (items : List Item) (fate : Fate) (write : Write) (bytes : List ℕ)
@@ -308,14 +308,14 @@ pub record Turns (change : List Item → List Item) (req : ℕ) (fate : Fate) : 
   pub others : (write : Write) (other : Fate) → (write.req == req) ≡ false → change (items_by other write) ≡ items_by other write
 
 marked_own : (mark : Mark) (req : ℕ) (write : Write) → (write.req == req) ≡ true
-    → map (marked mark req) (items_by Unanswered write)
+    → map (item_with_mark mark req) (items_by Unanswered write)
     ≡ (let item : Item = record { request = Some write.req; bytes = write.bytes.now; coded = write.coded; mark = mark } in item ∷ [])
 marked_own mark req write e =
     let item : Item = record { request = Some write.req; bytes = write.bytes.now; coded = write.coded; mark = Open } in
     ap (λ b. (cond b (record item { mark = mark }) item) ∷ []) e
 
 marked_others : (mark : Mark) (req : ℕ) (write : Write) (other : Fate) → (write.req == req) ≡ false
-    → map (marked mark req) (items_by other write) ≡ items_by other write
+    → map (item_with_mark mark req) (items_by other write) ≡ items_by other write
 marked_others mark req write Unanswered e =
     let item : Item = record { request = Some write.req; bytes = write.bytes.now; coded = write.coded; mark = Open } in
     ap (λ b. (cond b (record item { mark = mark }) item) ∷ []) e
@@ -328,7 +328,7 @@ marked_others mark req write Abandoned e =
     ap (λ b. (cond b (record item { mark = mark }) item) ∷ []) e
 
 taken_others : (req : ℕ) (write : Write) (other : Fate) → (write.req == req) ≡ false
-    → filter (λ item. not (is_of req item)) (items_by other write) ≡ items_by other write
+    → filter (λ item. not (is_item_of req item)) (items_by other write) ≡ items_by other write
 taken_others req write Unanswered e =
     let item : Item = record { request = Some write.req; bytes = write.bytes.now; coded = write.coded; mark = Open } in
     ap (λ b. cond (not b) (item ∷ []) []) e
@@ -340,25 +340,25 @@ taken_others req write Abandoned e =
     let item : Item = record { request = Some write.req; bytes = write.bytes.now; coded = write.coded; mark = Lost } in
     ap (λ b. cond (not b) (item ∷ []) []) e
 
-pub done_turns : (req : ℕ) → Turns (map (marked Acknowledged req)) req Done
+pub done_turns : (req : ℕ) → Turns (map (item_with_mark Acknowledged req)) req Done
 done_turns req = record {
-  append = map-append (marked Acknowledged req);
+  append = map-append (item_with_mark Acknowledged req);
   zeros = refl;
   own = marked_own Acknowledged req;
   others = marked_others Acknowledged req;
 }
 
-pub lost_turns : (req : ℕ) → Turns (map (marked Lost req)) req Abandoned
+pub lost_turns : (req : ℕ) → Turns (map (item_with_mark Lost req)) req Abandoned
 lost_turns req = record {
-  append = map-append (marked Lost req);
+  append = map-append (item_with_mark Lost req);
   zeros = refl;
   own = marked_own Lost req;
   others = marked_others Lost req;
 }
 
-pub refused_turns : (req : ℕ) → Turns (filter (λ item. not (is_of req item))) req Refused
+pub refused_turns : (req : ℕ) → Turns (filter (λ item. not (is_item_of req item))) req Refused
 refused_turns req = record {
-  append = filter-append (λ item. not (is_of req item));
+  append = filter-append (λ item. not (is_item_of req item));
   zeros = refl;
   own = λ write e.
       let item : Item = record { request = Some write.req; bytes = write.bytes.now; coded = write.coded; mark = Open } in

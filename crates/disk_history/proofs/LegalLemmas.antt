@@ -5,8 +5,8 @@ use Rattle.std.specs.Option.{option_and_then}
 use Rattle.std.proofs.lemmas.List.{take_more, take_all, take-append-drop, take-append-le, length-take-le}
 use Rattle.std.proofs.lemmas.Bool.{cases_order}
 use Rattle.disk_history.specs.declared.event.HistEvent.{HistEvent}
-use Rattle.disk_history.specs.Ledger.{Ledger, empty_ledger, after}
-use Rattle.disk_history.specs.Legal.{IsLegal, IsFirstIllegal, ledger_from, may_follow, step}
+use Rattle.disk_history.specs.Ledger.{Ledger, empty_ledger, ledger_after}
+use Rattle.disk_history.specs.Legal.{IsLegal, IsFirstIllegal, ledger_from, may_follow, ledger_step}
 
 -- two steps, one after the other
 and_then-both : (both first second : Ledger → Option Ledger) (reached : Option Ledger)
@@ -20,7 +20,7 @@ pub ledger_from-append : (ledger : Ledger) (before later : List HistEvent)
 ledger_from-append ledger [] later = refl
 ledger_from-append ledger (event ∷ before) later =
     and_then-both (λ next. ledger_from next (before ++ later)) (λ next. ledger_from next before) (λ next. ledger_from next later)
-    (step ledger event) (λ next. ledger_from-append next before later)
+    (ledger_step ledger event) (λ next. ledger_from-append next before later)
 
 -- what leads on was there
 and_then-some : (second : Ledger → Option Ledger) (reached : Option Ledger)
@@ -41,19 +41,19 @@ option_id (Some ledger) = refl
 
 pub ledger_from-more : (events : List HistEvent) (place : ℕ) (event : HistEvent) (ledger : Ledger) → place < length events → event ≡ get_or events place event
     → ledger_from empty_ledger (take place events) ≡ Some ledger
-    → ledger_from empty_ledger (take (place + 1) events) ≡ step ledger event
+    → ledger_from empty_ledger (take (place + 1) events) ≡ ledger_step ledger event
 ledger_from-more events place event ledger within is so_far =
     ap (ledger_from empty_ledger) (take_more events place event within ∙ ap (λ (event : HistEvent). take place events ++ event ∷ []) (sym is))
     ∙ ledger_from-append empty_ledger (take place events) (event ∷ [])
     ∙ ap (option_and_then (λ next. ledger_from next (event ∷ []))) so_far
-    ∙ option_id (step ledger event)
+    ∙ option_id (ledger_step ledger event)
 
 pub legal_on : (events : List HistEvent) (place : ℕ) (event : HistEvent) (ledger : Ledger) → place < length events → event ≡ get_or events place event
     → ledger_from empty_ledger (take place events) ≡ Some ledger → may_follow ledger event ≡ true
-    → ledger_from empty_ledger (take (place + 1) events) ≡ Some (after ledger event)
+    → ledger_from empty_ledger (take (place + 1) events) ≡ Some (ledger_after ledger event)
 legal_on events place event ledger within is so_far may =
     ledger_from-more events place event ledger within is so_far
-    ∙ ap (λ b. cond b (Some (after ledger event)) None) may
+    ∙ ap (λ b. cond b (Some (ledger_after ledger event)) None) may
 
 pub illegal_at : (events : List HistEvent) (place : ℕ) (event : HistEvent) (ledger : Ledger) → place < length events → event ≡ get_or events place event
     → ledger_from empty_ledger (take place events) ≡ Some ledger → may_follow ledger event ≡ false
@@ -62,7 +62,7 @@ illegal_at events place event ledger within is so_far may_not = (
   within,
   subst (λ (reached : Option Ledger). IsSome reached) (sym so_far) (search rules),
   λ legal. let none : ledger_from empty_ledger (take (place + 1) events) ≡ None =
-      ledger_from-more events place event ledger within is so_far ∙ ap (λ b. cond b (Some (after ledger event)) None) may_not in
+      ledger_from-more events place event ledger within is so_far ∙ ap (λ b. cond b (Some (ledger_after ledger event)) None) may_not in
       not_some (subst (λ (reached : Option Ledger). IsSome reached) none legal),
 )
   where

@@ -1,4 +1,4 @@
--- What each entry into the checker's books leaves them to show.
+-- What each entry into the checker's state leaves it to show.
 use Rattle.std.proofs.Common.{◌≡◌, ℕ, ◌==◌, Bool, true, false, not, ◌&&◌, List, [], ◌∷◌, length, reverse, Option, Some, None, refl, sym, ap, ◌∙◌, subst, cond, arith}
 use Rattle.std.specs.Option.{option_map}
 use Rattle.std.specs.Ordering.{nat_cmp, is_eq}
@@ -15,10 +15,10 @@ use Rattle.disk_history.specs.declared.requests.RequestState.{RequestState}
 use Rattle.disk_history.specs.declared.requests.Requests.{Requests}
 use Rattle.disk_history.specs.declared.disks.DiskState.{DiskState}
 use Rattle.disk_history.specs.declared.writes.Write.{Write}
-use Rattle.disk_history.specs.Ledger.{Item, Disk, Request, Ledger, zeros_item, changed_at, with_disk, with_items, with_end}
-use Rattle.disk_history.specs.Legal.{is_started, has_place}
-use Rattle.disk_history.specs.Books.{fate_in, fate_of, stray_in, stray_of, is_answer, may_end_in, place_cmp, items_from, items_by, shown_disk, ShowsRequest, AreWithin, IsWithin}
-use Rattle.disk_history.specs.Shown.{ShowsAll}
+use Rattle.disk_history.specs.Ledger.{Item, Disk, WriteRequest, Ledger, zeros_item, changed_at, with_changed_disk, with_items, with_ended_request}
+use Rattle.disk_history.specs.Legal.{has_begun_to_write, has_place}
+use Rattle.disk_history.specs.CheckerState.{fate_in, fate_of, stray_in, stray_of, is_answer, may_end_in, place_cmp, items_from, items_by, shown_disk, ShowsRequest, AreWithin, IsWithin}
+use Rattle.disk_history.specs.CheckerLedger.{ShowsAll}
 use Rattle.disk_history.proofs.ItemLemmas.{Turns, items_from-none, items_from-turned}
 
 -- a map's test of a number is the ledger's
@@ -99,7 +99,7 @@ fate_of-end requests ended req state states q =
 turned_disk : (fates turned : ℕ → Fate) (change : List Item → List Item) (writes : List Write)
     → ((newest : Option ℕ) → items_from turned (reverse writes) newest ≡ change (items_from fates (reverse writes) newest))
     → (found : Option DiskState)
-    → with_disk (λ disk. record disk { items = λ block. change (disk.items block) }) (option_map (shown_disk fates writes) found)
+    → with_changed_disk (λ disk. record disk { items = λ block. change (disk.items block) }) (option_map (shown_disk fates writes) found)
     ≡ option_map (shown_disk turned writes) found
 turned_disk fates turned change writes same None = refl
 turned_disk fates turned change writes same (Some state) =
@@ -109,42 +109,42 @@ turned_disk fates turned change writes same (Some state) =
     λ i. Some (record { blocks = state.blocks; items = items i; deleted = state.deleted })
 
 -- what a request's state says of the ledger's
-pub ended_shown : (found : Option RequestState) (request : Request) → ShowsRequest found request → request.ended ≡ is_answer (fate_in found)
+pub ended_shown : (found : Option RequestState) (request : WriteRequest) → ShowsRequest found request → request.ended ≡ is_answer (fate_in found)
 ended_shown None request shown = shown.2
 ended_shown (Some state) request shown = shown.2
 
-pub stray_shown : (found : Option RequestState) (request : Request) → ShowsRequest found request → request.stray ≡ stray_in found
+pub stray_shown : (found : Option RequestState) (request : WriteRequest) → ShowsRequest found request → request.stray ≡ stray_in found
 stray_shown None request shown = shown.1
 stray_shown (Some state) request shown = shown.1
 
-started_shown : (found : Option RequestState) (request : Request) → ShowsRequest found request → may_end_in found ≡ true → is_started request ≡ true
+started_shown : (found : Option RequestState) (request : WriteRequest) → ShowsRequest found request → may_end_in found ≡ true → has_begun_to_write request ≡ true
 started_shown None request shown e = absurd (false≢true e)
 started_shown (Some state) request shown e = shown.0
 
 -- a request may end where the ledger lets it
-pub may_end_shown : (found : Option RequestState) (request : Request) → ShowsRequest found request
-    → may_end_in found ≡ (is_started request && not request.ended)
+pub may_end_shown : (found : Option RequestState) (request : WriteRequest) → ShowsRequest found request
+    → may_end_in found ≡ (has_begun_to_write request && not request.ended)
 may_end_shown None request shown = ap (λ b. b && not request.ended) (sym shown.0)
 may_end_shown (Some state) request shown =
     ap (λ b. not b) (sym shown.2) ∙ ap (λ b. b && not request.ended) (sym shown.0)
 
-pub may_be_done_shown : (found : Option RequestState) (request : Request) → ShowsRequest found request
-    → (may_end_in found && not (stray_in found)) ≡ (is_started request && not request.ended && not request.stray)
+pub may_be_done_shown : (found : Option RequestState) (request : WriteRequest) → ShowsRequest found request
+    → (may_end_in found && not (stray_in found)) ≡ (has_begun_to_write request && not request.ended && not request.stray)
 may_be_done_shown found request shown =
     ap (λ b. b && not (stray_in found)) (may_end_shown found request shown)
-    ∙ ap (λ b. is_started request && not request.ended && not b) (sym (stray_shown found request shown))
+    ∙ ap (λ b. has_begun_to_write request && not request.ended && not b) (sym (stray_shown found request shown))
 
 pub shows-end : (requests ended : Requests) (disks : BTreeMap ℕ DiskState) (writes : List Write) (ledger : Ledger) (req : ℕ) (fate : Fate)
     (change : List Item → List Item) → Turns change req fate
     → ShowsAll requests disks writes ledger → may_end_in (get nat_cmp requests.states req) ≡ true → is_answer fate ≡ true
     → ((q : ℕ) → get nat_cmp ended.states q ≡ cond (is_at (nat_cmp req) q) (Some (record { stray = stray_of requests req; fate = fate })) (get nat_cmp requests.states q))
     → ended.places ≡ requests.places
-    → ShowsAll ended disks writes (record { disks = with_items change ledger.disks; requests = with_end req ledger.requests })
+    → ShowsAll ended disks writes (record { disks = with_items change ledger.disks; requests = with_ended_request req ledger.requests })
 shows-end requests ended disks writes ledger req fate change turns shows begun answer states places = record {
-  of_disk = λ q. ap (with_disk (λ disk. record disk { items = λ block. change (disk.items block) })) (shows.of_disk q)
+  of_disk = λ q. ap (with_changed_disk (λ disk. record disk { items = λ block. change (disk.items block) })) (shows.of_disk q)
       ∙ turned_disk (fate_of requests) (fate_of ended) change writes
       (items_from-turned (fate_of requests) (fate_of ended) change turns.append turns.zeros each (reverse writes)) (get nat_cmp disks q);
-  of_request = λ q. subst (λ (found : Option RequestState). ShowsRequest found (with_end req ledger.requests q)) (sym (there q)) (of_request q (q == req));
+  of_request = λ q. subst (λ (found : Option RequestState). ShowsRequest found (with_ended_request req ledger.requests q)) (sym (there q)) (of_request q (q == req));
   of_place = λ q disk block. of_place q disk block (q == req) refl
       ∙ ap (λ places. contains place_cmp places (record { req = q; disk = disk; block = block })) (sym places);
   linked = shows.linked;
@@ -188,11 +188,11 @@ shows-end requests ended disks writes ledger req fate change turns shows begun a
         ∙ ap (λ (q : ℕ). contains place_cmp requests.places (record { req = q; disk = disk; block = block })) (sym (eqb-true q req e))
     of_place q disk block false e = shows.of_place q disk block
 
-pub may_end_told : (found : Option RequestState) (request : Request) → ShowsRequest found request → may_end_in found ≡ true
-    → true ≡ (is_started request && not request.ended)
+pub may_end_told : (found : Option RequestState) (request : WriteRequest) → ShowsRequest found request → may_end_in found ≡ true
+    → true ≡ (has_begun_to_write request && not request.ended)
 may_end_told found request shown e = sym e ∙ may_end_shown found request shown
 
-pub may_be_done_told : (found : Option RequestState) (request : Request) → ShowsRequest found request → may_end_in found ≡ true → stray_in found ≡ false
-    → true ≡ (is_started request && not request.ended && not request.stray)
+pub may_be_done_told : (found : Option RequestState) (request : WriteRequest) → ShowsRequest found request → may_end_in found ≡ true → stray_in found ≡ false
+    → true ≡ (has_begun_to_write request && not request.ended && not request.stray)
 may_be_done_told found request shown e straight =
     ap (λ b. not b) (sym straight) ∙ ap (λ b. b && not (stray_in found)) (sym e) ∙ may_be_done_shown found request shown

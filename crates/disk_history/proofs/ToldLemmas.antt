@@ -15,10 +15,10 @@ use Rattle.disk_history.specs.declared.event.HistEvent.TheVariants.{Create, Copy
 use Rattle.disk_history.specs.declared.requests.Fate.{Fate}
 use Rattle.disk_history.specs.declared.requests.Fate.TheVariants.{Unanswered, Done, Refused, Abandoned}
 use Rattle.disk_history.specs.declared.writes.Write.{Write}
-use Rattle.disk_history.specs.Ledger.{Mark, Item, Disk, Request, Ledger, Open, Acknowledged, Lost, empty_ledger, zeros_item, is_of, marked, after, changed_at, with_disk, with_items, with_item, has_block}
-use Rattle.disk_history.specs.Legal.{IsLegal, is_live, is_lost, is_torn, has_place, may_follow, may_read, ledger_from, standing}
-use Rattle.disk_history.specs.Books.{is_answer, items_by}
-use Rattle.disk_history.specs.Told.{Written, blocks_after, blocks_of, writes_after, writes_of, is_done, is_refused, is_lost_writer, is_delete, was_done, was_refused, was_lost, was_deleted, NoneDone, IsLastOrLater, IsReadable, IsTornBlock, MayBeRead}
+use Rattle.disk_history.specs.Ledger.{Mark, Item, Disk, WriteRequest, Ledger, Open, Acknowledged, Lost, empty_ledger, zeros_item, is_item_of, item_with_mark, ledger_after, changed_at, with_changed_disk, with_items, with_item, has_block}
+use Rattle.disk_history.specs.Legal.{IsLegal, is_live_disk, is_writer_lost, is_torn, has_place, may_follow, may_read, ledger_from, standing}
+use Rattle.disk_history.specs.CheckerState.{is_answer, items_by}
+use Rattle.disk_history.specs.ReadableBytes.{BlockWrite, blocks_after, block_count_of, writes_after, writes_of, is_acknowledgement, is_refusal_event, is_lost_writer, is_delete, was_done, was_refused, was_lost, was_deleted, NoneDone, IsLastOrLater, IsReadable, IsTornBlock, MayBeRead}
 use Rattle.disk_history.specs.Changes.{blocks_in}
 use Rattle.disk_history.proofs.ItemLemmas.{Turns, done_turns, refused_turns, lost_turns, standing-push}
 use Rattle.disk_history.proofs.ShownLemmas.{unanswered_fate}
@@ -26,11 +26,11 @@ use Rattle.disk_history.proofs.LegalLemmas.{ledger_from-append}
 
 -- ---- what the events tell of a ledger
 
-abbrev as_write : Written → Write
+abbrev as_write : BlockWrite → Write
 as_write write = record { req = write.req; coded = write.coded; bytes = record { ref_ptr = (0, 0); now = write.bytes }; earlier = None }
 
 -- the items of a block, by its writes, the newest first
-abbrev told : (ℕ → Fate) → List Written → List Item
+abbrev told : (ℕ → Fate) → List BlockWrite → List Item
 told fates [] = zeros_item ∷ []
 told fates (write ∷ older) = told fates older ++ items_by (fates write.req) (as_write write)
 
@@ -52,7 +52,7 @@ is_lost_fate Done = false
 is_lost_fate Refused = false
 is_lost_fate Abandoned = true
 
-abbrev TellsDisk : (ℕ → Fate) → (ℕ → List Written) → Option Disk → Type 0
+abbrev TellsDisk : (ℕ → Fate) → (ℕ → List BlockWrite) → Option Disk → Type 0
 TellsDisk fates writes None = Unit {0}
 TellsDisk fates writes (Some disk) = (block : ℕ) → block < disk.blocks → disk.items block ≡ told fates (writes block)
 
@@ -67,7 +67,7 @@ pub record Tells (events : List HistEvent) (ledger : Ledger) : Type 0 where
   lost : (req : ℕ) → was_lost events req ≡ is_lost_fate (fates req)
   ended : (req : ℕ) → (ledger.requests req).ended ≡ is_answer (fates req)
   deleted : (disk : ℕ) → deleted_in (ledger.disks disk) ≡ was_deleted events disk
-  counted : (disk : ℕ) → blocks_in (ledger.disks disk) ≡ blocks_of events disk
+  counted : (disk : ℕ) → blocks_in (ledger.disks disk) ≡ block_count_of events disk
   items : (disk : ℕ) → TellsDisk fates (writes_of events disk) (ledger.disks disk)
 
 -- ---- one event more
@@ -85,7 +85,7 @@ any_same test events event missed =
 writes-push : (events : List HistEvent) (event : HistEvent) → writes_of (events ++ event ∷ []) ≡ writes_after (writes_of events) event
 writes-push events event = fold-append writes_after (λ disk block. []) events (event ∷ [])
 
-blocks-push : (events : List HistEvent) (event : HistEvent) (disk : ℕ) → blocks_of (events ++ event ∷ []) disk ≡ blocks_after (blocks_of events) event disk
+blocks-push : (events : List HistEvent) (event : HistEvent) (disk : ℕ) → block_count_of (events ++ event ∷ []) disk ≡ blocks_after (block_count_of events) event disk
 blocks-push events event disk = ap (λ (blocks : ℕ → Option ℕ). blocks disk) (fold-append blocks_after (λ disk. None) events (event ∷ []))
 
 flip : (a b : ℕ) (c : Bool) → (a == b) ≡ c → (b == a) ≡ c
@@ -97,16 +97,16 @@ none_deleted None e = refl
 none_deleted (Some disk) e = absurd (false≢true e)
 
 tells_create : (events : List HistEvent) (ledger : Ledger) (disk blocks : ℕ) → Tells events ledger
-    → may_follow ledger (Create disk blocks) ≡ true → Tells (events ++ Create disk blocks ∷ []) (after ledger (Create disk blocks))
+    → may_follow ledger (Create disk blocks) ≡ true → Tells (events ++ Create disk blocks ∷ []) (ledger_after ledger (Create disk blocks))
 tells_create events ledger disk blocks tells may = record {
   fates = tells.fates;
-  done = λ req. any_same (is_done req) events (Create disk blocks) refl ∙ tells.done req;
-  refused = λ req. any_same (is_refused req) events (Create disk blocks) refl ∙ tells.refused req;
+  done = λ req. any_same (is_acknowledgement req) events (Create disk blocks) refl ∙ tells.done req;
+  refused = λ req. any_same (is_refusal_event req) events (Create disk blocks) refl ∙ tells.refused req;
   lost = λ req. any_same (is_lost_writer req) events (Create disk blocks) refl ∙ tells.lost req;
   ended = tells.ended;
   counted = λ q. counted q (q == disk) ∙ sym (blocks-push events (Create disk blocks) q);
   deleted = λ q. deleted q (q == disk) refl ∙ sym (any_same (is_delete q) events (Create disk blocks) refl);
-  items = λ q. subst (λ (writes : ℕ → ℕ → List Written). TellsDisk tells.fates (writes q) (changed_at disk (Some made) ledger.disks q))
+  items = λ q. subst (λ (writes : ℕ → ℕ → List BlockWrite). TellsDisk tells.fates (writes q) (changed_at disk (Some made) ledger.disks q))
       (sym (writes-push events (Create disk blocks))) (items q (q == disk));
 }
   where
@@ -117,7 +117,7 @@ tells_create events ledger disk blocks tells may = record {
     deleted q true e = sym (none_deleted (ledger.disks disk) may) ∙ tells.deleted disk ∙ ap (was_deleted events) (sym (eqb-true q disk e))
     deleted q false e = tells.deleted q
 
-    counted : (q : ℕ) (b : Bool) → blocks_in (cond b (Some made) (ledger.disks q)) ≡ cond b (Some blocks) (blocks_of events q)
+    counted : (q : ℕ) (b : Bool) → blocks_in (cond b (Some made) (ledger.disks q)) ≡ cond b (Some blocks) (block_count_of events q)
     counted q true = refl
     counted q false = tells.counted q
 
@@ -125,35 +125,35 @@ tells_create events ledger disk blocks tells may = record {
     items q true = λ block below. refl
     items q false = tells.items q
 
-tells_kept : (fates : ℕ → Fate) (writes : ℕ → List Written) (deleted : Bool) (found : Option Disk) → TellsDisk fates writes found
-    → TellsDisk fates writes (with_disk (λ disk. record disk { deleted = deleted }) found)
+tells_kept : (fates : ℕ → Fate) (writes : ℕ → List BlockWrite) (deleted : Bool) (found : Option Disk) → TellsDisk fates writes found
+    → TellsDisk fates writes (with_changed_disk (λ disk. record disk { deleted = deleted }) found)
 tells_kept fates writes deleted None tells = tt
 tells_kept fates writes deleted (Some disk) tells = tells
 
-deleted_set : (deleted : Bool) (found : Option Disk) → is_some found ≡ true → deleted_in (with_disk (λ disk. record disk { deleted = deleted }) found) ≡ deleted
+deleted_set : (deleted : Bool) (found : Option Disk) → is_some found ≡ true → deleted_in (with_changed_disk (λ disk. record disk { deleted = deleted }) found) ≡ deleted
 deleted_set deleted None e = absurd (false≢true e)
 deleted_set deleted (Some disk) e = refl
 
-count_kept : (deleted : Bool) (found : Option Disk) → blocks_in (with_disk (λ disk. record disk { deleted = deleted }) found) ≡ blocks_in found
+count_kept : (deleted : Bool) (found : Option Disk) → blocks_in (with_changed_disk (λ disk. record disk { deleted = deleted }) found) ≡ blocks_in found
 count_kept deleted None = refl
 count_kept deleted (Some disk) = refl
 
 tells_copy : (events : List HistEvent) (ledger : Ledger) (old new : ℕ) → Tells events ledger
-    → may_follow ledger (Copy old new) ≡ true → Tells (events ++ Copy old new ∷ []) (after ledger (Copy old new))
+    → may_follow ledger (Copy old new) ≡ true → Tells (events ++ Copy old new ∷ []) (ledger_after ledger (Copy old new))
 tells_copy events ledger old new tells may = record {
   fates = tells.fates;
-  done = λ req. any_same (is_done req) events (Copy old new) refl ∙ tells.done req;
-  refused = λ req. any_same (is_refused req) events (Copy old new) refl ∙ tells.refused req;
+  done = λ req. any_same (is_acknowledgement req) events (Copy old new) refl ∙ tells.done req;
+  refused = λ req. any_same (is_refusal_event req) events (Copy old new) refl ∙ tells.refused req;
   lost = λ req. any_same (is_lost_writer req) events (Copy old new) refl ∙ tells.lost req;
   ended = tells.ended;
   counted = λ q. counted q (q == new) ∙ sym (blocks-push events (Copy old new) q);
   deleted = λ q. deleted q (q == new) refl ∙ sym (any_same (is_delete q) events (Copy old new) refl);
-  items = λ q. subst (λ (writes : ℕ → ℕ → List Written). TellsDisk tells.fates (writes q) (changed_at new copy ledger.disks q))
+  items = λ q. subst (λ (writes : ℕ → ℕ → List BlockWrite). TellsDisk tells.fates (writes q) (changed_at new copy ledger.disks q))
       (sym (writes-push events (Copy old new))) (items q (q == new));
 }
   where
     copy : Option Disk
-    copy = with_disk (λ disk. record disk { deleted = false }) (ledger.disks old)
+    copy = with_changed_disk (λ disk. record disk { deleted = false }) (ledger.disks old)
 
     parts : (is_some (ledger.disks old) ≡ true) × (is_none (ledger.disks new) ≡ true)
     parts = and_parts (is_some (ledger.disks old)) (is_none (ledger.disks new)) may
@@ -163,7 +163,7 @@ tells_copy events ledger old new tells may = record {
         ∙ ap (was_deleted events) (sym (eqb-true q new e))
     deleted q false e = tells.deleted q
 
-    counted : (q : ℕ) (b : Bool) → blocks_in (cond b copy (ledger.disks q)) ≡ cond b (blocks_of events old) (blocks_of events q)
+    counted : (q : ℕ) (b : Bool) → blocks_in (cond b copy (ledger.disks q)) ≡ cond b (block_count_of events old) (block_count_of events q)
     counted q true = count_kept false (ledger.disks old) ∙ tells.counted old
     counted q false = tells.counted q
 
@@ -171,34 +171,34 @@ tells_copy events ledger old new tells may = record {
     items q true = tells_kept tells.fates (writes_of events old) false (ledger.disks old) (tells.items old)
     items q false = tells.items q
 
-live_some : (found : Option Disk) → is_live found ≡ true → is_some found ≡ true
+live_some : (found : Option Disk) → is_live_disk found ≡ true → is_some found ≡ true
 live_some None e = absurd (false≢true e)
 live_some (Some disk) e = refl
 
 tells_delete : (events : List HistEvent) (ledger : Ledger) (disk : ℕ) → Tells events ledger
-    → may_follow ledger (Delete disk) ≡ true → Tells (events ++ Delete disk ∷ []) (after ledger (Delete disk))
+    → may_follow ledger (Delete disk) ≡ true → Tells (events ++ Delete disk ∷ []) (ledger_after ledger (Delete disk))
 tells_delete events ledger disk tells may = record {
   fates = tells.fates;
-  done = λ req. any_same (is_done req) events (Delete disk) refl ∙ tells.done req;
-  refused = λ req. any_same (is_refused req) events (Delete disk) refl ∙ tells.refused req;
+  done = λ req. any_same (is_acknowledgement req) events (Delete disk) refl ∙ tells.done req;
+  refused = λ req. any_same (is_refusal_event req) events (Delete disk) refl ∙ tells.refused req;
   lost = λ req. any_same (is_lost_writer req) events (Delete disk) refl ∙ tells.lost req;
   ended = tells.ended;
   counted = λ q. counted q (q == disk) refl ∙ sym (blocks-push events (Delete disk) q);
   deleted = λ q. deleted q (q == disk) refl ∙ sym (any-push (is_delete q) events (Delete disk));
-  items = λ q. subst (λ (writes : ℕ → ℕ → List Written). TellsDisk tells.fates (writes q) (changed_at disk gone ledger.disks q))
+  items = λ q. subst (λ (writes : ℕ → ℕ → List BlockWrite). TellsDisk tells.fates (writes q) (changed_at disk gone ledger.disks q))
       (sym (writes-push events (Delete disk))) (items q (q == disk) refl);
 }
   where
     gone : Option Disk
-    gone = with_disk (λ disk. record disk { deleted = true }) (ledger.disks disk)
+    gone = with_changed_disk (λ disk. record disk { deleted = true }) (ledger.disks disk)
 
     deleted : (q : ℕ) (b : Bool) → (q == disk) ≡ b → deleted_in (cond b gone (ledger.disks q)) ≡ (was_deleted events q || (disk == q))
     deleted q true e = deleted_set true (ledger.disks disk) (live_some (ledger.disks disk) may)
         ∙ sym (or-true (was_deleted events q)) ∙ ap (λ b. was_deleted events q || b) (sym (flip q disk true e))
     deleted q false e = tells.deleted q ∙ sym (or-false (was_deleted events q)) ∙ ap (λ b. was_deleted events q || b) (sym (flip q disk false e))
 
-    counted : (q : ℕ) (b : Bool) → (q == disk) ≡ b → blocks_in (cond b gone (ledger.disks q)) ≡ blocks_of events q
-    counted q true e = count_kept true (ledger.disks disk) ∙ tells.counted disk ∙ ap (blocks_of events) (sym (eqb-true q disk e))
+    counted : (q : ℕ) (b : Bool) → (q == disk) ≡ b → blocks_in (cond b gone (ledger.disks q)) ≡ block_count_of events q
+    counted q true e = count_kept true (ledger.disks disk) ∙ tells.counted disk ∙ ap (block_count_of events) (sym (eqb-true q disk e))
     counted q false e = tells.counted q
 
     items : (q : ℕ) (b : Bool) → (q == disk) ≡ b → TellsDisk tells.fates (writes_of events q) (cond b gone (ledger.disks q))
@@ -207,33 +207,33 @@ tells_delete events ledger disk tells may = record {
     items q false e = tells.items q
 
 tells_read : (events : List HistEvent) (ledger : Ledger) (disk block : ℕ) (bytes : List ℕ) → Tells events ledger
-    → Tells (events ++ Read disk block bytes ∷ []) (after ledger (Read disk block bytes))
+    → Tells (events ++ Read disk block bytes ∷ []) (ledger_after ledger (Read disk block bytes))
 tells_read events ledger disk block bytes tells = record {
   fates = tells.fates;
-  done = λ req. any_same (is_done req) events (Read disk block bytes) refl ∙ tells.done req;
-  refused = λ req. any_same (is_refused req) events (Read disk block bytes) refl ∙ tells.refused req;
+  done = λ req. any_same (is_acknowledgement req) events (Read disk block bytes) refl ∙ tells.done req;
+  refused = λ req. any_same (is_refusal_event req) events (Read disk block bytes) refl ∙ tells.refused req;
   lost = λ req. any_same (is_lost_writer req) events (Read disk block bytes) refl ∙ tells.lost req;
   ended = tells.ended;
   counted = λ q. tells.counted q ∙ sym (blocks-push events (Read disk block bytes) q);
   deleted = λ q. tells.deleted q ∙ sym (any_same (is_delete q) events (Read disk block bytes) refl);
-  items = λ q. subst (λ (writes : ℕ → ℕ → List Written). TellsDisk tells.fates (writes q) (ledger.disks q))
+  items = λ q. subst (λ (writes : ℕ → ℕ → List BlockWrite). TellsDisk tells.fates (writes q) (ledger.disks q))
       (sym (writes-push events (Read disk block bytes))) (tells.items q);
 }
 
 -- ---- a write begins
 
-started_disk : (fates : ℕ → Fate) (writes : ℕ → List Written) (req block : ℕ) (coded : Bool) (bytes : List ℕ) (found : Option Disk)
+started_disk : (fates : ℕ → Fate) (writes : ℕ → List BlockWrite) (req block : ℕ) (coded : Bool) (bytes : List ℕ) (found : Option Disk)
     → fates req ≡ Unanswered → TellsDisk fates writes found
     → (let item : Item = record { request = Some req; bytes = bytes; coded = coded; mark = Open } in
-    let write : Written = record { req = req; coded = coded; bytes = bytes } in
-    TellsDisk fates (changed_at block (write ∷ writes block) writes) (with_disk (with_item block item) found))
+    let write : BlockWrite = record { req = req; coded = coded; bytes = bytes } in
+    TellsDisk fates (changed_at block (write ∷ writes block) writes) (with_changed_disk (with_item block item) found))
 started_disk fates writes req block coded bytes None unanswered tells = tt
 started_disk fates writes req block coded bytes (Some disk) unanswered tells = λ q below. go q below (q == block) refl
   where
     item : Item
     item = record { request = Some req; bytes = bytes; coded = coded; mark = Open }
 
-    write : Written
+    write : BlockWrite
     write = record { req = req; coded = coded; bytes = bytes }
 
     go : (q : ℕ) → q < disk.blocks → (b : Bool) → (q == block) ≡ b
@@ -245,7 +245,7 @@ started_disk fates writes req block coded bytes (Some disk) unanswered tells = �
     go q below false e = tells q below
 
 -- a write of a block that isn't there is none of the disk's
-absent_disk : (fates : ℕ → Fate) (writes : ℕ → List Written) (block : ℕ) (write : Written) (found : Option Disk)
+absent_disk : (fates : ℕ → Fate) (writes : ℕ → List BlockWrite) (block : ℕ) (write : BlockWrite) (found : Option Disk)
     → has_block found block ≡ false → TellsDisk fates writes found
     → TellsDisk fates (changed_at block (write ∷ writes block) writes) found
 absent_disk fates writes block write None absent tells = tt
@@ -256,16 +256,16 @@ absent_disk fates writes block write (Some disk) absent tells = λ q below.
 
 tells_start : (events : List HistEvent) (ledger : Ledger) (req disk block : ℕ) (coded : Bool) (bytes : List ℕ) → Tells events ledger
     → may_follow ledger (WriteStart req disk block coded bytes) ≡ true
-    → Tells (events ++ WriteStart req disk block coded bytes ∷ []) (after ledger (WriteStart req disk block coded bytes))
+    → Tells (events ++ WriteStart req disk block coded bytes ∷ []) (ledger_after ledger (WriteStart req disk block coded bytes))
 tells_start events ledger req disk block coded bytes tells may = record {
   fates = tells.fates;
-  done = λ q. any_same (is_done q) events event refl ∙ tells.done q;
-  refused = λ q. any_same (is_refused q) events event refl ∙ tells.refused q;
+  done = λ q. any_same (is_acknowledgement q) events event refl ∙ tells.done q;
+  refused = λ q. any_same (is_refusal_event q) events event refl ∙ tells.refused q;
   lost = λ q. any_same (is_lost_writer q) events event refl ∙ tells.lost q;
   ended = λ q. ended q (q == req) refl;
   counted = λ q. counted q (has_block (ledger.disks disk) block) ∙ sym (blocks-push events event q);
   deleted = λ q. deleted q (has_block (ledger.disks disk) block) ∙ sym (any_same (is_delete q) events event refl);
-  items = λ q. subst (λ (writes : ℕ → ℕ → List Written). TellsDisk tells.fates (writes q) ((after ledger event).disks q))
+  items = λ q. subst (λ (writes : ℕ → ℕ → List BlockWrite). TellsDisk tells.fates (writes q) ((ledger_after ledger event).disks q))
       (sym (writes-push events event)) (items q (has_block (ledger.disks disk) block) refl);
 }
   where
@@ -275,13 +275,13 @@ tells_start events ledger req disk block coded bytes tells may = record {
     item : Item
     item = record { request = Some req; bytes = bytes; coded = coded; mark = Open }
 
-    write : Written
+    write : BlockWrite
     write = record { req = req; coded = coded; bytes = bytes }
 
-    grown : ℕ → List Written
+    grown : ℕ → List BlockWrite
     grown = changed_at block (write ∷ writes_of events disk block) (writes_of events disk)
 
-    request : Request
+    request : WriteRequest
     request = record {
       places = (ledger.requests req).places ++ (disk, block) ∷ [];
       stray = (ledger.requests req).stray || not (has_block (ledger.disks disk) block);
@@ -298,34 +298,34 @@ tells_start events ledger req disk block coded bytes tells may = record {
     ended q true e = tells.ended req ∙ ap (λ q. is_answer (tells.fates q)) (sym (eqb-true q req e))
     ended q false e = tells.ended q
 
-    one_deleted : (found : Option Disk) → deleted_in (with_disk (with_item block item) found) ≡ deleted_in found
+    one_deleted : (found : Option Disk) → deleted_in (with_changed_disk (with_item block item) found) ≡ deleted_in found
     one_deleted None = refl
     one_deleted (Some disk) = refl
 
-    here_deleted : (q : ℕ) (b : Bool) → (q == disk) ≡ b → deleted_in (cond b (with_disk (with_item block item) (ledger.disks disk)) (ledger.disks q)) ≡ was_deleted events q
+    here_deleted : (q : ℕ) (b : Bool) → (q == disk) ≡ b → deleted_in (cond b (with_changed_disk (with_item block item) (ledger.disks disk)) (ledger.disks q)) ≡ was_deleted events q
     here_deleted q true e = one_deleted (ledger.disks disk) ∙ tells.deleted disk ∙ ap (was_deleted events) (sym (eqb-true q disk e))
     here_deleted q false e = tells.deleted q
 
     changed : ℕ → Option Disk
-    changed = changed_at disk (with_disk (with_item block item) (ledger.disks disk)) ledger.disks
+    changed = changed_at disk (with_changed_disk (with_item block item) (ledger.disks disk)) ledger.disks
 
     deleted : (q : ℕ) (b : Bool) → deleted_in ((cond b changed ledger.disks) q) ≡ was_deleted events q
     deleted q true = here_deleted q (q == disk) refl
     deleted q false = tells.deleted q
 
-    one_counted : (found : Option Disk) → blocks_in (with_disk (with_item block item) found) ≡ blocks_in found
+    one_counted : (found : Option Disk) → blocks_in (with_changed_disk (with_item block item) found) ≡ blocks_in found
     one_counted None = refl
     one_counted (Some disk) = refl
 
-    here_counted : (q : ℕ) (b : Bool) → (q == disk) ≡ b → blocks_in (cond b (with_disk (with_item block item) (ledger.disks disk)) (ledger.disks q)) ≡ blocks_of events q
-    here_counted q true e = one_counted (ledger.disks disk) ∙ tells.counted disk ∙ ap (blocks_of events) (sym (eqb-true q disk e))
+    here_counted : (q : ℕ) (b : Bool) → (q == disk) ≡ b → blocks_in (cond b (with_changed_disk (with_item block item) (ledger.disks disk)) (ledger.disks q)) ≡ block_count_of events q
+    here_counted q true e = one_counted (ledger.disks disk) ∙ tells.counted disk ∙ ap (block_count_of events) (sym (eqb-true q disk e))
     here_counted q false e = tells.counted q
 
-    counted : (q : ℕ) (b : Bool) → blocks_in ((cond b changed ledger.disks) q) ≡ blocks_of events q
+    counted : (q : ℕ) (b : Bool) → blocks_in ((cond b changed ledger.disks) q) ≡ block_count_of events q
     counted q true = here_counted q (q == disk) refl
     counted q false = tells.counted q
 
-    there : (q : ℕ) (b : Bool) → TellsDisk tells.fates (cond b grown (writes_of events q)) (cond b (with_disk (with_item block item) (ledger.disks disk)) (ledger.disks q))
+    there : (q : ℕ) (b : Bool) → TellsDisk tells.fates (cond b grown (writes_of events q)) (cond b (with_changed_disk (with_item block item) (ledger.disks disk)) (ledger.disks q))
     there q true = started_disk tells.fates (writes_of events disk) req block coded bytes (ledger.disks disk) unanswered (tells.items disk)
     there q false = tells.items q
 
@@ -342,7 +342,7 @@ tells_start events ledger req disk block coded bytes tells may = record {
 -- ---- a request ends
 
 told_turned : (fates : ℕ → Fate) (req : ℕ) (fate : Fate) (change : List Item → List Item) → Turns change req fate → fates req ≡ Unanswered
-    → (writes : List Written) → change (told fates writes) ≡ told (changed_at req fate fates) writes
+    → (writes : List BlockWrite) → change (told fates writes) ≡ told (changed_at req fate fates) writes
 told_turned fates req fate change turns unanswered [] = turns.zeros
 told_turned fates req fate change turns unanswered (write ∷ older) =
     turns.append (told fates older) (items_by (fates write.req) (as_write write))
@@ -359,14 +359,14 @@ told_turned fates req fate change turns unanswered (write ∷ older) =
         ∙ ap (λ b. items_by (cond b fate (fates write.req)) (as_write write)) (sym e)
 
 ended_disk : (fates : ℕ → Fate) (req : ℕ) (fate : Fate) (change : List Item → List Item) → Turns change req fate → fates req ≡ Unanswered
-    → (writes : ℕ → List Written) (found : Option Disk) → TellsDisk fates writes found
-    → TellsDisk (changed_at req fate fates) writes (with_disk (λ disk. record disk { items = λ block. change (disk.items block) }) found)
+    → (writes : ℕ → List BlockWrite) (found : Option Disk) → TellsDisk fates writes found
+    → TellsDisk (changed_at req fate fates) writes (with_changed_disk (λ disk. record disk { items = λ block. change (disk.items block) }) found)
 ended_disk fates req fate change turns unanswered writes None tells = tt
 ended_disk fates req fate change turns unanswered writes (Some disk) tells = λ block below.
     ap change (tells block below) ∙ told_turned fates req fate change turns unanswered (writes block)
 
 end_deleted : (change : List Item → List Item) (found : Option Disk)
-    → deleted_in (with_disk (λ disk. record disk { items = λ block. change (disk.items block) }) found) ≡ deleted_in found
+    → deleted_in (with_changed_disk (λ disk. record disk { items = λ block. change (disk.items block) }) found) ≡ deleted_in found
 end_deleted change None = refl
 end_deleted change (Some disk) = refl
 
@@ -387,17 +387,17 @@ end_told told_before is_fate fates req fate found told_all unanswered open_none 
         ∙ or-false (told_before q) ∙ told_all q
 
 end_counted : (change : List Item → List Item) (found : Option Disk)
-    → blocks_in (with_disk (λ disk. record disk { items = λ block. change (disk.items block) }) found) ≡ blocks_in found
+    → blocks_in (with_changed_disk (λ disk. record disk { items = λ block. change (disk.items block) }) found) ≡ blocks_in found
 end_counted change None = refl
 end_counted change (Some disk) = refl
 
 tells_end : (events : List HistEvent) (ledger : Ledger) (req : ℕ) (fate : Fate) (event : HistEvent) (change : List Item → List Item)
     → Turns change req fate → Tells events ledger → (ledger.requests req).ended ≡ false → is_answer fate ≡ true
-    → ((q : ℕ) → is_done q event ≡ (req == q && is_done_fate fate))
-    → ((q : ℕ) → is_refused q event ≡ (req == q && is_refused_fate fate))
+    → ((q : ℕ) → is_acknowledgement q event ≡ (req == q && is_done_fate fate))
+    → ((q : ℕ) → is_refusal_event q event ≡ (req == q && is_refused_fate fate))
     → ((q : ℕ) → is_lost_writer q event ≡ (req == q && is_lost_fate fate))
     → ((q : ℕ) → is_delete q event ≡ false)
-    → ((writes : ℕ → ℕ → List Written) → writes_after writes event ≡ writes)
+    → ((writes : ℕ → ℕ → List BlockWrite) → writes_after writes event ≡ writes)
     → ((blocks : ℕ → Option ℕ) → blocks_after blocks event ≡ blocks)
     → Tells (events ++ event ∷ []) (record {
       disks = with_items change ledger.disks;
@@ -405,13 +405,13 @@ tells_end : (events : List HistEvent) (ledger : Ledger) (req : ℕ) (fate : Fate
     })
 tells_end events ledger req fate event change turns tells running answer dones refuses loses deletes writes blocks = record {
   fates = changed_at req fate tells.fates;
-  done = λ q. any-push (is_done q) events event ∙ end_told (was_done events) is_done_fate tells.fates req fate (λ q. is_done q event) tells.done unanswered refl dones q;
-  refused = λ q. any-push (is_refused q) events event ∙ end_told (was_refused events) is_refused_fate tells.fates req fate (λ q. is_refused q event) tells.refused unanswered refl refuses q;
+  done = λ q. any-push (is_acknowledgement q) events event ∙ end_told (was_done events) is_done_fate tells.fates req fate (λ q. is_acknowledgement q event) tells.done unanswered refl dones q;
+  refused = λ q. any-push (is_refusal_event q) events event ∙ end_told (was_refused events) is_refused_fate tells.fates req fate (λ q. is_refusal_event q event) tells.refused unanswered refl refuses q;
   lost = λ q. any-push (is_lost_writer q) events event ∙ end_told (was_lost events) is_lost_fate tells.fates req fate (λ q. is_lost_writer q event) tells.lost unanswered refl loses q;
   ended = λ q. ended q (q == req);
-  counted = λ q. end_counted change (ledger.disks q) ∙ tells.counted q ∙ sym (blocks-push events event q ∙ ap (λ (blocks : ℕ → Option ℕ). blocks q) (blocks (blocks_of events)));
+  counted = λ q. end_counted change (ledger.disks q) ∙ tells.counted q ∙ sym (blocks-push events event q ∙ ap (λ (blocks : ℕ → Option ℕ). blocks q) (blocks (block_count_of events)));
   deleted = λ q. end_deleted change (ledger.disks q) ∙ tells.deleted q ∙ sym (any_same (is_delete q) events event (deletes q));
-  items = λ q. subst (λ (all : ℕ → ℕ → List Written). TellsDisk (changed_at req fate tells.fates) (all q) (with_items change ledger.disks q))
+  items = λ q. subst (λ (all : ℕ → ℕ → List BlockWrite). TellsDisk (changed_at req fate tells.fates) (all q) (with_items change ledger.disks q))
       (sym (writes-push events event ∙ writes (writes_of events)))
       (ended_disk tells.fates req fate change turns unanswered (writes_of events q) (ledger.disks q) (tells.items q));
 }
@@ -432,21 +432,21 @@ and_none true = refl
 and_none false = refl
 
 pub tells_step : (events : List HistEvent) (ledger : Ledger) (event : HistEvent) → Tells events ledger → may_follow ledger event ≡ true
-    → Tells (events ++ event ∷ []) (after ledger event)
+    → Tells (events ++ event ∷ []) (ledger_after ledger event)
 tells_step events ledger (Create disk blocks) tells may = tells_create events ledger disk blocks tells may
 tells_step events ledger (Copy old new) tells may = tells_copy events ledger old new tells may
 tells_step events ledger (Delete disk) tells may = tells_delete events ledger disk tells may
 tells_step events ledger (WriteStart req disk block coded bytes) tells may = tells_start events ledger req disk block coded bytes tells may
 tells_step events ledger (WriteDone req) tells may =
-    tells_end events ledger req Done (WriteDone req) (map (marked Acknowledged req)) (done_turns req) tells
+    tells_end events ledger req Done (WriteDone req) (map (item_with_mark Acknowledged req)) (done_turns req) tells
     (not-true (ledger.requests req).ended (and_parts _ _ (and_parts _ _ may).0).1) refl
     (λ q. and_same (req == q)) (λ q. and_none (req == q)) (λ q. and_none (req == q)) (λ q. refl) (λ writes. refl) (λ blocks. refl)
 tells_step events ledger (WriteRefused req) tells may =
-    tells_end events ledger req Refused (WriteRefused req) (filter (λ item. not (is_of req item))) (refused_turns req) tells
+    tells_end events ledger req Refused (WriteRefused req) (filter (λ item. not (is_item_of req item))) (refused_turns req) tells
     (not-true (ledger.requests req).ended (and_parts _ _ may).1) refl
     (λ q. and_none (req == q)) (λ q. and_same (req == q)) (λ q. and_none (req == q)) (λ q. refl) (λ writes. refl) (λ blocks. refl)
 tells_step events ledger (WriterLost req) tells may =
-    tells_end events ledger req Abandoned (WriterLost req) (map (marked Lost req)) (lost_turns req) tells
+    tells_end events ledger req Abandoned (WriterLost req) (map (item_with_mark Lost req)) (lost_turns req) tells
     (not-true (ledger.requests req).ended (and_parts _ _ may).1) refl
     (λ q. and_none (req == q)) (λ q. and_none (req == q)) (λ q. and_same (req == q)) (λ q. refl) (λ writes. refl) (λ blocks. refl)
 tells_step events ledger (Read disk block bytes) tells may = tells_read events ledger disk block bytes tells
@@ -472,20 +472,20 @@ tells_from before [] ledger next tells reached =
     some_same : Some ledger ≡ Some next → ledger ≡ next
     some_same e = cc
 tells_from before (event ∷ rest) ledger next tells reached =
-    go (may_follow ledger event) refl (tells_from (before ++ event ∷ []) rest (after ledger event) next)
+    go (may_follow ledger event) refl (tells_from (before ++ event ∷ []) rest (ledger_after ledger event) next)
   where
     not_some : None ≡ Some next → ⊥
     not_some e = cc
 
     go : (b : Bool) → may_follow ledger event ≡ b
-        → (Tells (before ++ event ∷ []) (after ledger event) → ledger_from (after ledger event) rest ≡ Some next → Tells ((before ++ event ∷ []) ++ rest) next)
+        → (Tells (before ++ event ∷ []) (ledger_after ledger event) → ledger_from (ledger_after ledger event) rest ≡ Some next → Tells ((before ++ event ∷ []) ++ rest) next)
         → Tells (before ++ event ∷ rest) next
     go true may later =
         subst (λ (events : List HistEvent). Tells events next) (append_assoc before (event ∷ []) rest)
         (later (tells_step before ledger event tells may)
-        (sym (ap (λ b. option_and_then (λ next. ledger_from next rest) (cond b (Some (after ledger event)) None)) may) ∙ reached))
+        (sym (ap (λ b. option_and_then (λ next. ledger_from next rest) (cond b (Some (ledger_after ledger event)) None)) may) ∙ reached))
     go false may later =
-        absurd (not_some (sym (ap (λ b. option_and_then (λ next. ledger_from next rest) (cond b (Some (after ledger event)) None)) may) ∙ reached))
+        absurd (not_some (sym (ap (λ b. option_and_then (λ next. ledger_from next rest) (cond b (Some (ledger_after ledger event)) None)) may) ∙ reached))
 
 pub tells_all : (events : List HistEvent) (ledger : Ledger) → ledger_from empty_ledger events ≡ Some ledger → Tells events ledger
 tells_all events ledger reached = tells_from [] events empty_ledger ledger tells_empty reached
@@ -493,32 +493,32 @@ tells_all events ledger reached = tells_from [] events empty_ledger ledger tells
 -- ---- what a read may give
 
 -- an item that stands passes the test: that of the last acknowledged write or of a later one, or the zeros
-abbrev Found : List HistEvent → (ℕ → Fate) → (Item → Bool) → List Written → Type 0
+abbrev Found : List HistEvent → (ℕ → Fate) → (Item → Bool) → List BlockWrite → Type 0
 Found events fates test writes =
-    ((write : Written) × IsLastOrLater events writes write × (list_any test (items_by (fates write.req) (as_write write)) ≡ true))
+    ((write : BlockWrite) × IsLastOrLater events writes write × (list_any test (items_by (fates write.req) (as_write write)) ≡ true))
     ⊎ (NoneDone events writes × (test zeros_item ≡ true))
 
-found_older : (events : List HistEvent) (fates : ℕ → Fate) (test : Item → Bool) (write : Written) (older : List Written)
+found_older : (events : List HistEvent) (fates : ℕ → Fate) (test : Item → Bool) (write : BlockWrite) (older : List BlockWrite)
     → was_done events write.req ≡ false → Found events fates test older → Found events fates test (write ∷ older)
 found_older events fates test write older undone (inl found) = inl (
   found.0,
   record {
     later = write ∷ found.1.later;
     earlier = found.1.earlier;
-    order = ap (λ (writes : List Written). write ∷ writes) found.1.order;
+    order = ap (λ (writes : List BlockWrite). write ∷ writes) found.1.order;
     none_done = (undone, found.1.none_done);
   },
   found.2,
 )
 found_older events fates test write older undone (inr zeros) = inr ((undone, zeros.0), zeros.1)
 
-found_here : (events : List HistEvent) (fates : ℕ → Fate) (test : Item → Bool) (write : Written) (older : List Written)
+found_here : (events : List HistEvent) (fates : ℕ → Fate) (test : Item → Bool) (write : BlockWrite) (older : List BlockWrite)
     → list_any test (items_by (fates write.req) (as_write write)) ≡ true → Found events fates test (write ∷ older)
 found_here events fates test write older passes = inl (write, record { later = []; earlier = older; order = refl; none_done = tt }, passes)
 
 find_standing : (events : List HistEvent) (fates : ℕ → Fate) (test : Item → Bool)
     → ((req : ℕ) → was_done events req ≡ is_done_fate (fates req))
-    → (writes : List Written) → list_any test (standing (told fates writes)) ≡ true → Found events fates test writes
+    → (writes : List BlockWrite) → list_any test (standing (told fates writes)) ≡ true → Found events fates test writes
 find_standing events fates test done [] passes = inr (tt, sym (or-false (test zeros_item)) ∙ passes)
 find_standing events fates test done (write ∷ older) passes =
     go (fates write.req) refl (find_standing events fates test done older)
@@ -553,14 +553,14 @@ find_standing events fates test done (write ∷ older) passes =
     go Abandoned is rest = both Lost Abandoned is refl refl rest (or_cases _ _
         (sym (list_any-append test (standing (told fates older)) (item_of Lost ∷ [])) ∙ sym (ap (list_any test) (standing-push (told fates older) (item_of Lost))) ∙ seen Abandoned is))
 
-torn_found : (events : List HistEvent) (fates : ℕ → Fate) (writes : List Written)
+torn_found : (events : List HistEvent) (fates : ℕ → Fate) (writes : List BlockWrite)
     → ((req : ℕ) → was_lost events req ≡ is_lost_fate (fates req))
-    → Found events fates (λ item. item.coded && is_lost item) writes → IsTornBlock events writes
+    → Found events fates (λ item. item.coded && is_writer_lost item) writes → IsTornBlock events writes
 torn_found events fates writes lost (inr zeros) = absurd (false≢true zeros.1)
 torn_found events fates writes lost (inl found) = go (fates found.0.req) refl
   where
     test : Item → Bool
-    test item = item.coded && is_lost item
+    test item = item.coded && is_writer_lost item
 
     seen : (fate : Fate) → fates found.0.req ≡ fate → list_any test (items_by fate (as_write found.0)) ≡ true
     seen fate is = ap (λ (f : Fate). list_any test (items_by f (as_write found.0))) (sym is) ∙ found.2
@@ -582,7 +582,7 @@ torn_found events fates writes lost (inl found) = go (fates found.0.req) refl
 same_bytes : (xs ys : List ℕ) → bytes_eq xs ys ≡ true → xs ≡ ys
 same_bytes xs ys e = (bytes_eq-Decides xs ys).0 e
 
-read_found : (events : List HistEvent) (fates : ℕ → Fate) (writes : List Written) (bytes : List ℕ)
+read_found : (events : List HistEvent) (fates : ℕ → Fate) (writes : List BlockWrite) (bytes : List ℕ)
     → ((req : ℕ) → was_refused events req ≡ is_refused_fate (fates req))
     → Found events fates (λ item. bytes_eq item.bytes bytes) writes → IsReadable events writes bytes
 read_found events fates writes bytes refused (inr zeros) = inr (zeros.0, sym (same_bytes (replicate 512 0) bytes zeros.1))
@@ -595,7 +595,7 @@ read_found events fates writes bytes refused (inl found) = inl (go (fates found.
     seen fate is = ap (λ (f : Fate). list_any test (items_by f (as_write found.0))) (sym is) ∙ found.2
 
     here : (fate : Fate) → fates found.0.req ≡ fate → is_refused_fate fate ≡ false → (bytes_eq found.0.bytes bytes || false) ≡ true
-        → (write : Written) × IsLastOrLater events writes write × (was_refused events write.req ≡ false) × (write.bytes ≡ bytes)
+        → (write : BlockWrite) × IsLastOrLater events writes write × (was_refused events write.req ≡ false) × (write.bytes ≡ bytes)
     here fate is unrefused e = (
       found.0,
       found.1,
@@ -604,13 +604,13 @@ read_found events fates writes bytes refused (inl found) = inl (go (fates found.
     )
 
     go : (fate : Fate) → fates found.0.req ≡ fate
-        → (write : Written) × IsLastOrLater events writes write × (was_refused events write.req ≡ false) × (write.bytes ≡ bytes)
+        → (write : BlockWrite) × IsLastOrLater events writes write × (was_refused events write.req ≡ false) × (write.bytes ≡ bytes)
     go Unanswered is = here Unanswered is refl (seen Unanswered is)
     go Done is = here Done is refl (seen Done is)
     go Refused is = absurd (false≢true (seen Refused is))
     go Abandoned is = here Abandoned is refl (seen Abandoned is)
 
-read_disk : (events : List HistEvent) (fates : ℕ → Fate) (writes : ℕ → List Written) (found : Option Disk) (block : ℕ) (bytes : List ℕ)
+read_disk : (events : List HistEvent) (fates : ℕ → Fate) (writes : ℕ → List BlockWrite) (found : Option Disk) (block : ℕ) (bytes : List ℕ)
     → ((req : ℕ) → was_done events req ≡ is_done_fate (fates req))
     → ((req : ℕ) → was_refused events req ≡ is_refused_fate (fates req))
     → ((req : ℕ) → was_lost events req ≡ is_lost_fate (fates req))
@@ -627,7 +627,7 @@ read_disk events fates writes (Some disk) block bytes done refused lost tells li
 
     torn : ((disk.deleted ≡ true) ⊎ (is_torn (disk.items block) ≡ true)) → ⊥
     torn (inl gone) = true≢false (sym gone ∙ live)
-    torn (inr e) = whole (torn_found events fates (writes block) lost (find (λ item. item.coded && is_lost item) e))
+    torn (inr e) = whole (torn_found events fates (writes block) lost (find (λ item. item.coded && is_writer_lost item) e))
 
     go : ((disk.deleted || is_torn (disk.items block)) ≡ true) ⊎ (list_any (λ item. bytes_eq item.bytes bytes) (standing (disk.items block)) ≡ true)
         → IsReadable events (writes block) bytes
@@ -644,7 +644,7 @@ legal_split before event later legal =
     none there = search rules
 
     may : (ledger : Ledger) (b : Bool) → may_follow ledger event ≡ b
-        → IsSome (option_and_then (λ next. ledger_from next later) (cond b (Some (after ledger event)) None)) → b ≡ true
+        → IsSome (option_and_then (λ next. ledger_from next later) (cond b (Some (ledger_after ledger event)) None)) → b ≡ true
     may ledger true e there = refl
     may ledger false e there = absurd (none there)
 
@@ -669,7 +669,7 @@ read_is_last_or_later before later disk block bytes legal live whole =
 
 -- ---- which reads may come next
 
-push_here : (test : Item → Bool) (items : List Item) (fate : Fate) (write : Written) → list_any test (items_by fate (as_write write)) ≡ true
+push_here : (test : Item → Bool) (items : List Item) (fate : Fate) (write : BlockWrite) → list_any test (items_by fate (as_write write)) ≡ true
     → list_any test (standing (items ++ items_by fate (as_write write))) ≡ true
 push_here test items Unanswered write passes =
     let item : Item = record { request = Some write.req; bytes = write.bytes; coded = write.coded; mark = Open } in
@@ -684,7 +684,7 @@ push_here test items Abandoned write passes =
     ap (list_any test) (standing-push items item) ∙ list_any-append test (standing items) (item ∷ [])
     ∙ or_right (list_any test (standing items)) (list_any test (item ∷ [])) passes
 
-push_over : (test : Item → Bool) (items : List Item) (fate : Fate) (write : Written) → is_done_fate fate ≡ false → list_any test (standing items) ≡ true
+push_over : (test : Item → Bool) (items : List Item) (fate : Fate) (write : BlockWrite) → is_done_fate fate ≡ false → list_any test (standing items) ≡ true
     → list_any test (standing (items ++ items_by fate (as_write write))) ≡ true
 push_over test items Unanswered write undone passes =
     let item : Item = record { request = Some write.req; bytes = write.bytes; coded = write.coded; mark = Open } in
@@ -699,7 +699,7 @@ push_over test items Abandoned write undone passes =
 
 -- the last acknowledged write and later ones stand
 stands : (events : List HistEvent) (fates : ℕ → Fate) (test : Item → Bool) → ((req : ℕ) → was_done events req ≡ is_done_fate (fates req))
-    → (later : List Written) (write : Written) (earlier : List Written) → NoneDone events later
+    → (later : List BlockWrite) (write : BlockWrite) (earlier : List BlockWrite) → NoneDone events later
     → list_any test (items_by (fates write.req) (as_write write)) ≡ true
     → list_any test (standing (told fates (later ++ write ∷ earlier))) ≡ true
 stands events fates test done [] write earlier none passes = push_here test (told fates earlier) (fates write.req) write passes
@@ -708,19 +708,19 @@ stands events fates test done (first ∷ later) write earlier none passes =
     (stands events fates test done later write earlier none.1 passes)
 
 zeros_stand : (events : List HistEvent) (fates : ℕ → Fate) (test : Item → Bool) → ((req : ℕ) → was_done events req ≡ is_done_fate (fates req))
-    → (writes : List Written) → NoneDone events writes → test zeros_item ≡ true → list_any test (standing (told fates writes)) ≡ true
+    → (writes : List BlockWrite) → NoneDone events writes → test zeros_item ≡ true → list_any test (standing (told fates writes)) ≡ true
 zeros_stand events fates test done [] none passes = or-false (test zeros_item) ∙ passes
 zeros_stand events fates test done (write ∷ older) none passes =
     push_over test (told fates older) (fates write.req) write (sym (done write.req) ∙ none.0) (zeros_stand events fates test done older none.1 passes)
 
-torn_stands : (events : List HistEvent) (fates : ℕ → Fate) (writes : List Written) → ((req : ℕ) → was_done events req ≡ is_done_fate (fates req))
+torn_stands : (events : List HistEvent) (fates : ℕ → Fate) (writes : List BlockWrite) → ((req : ℕ) → was_done events req ≡ is_done_fate (fates req))
     → ((req : ℕ) → was_lost events req ≡ is_lost_fate (fates req)) → IsTornBlock events writes → is_torn (told fates writes) ≡ true
 torn_stands events fates writes done lost torn =
-    ap (λ (writes : List Written). is_torn (told fates writes)) torn.1.order
+    ap (λ (writes : List BlockWrite). is_torn (told fates writes)) torn.1.order
     ∙ stands events fates test done torn.1.later torn.0 torn.1.earlier torn.1.none_done (seen (fates torn.0.req) (sym (lost torn.0.req) ∙ torn.3))
   where
     test : Item → Bool
-    test item = item.coded && is_lost item
+    test item = item.coded && is_writer_lost item
 
     seen : (fate : Fate) → is_lost_fate fate ≡ true → list_any test (items_by fate (as_write torn.0)) ≡ true
     seen Unanswered e = absurd (false≢true e)
@@ -728,13 +728,13 @@ torn_stands events fates writes done lost torn =
     seen Refused e = absurd (false≢true e)
     seen Abandoned e = ap (λ coded. (coded && true) || false) torn.2
 
-readable_stands : (events : List HistEvent) (fates : ℕ → Fate) (writes : List Written) (bytes : List ℕ)
+readable_stands : (events : List HistEvent) (fates : ℕ → Fate) (writes : List BlockWrite) (bytes : List ℕ)
     → ((req : ℕ) → was_done events req ≡ is_done_fate (fates req)) → ((req : ℕ) → was_refused events req ≡ is_refused_fate (fates req))
     → IsReadable events writes bytes → list_any (λ item. bytes_eq item.bytes bytes) (standing (told fates writes)) ≡ true
 readable_stands events fates writes bytes done refused (inr zeros) =
     zeros_stand events fates (λ item. bytes_eq item.bytes bytes) done writes zeros.0 ((bytes_eq-Decides (replicate 512 0) bytes).1 (sym zeros.1))
 readable_stands events fates writes bytes done refused (inl found) =
-    ap (λ (writes : List Written). list_any test (standing (told fates writes))) found.1.order
+    ap (λ (writes : List BlockWrite). list_any test (standing (told fates writes))) found.1.order
     ∙ stands events fates test done found.1.later found.0 found.1.earlier found.1.none_done
     (seen (fates found.0.req) (sym (refused found.0.req) ∙ found.2) ((bytes_eq-Decides found.0.bytes bytes).1 found.3))
   where
@@ -747,7 +747,7 @@ readable_stands events fates writes bytes done refused (inl found) =
     seen Refused kept e = absurd (true≢false kept)
     seen Abandoned kept e = or-false (bytes_eq found.0.bytes bytes) ∙ e
 
-read_allowed : (events : List HistEvent) (fates : ℕ → Fate) (writes : ℕ → List Written) (found : Option Disk) (block : ℕ) (bytes : List ℕ) (count : ℕ)
+read_allowed : (events : List HistEvent) (fates : ℕ → Fate) (writes : ℕ → List BlockWrite) (found : Option Disk) (block : ℕ) (bytes : List ℕ) (count : ℕ)
     → ((req : ℕ) → was_done events req ≡ is_done_fate (fates req))
     → ((req : ℕ) → was_refused events req ≡ is_refused_fate (fates req))
     → ((req : ℕ) → was_lost events req ≡ is_lost_fate (fates req))
@@ -782,7 +782,7 @@ read_allowed events fates writes (Some disk) block bytes count done refused lost
         (ap (λ (items : List Item). list_any (λ item. bytes_eq item.bytes bytes) (standing items)) (tells block below)
         ∙ readable_stands events fates (writes block) bytes done refused readable)
 
-read_told : (events : List HistEvent) (fates : ℕ → Fate) (writes : ℕ → List Written) (found : Option Disk) (block : ℕ) (bytes : List ℕ)
+read_told : (events : List HistEvent) (fates : ℕ → Fate) (writes : ℕ → List BlockWrite) (found : Option Disk) (block : ℕ) (bytes : List ℕ)
     → ((req : ℕ) → was_done events req ≡ is_done_fate (fates req))
     → ((req : ℕ) → was_refused events req ≡ is_refused_fate (fates req))
     → ((req : ℕ) → was_lost events req ≡ is_lost_fate (fates req))
@@ -805,7 +805,7 @@ read_told events fates writes (Some disk) block bytes done refused lost tells th
 
     early : (disk.deleted ≡ true) ⊎ (torn ≡ true) → (disk.deleted ≡ true) ⊎ (IsTornBlock events (writes block) ⊎ IsReadable events (writes block) bytes)
     early (inl gone) = inl gone
-    early (inr e) = inr (inl (torn_found events fates (writes block) lost (find (λ item. item.coded && is_lost item) e)))
+    early (inr e) = inr (inl (torn_found events fates (writes block) lost (find (λ item. item.coded && is_writer_lost item) e)))
 
     go : ((disk.deleted || torn) ≡ true) ⊎ (any ≡ true) → (disk.deleted ≡ true) ⊎ (IsTornBlock events (writes block) ⊎ IsReadable events (writes block) bytes)
     go (inl e) = early (or_cases disk.deleted torn e)

@@ -23,7 +23,7 @@ pub record Disk : Type 0 where
   pub deleted : Bool
 
 -- a write request: the disks and blocks of which it began a write, whether one of them wasn't there, and whether it ended
-pub record Request : Type 0 where
+pub record WriteRequest : Type 0 where
   pub places : List (ℕ × ℕ)
   pub stray : Bool
   pub ended : Bool
@@ -31,7 +31,7 @@ pub record Request : Type 0 where
 -- all disks and all write requests, by number
 pub record Ledger : Type 0 where
   pub disks : ℕ → Option Disk
-  pub requests : ℕ → Request
+  pub requests : ℕ → WriteRequest
 
 -- before the first event there is no disk, and no request began
 abbrev pub empty_ledger : Ledger
@@ -46,25 +46,25 @@ abbrev pub zeros_item : Item
 zeros_item = record { request = None; bytes = replicate 512 0; coded = false; mark = Acknowledged }
 
 -- whether the item is one of the request's
-abbrev pub is_of : ℕ → Item → Bool
-is_of req item = is_number item.request
+abbrev pub is_item_of : ℕ → Item → Bool
+is_item_of req item = is_number item.request
   where
     is_number : Option ℕ → Bool
     is_number None = false
     is_number (Some number) = number == req
 
 -- the item, marked where it is one of the request's
-abbrev pub marked : Mark → ℕ → Item → Item
-marked mark req item = if is_of req item then record item { mark = mark } else item
+abbrev pub item_with_mark : Mark → ℕ → Item → Item
+item_with_mark mark req item = if is_item_of req item then record item { mark = mark } else item
 
 -- a disk changed, where it is there
-abbrev pub with_disk : (Disk → Disk) → Option Disk → Option Disk
-with_disk change None = None
-with_disk change (Some disk) = Some (change disk)
+abbrev pub with_changed_disk : (Disk → Disk) → Option Disk → Option Disk
+with_changed_disk change None = None
+with_changed_disk change (Some disk) = Some (change disk)
 
 -- every disk, with the items of each block changed
 abbrev pub with_items : (List Item → List Item) → (ℕ → Option Disk) → ℕ → Option Disk
-with_items change disks number = with_disk (λ disk. record disk { items = λ block. change (disk.items block) }) (disks number)
+with_items change disks number = with_changed_disk (λ disk. record disk { items = λ block. change (disk.items block) }) (disks number)
 
 -- whether the disk has the block
 abbrev pub has_block : Option Disk → ℕ → Bool
@@ -72,27 +72,32 @@ has_block None block = false
 has_block (Some disk) block = nat_lt block disk.blocks
 
 -- the request, ended
-abbrev pub with_end : ℕ → (ℕ → Request) → ℕ → Request
-with_end req requests = changed_at req (record (requests req) { ended = true }) requests
+abbrev pub with_ended_request : ℕ → (ℕ → WriteRequest) → ℕ → WriteRequest
+with_ended_request req requests = changed_at req (record (requests req) { ended = true }) requests
 
 -- one item more at the end of the block's
 abbrev pub with_item : ℕ → Item → Disk → Disk
 with_item block item disk = record disk { items = changed_at block (disk.items block ++ item ∷ []) disk.items }
 
 -- What an event leaves. A request's end is told to each of its items, also to those that were copied to other disks.
-abbrev pub after : Ledger → HistEvent → Ledger
-after ledger (Create disk blocks) = record ledger {
+abbrev pub ledger_after : Ledger → HistEvent → Ledger
+ledger_after ledger (Create disk blocks) = record ledger {
   disks = changed_at disk (Some (record { blocks = blocks; items = λ block. zeros_item ∷ []; deleted = false })) ledger.disks;
 }
-after ledger (Copy old new) = record ledger {
-  disks = changed_at new (with_disk (λ disk. record disk { deleted = false }) (ledger.disks old)) ledger.disks;
+ledger_after ledger (Copy old new) = record ledger {
+  disks = changed_at new (with_changed_disk (λ disk. record disk { deleted = false }) (ledger.disks old)) ledger.disks;
 }
-after ledger (Delete disk) = record ledger {
-  disks = changed_at disk (with_disk (λ disk. record disk { deleted = true }) (ledger.disks disk)) ledger.disks;
+ledger_after ledger (Delete disk) = record ledger {
+  disks = changed_at disk (with_changed_disk (λ disk. record disk { deleted = true }) (ledger.disks disk)) ledger.disks;
 }
-after ledger (WriteStart req disk block coded bytes) = record {
+ledger_after ledger (WriteStart req disk block coded bytes) = record {
   disks = if has_block (ledger.disks disk) block
-      then changed_at disk (with_disk (with_item block (record { request = Some req; bytes = bytes; coded = coded; mark = Open })) (ledger.disks disk)) ledger.disks
+      then changed_at disk (with_changed_disk (with_item block (record {
+        request = Some req;
+        bytes = bytes;
+        coded = coded;
+        mark = Open;
+      })) (ledger.disks disk)) ledger.disks
       else ledger.disks;
   requests = changed_at req (record {
     places = (ledger.requests req).places ++ (disk, block) ∷ [];
@@ -100,16 +105,16 @@ after ledger (WriteStart req disk block coded bytes) = record {
     ended = (ledger.requests req).ended;
   }) ledger.requests;
 }
-after ledger (WriteDone req) = record {
-  disks = with_items (map (marked Acknowledged req)) ledger.disks;
-  requests = with_end req ledger.requests;
+ledger_after ledger (WriteDone req) = record {
+  disks = with_items (map (item_with_mark Acknowledged req)) ledger.disks;
+  requests = with_ended_request req ledger.requests;
 }
-after ledger (WriteRefused req) = record {
-  disks = with_items (filter (λ item. not (is_of req item))) ledger.disks;
-  requests = with_end req ledger.requests;
+ledger_after ledger (WriteRefused req) = record {
+  disks = with_items (filter (λ item. not (is_item_of req item))) ledger.disks;
+  requests = with_ended_request req ledger.requests;
 }
-after ledger (WriterLost req) = record {
-  disks = with_items (map (marked Lost req)) ledger.disks;
-  requests = with_end req ledger.requests;
+ledger_after ledger (WriterLost req) = record {
+  disks = with_items (map (item_with_mark Lost req)) ledger.disks;
+  requests = with_ended_request req ledger.requests;
 }
-after ledger (Read disk block bytes) = ledger
+ledger_after ledger (Read disk block bytes) = ledger

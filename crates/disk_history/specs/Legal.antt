@@ -5,7 +5,7 @@ use Rattle.std.specs.Str.{bytes_eq}
 use Rattle.std.specs.List.{list_any}
 use Rattle.disk_history.specs.declared.event.HistEvent.{HistEvent}
 use Rattle.disk_history.specs.declared.event.HistEvent.TheVariants.{Create, Copy, Delete, WriteStart, WriteDone, WriteRefused, WriterLost, Read}
-use Rattle.disk_history.specs.Ledger.{Mark, Open, Acknowledged, Lost, Item, Disk, Request, Ledger, empty_ledger, has_block, after}
+use Rattle.disk_history.specs.Ledger.{Mark, Open, Acknowledged, Lost, Item, Disk, WriteRequest, Ledger, empty_ledger, has_block, ledger_after}
 
 -- whether the item's write was acknowledged
 abbrev pub is_acknowledged : Item → Bool
@@ -17,8 +17,8 @@ is_acknowledged item = is_mark item.mark
     is_mark Lost = false
 
 -- whether the item's writer was lost
-abbrev pub is_lost : Item → Bool
-is_lost item = is_mark item.mark
+abbrev pub is_writer_lost : Item → Bool
+is_writer_lost item = is_mark item.mark
   where
     is_mark : Mark → Bool
     is_mark Open = false
@@ -31,12 +31,12 @@ standing items = fold (λ kept item. if is_acknowledged item then item ∷ [] el
 
 -- A block is torn where a coded write after the last acknowledged one was left behind: its strips may be of both.
 abbrev pub is_torn : List Item → Bool
-is_torn items = list_any (λ item. item.coded && is_lost item) (standing items)
+is_torn items = list_any (λ item. item.coded && is_writer_lost item) (standing items)
 
 -- whether a disk is there, and not deleted
-abbrev pub is_live : Option Disk → Bool
-is_live None = false
-is_live (Some disk) = not disk.deleted
+abbrev pub is_live_disk : Option Disk → Bool
+is_live_disk None = false
+is_live_disk (Some disk) = not disk.deleted
 
 -- a read of a live disk gives bytes that stand in the block's items, unless the block is torn
 abbrev pub may_read : Option Disk → ℕ → List ℕ → Bool
@@ -45,39 +45,39 @@ may_read (Some disk) block bytes =
     disk.deleted || is_torn (disk.items block) || list_any (λ item. bytes_eq item.bytes bytes) (standing (disk.items block))
 
 -- whether a request has begun to write
-abbrev pub is_started : Request → Bool
-is_started request = not (is_empty_list request.places)
+abbrev pub has_begun_to_write : WriteRequest → Bool
+has_begun_to_write request = not (is_empty_list request.places)
   where
     is_empty_list : List (ℕ × ℕ) → Bool
     is_empty_list [] = true
     is_empty_list (place ∷ places) = false
 
 -- whether the request has begun to write this block of this disk
-abbrev pub has_place : Request → ℕ → ℕ → Bool
+abbrev pub has_place : WriteRequest → ℕ → ℕ → Bool
 has_place request disk block = list_any (λ place. place.0 == disk && place.1 == block) request.places
 
 -- whether an event may come next
 abbrev pub may_follow : Ledger → HistEvent → Bool
 may_follow ledger (Create disk blocks) = is_none (ledger.disks disk)
 may_follow ledger (Copy old new) = is_some (ledger.disks old) && is_none (ledger.disks new)
-may_follow ledger (Delete disk) = is_live (ledger.disks disk)
+may_follow ledger (Delete disk) = is_live_disk (ledger.disks disk)
 may_follow ledger (WriteStart req disk block coded bytes) =
     length bytes == 512 && not (ledger.requests req).ended && not (has_place (ledger.requests req) disk block)
 may_follow ledger (WriteDone req) =
-    is_started (ledger.requests req) && not (ledger.requests req).ended && not (ledger.requests req).stray
-may_follow ledger (WriteRefused req) = is_started (ledger.requests req) && not (ledger.requests req).ended
-may_follow ledger (WriterLost req) = is_started (ledger.requests req) && not (ledger.requests req).ended
+    has_begun_to_write (ledger.requests req) && not (ledger.requests req).ended && not (ledger.requests req).stray
+may_follow ledger (WriteRefused req) = has_begun_to_write (ledger.requests req) && not (ledger.requests req).ended
+may_follow ledger (WriterLost req) = has_begun_to_write (ledger.requests req) && not (ledger.requests req).ended
 may_follow ledger (Read disk block bytes) =
     has_block (ledger.disks disk) block && length bytes == 512 && may_read (ledger.disks disk) block bytes
 
 -- what one event leaves, or nothing where it may not come next
-abbrev pub step : Ledger → HistEvent → Option Ledger
-step ledger event = if may_follow ledger event then Some (after ledger event) else None
+abbrev pub ledger_step : Ledger → HistEvent → Option Ledger
+ledger_step ledger event = if may_follow ledger event then Some (ledger_after ledger event) else None
 
 -- what further events leave, or nothing where one of them may not come in its turn
 abbrev pub ledger_from : Ledger → List HistEvent → Option Ledger
 ledger_from ledger [] = Some ledger
-ledger_from ledger (event ∷ events) = option_and_then (λ next. ledger_from next events) (step ledger event)
+ledger_from ledger (event ∷ events) = option_and_then (λ next. ledger_from next events) (ledger_step ledger event)
 
 -- a history is legal where each event may follow those before it
 abbrev pub IsLegal : List HistEvent → Type 0

@@ -1,6 +1,6 @@
 pub mod Ledger
 pub mod Legal
-pub mod Books
-pub mod Shown
-pub mod Told
+pub mod CheckerState
+pub mod CheckerLedger
+pub mod ReadableBytes
 pub mod Changes

@@ -3,7 +3,7 @@ ghost use Rattle.std.specs.Prelude.{◌≡◌, ℕ, Err, IfOk};
 ghost use Rattle.disk_history.specs.Legal.{IsFirstIllegal, IsLegal};
 ghost use Rattle.disk_history.specs.declared.checker.HistoryFault.TheVariants as faults;
 
-use crate::books::Books;
+use crate::checker_state::CheckerState;
 use crate::event::HistEvent;
 use object_id::NoMemory;
 use std::alloc::Global;
@@ -31,9 +31,9 @@ pub fn check(alloc: Global, events: &[HistEvent]) -> Result<(), HistoryFault>
     ensures legal { IfOk result (λ _. IsLegal events.now) }
     ensures illegal { (place : ℕ) → result ≡ Err (faults.Illegal place) → IsFirstIllegal events.now place }
 {
-    let mut books = Books::new(alloc);
+    let mut checker_state = CheckerState::new(alloc);
     for (place, event) in events.iter().enumerate() {
-        if !books.enter(alloc, event)? {
+        if !checker_state.enter(alloc, event)? {
             return Err(HistoryFault::Illegal { place });
         }
     }

@@ -2,7 +2,7 @@
 ghost use Rattle.std.specs.Prelude.{◌≡◌, false, [], IsSome, IfOk, OnOk};
 ghost use Rattle.std.specs.Ordering.{nat_cmp};
 ghost use Rattle.std.specs.BTreeMap.{get};
-ghost use Rattle.disk_history.specs.Books.{has_block_in, is_live_state, newest_in, DeletesOne, WritesOne};
+ghost use Rattle.disk_history.specs.CheckerState.{has_block_in, is_live_disk_state, newest_in, DeletesOne, WritesOne};
 ghost use Rattle.std.specs.Bool.{OnTrue};
 
 use object_id::NoMemory;
@@ -75,7 +75,7 @@ pub fn newest(disks: &Disks, disk: u32, block: u64) -> Option<usize>
 
 /// Deletes a live disk, and says whether it was one.
 pub fn delete(disks: &mut Disks, disk: u32) -> bool
-    ensures live { result ≡ is_live_state (get nat_cmp disks.old disk) }
+    ensures live { result ≡ is_live_disk_state (get nat_cmp disks.old disk) }
     ensures deleted { OnTrue result (DeletesOne disks.old disks.new disk) }
 {
     match disks.get_mut(&disk) {

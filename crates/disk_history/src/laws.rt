@@ -2,11 +2,11 @@
 ghost use Rattle.std.specs.Prelude.{◌≡◌, ◌≢◌, ◌⊎◌, ◌↔◌, ℕ, Bool, true, false, Option, Some, None, List, [], ◌∷◌, ◌++◌};
 ghost use Rattle.std.specs.Option.{option_and_then};
 ghost use Rattle.disk_history.specs.declared.event.HistEvent.{HistEvent};
-ghost use Rattle.disk_history.specs.Ledger.{Disk, Item, Ledger, after, empty_ledger, is_of};
+ghost use Rattle.disk_history.specs.Ledger.{Disk, Item, Ledger, ledger_after, empty_ledger, is_item_of};
 ghost use Rattle.disk_history.specs.Changes.{blocks_in, changed_disk, ended_request, is_deleted, items_in, named_request};
 ghost use Rattle.std.specs.List.{list_any, Contains};
 ghost use Rattle.disk_history.specs.Legal.{IsFirstIllegal, IsLegal, is_acknowledged, ledger_from};
-ghost use Rattle.disk_history.specs.Told.{writes_of, was_deleted, IsReadable, IsTornBlock, MayBeRead};
+ghost use Rattle.disk_history.specs.ReadableBytes.{writes_of, was_deleted, IsReadable, IsTornBlock, MayBeRead};
 ghost use Rattle.disk_history.specs.declared.event.HistEvent.TheVariants.{Copy, Delete, Read, WriteStart};
 
 /// A history is judged event by event: what was legal so far stays so, whatever comes.
@@ -19,7 +19,8 @@ pub fn histories_go_step_by_step()
     // A history is legal, or there is one first place at which it isn't.
     ensures judged { (events : List HistEvent) → IsLegal events ⊎ ((place : ℕ) × IsFirstIllegal events place) }
     ensures illegal { (events : List HistEvent) (place : ℕ) → IsFirstIllegal events place → ¬ IsLegal events }
-    ensures one_place { (events : List HistEvent) (place other : ℕ) → IsFirstIllegal events place → IsFirstIllegal events other → place ≡ other }
+    ensures one_place { (events : List HistEvent) (place other : ℕ) → IsFirstIllegal events place → IsFirstIllegal events other → place
+        ≡ other }
 {}
 
 /// In a legal history each read of a disk that wasn't deleted, and of a block that isn't torn, gives the bytes of the
@@ -40,25 +41,25 @@ pub fn events_change_what_they_name()
     // Only a request's end reaches a disk that its event doesn't name.
     ensures other_disks { (ledger : Ledger) (event : HistEvent) (disk : ℕ)
         → ended_request event ≡ None → ¬ (changed_disk event ≡ Some disk)
-        → (after ledger event).disks disk ≡ ledger.disks disk }
+        → (ledger_after ledger event).disks disk ≡ ledger.disks disk }
     // It changes the lists that have items of the request, on whichever disk, and nothing else of a disk.
     ensures other_items { (ledger : Ledger) (event : HistEvent) (req disk block : ℕ)
-        → ended_request event ≡ Some req → list_any (is_of req) (items_in (ledger.disks disk) block) ≡ false
-        → items_in ((after ledger event).disks disk) block ≡ items_in (ledger.disks disk) block }
+        → ended_request event ≡ Some req → list_any (is_item_of req) (items_in (ledger.disks disk) block) ≡ false
+        → items_in ((ledger_after ledger event).disks disk) block ≡ items_in (ledger.disks disk) block }
     ensures ended_disks { (ledger : Ledger) (event : HistEvent) (req disk : ℕ) → ended_request event ≡ Some req
-        → (blocks_in ((after ledger event).disks disk) ≡ blocks_in (ledger.disks disk))
-        × (is_deleted ((after ledger event).disks disk) ≡ is_deleted (ledger.disks disk)) }
+        → (blocks_in ((ledger_after ledger event).disks disk) ≡ blocks_in (ledger.disks disk))
+        × (is_deleted ((ledger_after ledger event).disks disk) ≡ is_deleted (ledger.disks disk)) }
     // A write that begins changes the list of its block.
     ensures other_blocks { (ledger : Ledger) (req disk block : ℕ) (coded : Bool) (bytes : List ℕ) (other : ℕ) → other ≢ block
-        → items_in ((after ledger (WriteStart req disk block coded bytes)).disks disk) other ≡ items_in (ledger.disks disk) other }
+        → items_in ((ledger_after ledger (WriteStart req disk block coded bytes)).disks disk) other ≡ items_in (ledger.disks disk) other }
     ensures other_requests { (ledger : Ledger) (event : HistEvent) (req : ℕ) → ¬ (named_request event ≡ Some req)
-        → (after ledger event).requests req ≡ ledger.requests req }
+        → (ledger_after ledger event).requests req ≡ ledger.requests req }
 
     // A copy is its origin at the place of the copy, and live. A deleted disk keeps its lists.
     ensures copies { (ledger : Ledger) (old new : ℕ) (origin : Disk) → ledger.disks old ≡ Some origin
-        → (after ledger (Copy old new)).disks new ≡ Some (record origin { deleted = false }) }
+        → (ledger_after ledger (Copy old new)).disks new ≡ Some (record origin { deleted = false }) }
     ensures deletes { (ledger : Ledger) (disk : ℕ) (found : Disk) → ledger.disks disk ≡ Some found
-        → (after ledger (Delete disk)).disks disk ≡ Some (record found { deleted = true }) }
+        → (ledger_after ledger (Delete disk)).disks disk ≡ Some (record found { deleted = true }) }
 {}
 
 /// What stays, whatever legal events come.

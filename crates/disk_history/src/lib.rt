@@ -5,15 +5,15 @@
 //! read gives the bytes of the block's last acknowledged write or of a later one that wasn't refused. `Told` says that
 //! once more of the events alone, without the ledger, and `reads_are_last_or_later` is the law that it is so.
 //!
-//! [`check`] judges a history. It keeps books, which show the ledger exactly (`Books`, `Shown`): for each request what
+//! [`check`] judges a history. It keeps a state, which shows the ledger exactly (`CheckerState`, `Shown`): for each request what
 //! became of it, for each block the place of its newest write, and for each write the one before it on its block. So a
 //! request's end changes one entry, though its items stand on many blocks and on copies of them, and a copy shares the
 //! writes of its origin.
 //! The crate stands on `object_id`, for byte strings and lists.
 #![tactic(auto)]
 
-mod books;
 mod checker;
+mod checker_state;
 mod disks;
 mod event;
 mod laws;

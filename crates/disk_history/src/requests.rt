@@ -3,7 +3,7 @@ ghost use Rattle.std.specs.Prelude.{◌≡◌, ◌||◌, true, [], Some, OnOk};
 ghost use Rattle.std.specs.Ordering.{nat_cmp};
 ghost use Rattle.std.specs.BTreeMap.{get, Updates};
 ghost use Rattle.std.specs.BTreeSet.{contains, Updates as Gains};
-ghost use Rattle.disk_history.specs.Books.{fate_of, is_answer, may_end_in, stray_of, place_cmp};
+ghost use Rattle.disk_history.specs.CheckerState.{fate_of, is_answer, may_end_in, stray_of, place_cmp};
 ghost use Rattle.disk_history.specs.declared.requests.Fate.TheVariants.{Unanswered};
 
 use object_id::NoMemory;
@@ -94,7 +94,10 @@ impl Requests {
 
     /// One more block of an unanswered request.
     pub fn begin(&mut self, place: Place, stray: bool) -> Result<(), NoMemory>
-        ensures states { OnOk result (Updates nat_cmp self.old.states self.new.states place.req (Some (record { stray = stray_of self.old place.req || stray; fate = Unanswered }))) }
+        ensures states { OnOk result (Updates nat_cmp self.old.states self.new.states place.req (Some (record {
+          stray = stray_of self.old place.req || stray;
+          fate = Unanswered;
+        }))) }
         ensures places { OnOk result (Gains place_cmp self.old.places self.new.places place true) }
     {
         let state = RequestState {
@@ -118,7 +121,10 @@ impl Requests {
 
     /// The request's end.
     pub fn end(&mut self, req: u32, fate: Fate) -> Result<(), NoMemory>
-        ensures states { OnOk result (Updates nat_cmp self.old.states self.new.states req (Some (record { stray = stray_of self.old req; fate = fate }))) }
+        ensures states { OnOk result (Updates nat_cmp self.old.states self.new.states req (Some (record {
+          stray = stray_of self.old req;
+          fate = fate;
+        }))) }
         ensures places { OnOk result (self.new.places ≡ self.old.places) }
     {
         let state = RequestState {

@@ -1,6 +1,6 @@
 //! The writes of a history, each linked to the one before it on its block.
 ghost use Rattle.std.specs.Prelude.{◌≡◌, ℕ, Option, None, Some, List, length, replicate, reverse};
-ghost use Rattle.disk_history.specs.Books.{fate_of, items_from, may_give as gives, says_of, IsLinked, IsWithin};
+ghost use Rattle.disk_history.specs.CheckerState.{fate_of, items_from, may_give as gives, says_of, IsLinked, IsWithin};
 ghost use Rattle.std.specs.Str.{bytes_eq};
 
 use crate::requests::{Fate, Requests};
@@ -61,7 +61,8 @@ pub fn unrefused(writes: &[Write], requests: &Requests, newest: Option<usize>) -
     requires linked { IsLinked (reverse writes.now) }
     requires within { IsWithin newest (length writes.now) }
     ensures within { IsWithin result (length writes.now) }
-    ensures same { items_from (fate_of requests.now) (reverse writes.now) result ≡ items_from (fate_of requests.now) (reverse writes.now) newest }
+    ensures same { items_from (fate_of requests.now) (reverse writes.now) result
+        ≡ items_from (fate_of requests.now) (reverse writes.now) newest }
 {
     let mut at = newest;
     while let Some(place) = at {

@@ -8,7 +8,7 @@ use Rattle.std.specs.BTreeMap.{is_at}
 use Rattle.std.specs.FinMap as tree
 use Rattle.std.proofs.lemmas.Map.Entries.{lookup-filter-values, option_filter}
 use Rattle.disk_lock.specs.declared.holder.Holder.{Holder}
-use Rattle.disk_lock.specs.Locks.{is_of, without_node}
+use Rattle.disk_lock.specs.Locks.{is_of_node, without_node}
 
 find-lookup : {V : Type 0} (q : ℕ) (es : List (ℕ × V)) → tree.find nat_cmp q es ≡ lookup (is_at (nat_cmp q)) es
 find-lookup q [] = refl
@@ -41,16 +41,16 @@ turned_test : {A : Type 0} (b : Bool) (x y : A) → cond (not b) x y ≡ cond b 
 turned_test true x y = refl
 turned_test false x y = refl
 
-without-filter : (node : ℕ) (held : Option Holder) → option_filter (λ holder. not (is_of node holder)) held ≡ without_node node held
+without-filter : (node : ℕ) (held : Option Holder) → option_filter (λ holder. not (is_of_node node holder)) held ≡ without_node node held
 without-filter node None = refl
-without-filter node (Some holder) = turned_test (is_of node holder) (Some holder) None
+without-filter node (Some holder) = turned_test (is_of_node node holder) (Some holder) None
 
 -- only what the node does not hold is kept
 pub free_node-seen : (old new : List (ℕ × Holder)) (node : ℕ) → IsDistinct (eq_by_cmp nat_cmp) (keys_of old)
-    → new ≡ filter (λ e. not (is_of node e.1)) old
+    → new ≡ filter (λ e. not (is_of_node node e.1)) old
     → (q : ℕ) → tree.get (tree.from_entries {R = nat_cmp} new) q ≡ without_node node (tree.get (tree.from_entries {R = nat_cmp} old) q)
 free_node-seen old new node distinct kept q =
     get-seen new q ∙ ap (lookup (is_at (nat_cmp q))) kept
-    ∙ lookup-filter-values (eq_by_cmp_equiv nat_cmp_total) (λ holder. not (is_of node holder)) q old distinct
+    ∙ lookup-filter-values (eq_by_cmp_equiv nat_cmp_total) (λ holder. not (is_of_node node holder)) q old distinct
     ∙ without-filter node (lookup (is_at (nat_cmp q)) old)
     ∙ ap (without_node node) (sym (get-seen old q))

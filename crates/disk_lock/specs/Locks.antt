@@ -8,10 +8,10 @@ abbrev pub Holders : Type 0
 Holders = tree.FinMap nat_cmp Holder
 
 -- whether the holder is a session of the node
-abbrev pub is_of : ℕ → Holder → Bool
-is_of node holder = holder.node.0 == node
+abbrev pub is_of_node : ℕ → Holder → Bool
+is_of_node node holder = holder.node.0 == node
 
 -- who holds a disk once a node holds nothing
 abbrev pub without_node : ℕ → Option Holder → Option Holder
 without_node node None = None
-without_node node (Some holder) = if is_of node holder then None else Some holder
+without_node node (Some holder) = if is_of_node node holder then None else Some holder

@@ -4,11 +4,11 @@ use Rattle.std.specs.FinMap as tree
 use Rattle.object_store.specs.Store.{SeenRow, AllRows, rows_of}
 use Rattle.hash_ring.proofs.InLaws.{In, in_from_contains, contains_from_in, in_map, from_map, in_flat_map, from_flat_map, in_filter, from_filter}
 use Rattle.sheep_node.specs.State.{Node}
-use Rattle.sheep_world.specs.World.{Seat, World, is_seat_up}
+use Rattle.sheep_world.specs.World.{Host, World, is_host_up}
 use Rattle.sheep_world.proofs.NameTools.{entries-got}
-use Rattle.sheep_world.proofs.RetryLemmas.{got_entry}
+use Rattle.sheep_world.proofs.InFlightRetryTick.{got_entry}
 use Rattle.dog_report.specs.Words.{Words}
-use Rattle.dog_report.specs.Lists.{row_words, comes_before, put_in_order, in_order, node_rows, dump}
+use Rattle.dog_report.specs.Lists.{row_words, comes_before, put_in_order, ordered_rows, node_rows, dump}
 
 -- ---- the rows in order are the rows
 
@@ -55,7 +55,7 @@ in_put_all (new ∷ rows) ordered row (inr (inl same)) =
 in_put_all (new ∷ rows) ordered row (inr (inr there)) = in_put_all rows (put_in_order ordered new) row (inr there)
 
 -- each row in order is one of the rows
-from_order : (rows : List SeenRow) (row : SeenRow) → In row (in_order rows) → In row rows
+from_order : (rows : List SeenRow) (row : SeenRow) → In row (ordered_rows rows) → In row rows
 from_order rows row h = elim (from_put_all rows [] row h) [ inl there ↦ absurd there | inr there ↦ there ]
 
 -- ---- the rows of a node
@@ -70,7 +70,7 @@ rows_there all oid row h = by_entry (tree.get all oid) h
 
 -- the words of an object's rows
 abbrev object_words : ℕ → ℕ × List SeenRow → List Words
-object_words number rows = map (row_words number rows.0) (in_order rows.1)
+object_words number rows = map (row_words number rows.0) (ordered_rows rows.1)
 
 -- what a node lists is the words of one of its rows
 from_node : (number : ℕ) (node : Node) (words : Words) → In words (node_rows number node)
@@ -78,7 +78,7 @@ from_node : (number : ℕ) (node : Node) (words : Words) → In words (node_rows
 from_node number node words h =
     let all : AllRows = node.peer.rows in
     let (e, among, listed) = from_flat_map (object_words number) (tree.entries all) words h in
-    let (row, there, is) = from_map (row_words number e.0) (in_order e.1) words listed in
+    let (row, there, is) = from_map (row_words number e.0) (ordered_rows e.1) words listed in
     let got : tree.get all e.0 ≡ Some e.1 = got_entry all e (contains_from_in (tree.entries all) e among) in
     let same : e.1 ≡ rows_of all e.0 = sym (ap (λ (found : Option (List SeenRow)). unwrap_or found []) got) in
     (e.0, row, subst (λ (rows : List SeenRow). In row rows) same (from_order e.1 row there), sym is)
@@ -92,46 +92,46 @@ in_node number node oid row h =
     let among = entries-got tree.nat_cmp-IsAntisymmetric all oid rows (rows_there all oid row h) in
     in_flat_map (object_words number) (tree.entries all) (oid, rows) (row_words number oid row)
     (in_from_contains (tree.entries all) (oid, rows) among)
-    (in_map (row_words number oid) (in_order rows) row (in_put_all rows [] row (inr h)))
+    (in_map (row_words number oid) (ordered_rows rows) row (in_put_all rows [] row (inr h)))
 
 -- ---- the rows of the nodes that are up
 
--- the words of a seat's rows
-abbrev seat_rows : ℕ × Seat → List Words
-seat_rows seat = node_rows seat.0 seat.1.node
+-- the words of a host's rows
+abbrev host_rows : ℕ × Host → List Words
+host_rows host = node_rows host.0 host.1.node
 
--- whether a seat's node is up, by the entry of its number
-abbrev is_entry_up : ℕ × Seat → Bool
-is_entry_up seat = is_seat_up seat.1
+-- whether a host's node is up, by the entry of its number
+abbrev is_entry_up : ℕ × Host → Bool
+is_entry_up host = is_host_up host.1
 
 -- what is listed is the words of a row of a node that is up
 pub dump-only : (world : World) (words : Words) → Contains (dump world) words
-    → (number : ℕ) × (seat : Seat) × (oid : ℕ) × (row : SeenRow)
-    × (tree.get world.seats number ≡ Some seat) × (is_seat_up seat ≡ true) × Contains (rows_of seat.node.peer.rows oid) row
+    → (number : ℕ) × (host : Host) × (oid : ℕ) × (row : SeenRow)
+    × (tree.get world.hosts number ≡ Some host) × (is_host_up host ≡ true) × Contains (rows_of host.node.peer.rows oid) row
     × (words ≡ row_words number oid row)
 dump-only world words h =
-    let seats : List (ℕ × Seat) = tree.entries world.seats in
-    let (e, passed, listed) = from_flat_map seat_rows (filter is_entry_up seats) words (in_from_contains (dump world) words h) in
-    let (among, up) = from_filter is_entry_up seats e passed in
+    let hosts : List (ℕ × Host) = tree.entries world.hosts in
+    let (e, passed, listed) = from_flat_map host_rows (filter is_entry_up hosts) words (in_from_contains (dump world) words h) in
+    let (among, up) = from_filter is_entry_up hosts e passed in
     let (oid, row, there, is) = from_node e.0 e.1.node words listed in (
       e.0,
       e.1,
       oid,
       row,
-      got_entry world.seats e (contains_from_in seats e among),
+      got_entry world.hosts e (contains_from_in hosts e among),
       up,
       contains_from_in (rows_of e.1.node.peer.rows oid) row there,
       is,
     )
 
 -- and the words of each such row are listed
-pub dump-all : (world : World) (number : ℕ) (seat : Seat) (oid : ℕ) (row : SeenRow)
-    → tree.get world.seats number ≡ Some seat → is_seat_up seat ≡ true → Contains (rows_of seat.node.peer.rows oid) row
+pub dump-all : (world : World) (number : ℕ) (host : Host) (oid : ℕ) (row : SeenRow)
+    → tree.get world.hosts number ≡ Some host → is_host_up host ≡ true → Contains (rows_of host.node.peer.rows oid) row
     → Contains (dump world) (row_words number oid row)
-dump-all world number seat oid row is up there =
-    let seats : List (ℕ × Seat) = tree.entries world.seats in
-    let among = in_from_contains seats (number, seat) (entries-got tree.nat_cmp-IsAntisymmetric world.seats number seat is) in
+dump-all world number host oid row is up there =
+    let hosts : List (ℕ × Host) = tree.entries world.hosts in
+    let among = in_from_contains hosts (number, host) (entries-got tree.nat_cmp-IsAntisymmetric world.hosts number host is) in
     contains_from_in (dump world) (row_words number oid row)
-    (in_flat_map seat_rows (filter is_entry_up seats) (number, seat) (row_words number oid row)
-    (in_filter is_entry_up seats (number, seat) among up)
-    (in_node number seat.node oid row (in_from_contains (rows_of seat.node.peer.rows oid) row there)))
+    (in_flat_map host_rows (filter is_entry_up hosts) (number, host) (row_words number oid row)
+    (in_filter is_entry_up hosts (number, host) among up)
+    (in_node number host.node oid row (in_from_contains (rows_of host.node.peer.rows oid) row there)))

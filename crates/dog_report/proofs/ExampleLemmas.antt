@@ -6,10 +6,10 @@ use Rattle.std.specs.Ordering.{nat_cmp}
 use Rattle.std.specs.FinMap as tree
 use Rattle.std.proofs.lemmas.List.{nil_from_length}
 use Rattle.object_store.specs.Store.{SeenRow, AllRows}
-use Rattle.sheep_node.specs.State.{opening}
-use Rattle.sheep_world.specs.Opening.{first_seat}
-use Rattle.dog_report.specs.Words.{spaced}
-use Rattle.dog_report.specs.Lists.{row_count, seat_words}
+use Rattle.sheep_node.specs.State.{initial_node}
+use Rattle.sheep_world.specs.Opening.{initial_host}
+use Rattle.dog_report.specs.Words.{spaced_words}
+use Rattle.dog_report.specs.Lists.{row_count, host_words}
 use Rattle.dog_report.specs.Example.{node, member}
 
 no_rows : AllRows
@@ -20,11 +20,11 @@ unfolding no_rows
 no_entries = nil_from_length (tree.entries no_rows) (sym (tree.len-entries no_rows) ∙ tree.len-empty nat_cmp (List SeenRow))
 
 abbrev listed_with : ℕ → List ℕ
-listed_with rows = spaced
+listed_with rows = spaced_words
     (codes "node" ∷ decimal 3 ∷ codes "vnodes" ∷ decimal 64 ∷ codes "epoch" ∷ decimal 1 ∷ codes "rows" ∷ decimal rows
     ∷ codes "pending" ∷ decimal 0 ∷ [])
 
-no_count : row_count (opening (node 3) 8) ≡ 0
+no_count : row_count (initial_node (node 3) 8) ≡ 0
 unfolding no_rows
 no_count = ap (λ (entries : List (ℕ × List SeenRow)). sum_by length (map (λ (e : ℕ × List SeenRow). e.1) entries)) no_entries
 
@@ -32,5 +32,5 @@ with_none : listed_with 0 ≡ codes "node 3 vnodes 64 epoch 1 rows 0 pending 0"
 unfolding digits
 with_none = refl
 
-pub joined-listed : spaced (seat_words (member 3) (first_seat (opening (node 3) 8))) ≡ codes "node 3 vnodes 64 epoch 1 rows 0 pending 0"
+pub joined-listed : spaced_words (host_words (member 3) (initial_host (initial_node (node 3) 8))) ≡ codes "node 3 vnodes 64 epoch 1 rows 0 pending 0"
 joined-listed = ap listed_with no_count ∙ with_none

@@ -4,13 +4,13 @@ use Rattle.std.specs.FinMap as tree
 use Rattle.cluster_script.specs.declared.statement.Statement.{Statement}
 use Rattle.cluster_script.specs.Phases.{phase_of_request}
 use Rattle.peer_proto.specs.declared.guest.GuestRsp.{GuestRsp}
-use Rattle.dog_report.specs.Fates.{Fate, Answered, Gone, Pending, Unsent}
-use Rattle.dog_report.specs.Report.{Report, is_lost_request, is_begun, fate_by, fate_of, fate_due, last_fate}
+use Rattle.dog_report.specs.Fates.{RequestFate, Answered, Gone, Pending, Unsent}
+use Rattle.dog_report.specs.Report.{Report, is_lost_request, is_begun, fate_settled_by, settled_fate, fate_due, last_fate}
 
 module _ (statements : List Statement) (report : Report) (req : ℕ) where
   -- what became of it by its reply, by whether its gateway is lost, and by whether it was started
-  abbrev fate_in : Option GuestRsp → Bool → Bool → Fate
-  fate_in found lost begun = unwrap_or (fate_by found lost) (cond begun Pending Unsent)
+  abbrev fate_in : Option GuestRsp → Bool → Bool → RequestFate
+  fate_in found lost begun = unwrap_or (fate_settled_by found lost) (cond begun Pending Unsent)
 
   abbrev reply : Option GuestRsp
   reply = tree.get report.replies req
@@ -38,11 +38,11 @@ module _ (statements : List Statement) (report : Report) (req : ℕ) where
   pub unsent : reply ≡ None → is_lost ≡ false → has_begun ≡ false → last_fate statements report req ≡ Unsent
   unsent none up not_begun = waiting none up ∙ ap (λ (b : Bool). fate_in None false b) not_begun
 
-  abbrev fate_if : Bool → Option Fate
-  fate_if begun = cond begun (fate_of statements report req) None
+  abbrev fate_if : Bool → Option RequestFate
+  fate_if begun = cond begun (settled_fate statements report req) None
 
   pub due : nat_le (phase_of_request statements req) report.world.phase ≡ true
-      → fate_due statements report req ≡ fate_of statements report req
+      → fate_due statements report req ≡ settled_fate statements report req
   due has_come = ap fate_if has_come
 
   pub later : nat_le (phase_of_request statements req) report.world.phase ≡ false → fate_due statements report req ≡ None

@@ -9,26 +9,26 @@ use Rattle.std.proofs.lemmas.List.Sorted.{IsPermutation-refl, IsPermutation-tran
 use Rattle.cluster_script.specs.declared.statement.Statement.{Statement}
 use Rattle.cluster_script.specs.Statements.{requests_of}
 use Rattle.sheep_node.specs.declared.event.Event.{Event}
-use Rattle.sheep_world.specs.Step.{Made, step}
+use Rattle.sheep_world.specs.Step.{EventOutcome, step}
 use Rattle.dog_report.specs.Words.{Words}
-use Rattle.dog_report.specs.Fates.{Fate, Line, Told, Listed, numbers_told}
-use Rattle.dog_report.specs.Report.{Report, blank, fate_due, barrier_list, phase_told, is_phase, went_on, told_before, reported, last_fate, finished, report_of}
+use Rattle.dog_report.specs.Fates.{RequestFate, ReportLine, Told, Listed, numbers_told}
+use Rattle.dog_report.specs.Report.{Report, empty_report, fate_due, barrier_list, phase_told, is_phase, report_with_made, report_before_event, report_after, last_fate, finished_report, report_of}
 
 none_listed : (lists : List Words) → numbers_told (map Listed lists) ≡ []
 none_listed [] = refl
 none_listed (words ∷ lists) = none_listed lists
 
-all_told : (fate : ℕ → Fate) (reqs : List ℕ) → numbers_told (map (λ req. Told req (fate req)) reqs) ≡ reqs
+all_told : (fate : ℕ → RequestFate) (reqs : List ℕ) → numbers_told (map (λ req. Told req (fate req)) reqs) ≡ reqs
 all_told fate [] = refl
 all_told fate (req ∷ reqs) = ap (λ (rest : List ℕ). req ∷ rest) (all_told fate reqs)
 
 -- the requests of which something is due are told of
-due_told : (due : ℕ → Option Fate) (reqs : List ℕ)
+due_told : (due : ℕ → Option RequestFate) (reqs : List ℕ)
     → numbers_told (filter_map (λ req. option_map (Told req) (due req)) reqs) ≡ filter (λ req. is_some (due req)) reqs
 due_told due [] = refl
 due_told due (req ∷ reqs) = by_due (due req) (due_told due reqs)
   where
-    by_due : (found : Option Fate)
+    by_due : (found : Option RequestFate)
         → numbers_told (filter_map (λ req. option_map (Told req) (due req)) reqs) ≡ filter (λ req. is_some (due req)) reqs
         → numbers_told (cons_option (option_map (Told req) found) (filter_map (λ req. option_map (Told req) (due req)) reqs))
         ≡ cond (is_some found) (req ∷ filter (λ req. is_some (due req)) reqs) (filter (λ req. is_some (due req)) reqs)
@@ -44,9 +44,9 @@ module _ (statements : List Statement) where
 
   phase-keeps : (report : Report) → Keeps report → Keeps (phase_told statements report)
   phase-keeps report h =
-      let due : ℕ → Option Fate = fate_due statements report in
-      let told : List Line = filter_map (λ req. option_map (Told req) (due req)) report.left in
-      let listed : List Line = map Listed (barrier_list statements report.world) in
+      let due : ℕ → Option RequestFate = fate_due statements report in
+      let told : List ReportLine = filter_map (λ req. option_map (Told req) (due req)) report.left in
+      let listed : List ReportLine = map Listed (barrier_list statements report.world) in
       let now : List ℕ = filter (λ req. is_some (due req)) report.left in
       let later : List ℕ = filter (λ req. not (is_some (due req))) report.left in
       let numbers : numbers_told (report.lines ++ told ++ listed) ≡ numbers_told report.lines ++ now =
@@ -65,19 +65,19 @@ module _ (statements : List Statement) where
   before-keeps report true h = phase-keeps report h
   before-keeps report false h = h
 
-  on-keeps : (made : Option Made) (report : Report) → Keeps report → Keeps (went_on made report)
+  on-keeps : (made : Option EventOutcome) (report : Report) → Keeps report → Keeps (report_with_made made report)
   on-keeps None report h = h
   on-keeps (Some made) report h = h
 
-  event-keeps : (report : Report) (event : Event) → Keeps report → Keeps (reported statements report event)
+  event-keeps : (report : Report) (event : Event) → Keeps report → Keeps (report_after statements report event)
   event-keeps report event h =
-      on-keeps (step statements event report.world) (told_before statements event report) (before-keeps report (is_phase event) h)
+      on-keeps (step statements event report.world) (report_before_event statements event report) (before-keeps report (is_phase event) h)
 
-  run-keeps : (events : List Event) (report : Report) → Keeps report → Keeps (fold (reported statements) report events)
+  run-keeps : (events : List Event) (report : Report) → Keeps report → Keeps (fold (report_after statements) report events)
   run-keeps [] report h = h
-  run-keeps (event ∷ events) report h = run-keeps events (reported statements report event) (event-keeps report event h)
+  run-keeps (event ∷ events) report h = run-keeps events (report_after statements report event) (event-keeps report event h)
 
-  all-in : (report : Report) → Keeps report → IsPermutation every (numbers_told (finished statements report))
+  all-in : (report : Report) → Keeps report → IsPermutation every (numbers_told (finished_report statements report))
   all-in report h =
       subst (IsPermutation every)
       (sym (filter_map-append _ report.lines (map (λ req. Told req (last_fate statements report req)) report.left)
@@ -87,4 +87,4 @@ module _ (statements : List Statement) where
   pub one-line-each : (events : List Event) → IsPermutation every (numbers_told (report_of statements events))
   unfolding report_of
   one-line-each events =
-      all-in (fold (reported statements) (blank statements) events) (run-keeps events (blank statements) (IsPermutation-refl every))
+      all-in (fold (report_after statements) (empty_report statements) events) (run-keeps events (empty_report statements) (IsPermutation-refl every))

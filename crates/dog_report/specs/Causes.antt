@@ -24,22 +24,22 @@ result_of (Link node) = RESULT_LINK
 result_of (NoObj node oid) = RESULT_NO_OBJ
 
 -- the result's name
-abbrev pub name_of : Cause → List ℕ
-name_of (VdiLocked session) = codes "VDI_LOCKED"
-name_of NoVdi = codes "NO_VDI"
-name_of NoTag = codes "NO_TAG"
-name_of NoBaseVdi = codes "NO_BASE_VDI"
-name_of VdiExist = codes "VDI_EXIST"
-name_of Readonly = codes "READONLY"
-name_of VdiNotLocked = codes "VDI_NOT_LOCKED"
-name_of FullVdi = codes "FULL_VDI"
-name_of InvalidParms = codes "INVALID_PARMS"
-name_of (Halt members wanted) = codes "HALT"
-name_of (OldEpoch node own peer) = codes "OLD_EPOCH"
-name_of (NewEpoch node own peer) = codes "NEW_EPOCH"
-name_of (Recovery node epoch) = codes "RECOVERY"
-name_of (Link node) = codes "LINK"
-name_of (NoObj node oid) = codes "NO_OBJ"
+abbrev pub result_name : Cause → List ℕ
+result_name (VdiLocked session) = codes "VDI_LOCKED"
+result_name NoVdi = codes "NO_VDI"
+result_name NoTag = codes "NO_TAG"
+result_name NoBaseVdi = codes "NO_BASE_VDI"
+result_name VdiExist = codes "VDI_EXIST"
+result_name Readonly = codes "READONLY"
+result_name VdiNotLocked = codes "VDI_NOT_LOCKED"
+result_name FullVdi = codes "FULL_VDI"
+result_name InvalidParms = codes "INVALID_PARMS"
+result_name (Halt members wanted) = codes "HALT"
+result_name (OldEpoch node own peer) = codes "OLD_EPOCH"
+result_name (NewEpoch node own peer) = codes "NEW_EPOCH"
+result_name (Recovery node epoch) = codes "RECOVERY"
+result_name (Link node) = codes "LINK"
+result_name (NoObj node oid) = codes "NO_OBJ"
 
 -- the details: the holding session, the zones, or the node with its answer
 abbrev pub details_of : Cause → Words
@@ -63,4 +63,4 @@ details_of (NoObj node oid) = codes "node" ∷ decimal node.0 ∷ hex 16 oid ∷
 
 -- the words of a refusal behind `refused`
 abbrev pub cause_words : Cause → Words
-cause_words cause = hex 2 (result_of cause) ∷ name_of cause ∷ details_of cause
+cause_words cause = hex 2 (result_of cause) ∷ result_name cause ∷ details_of cause

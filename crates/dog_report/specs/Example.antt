@@ -46,18 +46,18 @@ abbrev pub row_from : ℕ → ℕ → SeenRow
 row_from index from = record (row_to None) { index = index; from = record { 0 = from } }
 
 -- an id is reserved
-abbrev pub reserved : ℕ → List ℕ → Source → Option Vid → VdiSpec → Effect
-reserved id name source parent spec = Reserved (record {
-  claim = record { vid = vid id; by = node 0; session = 1; name = name; source = source };
+abbrev pub reservation_effect : ℕ → List ℕ → Source → Option Vid → VdiSpec → Effect
+reservation_effect id name source parent spec = Reserved (record {
+  reservation = record { vid = vid id; by = node 0; session = 1; name = name; source = source };
   header = record { name = name; tag = []; snap_id = 1; parent = parent; spec = spec };
 })
 
 -- session 1 makes a disk of three copies, opens it and takes a snapshot, and makes a coded disk
 abbrev pub example_effects : List Effect
 example_effects =
-    reserved 0x01ec8c (codes "a") Fresh None (record { size = 0x100000; policy = Copies 3; shift = 22 })
+    reservation_effect 0x01ec8c (codes "a") Fresh None (record { size = 0x100000; policy = Copies 3; shift = 22 })
     ∷ Published (vid 0x01ec8c) (codes "a") ∷ Held (vid 0x01ec8c) (record { node = node 0; session = 1 })
-    ∷ reserved
+    ∷ reservation_effect
     0x01ec8d
     (codes "a")
     (Snapshot (vid 0x01ec8c) (codes "t1"))
@@ -70,5 +70,5 @@ example_effects =
       tag = codes "t1";
       holder = record { node = node 0; session = 1 };
     })
-    ∷ reserved 0x01f1a5 (codes "b") Fresh None (record { size = 0x800000; policy = Coded 4 2; shift = 20 })
+    ∷ reservation_effect 0x01f1a5 (codes "b") Fresh None (record { size = 0x800000; policy = Coded 4 2; shift = 20 })
     ∷ Published (vid 0x01f1a5) (codes "b") ∷ []

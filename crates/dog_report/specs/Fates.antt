@@ -4,24 +4,24 @@ use Rattle.std.specs.List.{filter_map}
 use Rattle.peer_proto.specs.declared.guest.GuestRsp.{GuestRsp}
 use Rattle.peer_proto.specs.declared.guest.GuestRsp.TheVariants.{Done, Piece, Refused, Granted}
 use Rattle.dog_report.specs.Words.{Words}
-use Rattle.dog_report.specs.Runs.{runs_words}
+use Rattle.dog_report.specs.RunWords.{runs_words}
 use Rattle.dog_report.specs.Causes.{cause_words}
 
 -- what became of a request
-pub data Fate : Type 0 where
+pub data RequestFate : Type 0 where
   -- it has its reply
-  Answered : GuestRsp → Fate
-  -- it has none, and the life of its gateway is lost
-  Gone : Fate
+  Answered : GuestRsp → RequestFate
+  -- it has none, and the incarnation of its gateway is lost
+  Gone : RequestFate
   -- it was started, and has none yet
-  Pending : Fate
+  Pending : RequestFate
   -- it was never started
-  Unsent : Fate
+  Unsent : RequestFate
 
 -- a line of a report: a request's, or one of a list
-pub data Line : Type 0 where
-  Told : ℕ → Fate → Line
-  Listed : Words → Line
+pub data ReportLine : Type 0 where
+  Told : ℕ → RequestFate → ReportLine
+  Listed : Words → ReportLine
 
 -- the words of a reply
 abbrev pub reply_words : GuestRsp → Words
@@ -31,22 +31,22 @@ reply_words (Refused cause) = codes "refused" ∷ cause_words cause
 reply_words (Granted vid) = codes "ok" ∷ []
 
 -- the words of what became of a request
-abbrev pub fate_words : Fate → Words
+abbrev pub fate_words : RequestFate → Words
 fate_words (Answered rsp) = reply_words rsp
 fate_words Gone = codes "gone" ∷ []
 fate_words Pending = codes "pending" ∷ []
 fate_words Unsent = codes "unsent" ∷ []
 
 -- the words of a line: a request's begins with its number
-abbrev pub line_words : Line → Words
+abbrev pub line_words : ReportLine → Words
 line_words (Told number fate) = decimal number ∷ fate_words fate
 line_words (Listed words) = words
 
 -- the request that a line is of
-abbrev pub told_number : Line → Option ℕ
+abbrev pub told_number : ReportLine → Option ℕ
 told_number (Told number fate) = Some number
 told_number (Listed words) = None
 
 -- the requests that lines are of, in order
-abbrev pub numbers_told : List Line → List ℕ
+abbrev pub numbers_told : List ReportLine → List ℕ
 numbers_told lines = filter_map told_number lines

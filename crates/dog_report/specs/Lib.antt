@@ -1,5 +1,5 @@
 pub mod Words
-pub mod Runs
+pub mod RunWords
 pub mod Causes
 pub mod Fates
 pub mod Lists

@@ -6,19 +6,19 @@ use Rattle.std.specs.Option.{option_map, option_map_or, option_and_then}
 use Rattle.std.specs.FinMap as tree
 use Rattle.cluster_script.specs.declared.statement.Statement.{Statement}
 use Rattle.cluster_script.specs.Statements.{requests_of}
-use Rattle.cluster_script.specs.Asked.{numbers_of_session}
+use Rattle.cluster_script.specs.NumberedRequests.{numbers_of_session}
 use Rattle.cluster_script.specs.Phases.{Phase, phase_of_request}
-use Rattle.cluster_script.specs.Sessions.{Session, session_numbered}
+use Rattle.cluster_script.specs.Sessions.{ScriptSession, session_numbered}
 use Rattle.peer_proto.specs.declared.guest.GuestRsp.{GuestRsp}
 use Rattle.sheep_node.specs.declared.event.Event.{Event}
 use Rattle.sheep_node.specs.declared.event.Event.TheVariants as events
-use Rattle.sheep_world.specs.World.{World, guest_at}
-use Rattle.sheep_world.specs.Opening.{opening, phase_at}
+use Rattle.sheep_world.specs.World.{World, progress_at}
+use Rattle.sheep_world.specs.Opening.{initial_world, phase_at}
 use Rattle.sheep_world.specs.Asking.{session_asking}
-use Rattle.sheep_world.specs.Step.{Made, step}
-use Rattle.sheep_world.specs.Lives.{is_gone}
-use Rattle.dog_report.specs.Words.{Words, spaced}
-use Rattle.dog_report.specs.Fates.{Fate, Answered, Gone, Pending, Unsent, Line, Told, Listed, line_words}
+use Rattle.sheep_world.specs.Step.{EventOutcome, step}
+use Rattle.sheep_world.specs.Incarnations.{is_session_gone}
+use Rattle.dog_report.specs.Words.{Words, spaced_words}
+use Rattle.dog_report.specs.Fates.{RequestFate, Answered, Gone, Pending, Unsent, ReportLine, Told, Listed, line_words}
 use Rattle.dog_report.specs.Lists.{list_of}
 
 -- a report in the making: the world so far, the replies so far by request, the requests that have no line yet, ascending,
@@ -27,45 +27,46 @@ pub record Report : Type 0 where
   pub world : World
   pub replies : tree.FinMap nat_cmp GuestRsp
   pub left : List ℕ
-  pub lines : List Line
+  pub lines : List ReportLine
 
 -- before the first event
-abbrev pub blank : List Statement → Report
-blank statements = record {
-  world = opening statements;
+abbrev pub empty_report : List Statement → Report
+empty_report statements = record {
+  world = initial_world statements;
   replies = tree.empty;
   left = range_with_len 1 (length (requests_of statements));
   lines = [];
 }
 
--- whether the life of a request's gateway is lost
+-- whether the incarnation of a request's gateway is lost
 abbrev pub is_lost_request : List Statement → ℕ → World → Bool
 is_lost_request statements req world =
-    option_map_or (λ (session : Session). is_gone session world) (option_and_then (session_numbered statements) (session_asking statements req)) false
+    option_map_or (λ (session : ScriptSession). is_session_gone session world)
+    (option_and_then (session_numbered statements) (session_asking statements req)) false
 
 -- whether a session has started a request
 abbrev pub has_begun : List Statement → ℕ → World → ℕ → Bool
 has_begun statements req world session =
-    list_any (λ other. other == req) (take (guest_at session world).begun (numbers_of_session statements session))
+    list_any (λ other. other == req) (take (progress_at session world).begun (numbers_of_session statements session))
 
 -- whether a request was started
 abbrev pub is_begun : List Statement → ℕ → World → Bool
 is_begun statements req world = option_map_or (has_begun statements req world) (session_asking statements req) false
 
--- what is settled of a request: its reply, or that its gateway's life is lost
-abbrev pub fate_by : Option GuestRsp → Bool → Option Fate
-fate_by (Some rsp) gone = Some (Answered rsp)
-fate_by None true = Some Gone
-fate_by None false = None
+-- what is settled of a request: its reply, or that its gateway's incarnation is lost
+abbrev pub fate_settled_by : Option GuestRsp → Bool → Option RequestFate
+fate_settled_by (Some rsp) gone = Some (Answered rsp)
+fate_settled_by None true = Some Gone
+fate_settled_by None false = None
 
 -- what is settled of a request by now
-abbrev pub fate_of : List Statement → Report → ℕ → Option Fate
-fate_of statements report req = fate_by (tree.get report.replies req) (is_lost_request statements req report.world)
+abbrev pub settled_fate : List Statement → Report → ℕ → Option RequestFate
+settled_fate statements report req = fate_settled_by (tree.get report.replies req) (is_lost_request statements req report.world)
 
 -- the same, once the request's own phase has begun
-abbrev pub fate_due : List Statement → Report → ℕ → Option Fate
+abbrev pub fate_due : List Statement → Report → ℕ → Option RequestFate
 fate_due statements report req =
-    if nat_le (phase_of_request statements req) report.world.phase then fate_of statements report req else None
+    if nat_le (phase_of_request statements req) report.world.phase then settled_fate statements report req else None
 
 -- the list of the barrier that ends the present phase
 abbrev pub barrier_list : List Statement → World → List Words
@@ -87,41 +88,41 @@ is_phase events.Phase = true
 is_phase event = false
 
 -- the replies, with those of a step
-abbrev pub with_reply : tree.FinMap nat_cmp GuestRsp → ℕ × GuestRsp → tree.FinMap nat_cmp GuestRsp
-with_reply replies reply = tree.insert replies reply.0 reply.1
+abbrev pub replies_with : tree.FinMap nat_cmp GuestRsp → ℕ × GuestRsp → tree.FinMap nat_cmp GuestRsp
+replies_with replies reply = tree.insert replies reply.0 reply.1
 
 -- an event was made
-abbrev pub went_on : Option Made → Report → Report
-went_on None report = report
-went_on (Some made) report =
-    record report { world = made.world; replies = fold with_reply report.replies made.world.outputs.replies }
+abbrev pub report_with_made : Option EventOutcome → Report → Report
+report_with_made None report = report
+report_with_made (Some made) report =
+    record report { world = made.world; replies = fold replies_with report.replies made.world.outputs.replies }
 
 -- what is told before an event: a phase that it ends
-abbrev pub told_before : List Statement → Event → Report → Report
-told_before statements event report = if is_phase event then phase_told statements report else report
+abbrev pub report_before_event : List Statement → Event → Report → Report
+report_before_event statements event report = if is_phase event then phase_told statements report else report
 
 -- one event more
-abbrev pub reported : List Statement → Report → Event → Report
-reported statements report event =
-    went_on (step statements event report.world) (told_before statements event report)
+abbrev pub report_after : List Statement → Report → Event → Report
+report_after statements report event =
+    report_with_made (step statements event report.world) (report_before_event statements event report)
 
 -- what became of a request in the end
-abbrev pub last_fate : List Statement → Report → ℕ → Fate
+abbrev pub last_fate : List Statement → Report → ℕ → RequestFate
 last_fate statements report req =
-    unwrap_or (fate_of statements report req) (if is_begun statements req report.world then Pending else Unsent)
+    unwrap_or (settled_fate statements report req) (if is_begun statements req report.world then Pending else Unsent)
 
 -- after the last event each request that has no line yet gets one
-abbrev pub finished : List Statement → Report → List Line
-finished statements report = report.lines ++ map (λ req. Told req (last_fate statements report req)) report.left
+abbrev pub finished_report : List Statement → Report → List ReportLine
+finished_report statements report = report.lines ++ map (λ req. Told req (last_fate statements report req)) report.left
 
 -- the report of a run, by its lines
-unfoldable pub report_of : List Statement → List Event → List Line
-report_of statements run = finished statements (fold (reported statements) (blank statements) run)
+unfoldable pub report_of : List Statement → List Event → List ReportLine
+report_of statements run = finished_report statements (fold (report_after statements) (empty_report statements) run)
 
 -- its text
-abbrev pub text_of : List Line → List ℕ
-text_of lines = flat_map (λ line. spaced (line_words line) ++ codes "\n") lines
+abbrev pub report_text : List ReportLine → List ℕ
+report_text lines = flat_map (λ line. spaced_words (line_words line) ++ codes "\n") lines
 
 -- the text of a barrier's list
 abbrev pub list_text : Statement → World → List ℕ
-list_text statement world = text_of (map Listed (list_of statement world))
+list_text statement world = report_text (map Listed (list_of statement world))

@@ -6,10 +6,10 @@ abbrev pub Words : Type 0
 Words = List (List ℕ)
 
 -- the words of a line, with one space between
-abbrev pub spaced : Words → List ℕ
-spaced [] = []
-spaced (word ∷ []) = word
-spaced (word ∷ next ∷ later) = word ++ codes " " ++ spaced (next ∷ later)
+abbrev pub spaced_words : Words → List ℕ
+spaced_words [] = []
+spaced_words (word ∷ []) = word
+spaced_words (word ∷ next ∷ later) = word ++ codes " " ++ spaced_words (next ∷ later)
 
 -- a digit of base 16, in lower case
 abbrev pub hex_digit : ℕ → ℕ

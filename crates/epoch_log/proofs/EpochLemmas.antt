@@ -7,43 +7,43 @@ use Rattle.std.proofs.lemmas.List.Folds.{list_any-append}
 use Rattle.std.proofs.lemmas.Grind.{fold-append}
 use Rattle.object_id.specs.declared.entry.Member.{Member}
 use Rattle.object_id.specs.declared.entry.Entry.{Entry}
-use Rattle.epoch_log.specs.Members.{moved}
-use Rattle.epoch_log.specs.Epochs.{begins, epoch_of, opening, members_in, recovers, has_recovered, missing_in, is_settled, settled_of, epoch_at, settled_at}
+use Rattle.epoch_log.specs.Members.{members_after}
+use Rattle.epoch_log.specs.Epochs.{begins_epoch, epoch_of, initial_members, members_in, recovers, has_recovered, missing_in, is_settled, settled_of, epoch_at, settled_at}
 use Rattle.epoch_log.proofs.GreatestLemmas.{greatest-most, greatest-bound, greatest-grows}
 
-pub opening-append : (entries later : List Entry) → 1 ≤ length entries → opening (entries ++ later) ≡ opening entries
-opening-append [] later some = absurd (omega arith)
-opening-append (entry ∷ entries) later some = refl
+pub initial_members-append : (entries later : List Entry) → 1 ≤ length entries → initial_members (entries ++ later) ≡ initial_members entries
+initial_members-append [] later some = absurd (omega arith)
+initial_members-append (entry ∷ entries) later some = refl
 
-pub epoch_of-append : (entries later : List Entry) → epoch_of (entries ++ later) ≡ epoch_of entries + length (filter begins later)
+pub epoch_of-append : (entries later : List Entry) → epoch_of (entries ++ later) ≡ epoch_of entries + length (filter begins_epoch later)
 epoch_of-append entries later =
-    let parts : length (filter begins (entries ++ later)) ≡ length (filter begins entries ++ filter begins later) = ap length (filter-append begins entries later) in
-    omega (arith, length-append (filter begins entries) (filter begins later))
+    let parts : length (filter begins_epoch (entries ++ later)) ≡ length (filter begins_epoch entries ++ filter begins_epoch later) = ap length (filter-append begins_epoch entries later) in
+    omega (arith, length-append (filter begins_epoch entries) (filter begins_epoch later))
 
 -- the members of an epoch that has begun never change
 pub members_in-append : (entries later : List Entry) (epoch : ℕ) → 1 ≤ length entries → epoch ≤ epoch_of entries
     → members_in (entries ++ later) epoch ≡ members_in entries epoch
 members_in-append entries later epoch some begun =
-    let changes : take (epoch - 1) (filter begins (entries ++ later)) ≡ take (epoch - 1) (filter begins entries)
-    = ap (take (epoch - 1)) (filter-append begins entries later) ∙ take-append-le (epoch - 1) (filter begins entries) (filter begins later) (omega arith) in
-    ap (λ first. fold moved first (take (epoch - 1) (filter begins (entries ++ later)))) (opening-append entries later some)
-    ∙ ap (fold moved (opening entries)) changes
+    let changes : take (epoch - 1) (filter begins_epoch (entries ++ later)) ≡ take (epoch - 1) (filter begins_epoch entries)
+    = ap (take (epoch - 1)) (filter-append begins_epoch entries later) ∙ take-append-le (epoch - 1) (filter begins_epoch entries) (filter begins_epoch later) (omega arith) in
+    ap (λ first. fold members_after first (take (epoch - 1) (filter begins_epoch (entries ++ later)))) (initial_members-append entries later some)
+    ∙ ap (fold members_after (initial_members entries)) changes
 
 -- those of the epoch that an entry begins are what the entry makes of the members before
-pub members_in-begun : (entries : List Entry) (entry : Entry) → 1 ≤ length entries → begins entry ≡ true
-    → members_in (entries ++ entry ∷ []) (epoch_of entries + 1) ≡ moved (members_in entries (epoch_of entries)) entry
+pub members_in-begun : (entries : List Entry) (entry : Entry) → 1 ≤ length entries → begins_epoch entry ≡ true
+    → members_in (entries ++ entry ∷ []) (epoch_of entries + 1) ≡ members_after (members_in entries (epoch_of entries)) entry
 members_in-begun entries entry some begun =
-    let old : List Entry = filter begins entries in
-    let one : filter begins (entry ∷ []) ≡ entry ∷ [] = ap (λ b. cond b (entry ∷ []) []) begun in
-    let all : filter begins (entries ++ entry ∷ []) ≡ old ++ entry ∷ [] = filter-append begins entries (entry ∷ []) ∙ ap (λ last. old ++ last) one in
+    let old : List Entry = filter begins_epoch entries in
+    let one : filter begins_epoch (entry ∷ []) ≡ entry ∷ [] = ap (λ b. cond b (entry ∷ []) []) begun in
+    let all : filter begins_epoch (entries ++ entry ∷ []) ≡ old ++ entry ∷ [] = filter-append begins_epoch entries (entry ∷ []) ∙ ap (λ last. old ++ last) one in
     let long : length (old ++ entry ∷ []) ≡ length old + 1 = length_push old entry in
-    let whole : take (epoch_of entries + 1 - 1) (filter begins (entries ++ entry ∷ [])) ≡ old ++ entry ∷ []
+    let whole : take (epoch_of entries + 1 - 1) (filter begins_epoch (entries ++ entry ∷ [])) ≡ old ++ entry ∷ []
     = ap (take (epoch_of entries + 1 - 1)) all ∙ take_all (epoch_of entries + 1 - 1) (old ++ entry ∷ []) (omega arith) in
     let before : take (epoch_of entries - 1) old ≡ old = take_all (epoch_of entries - 1) old (omega arith) in
-    ap (λ first. fold moved first (take (epoch_of entries + 1 - 1) (filter begins (entries ++ entry ∷ [])))) (opening-append entries (entry ∷ []) some)
-    ∙ ap (fold moved (opening entries)) whole
-    ∙ fold-append moved (opening entries) old (entry ∷ [])
-    ∙ sym (ap (λ changes. moved (fold moved (opening entries) changes) entry) before)
+    ap (λ first. fold members_after first (take (epoch_of entries + 1 - 1) (filter begins_epoch (entries ++ entry ∷ [])))) (initial_members-append entries (entry ∷ []) some)
+    ∙ ap (fold members_after (initial_members entries)) whole
+    ∙ fold-append members_after (initial_members entries) old (entry ∷ [])
+    ∙ sym (ap (λ changes. members_after (fold members_after (initial_members entries) changes) entry) before)
 
 -- two tests that agree on each element of a list filter it alike
 pub filter-same : {X : Type 0} (p q : X → Bool) (xs : List X) → ((x : X) → p x ≡ q x) → filter p xs ≡ filter q xs
@@ -112,7 +112,7 @@ settled_of-begun entries =
 -- the settled epoch never falls
 pub settled_of-append : (entries later : List Entry) → 1 ≤ length entries → settled_of entries ≤ settled_of (entries ++ later)
 settled_of-append entries later some =
-    let grown : epoch_of (entries ++ later) ≡ epoch_of entries + length (filter begins later) = epoch_of-append entries later in
+    let grown : epoch_of (entries ++ later) ≡ epoch_of entries + length (filter begins_epoch later) = epoch_of-append entries later in
     greatest-grows (is_settled entries) (is_settled (entries ++ later)) (epoch_of entries) (epoch_of (entries ++ later)) (omega arith)
     (λ epoch _ begun. is_settled-append entries later epoch some begun)
 
@@ -125,7 +125,7 @@ take-more entries place later order =
 
 pub epoch_at-grows : (entries : List Entry) (place later : ℕ) → place ≤ later → epoch_at entries place ≤ epoch_at entries later
 epoch_at-grows entries place later order =
-    let grown : epoch_of (take place entries ++ drop place (take later entries)) ≡ epoch_of (take place entries) + length (filter begins (drop place (take later entries)))
+    let grown : epoch_of (take place entries ++ drop place (take later entries)) ≡ epoch_of (take place entries) + length (filter begins_epoch (drop place (take later entries)))
     = epoch_of-append (take place entries) (drop place (take later entries)) in
     subst (λ (all : List Entry). epoch_of (take place entries) ≤ epoch_of all) (take-more entries place later order) (omega arith)
 

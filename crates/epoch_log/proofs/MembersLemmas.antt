@@ -7,8 +7,8 @@ use Rattle.std.proofs.lemmas.List.{append_assoc, append-nil, length_push, take_a
 use Rattle.object_id.specs.declared.entry.Member.{Member}
 use Rattle.object_id.specs.declared.entry.Entry.{Entry}
 use Rattle.object_id.specs.declared.entry.Entry.TheVariants.{Format, Join, Leave, Reweight, Recovered, Reserve, Publish, Clone, Snapshot, Delete, Lock, Unlock}
-use Rattle.epoch_log.specs.Members.{is_node, is_member, joined, reweighted, moved, numbers_of, IsWeight, HaveWeights, AreMembers}
-use Rattle.epoch_log.specs.Epochs.{begins, epoch_of, members_in}
+use Rattle.epoch_log.specs.Members.{is_member_node, is_member, members_with, members_reweighted, members_after, node_numbers, IsWeight, HaveWeights, AreMembers}
+use Rattle.epoch_log.specs.Epochs.{begins_epoch, epoch_of, members_in}
 use Rattle.epoch_log.specs.Appending.{FitsMembers, MayAppend, MayOpen, AreAppended, IsLog}
 use Rattle.epoch_log.proofs.EpochLemmas.{members_in-append, members_in-begun, epoch_of-append}
 
@@ -33,21 +33,21 @@ Ascend-length least (member ∷ members) below up =
     let rest : length members + suc member.node.0 ≤ 64 = Ascend-length (suc member.node.0) members (omega arith) up.2 in
     omega arith
 
-Ascend-joined : (least : ℕ) (member : Member) (members : List Member) → least ≤ member.node.0 → member.node.0 < 64
-    → is_member member.node.0 members ≡ false → Ascend least members → Ascend least (joined member members)
+Ascend-members_with : (least : ℕ) (member : Member) (members : List Member) → least ≤ member.node.0 → member.node.0 < 64
+    → is_member member.node.0 members ≡ false → Ascend least members → Ascend least (members_with member members)
 unfolding Ascend
-Ascend-joined least member [] below small absent up = (below, small, tt)
-Ascend-joined least member (other ∷ members) below small absent up =
+Ascend-members_with least member [] below small absent up = (below, small, tt)
+Ascend-members_with least member (other ∷ members) below small absent up =
     by_order (nat_lt member.node.0 other.node.0) refl
-    (λ above. Ascend-joined (suc other.node.0) member members above small (or_parts (is_node member.node.0 other) (is_member member.node.0 members) absent).1 up.2)
+    (λ above. Ascend-members_with (suc other.node.0) member members above small (or_parts (is_member_node member.node.0 other) (is_member member.node.0 members) absent).1 up.2)
   where
     by_order : (b : Bool) → nat_lt member.node.0 other.node.0 ≡ b
-        → (suc other.node.0 ≤ member.node.0 → Ascend (suc other.node.0) (joined member members))
-        → Ascend least (cond b (member ∷ other ∷ members) (other ∷ joined member members))
+        → (suc other.node.0 ≤ member.node.0 → Ascend (suc other.node.0) (members_with member members))
+        → Ascend least (cond b (member ∷ other ∷ members) (other ∷ members_with member members))
     by_order true less rest = (below, small, (let l : member.node.0 < other.node.0 = ltb-true member.node.0 other.node.0 less in (omega arith, up.1, up.2)))
     by_order false less rest =
         let l : other.node.0 ≤ member.node.0 = ltb-false member.node.0 other.node.0 less in
-        let apart : other.node.0 ≡ member.node.0 → ⊥ = eqb-false other.node.0 member.node.0 (or_parts (is_node member.node.0 other) (is_member member.node.0 members) absent).0 in
+        let apart : other.node.0 ≡ member.node.0 → ⊥ = eqb-false other.node.0 member.node.0 (or_parts (is_member_node member.node.0 other) (is_member member.node.0 members) absent).0 in
         let above : suc other.node.0 ≤ member.node.0 = next other.node.0 member.node.0 l apart in
         (up.0, up.1, rest above)
       where
@@ -68,30 +68,30 @@ Ascend-filter p least (member ∷ members) up = by_test (p member) (Ascend-filte
         let first : least ≤ member.node.0 = up.0 in
         Ascend-weaker least (suc member.node.0) (filter p members) (omega arith) rest
 
-Ascend-reweighted : (node vnodes least : ℕ) (members : List Member) → Ascend least members → Ascend least (reweighted node vnodes members)
+Ascend-members_reweighted : (node vnodes least : ℕ) (members : List Member) → Ascend least members → Ascend least (members_reweighted node vnodes members)
 unfolding Ascend
-Ascend-reweighted node vnodes least [] up = tt
-Ascend-reweighted node vnodes least (member ∷ members) up = by_test (is_node node member) (Ascend-reweighted node vnodes (suc member.node.0) members up.2)
+Ascend-members_reweighted node vnodes least [] up = tt
+Ascend-members_reweighted node vnodes least (member ∷ members) up = by_test (is_member_node node member) (Ascend-members_reweighted node vnodes (suc member.node.0) members up.2)
   where
-    by_test : (b : Bool) → Ascend (suc member.node.0) (reweighted node vnodes members)
-        → Ascend least (cond b (record member { vnodes = vnodes }) member ∷ reweighted node vnodes members)
+    by_test : (b : Bool) → Ascend (suc member.node.0) (members_reweighted node vnodes members)
+        → Ascend least (cond b (record member { vnodes = vnodes }) member ∷ members_reweighted node vnodes members)
     by_test true rest = (up.0, up.1, rest)
     by_test false rest = (up.0, up.1, rest)
 
-Ascend-moved : (members : List Member) (entry : Entry) → FitsMembers members entry → Ascend 0 members → Ascend 0 (moved members entry)
+Ascend-members_after : (members : List Member) (entry : Entry) → FitsMembers members entry → Ascend 0 members → Ascend 0 (members_after members entry)
 unfolding Ascend
-Ascend-moved members (Format opening) fits up = up
-Ascend-moved members (Join node zone vnodes) fits up = Ascend-joined 0 (record { node = node; zone = zone; vnodes = vnodes }) members (omega arith) fits.0 fits.2 up
-Ascend-moved members (Leave node) fits up = Ascend-filter (λ member. not (is_node node.0 member)) 0 members up
-Ascend-moved members (Reweight node vnodes) fits up = Ascend-reweighted node.0 vnodes 0 members up
-Ascend-moved members (Recovered node epoch) fits up = up
-Ascend-moved members (Reserve by session name origin) fits up = up
-Ascend-moved members (Publish by vid) fits up = up
-Ascend-moved members (Clone by vid) fits up = up
-Ascend-moved members (Snapshot by old vid) fits up = up
-Ascend-moved members (Delete by session name tag) fits up = up
-Ascend-moved members (Lock by session name tag) fits up = up
-Ascend-moved members (Unlock by session vid) fits up = up
+Ascend-members_after members (Format opening) fits up = up
+Ascend-members_after members (Join node zone vnodes) fits up = Ascend-members_with 0 (record { node = node; zone = zone; vnodes = vnodes }) members (omega arith) fits.0 fits.2 up
+Ascend-members_after members (Leave node) fits up = Ascend-filter (λ member. not (is_member_node node.0 member)) 0 members up
+Ascend-members_after members (Reweight node vnodes) fits up = Ascend-members_reweighted node.0 vnodes 0 members up
+Ascend-members_after members (Recovered node epoch) fits up = up
+Ascend-members_after members (Reserve by session name origin) fits up = up
+Ascend-members_after members (Publish by vid) fits up = up
+Ascend-members_after members (Clone by vid) fits up = up
+Ascend-members_after members (Snapshot by old vid) fits up = up
+Ascend-members_after members (Delete by session name tag) fits up = up
+Ascend-members_after members (Lock by session name tag) fits up = up
+Ascend-members_after members (Unlock by session vid) fits up = up
 
 -- the next number, one place on
 one_on : (x : ℕ) (xs : List ℕ) (k : ℕ) → slice_index xs k < slice_index xs (k + 1) → slice_index (x ∷ xs) (suc k) < slice_index (x ∷ xs) (suc k + 1)
@@ -105,64 +105,64 @@ one_back x xs k less =
     subst (λ (j : ℕ). slice_index (x ∷ xs) (suc k) < slice_index (x ∷ xs) j) same less
 
 -- between the two forms
-Ascend-to : (least : ℕ) (members : List Member) → Ascend least members → IsStrictlyIncreasing (numbers_of members)
+Ascend-to : (least : ℕ) (members : List Member) → Ascend least members → IsStrictlyIncreasing (node_numbers members)
 unfolding Ascend
 Ascend-to least [] up k within = absurd (omega arith)
 Ascend-to least (member ∷ []) up k within = absurd (omega arith)
 Ascend-to least (member ∷ other ∷ members) up zero within =
     let next : suc member.node.0 ≤ other.node.0 = up.2.0 in omega arith
 Ascend-to least (member ∷ other ∷ members) up (suc k) within =
-    one_on member.node.0 (numbers_of (other ∷ members)) k (Ascend-to (suc member.node.0) (other ∷ members) up.2 k (omega arith))
+    one_on member.node.0 (node_numbers (other ∷ members)) k (Ascend-to (suc member.node.0) (other ∷ members) up.2 k (omega arith))
 
-Ascend-below : (least : ℕ) (members : List Member) → Ascend least members → All (λ node. node < 64) (numbers_of members)
+Ascend-below : (least : ℕ) (members : List Member) → Ascend least members → All (λ node. node < 64) (node_numbers members)
 unfolding Ascend
 Ascend-below least [] up = All-nil (λ node. node < 64)
 Ascend-below least (member ∷ members) up =
-    All-cons (λ node. node < 64) member.node.0 (numbers_of members) up.1 (Ascend-below (suc member.node.0) members up.2)
+    All-cons (λ node. node < 64) member.node.0 (node_numbers members) up.1 (Ascend-below (suc member.node.0) members up.2)
 
-Ascend-from : (least : ℕ) (members : List Member) → ((d : ℕ) → 0 < length members → least ≤ get_or (numbers_of members) 0 d)
-    → IsStrictlyIncreasing (numbers_of members) → All (λ node. node < 64) (numbers_of members) → Ascend least members
+Ascend-from : (least : ℕ) (members : List Member) → ((d : ℕ) → 0 < length members → least ≤ get_or (node_numbers members) 0 d)
+    → IsStrictlyIncreasing (node_numbers members) → All (λ node. node < 64) (node_numbers members) → Ascend least members
 unfolding Ascend
 Ascend-from least [] first up small = tt
 Ascend-from least (member ∷ members) first up small = (
   first 0 (omega arith),
-  All-head (λ node. node < 64) member.node.0 (numbers_of members) small,
-  Ascend-from (suc member.node.0) members (next members up) (λ k within. one_back member.node.0 (numbers_of members) k (up (suc k) (omega arith)))
-      (All-tail (λ node. node < 64) member.node.0 (numbers_of members) small),
+  All-head (λ node. node < 64) member.node.0 (node_numbers members) small,
+  Ascend-from (suc member.node.0) members (next members up) (λ k within. one_back member.node.0 (node_numbers members) k (up (suc k) (omega arith)))
+      (All-tail (λ node. node < 64) member.node.0 (node_numbers members) small),
 )
   where
-    next : (rest : List Member) → IsStrictlyIncreasing (numbers_of (member ∷ rest)) → (d : ℕ) → 0 < length rest → suc member.node.0 ≤ get_or (numbers_of rest) 0 d
+    next : (rest : List Member) → IsStrictlyIncreasing (node_numbers (member ∷ rest)) → (d : ℕ) → 0 < length rest → suc member.node.0 ≤ get_or (node_numbers rest) 0 d
     next [] up d some = absurd (omega arith)
     next (other ∷ rest) up d some = let less : member.node.0 < other.node.0 = up 0 (omega arith) in omega arith
 
 -- what each entry that fits keeps is true of the members of every epoch
-module _ (P : List Member → Type 0) (kept : (members : List Member) (entry : Entry) → FitsMembers members entry → P members → P (moved members entry)) where
+module _ (P : List Member → Type 0) (kept : (members : List Member) (entry : Entry) → FitsMembers members entry → P members → P (members_after members entry)) where
   holds-push : (entries : List Entry) (entry : Entry) → 1 ≤ length entries → ((epoch : ℕ) → epoch ≤ epoch_of entries → P (members_in entries epoch))
       → MayAppend entries entry → (epoch : ℕ) → epoch ≤ epoch_of (entries ++ entry ∷ []) → P (members_in (entries ++ entry ∷ []) epoch)
   holds-push entries entry some up may epoch begun = by_place (cases_lt (epoch_of entries) epoch)
     where
-      by_test : (b : Bool) → begins entry ≡ b → epoch_of entries < epoch → epoch ≡ epoch_of entries + 1
+      by_test : (b : Bool) → begins_epoch entry ≡ b → epoch_of entries < epoch → epoch ≡ epoch_of entries + 1
       by_test true begins_one above =
-          let grown : epoch_of (entries ++ entry ∷ []) ≡ epoch_of entries + length (filter begins (entry ∷ [])) = epoch_of-append entries (entry ∷ []) in
-          let one : length (filter begins (entry ∷ [])) ≡ 1 = ap (λ b. length (cond b (entry ∷ []) [])) begins_one in
+          let grown : epoch_of (entries ++ entry ∷ []) ≡ epoch_of entries + length (filter begins_epoch (entry ∷ [])) = epoch_of-append entries (entry ∷ []) in
+          let one : length (filter begins_epoch (entry ∷ [])) ≡ 1 = ap (λ b. length (cond b (entry ∷ []) [])) begins_one in
           omega arith
       by_test false begins_none above =
-          let grown : epoch_of (entries ++ entry ∷ []) ≡ epoch_of entries + length (filter begins (entry ∷ [])) = epoch_of-append entries (entry ∷ []) in
-          let none : length (filter begins (entry ∷ [])) ≡ 0 = ap (λ b. length (cond b (entry ∷ []) [])) begins_none in
+          let grown : epoch_of (entries ++ entry ∷ []) ≡ epoch_of entries + length (filter begins_epoch (entry ∷ [])) = epoch_of-append entries (entry ∷ []) in
+          let none : length (filter begins_epoch (entry ∷ [])) ≡ 0 = ap (λ b. length (cond b (entry ∷ []) [])) begins_none in
           absurd (omega arith)
 
-      must_begin : (b : Bool) → begins entry ≡ b → epoch_of entries < epoch → begins entry ≡ true
+      must_begin : (b : Bool) → begins_epoch entry ≡ b → epoch_of entries < epoch → begins_epoch entry ≡ true
       must_begin true begins_one above = begins_one
       must_begin false begins_none above =
-          let grown : epoch_of (entries ++ entry ∷ []) ≡ epoch_of entries + length (filter begins (entry ∷ [])) = epoch_of-append entries (entry ∷ []) in
-          let none : length (filter begins (entry ∷ [])) ≡ 0 = ap (λ b. length (cond b (entry ∷ []) [])) begins_none in
+          let grown : epoch_of (entries ++ entry ∷ []) ≡ epoch_of entries + length (filter begins_epoch (entry ∷ [])) = epoch_of-append entries (entry ∷ []) in
+          let none : length (filter begins_epoch (entry ∷ [])) ≡ 0 = ap (λ b. length (cond b (entry ∷ []) [])) begins_none in
           absurd (omega arith)
 
       by_place : (epoch_of entries < epoch) ⊎ (epoch ≤ epoch_of entries) → P (members_in (entries ++ entry ∷ []) epoch)
       by_place (inl above) =
-          let is_one : epoch ≡ epoch_of entries + 1 = by_test (begins entry) refl above in
-          let made : members_in (entries ++ entry ∷ []) (epoch_of entries + 1) ≡ moved (members_in entries (epoch_of entries)) entry
-          = members_in-begun entries entry some (must_begin (begins entry) refl above) in
+          let is_one : epoch ≡ epoch_of entries + 1 = by_test (begins_epoch entry) refl above in
+          let made : members_in (entries ++ entry ∷ []) (epoch_of entries + 1) ≡ members_after (members_in entries (epoch_of entries)) entry
+          = members_in-begun entries entry some (must_begin (begins_epoch entry) refl above) in
           subst P (sym (ap (members_in (entries ++ entry ∷ [])) is_one ∙ made))
           (kept (members_in entries (epoch_of entries)) entry may.fits (up (epoch_of entries) (omega arith)))
       by_place (inr within) = subst P (sym (members_in-append entries (entry ∷ []) epoch some within)) (up epoch within)
@@ -200,7 +200,7 @@ IsLog-some entries log =
     omega arith
 
 -- so it is true of every epoch of a log, where it is of those that may open one
-IsLog-holds : (P : List Member → Type 0) → ((members : List Member) (entry : Entry) → FitsMembers members entry → P members → P (moved members entry))
+IsLog-holds : (P : List Member → Type 0) → ((members : List Member) (entry : Entry) → FitsMembers members entry → P members → P (members_after members entry))
     → ((members : List Member) → MayOpen members → P members)
     → (entries : List Entry) → IsLog entries → (epoch : ℕ) → epoch ≤ epoch_of entries → P (members_in entries epoch)
 IsLog-holds P kept opening entries log =
@@ -208,49 +208,49 @@ IsLog-holds P kept opening entries log =
     let first : P opens.0 = opening opens.0 opens.3 in
     subst (λ (all : List Entry). (epoch : ℕ) → epoch ≤ epoch_of all → P (members_in all epoch)) (sym opens.2)
     (holds-along P kept (Format opens.0 ∷ []) opens.1 (omega arith)
-    (λ epoch _. subst (λ (changes : List Entry). P (fold moved opens.0 changes)) (sym (take_all (epoch - 1) [] (omega arith))) first) opens.4)
+    (λ epoch _. subst (λ (changes : List Entry). P (fold members_after opens.0 changes)) (sym (take_all (epoch - 1) [] (omega arith))) first) opens.4)
 
 IsLog-ascends : (entries : List Entry) → IsLog entries → (epoch : ℕ) → epoch ≤ epoch_of entries → Ascend 0 (members_in entries epoch)
-IsLog-ascends = IsLog-holds (Ascend 0) Ascend-moved (λ members opens. Ascend-from 0 members (λ d _. omega arith) opens.ordered.ascending opens.ordered.below_64)
+IsLog-ascends = IsLog-holds (Ascend 0) Ascend-members_after (λ members opens. Ascend-from 0 members (λ d _. omega arith) opens.ordered.ascending opens.ordered.below_64)
 
-weights-joined : (member : Member) (members : List Member) → IsWeight member.vnodes → HaveWeights members → HaveWeights (joined member members)
-weights-joined member [] weight had = All-cons (λ (m : Member). IsWeight m.vnodes) member [] weight had
-weights-joined member (other ∷ members) weight had =
+weights-members_with : (member : Member) (members : List Member) → IsWeight member.vnodes → HaveWeights members → HaveWeights (members_with member members)
+weights-members_with member [] weight had = All-cons (λ (m : Member). IsWeight m.vnodes) member [] weight had
+weights-members_with member (other ∷ members) weight had =
     by_order (nat_lt member.node.0 other.node.0)
-    (weights-joined member members weight (All-tail (λ (m : Member). IsWeight m.vnodes) other members had))
+    (weights-members_with member members weight (All-tail (λ (m : Member). IsWeight m.vnodes) other members had))
   where
-    by_order : (b : Bool) → HaveWeights (joined member members) → HaveWeights (cond b (member ∷ other ∷ members) (other ∷ joined member members))
+    by_order : (b : Bool) → HaveWeights (members_with member members) → HaveWeights (cond b (member ∷ other ∷ members) (other ∷ members_with member members))
     by_order true rest = All-cons (λ (m : Member). IsWeight m.vnodes) member (other ∷ members) weight had
     by_order false rest =
-        All-cons (λ (m : Member). IsWeight m.vnodes) other (joined member members) (All-head (λ (m : Member). IsWeight m.vnodes) other members had) rest
+        All-cons (λ (m : Member). IsWeight m.vnodes) other (members_with member members) (All-head (λ (m : Member). IsWeight m.vnodes) other members had) rest
 
-weights-reweighted : (node vnodes : ℕ) (members : List Member) → IsWeight vnodes → HaveWeights members → HaveWeights (reweighted node vnodes members)
-weights-reweighted node vnodes [] weight had = had
-weights-reweighted node vnodes (member ∷ members) weight had =
-    by_test (is_node node member) (weights-reweighted node vnodes members weight (All-tail (λ (m : Member). IsWeight m.vnodes) member members had))
+weights-members_reweighted : (node vnodes : ℕ) (members : List Member) → IsWeight vnodes → HaveWeights members → HaveWeights (members_reweighted node vnodes members)
+weights-members_reweighted node vnodes [] weight had = had
+weights-members_reweighted node vnodes (member ∷ members) weight had =
+    by_test (is_member_node node member) (weights-members_reweighted node vnodes members weight (All-tail (λ (m : Member). IsWeight m.vnodes) member members had))
   where
-    by_test : (b : Bool) → HaveWeights (reweighted node vnodes members)
-        → HaveWeights (cond b (record member { vnodes = vnodes }) member ∷ reweighted node vnodes members)
-    by_test true rest = All-cons (λ (m : Member). IsWeight m.vnodes) (record member { vnodes = vnodes }) (reweighted node vnodes members) weight rest
+    by_test : (b : Bool) → HaveWeights (members_reweighted node vnodes members)
+        → HaveWeights (cond b (record member { vnodes = vnodes }) member ∷ members_reweighted node vnodes members)
+    by_test true rest = All-cons (λ (m : Member). IsWeight m.vnodes) (record member { vnodes = vnodes }) (members_reweighted node vnodes members) weight rest
     by_test false rest =
-        All-cons (λ (m : Member). IsWeight m.vnodes) member (reweighted node vnodes members) (All-head (λ (m : Member). IsWeight m.vnodes) member members had) rest
+        All-cons (λ (m : Member). IsWeight m.vnodes) member (members_reweighted node vnodes members) (All-head (λ (m : Member). IsWeight m.vnodes) member members had) rest
 
-weights-moved : (members : List Member) (entry : Entry) → FitsMembers members entry → HaveWeights members → HaveWeights (moved members entry)
-weights-moved members (Format opening) fits had = had
-weights-moved members (Join node zone vnodes) fits had = weights-joined (record { node = node; zone = zone; vnodes = vnodes }) members fits.1 had
-weights-moved members (Leave node) fits had = All-filter (λ member. not (is_node node.0 member)) (λ (m : Member). IsWeight m.vnodes) members had
-weights-moved members (Reweight node vnodes) fits had = weights-reweighted node.0 vnodes members fits.0 had
-weights-moved members (Recovered node epoch) fits had = had
-weights-moved members (Reserve by session name origin) fits had = had
-weights-moved members (Publish by vid) fits had = had
-weights-moved members (Clone by vid) fits had = had
-weights-moved members (Snapshot by old vid) fits had = had
-weights-moved members (Delete by session name tag) fits had = had
-weights-moved members (Lock by session name tag) fits had = had
-weights-moved members (Unlock by session vid) fits had = had
+weights-members_after : (members : List Member) (entry : Entry) → FitsMembers members entry → HaveWeights members → HaveWeights (members_after members entry)
+weights-members_after members (Format opening) fits had = had
+weights-members_after members (Join node zone vnodes) fits had = weights-members_with (record { node = node; zone = zone; vnodes = vnodes }) members fits.1 had
+weights-members_after members (Leave node) fits had = All-filter (λ member. not (is_member_node node.0 member)) (λ (m : Member). IsWeight m.vnodes) members had
+weights-members_after members (Reweight node vnodes) fits had = weights-members_reweighted node.0 vnodes members fits.0 had
+weights-members_after members (Recovered node epoch) fits had = had
+weights-members_after members (Reserve by session name origin) fits had = had
+weights-members_after members (Publish by vid) fits had = had
+weights-members_after members (Clone by vid) fits had = had
+weights-members_after members (Snapshot by old vid) fits had = had
+weights-members_after members (Delete by session name tag) fits had = had
+weights-members_after members (Lock by session name tag) fits had = had
+weights-members_after members (Unlock by session vid) fits had = had
 
 pub IsLog-weights : (entries : List Entry) (epoch : ℕ) → IsLog entries → epoch ≤ epoch_of entries → HaveWeights (members_in entries epoch)
-IsLog-weights entries epoch log begun = IsLog-holds HaveWeights weights-moved (λ members opens. opens.weights) entries log epoch begun
+IsLog-weights entries epoch log begun = IsLog-holds HaveWeights weights-members_after (λ members opens. opens.weights) entries log epoch begun
 
 pub IsLog-members : (entries : List Entry) (epoch : ℕ) → IsLog entries → epoch ≤ epoch_of entries
     → AreMembers (members_in entries epoch) × (length (members_in entries epoch) ≤ 64)

@@ -13,15 +13,15 @@ use Rattle.object_id.specs.declared.node.Epoch.{Epoch}
 use Rattle.object_id.specs.declared.entry.Member.{Member}
 use Rattle.object_id.specs.declared.entry.Entry.{Entry}
 use Rattle.object_id.specs.declared.entry.Entry.TheVariants.{Format, Join, Leave, Reweight, Recovered, Reserve, Publish, Clone, Snapshot, Delete, Lock, Unlock}
-use Rattle.epoch_log.specs.declared.term.Term.{Term}
-use Rattle.epoch_log.specs.declared.term.Mark.{Mark}
+use Rattle.epoch_log.specs.declared.epoch_record.EpochRecord.{EpochRecord}
+use Rattle.epoch_log.specs.declared.epoch_record.Mark.{Mark}
 use Rattle.epoch_log.specs.declared.tally.Tally.{Tally}
-use Rattle.epoch_log.specs.Members.{is_node, without, moved, numbers_of}
-use Rattle.epoch_log.specs.Epochs.{begins, epoch_of, opening, members_in, recovers, recovery_of, has_recovered, missing_in, is_settled, greatest, settled_of}
+use Rattle.epoch_log.specs.Members.{is_member_node, members_without, members_after, node_numbers}
+use Rattle.epoch_log.specs.Epochs.{begins_epoch, epoch_of, initial_members, members_in, recovers, recovery_of, has_recovered, missing_in, is_settled, greatest, settled_of}
 use Rattle.epoch_log.specs.Appending.{MayAppend, IsLog}
 use Rattle.epoch_log.specs.Tally.{IsTally, AreMarks, mark_of, term_in, new_term, lacking, early_key, is_early}
 use Rattle.epoch_log.proofs.GreatestLemmas.{greatest-same, greatest-one}
-use Rattle.epoch_log.proofs.EpochLemmas.{opening-append, epoch_of-append, members_in-append, members_in-begun, filter-same, missing_in-same, missing_in-append, is_settled-append, settled_of-begun}
+use Rattle.epoch_log.proofs.EpochLemmas.{initial_members-append, epoch_of-append, members_in-append, members_in-begun, filter-same, missing_in-same, missing_in-append, is_settled-append, settled_of-begun}
 use Rattle.epoch_log.proofs.MembersLemmas.{IsLog-some, IsLog-push, IsLog-members}
 
 -- what `next_members` says of an entry, by its answer
@@ -38,19 +38,19 @@ or-false true = refl
 or-false false = refl
 
 -- an entry that begins an epoch is no `Recovered`
-begins-recovers : (entry : Entry) → begins entry ≡ true → (epoch node : ℕ) → recovers epoch node entry ≡ false
-begins-recovers (Format members) is epoch node = refl
-begins-recovers (Join by zone vnodes) is epoch node = refl
-begins-recovers (Leave by) is epoch node = refl
-begins-recovers (Reweight by vnodes) is epoch node = refl
-begins-recovers (Recovered by of) is epoch node = cc
-begins-recovers (Reserve by session name origin) is epoch node = refl
-begins-recovers (Publish by vid) is epoch node = refl
-begins-recovers (Clone by vid) is epoch node = refl
-begins-recovers (Snapshot by old vid) is epoch node = refl
-begins-recovers (Delete by session name tag) is epoch node = refl
-begins-recovers (Lock by session name tag) is epoch node = refl
-begins-recovers (Unlock by session vid) is epoch node = refl
+begins_epoch-recovers : (entry : Entry) → begins_epoch entry ≡ true → (epoch node : ℕ) → recovers epoch node entry ≡ false
+begins_epoch-recovers (Format members) is epoch node = refl
+begins_epoch-recovers (Join by zone vnodes) is epoch node = refl
+begins_epoch-recovers (Leave by) is epoch node = refl
+begins_epoch-recovers (Reweight by vnodes) is epoch node = refl
+begins_epoch-recovers (Recovered by of) is epoch node = cc
+begins_epoch-recovers (Reserve by session name origin) is epoch node = refl
+begins_epoch-recovers (Publish by vid) is epoch node = refl
+begins_epoch-recovers (Clone by vid) is epoch node = refl
+begins_epoch-recovers (Snapshot by old vid) is epoch node = refl
+begins_epoch-recovers (Delete by session name tag) is epoch node = refl
+begins_epoch-recovers (Lock by session name tag) is epoch node = refl
+begins_epoch-recovers (Unlock by session vid) is epoch node = refl
 
 none-recovers : (entry : Entry) → recovery_of entry ≡ None → (epoch node : ℕ) → recovers epoch node entry ≡ false
 none-recovers (Format members) is epoch node = refl
@@ -91,18 +91,18 @@ has_recovered-kept entries entry epoch node other =
     has_recovered-push entries entry epoch node ∙ ap (λ b. has_recovered entries epoch node || b) other ∙ or-false (has_recovered entries epoch node)
 
 -- an entry that begins no epoch changes no members
-changes-kept : (entries : List Entry) (entry : Entry) → begins entry ≡ false → filter begins (entries ++ entry ∷ []) ≡ filter begins entries
+changes-kept : (entries : List Entry) (entry : Entry) → begins_epoch entry ≡ false → filter begins_epoch (entries ++ entry ∷ []) ≡ filter begins_epoch entries
 changes-kept entries entry stays =
-    filter-append begins entries (entry ∷ []) ∙ ap (λ b. filter begins entries ++ cond b (entry ∷ []) []) stays ∙ append-nil (filter begins entries)
+    filter-append begins_epoch entries (entry ∷ []) ∙ ap (λ b. filter begins_epoch entries ++ cond b (entry ∷ []) []) stays ∙ append-nil (filter begins_epoch entries)
 
-epoch_of-kept : (entries : List Entry) (entry : Entry) → begins entry ≡ false → epoch_of (entries ++ entry ∷ []) ≡ epoch_of entries
+epoch_of-kept : (entries : List Entry) (entry : Entry) → begins_epoch entry ≡ false → epoch_of (entries ++ entry ∷ []) ≡ epoch_of entries
 epoch_of-kept entries entry stays = ap (λ changes. length changes + 1) (changes-kept entries entry stays)
 
-members_in-kept : (entries : List Entry) (entry : Entry) (epoch : ℕ) → 1 ≤ length entries → begins entry ≡ false
+members_in-kept : (entries : List Entry) (entry : Entry) (epoch : ℕ) → 1 ≤ length entries → begins_epoch entry ≡ false
     → members_in (entries ++ entry ∷ []) epoch ≡ members_in entries epoch
 members_in-kept entries entry epoch some stays =
-    ap (λ first. fold moved first (take (epoch - 1) (filter begins (entries ++ entry ∷ [])))) (opening-append entries (entry ∷ []) some)
-    ∙ ap (λ changes. fold moved (opening entries) (take (epoch - 1) changes)) (changes-kept entries entry stays)
+    ap (λ first. fold members_after first (take (epoch - 1) (filter begins_epoch (entries ++ entry ∷ [])))) (initial_members-append entries (entry ∷ []) some)
+    ∙ ap (λ changes. fold members_after (initial_members entries) (take (epoch - 1) changes)) (changes-kept entries entry stays)
 
 term_in-same : (old new : List Entry) (epoch : ℕ) → members_in new epoch ≡ members_in old epoch
     → ((node : ℕ) → has_recovered new epoch node ≡ has_recovered old epoch node) → term_in new epoch ≡ term_in old epoch
@@ -111,9 +111,9 @@ term_in-same old new epoch members same =
     λ i. record { members = members i; missing = missing i }
 
 is_settled-same : (old new : List Entry) (epoch : ℕ) → term_in new epoch ≡ term_in old epoch → is_settled new epoch ≡ is_settled old epoch
-is_settled-same old new epoch same = ap (λ (term : Term). epoch == 1 || length term.missing == 0) same
+is_settled-same old new epoch same = ap (λ (term : EpochRecord). epoch == 1 || length term.missing == 0) same
 
-settled_of-kept : (entries : List Entry) (entry : Entry) → begins entry ≡ false
+settled_of-kept : (entries : List Entry) (entry : Entry) → begins_epoch entry ≡ false
     → ((epoch : ℕ) → 1 ≤ epoch → epoch ≤ epoch_of entries → is_settled (entries ++ entry ∷ []) epoch ≡ is_settled entries epoch)
     → settled_of (entries ++ entry ∷ []) ≡ settled_of entries
 settled_of-kept entries entry stays same =
@@ -133,7 +133,7 @@ each-push says xs y each last k d within = by_place (cases_lt k (length xs))
         get_or_push xs y d k here ∙ last ∙ ap says here
 
 -- neither a beginning nor a `Recovered`
-pub tally-other : (entries : List Entry) (entry : Entry) (tally : Tally) → IsLog entries → begins entry ≡ false → recovery_of entry ≡ None
+pub tally-other : (entries : List Entry) (entry : Entry) (tally : Tally) → IsLog entries → begins_epoch entry ≡ false → recovery_of entry ≡ None
     → IsTally entries tally → IsTally (entries ++ entry ∷ []) tally
 tally-other entries entry tally log stays none t =
     let some : 1 ≤ length entries = IsLog-some entries log in
@@ -149,35 +149,35 @@ tally-other entries entry tally log stays none t =
     }
 
 -- two tests that agree on the nodes of members filter them alike
-filter-nodes : (p q : ℕ → Bool) (members : List Member) → All (λ node. node < 64) (numbers_of members) → ((node : ℕ) → node < 64 → p node ≡ q node)
+filter-nodes : (p q : ℕ → Bool) (members : List Member) → All (λ node. node < 64) (node_numbers members) → ((node : ℕ) → node < 64 → p node ≡ q node)
     → filter (λ (member : Member). p member.node.0) members ≡ filter (λ (member : Member). q member.node.0) members
 filter-nodes p q [] small same = refl
 filter-nodes p q (member ∷ members) small same =
     ap (λ b. cond b (member ∷ filter (λ (m : Member). p m.node.0) members) (filter (λ (m : Member). p m.node.0) members))
-    (same member.node.0 (All-head (λ node. node < 64) member.node.0 (numbers_of members) small))
+    (same member.node.0 (All-head (λ node. node < 64) member.node.0 (node_numbers members) small))
     ∙ ap (λ rest. cond (q member.node.0) (member ∷ rest) rest)
-    (filter-nodes p q members (All-tail (λ node. node < 64) member.node.0 (numbers_of members) small) same)
+    (filter-nodes p q members (All-tail (λ node. node < 64) member.node.0 (node_numbers members) small) same)
 
 -- an entry that begins an epoch
-pub tally-begins : (entries : List Entry) (entry : Entry) (old new : Tally) (members : List Member) → IsLog entries → MayAppend entries entry
-    → begins entry ≡ true → IsTally entries old → members ≡ moved (members_in entries (epoch_of entries)) entry
+pub tally-begins_epoch : (entries : List Entry) (entry : Entry) (old new : Tally) (members : List Member) → IsLog entries → MayAppend entries entry
+    → begins_epoch entry ≡ true → IsTally entries old → members ≡ members_after (members_in entries (epoch_of entries)) entry
     → new.terms.items ≡ old.terms.items ++ new_term old.early (length old.terms.items + 1) members ∷ []
     → new.settled.0 ≡ cond (length (new_term old.early (length old.terms.items + 1) members).missing == 0) (length old.terms.items + 1) old.settled.0
     → new.early ≡ old.early → IsTally (entries ++ entry ∷ []) new
-tally-begins entries entry old new members log may starts t made terms settled early =
+tally-begins_epoch entries entry old new members log may starts t made terms settled early =
     let some : 1 ≤ length entries = IsLog-some entries log in
     let later : List Entry = entries ++ entry ∷ [] in
     let count : ℕ = length old.terms.items in
     let grown : epoch_of later ≡ epoch_of entries + 1
     = epoch_of-append entries (entry ∷ []) ∙ ap (λ b. epoch_of entries + length (cond b (entry ∷ []) [])) starts in
     let kept : (epoch node : ℕ) → has_recovered later epoch node ≡ has_recovered entries epoch node
-    = λ epoch node. has_recovered-kept entries entry epoch node (begins-recovers entry starts epoch node) in
+    = λ epoch node. has_recovered-kept entries entry epoch node (begins_epoch-recovers entry starts epoch node) in
     let same : (epoch : ℕ) → epoch ≤ epoch_of entries → term_in later epoch ≡ term_in entries epoch
     = λ epoch begun. term_in-same entries later epoch (members_in-append entries (entry ∷ []) epoch some begun) (kept epoch) in
     let next : count + 1 ≡ epoch_of entries + 1 = ap (λ n. n + 1) t.epochs in
     let theirs : members_in later (count + 1) ≡ members = ap (members_in later) next ∙ members_in-begun entries entry some starts ∙ sym made in
-    let small : All (λ node. node < 64) (numbers_of members)
-    = subst (λ (ms : List Member). All (λ node. node < 64) (numbers_of ms)) theirs
+    let small : All (λ node. node < 64) (node_numbers members)
+    = subst (λ (ms : List Member). All (λ node. node < 64) (node_numbers ms)) theirs
     ((IsLog-members later (count + 1) (IsLog-push entries entry log may) (omega (arith, t.epochs))).0).below_64 in
     let recovered : (node : ℕ) → node < 64 → not (is_early old.early (count + 1) node) ≡ not (has_recovered later (count + 1) node)
     = λ node below. ap not (t.early (count + 1) node (omega (arith, t.epochs)) (omega arith) ∙ sym (kept (count + 1) node)) in
@@ -189,7 +189,7 @@ tally-begins entries entry old new members log may starts t made terms settled e
     let longer : length new.terms.items ≡ count + 1 = ap length terms ∙ length_push old.terms.items (new_term old.early (count + 1) members) in
     record {
       epochs = longer ∙ next ∙ sym grown;
-      terms = subst (λ (all : List Term). (k : ℕ) (d : Term) → k < length all → get_or all k d ≡ term_in later (k + 1)) (sym terms)
+      terms = subst (λ (all : List EpochRecord). (k : ℕ) (d : EpochRecord) → k < length all → get_or all k d ≡ term_in later (k + 1)) (sym terms)
           (each-push (λ k. term_in later (k + 1)) old.terms.items (new_term old.early (count + 1) members)
           (λ k d within. t.terms k d within ∙ sym (same (k + 1) (omega (arith, t.epochs)))) fresh);
       early = λ epoch node above below.
@@ -236,7 +236,7 @@ tally-early entries node epoch old new log t ahead early terms settled =
     (λ by. has_recovered-kept entries entry of by (ap (λ b. b && node.0 == by) (ne_eqb epoch.0 of (λ is. apart of first begun is t.epochs)))) in
     record {
       epochs = ap length terms ∙ t.epochs ∙ sym epochs;
-      terms = subst (λ (all : List Term). (k : ℕ) (d : Term) → k < length all → get_or all k d ≡ term_in later (k + 1)) (sym terms)
+      terms = subst (λ (all : List EpochRecord). (k : ℕ) (d : EpochRecord) → k < length all → get_or all k d ≡ term_in later (k + 1)) (sym terms)
           (λ k d within. t.terms k d within ∙ sym (same (k + 1) (omega arith) (omega (arith, t.epochs))));
       early = λ of by above small.
           early of by small ∙ ap (λ b. b || (epoch.0 == of && node.0 == by)) (t.early of by (omega arith) small) ∙ sym (has_recovered-push entries entry of by);
@@ -251,14 +251,14 @@ tally-early entries node epoch old new log t ahead early terms settled =
 -- a `Recovered` of an epoch that has begun
 pub tally-recovers : (entries : List Entry) (node : NodeId) (epoch : Epoch) (old new : Tally) → IsLog entries → IsTally entries old
     → 1 ≤ epoch.0 → epoch.0 ≤ length old.terms.items
-    → ((d : Term) → new.terms.items ≡ set old.terms.items (epoch.0 - 1) (lacking node.0 (get_or old.terms.items (epoch.0 - 1) d)))
-    → ((d : Term) → new.settled.0 ≡ cond (length (get_or new.terms.items (epoch.0 - 1) d).missing == 0 && nat_lt old.settled.0 epoch.0) epoch.0 old.settled.0)
+    → ((d : EpochRecord) → new.terms.items ≡ set old.terms.items (epoch.0 - 1) (lacking node.0 (get_or old.terms.items (epoch.0 - 1) d)))
+    → ((d : EpochRecord) → new.settled.0 ≡ cond (length (get_or new.terms.items (epoch.0 - 1) d).missing == 0 && nat_lt old.settled.0 epoch.0) epoch.0 old.settled.0)
     → new.early ≡ old.early → IsTally (entries ++ Recovered node epoch ∷ []) new
 tally-recovers entries node epoch old new log t first begun terms settled early =
     let some : 1 ≤ length entries = IsLog-some entries log in
     let entry : Entry = Recovered node epoch in
     let later : List Entry = entries ++ entry ∷ [] in
-    let d : Term = term_in entries 1 in
+    let d : EpochRecord = term_in entries 1 in
     let epochs : epoch_of later ≡ epoch_of entries = epoch_of-kept entries entry refl in
     let others : (of : ℕ) → of ≢ epoch.0 → term_in later of ≡ term_in entries of
     = λ of apart. term_in-same entries later of (members_in-kept entries entry of some refl)
@@ -270,15 +270,15 @@ tally-recovers entries node epoch old new log t first begun terms settled early 
     let place : epoch.0 - 1 + 1 ≡ epoch.0 = omega arith in
     let was : get_or old.terms.items (epoch.0 - 1) d ≡ term_in entries epoch.0
     = t.terms (epoch.0 - 1) d (omega arith) ∙ ap (term_in entries) place in
-    let now : (e : Term) → get_or new.terms.items (epoch.0 - 1) e ≡ term_in later epoch.0
-    = λ e. ap (λ (all : List Term). get_or all (epoch.0 - 1) e) (terms d)
+    let now : (e : EpochRecord) → get_or new.terms.items (epoch.0 - 1) e ≡ term_in later epoch.0
+    = λ e. ap (λ (all : List EpochRecord). get_or all (epoch.0 - 1) e) (terms d)
     ∙ get_or-set_same old.terms.items (epoch.0 - 1) (lacking node.0 (get_or old.terms.items (epoch.0 - 1) d)) e (omega arith)
     ∙ ap (lacking node.0) was ∙ sym its in
     record {
       epochs = long ∙ t.epochs ∙ sym epochs;
       terms = λ k e within. elim (cases_eq k (epoch.0 - 1)) [
         | inl here ↦ (ap (λ (j : ℕ). get_or new.terms.items j e) here ∙ now e ∙ ap (term_in later) (sym place) ∙ ap (λ (j : ℕ). term_in later (j + 1)) (sym here))
-        | inr apart ↦ (ap (λ (all : List Term). get_or all k e) (terms d)
+        | inr apart ↦ (ap (λ (all : List EpochRecord). get_or all k e) (terms d)
             ∙ get_or-set_other old.terms.items (epoch.0 - 1) k (lacking node.0 (get_or old.terms.items (epoch.0 - 1) d)) e apart
             ∙ t.terms k e (omega arith) ∙ sym (others (k + 1) (λ is. apart (omega arith))))
       ];
@@ -294,12 +294,12 @@ tally-recovers entries node epoch old new log t first begun terms settled early 
     this_term some within =
         let members : members_in (entries ++ Recovered node epoch ∷ []) epoch.0 ≡ members_in entries epoch.0
         = members_in-kept entries (Recovered node epoch) epoch.0 some refl in
-        let says : (member : Member) → not (has_recovered (Recovered node epoch ∷ []) epoch.0 member.node.0) ≡ not (is_node node.0 member)
+        let says : (member : Member) → not (has_recovered (Recovered node epoch ∷ []) epoch.0 member.node.0) ≡ not (is_member_node node.0 member)
         = λ member. ap not (or-false (epoch.0 == epoch.0 && node.0 == member.node.0)
         ∙ ap (λ b. b && node.0 == member.node.0) (eq-eqb epoch.0 epoch.0 refl) ∙ turned node.0 member.node.0) in
-        let missing : missing_in (entries ++ Recovered node epoch ∷ []) epoch.0 ≡ without node.0 (missing_in entries epoch.0)
+        let missing : missing_in (entries ++ Recovered node epoch ∷ []) epoch.0 ≡ members_without node.0 (missing_in entries epoch.0)
         = missing_in-append entries (Recovered node epoch ∷ []) epoch.0 some within
-        ∙ filter-same (λ (m : Member). not (has_recovered (Recovered node epoch ∷ []) epoch.0 m.node.0)) (λ m. not (is_node node.0 m)) (missing_in entries epoch.0) says in
+        ∙ filter-same (λ (m : Member). not (has_recovered (Recovered node epoch ∷ []) epoch.0 m.node.0)) (λ m. not (is_member_node node.0 m)) (missing_in entries epoch.0) says in
         λ i. record { members = members i; missing = missing i }
       where
         turned : (a b : ℕ) → (a == b) ≡ (b == a)
@@ -319,7 +319,7 @@ tally-recovers entries node epoch old new log t first begun terms settled early 
         ≡ cond (is_settled later epoch.0 && nat_lt (settled_of entries) epoch.0) epoch.0 (settled_of entries)
         = greatest-one (is_settled entries) (is_settled later) (epoch_of entries) epoch.0 first within others more in
         let missing : (length (get_or new.terms.items (epoch.0 - 1) (term_in entries 1)).missing == 0) ≡ (length (missing_in later epoch.0) == 0)
-        = ap (λ (term : Term). length term.missing == 0) now in
+        = ap (λ (term : EpochRecord). length term.missing == 0) now in
         ap (λ b. cond (b && nat_lt old.settled.0 epoch.0) epoch.0 old.settled.0) missing
         ∙ ap (λ (s : ℕ). cond (length (missing_in later epoch.0) == 0 && nat_lt s epoch.0) epoch.0 s) was
         ∙ ap (λ b. cond b epoch.0 (settled_of entries)) (sym (by_first (cases_eq epoch.0 1) least))
@@ -347,7 +347,7 @@ tally-new members tally terms early settled =
     = λ i. record { members = members; missing = filter-all members i } in
     record {
       epochs = ap length terms;
-      terms = subst (λ (all : List Term). (k : ℕ) (d : Term) → k < length all → get_or all k d ≡ term_in (Format members ∷ []) (k + 1)) (sym terms)
+      terms = subst (λ (all : List EpochRecord). (k : ℕ) (d : EpochRecord) → k < length all → get_or all k d ≡ term_in (Format members ∷ []) (k + 1)) (sym terms)
           (each-push (λ k. term_in (Format members ∷ []) (k + 1)) [] (record { members = members; missing = members }) (λ k d within. absurd (omega arith)) (sym first));
       early = λ epoch node _ _. ap (list_any (λ key. is_eq (nat_cmp (early_key epoch node) key))) early;
       settled = settled;

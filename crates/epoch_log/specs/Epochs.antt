@@ -6,31 +6,31 @@ use Rattle.object_id.specs.declared.node.Epoch.{Epoch}
 use Rattle.object_id.specs.declared.entry.Member.{Member}
 use Rattle.object_id.specs.declared.entry.Entry.{Entry}
 use Rattle.object_id.specs.declared.entry.Entry.TheVariants.{Format, Join, Leave, Reweight, Recovered, Reserve, Publish, Clone, Snapshot, Delete, Lock, Unlock}
-use Rattle.epoch_log.specs.Members.{moved}
+use Rattle.epoch_log.specs.Members.{members_after}
 
 -- whether an entry begins an epoch
-abbrev pub begins : Entry → Bool
-begins (Format members) = false
-begins (Join node zone vnodes) = true
-begins (Leave node) = true
-begins (Reweight node vnodes) = true
-begins (Recovered node epoch) = false
-begins (Reserve by session name origin) = false
-begins (Publish by vid) = false
-begins (Clone by vid) = false
-begins (Snapshot by old vid) = false
-begins (Delete by session name tag) = false
-begins (Lock by session name tag) = false
-begins (Unlock by session vid) = false
+abbrev pub begins_epoch : Entry → Bool
+begins_epoch (Format members) = false
+begins_epoch (Join node zone vnodes) = true
+begins_epoch (Leave node) = true
+begins_epoch (Reweight node vnodes) = true
+begins_epoch (Recovered node epoch) = false
+begins_epoch (Reserve by session name origin) = false
+begins_epoch (Publish by vid) = false
+begins_epoch (Clone by vid) = false
+begins_epoch (Snapshot by old vid) = false
+begins_epoch (Delete by session name tag) = false
+begins_epoch (Lock by session name tag) = false
+begins_epoch (Unlock by session vid) = false
 
 -- the newest epoch: 1 plus the number of entries that begin one
 abbrev pub epoch_of : List Entry → ℕ
-epoch_of entries = length (filter begins entries) + 1
+epoch_of entries = length (filter begins_epoch entries) + 1
 
 -- the members that the log opens with
-abbrev pub opening : List Entry → List Member
-opening [] = []
-opening (entry ∷ later) = opened entry
+abbrev pub initial_members : List Entry → List Member
+initial_members [] = []
+initial_members (entry ∷ later) = opened entry
   where
     opened : Entry → List Member
     opened (Format members) = members
@@ -38,7 +38,7 @@ opening (entry ∷ later) = opened entry
 
 -- the members of an epoch: the opening ones, changed by each entry up to the one that begins the epoch
 abbrev pub members_in : List Entry → ℕ → List Member
-members_in entries epoch = fold moved (opening entries) (take (epoch - 1) (filter begins entries))
+members_in entries epoch = fold members_after (initial_members entries) (take (epoch - 1) (filter begins_epoch entries))
 
 -- whether an entry says that the node has recovered what it keeps in the epoch
 abbrev pub recovers : ℕ → ℕ → Entry → Bool

@@ -7,46 +7,46 @@ use Rattle.object_id.specs.declared.entry.Entry.{Entry}
 use Rattle.object_id.specs.declared.entry.Entry.TheVariants.{Format, Join, Leave, Reweight, Recovered, Reserve, Publish, Clone, Snapshot, Delete, Lock, Unlock}
 
 -- whether the member is the node of this number
-abbrev pub is_node : ℕ → Member → Bool
-is_node node member = member.node.0 == node
+abbrev pub is_member_node : ℕ → Member → Bool
+is_member_node node member = member.node.0 == node
 
 -- whether a node is one of the members
 abbrev pub is_member : ℕ → List Member → Bool
-is_member node members = list_any (is_node node) members
+is_member node members = list_any (is_member_node node) members
 
 -- the members with one more, before the first of a greater number
-abbrev pub joined : Member → List Member → List Member
-joined member [] = member ∷ []
-joined member (first ∷ rest) =
-    if nat_lt member.node.0 first.node.0 then member ∷ first ∷ rest else first ∷ joined member rest
+abbrev pub members_with : Member → List Member → List Member
+members_with member [] = member ∷ []
+members_with member (first ∷ rest) =
+    if nat_lt member.node.0 first.node.0 then member ∷ first ∷ rest else first ∷ members_with member rest
 
 -- the members without a node
-abbrev pub without : ℕ → List Member → List Member
-without node members = filter (λ member. not (is_node node member)) members
+abbrev pub members_without : ℕ → List Member → List Member
+members_without node members = filter (λ member. not (is_member_node node member)) members
 
 -- the members, with another weight for a node
-abbrev pub reweighted : ℕ → ℕ → List Member → List Member
-reweighted node vnodes members =
-    map (λ member. if is_node node member then record member { vnodes = vnodes } else member) members
+abbrev pub members_reweighted : ℕ → ℕ → List Member → List Member
+members_reweighted node vnodes members =
+    map (λ member. if is_member_node node member then record member { vnodes = vnodes } else member) members
 
 -- what an entry makes of the members
-abbrev pub moved : List Member → Entry → List Member
-moved members (Format opening) = members
-moved members (Join node zone vnodes) = joined (record { node = node; zone = zone; vnodes = vnodes }) members
-moved members (Leave node) = without node.0 members
-moved members (Reweight node vnodes) = reweighted node.0 vnodes members
-moved members (Recovered node epoch) = members
-moved members (Reserve by session name origin) = members
-moved members (Publish by vid) = members
-moved members (Clone by vid) = members
-moved members (Snapshot by old vid) = members
-moved members (Delete by session name tag) = members
-moved members (Lock by session name tag) = members
-moved members (Unlock by session vid) = members
+abbrev pub members_after : List Member → Entry → List Member
+members_after members (Format opening) = members
+members_after members (Join node zone vnodes) = members_with (record { node = node; zone = zone; vnodes = vnodes }) members
+members_after members (Leave node) = members_without node.0 members
+members_after members (Reweight node vnodes) = members_reweighted node.0 vnodes members
+members_after members (Recovered node epoch) = members
+members_after members (Reserve by session name origin) = members
+members_after members (Publish by vid) = members
+members_after members (Clone by vid) = members
+members_after members (Snapshot by old vid) = members
+members_after members (Delete by session name tag) = members
+members_after members (Lock by session name tag) = members
+members_after members (Unlock by session vid) = members
 
 -- the nodes of members, by number
-abbrev pub numbers_of : List Member → List ℕ
-numbers_of members = map (λ (member : Member). member.node.0) members
+abbrev pub node_numbers : List Member → List ℕ
+node_numbers members = map (λ (member : Member). member.node.0) members
 
 -- how many virtual nodes a member may have
 abbrev pub IsWeight : ℕ → Type 0
@@ -57,5 +57,5 @@ HaveWeights members = All (λ (member : Member). IsWeight member.vnodes) members
 
 -- ascending, so all different, and below 64
 pub record AreMembers (members : List Member) : Type 0 where
-  pub ascending : IsStrictlyIncreasing (numbers_of members)
-  pub below_64 : All (λ node. node < 64) (numbers_of members)
+  pub ascending : IsStrictlyIncreasing (node_numbers members)
+  pub below_64 : All (λ node. node < 64) (node_numbers members)

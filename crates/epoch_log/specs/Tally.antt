@@ -4,14 +4,14 @@ use Rattle.std.specs.Ordering.{nat_cmp}
 use Rattle.std.specs.BTreeSet.{BTreeSet, contains}
 use Rattle.object_id.specs.declared.entry.Member.{Member}
 use Rattle.object_id.specs.declared.entry.Entry.{Entry}
-use Rattle.epoch_log.specs.declared.term.Term.{Term}
-use Rattle.epoch_log.specs.declared.term.Mark.{Mark}
+use Rattle.epoch_log.specs.declared.epoch_record.EpochRecord.{EpochRecord}
+use Rattle.epoch_log.specs.declared.epoch_record.Mark.{Mark}
 use Rattle.epoch_log.specs.declared.tally.Tally.{Tally}
-use Rattle.epoch_log.specs.Members.{without}
+use Rattle.epoch_log.specs.Members.{members_without}
 use Rattle.epoch_log.specs.Epochs.{epoch_of, members_in, missing_in, has_recovered, settled_of}
 
 -- an epoch's members, and those of them that have not recovered in it
-abbrev pub term_in : List Entry → ℕ → Term
+abbrev pub term_in : List Entry → ℕ → EpochRecord
 term_in entries epoch = record { members = members_in entries epoch; missing = missing_in entries epoch }
 
 -- the number that stands for a node and an epoch
@@ -25,21 +25,21 @@ is_early early epoch node = contains nat_cmp early (early_key epoch node)
 -- each epoch that has begun has its term; an entry that came before its epoch is kept aside
 pub record IsTally (entries : List Entry) (tally : Tally) : Type 0 where
   pub epochs : length tally.terms.items ≡ epoch_of entries
-  pub terms : (k : ℕ) (d : Term) → k < length tally.terms.items → slice_index_or tally.terms.items k d ≡ term_in entries (k + 1)
+  pub terms : (k : ℕ) (d : EpochRecord) → k < length tally.terms.items → slice_index_or tally.terms.items k d ≡ term_in entries (k + 1)
   pub early : (epoch node : ℕ) → epoch_of entries < epoch → node < 2 ^ 32
       → is_early tally.early epoch node ≡ has_recovered entries epoch node
   pub settled : tally.settled.0 ≡ settled_of entries
 
 -- the term of a new epoch, with those missing that did not recover early
-abbrev pub new_term : BTreeSet ℕ → ℕ → List Member → Term
+abbrev pub new_term : BTreeSet ℕ → ℕ → List Member → EpochRecord
 new_term early epoch members = record {
   members = members;
   missing = filter (λ (member : Member). not (is_early early epoch member.node.0)) members;
 }
 
 -- a term once a node has recovered
-abbrev pub lacking : ℕ → Term → Term
-lacking node term = record term { missing = without node term.missing }
+abbrev pub lacking : ℕ → EpochRecord → EpochRecord
+lacking node term = record term { missing = members_without node term.missing }
 
 -- the newest epoch and the settled one
 abbrev pub mark_of : List Entry → Mark

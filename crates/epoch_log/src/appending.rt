@@ -2,7 +2,7 @@
 ghost use Rattle.std.specs.Prelude.{◌≡◌, ◌≢◌, ◌↔◌, ◌<◌, ◌≤◌, false, length, slice_index, All, IsTrue};
 ghost use Rattle.object_id.specs.Policy.{IsPolicy};
 ghost use Rattle.object_id.specs.Spec.{IsName, IsSpec};
-ghost use Rattle.epoch_log.specs.Members.{is_member as has_node, numbers_of, IsWeight, HaveWeights, AreMembers};
+ghost use Rattle.epoch_log.specs.Members.{is_member as has_node, node_numbers, IsWeight, HaveWeights, AreMembers};
 ghost use Rattle.epoch_log.specs.Appending.{is_format, IsOrigin, IsReservable, FitsMembers, MayOpen};
 
 use object_id::{
@@ -91,7 +91,7 @@ pub fn may_follow(members: &[Member], entry: &Entry) -> bool
 
 fn number_at(members: &[Member], place: usize) -> u32
     requires { place < length members.now }
-    ensures { result ≡ slice_index (numbers_of members.now) place }
+    ensures { result ≡ slice_index (node_numbers members.now) place }
 {
     members[place].node.0
 }

@@ -4,7 +4,7 @@ ghost use Rattle.object_id.specs.declared.node.NodeId.{NodeId};
 ghost use Rattle.object_id.specs.declared.entry.Member.{Member};
 ghost use Rattle.object_id.specs.declared.entry.Entry.{Entry};
 ghost use Rattle.epoch_log.specs.Members.{AreMembers, HaveWeights};
-ghost use Rattle.epoch_log.specs.Epochs.{begins, epoch_of, epoch_at, settled_of, settled_at, is_settled, members_in};
+ghost use Rattle.epoch_log.specs.Epochs.{begins_epoch, epoch_of, epoch_at, settled_of, settled_at, is_settled, members_in};
 ghost use Rattle.epoch_log.specs.Appending.{MayAppend, AreAppended, IsLog};
 
 /// What later entries leave as it was, at every place before them and for every epoch that had begun.
@@ -23,9 +23,9 @@ pub fn later_entries_change_nothing()
 /// The epoch grows by one at each `Join`, `Leave` and `Reweight`, and nowhere else.
 pub fn epochs_grow_by_one()
     ensures push { (entries : List Entry) (entry : Entry)
-        → epoch_of (entries ++ entry ∷ []) ≡ epoch_of entries + (if begins entry then 1 else 0) }
+        → epoch_of (entries ++ entry ∷ []) ≡ epoch_of entries + (if begins_epoch entry then 1 else 0) }
     ensures step { (entries : List Entry) (place : ℕ) (d : Entry) → place < length entries
-        → epoch_at entries (place + 1) ≡ epoch_at entries place + (if begins (slice_index_or entries place d) then 1 else 0) }
+        → epoch_at entries (place + 1) ≡ epoch_at entries place + (if begins_epoch (slice_index_or entries place d) then 1 else 0) }
     ensures grows { (entries : List Entry) (place later : ℕ) → place ≤ later → epoch_at entries place ≤ epoch_at entries later }
 {}
 

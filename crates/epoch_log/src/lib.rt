@@ -10,11 +10,11 @@
 #![tactic(auto)]
 
 mod appending;
+mod epoch_record;
 mod laws;
 mod log;
 mod roster;
 mod tally;
-mod term;
 #[cfg(test)]
 mod tests;
 
@@ -23,4 +23,4 @@ pub use laws::{
     settled_only_grows,
 };
 pub use log::{EntryList, Log};
-pub use object_id::{Cause, Entry, Epoch, Member, MemberList, NodeId, NodeList, Origin, VdiSpec};
+pub use object_id::{Cause, Entry, Origin, VdiSpec};

@@ -5,8 +5,8 @@ ghost use Rattle.epoch_log.specs.Epochs.{epoch_of, epoch_at, settled_at, members
 ghost use Rattle.epoch_log.specs.Appending.{MayOpen, MayAppend, IsLog};
 
 use crate::appending::{may_follow, may_open};
+use crate::epoch_record::Mark;
 use crate::tally::Tally;
-use crate::term::Mark;
 use object_id::{Entry, Epoch, Items, Member, MemberList, NoMemory};
 use std::alloc::Global;
 use std::marker::Model;

@@ -1,5 +1,5 @@
 ghost use Rattle.std.specs.Prelude.{◌≡◌, ◌↔◌, ◌≤◌, ℕ, List, [], ◌∷◌, ◌++◌, length, take, drop, IfOk, OnOk, OnErr, IsTrue, if◌then◌else◌};
-ghost use Rattle.epoch_log.specs.Members.{is_node, joined, without, reweighted};
+ghost use Rattle.epoch_log.specs.Members.{is_member_node, members_with, members_without, members_reweighted};
 
 use object_id::{Member, NoMemory, NodeId};
 use std::alloc::Global;
@@ -23,7 +23,7 @@ impl Model for Roster {
 /// Where a node of this number would stand.
 fn place_of(members: &[Member], member: Member) -> usize
     ensures within { result ≤ length members.now }
-    ensures place { joined member members.now ≡ take result members.now ++ member ∷ drop result members.now }
+    ensures place { members_with member members.now ≡ take result members.now ++ member ∷ drop result members.now }
 {
     for place in 0..members.len() {
         if member.node < members[place].node {
@@ -35,7 +35,7 @@ fn place_of(members: &[Member], member: Member) -> usize
 
 /// The member, with the weight where it is the node.
 fn with_weight(member: Member, node: NodeId, vnodes: u16) -> Member
-    ensures { result ≡ (if is_node node.0 member then record member { vnodes = vnodes } else member) }
+    ensures { result ≡ (if is_member_node node.0 member then record member { vnodes = vnodes } else member) }
 {
     if member.node == node {
         Member { vnodes, ..member }
@@ -73,7 +73,7 @@ impl Roster {
     }
 
     pub fn join(&mut self, member: Member) -> Result<(), NoMemory>
-        ensures { OnOk result (self.new ≡ joined member self.old) }
+        ensures { OnOk result (self.new ≡ members_with member self.old) }
     {
         let place = place_of(self.members.as_slice(), member);
         self.members.insert(place, member)?;
@@ -81,14 +81,14 @@ impl Roster {
     }
 
     pub fn remove(&mut self, node: NodeId)
-        ensures { self.new ≡ without node.0 self.old }
+        ensures { self.new ≡ members_without node.0 self.old }
     {
         self.members.retain(|member| member.node != node);
     }
 
     /// The same members, with another weight for a node.
     pub fn reweigh(&self, alloc: Global, node: NodeId, vnodes: u16) -> Result<Self, NoMemory>
-        ensures { IfOk result (λ roster. roster ≡ reweighted node.0 vnodes self.now) }
+        ensures { IfOk result (λ roster. roster ≡ members_reweighted node.0 vnodes self.now) }
     {
         let mut members = Vec::new(alloc);
         for member in self.as_slice() {

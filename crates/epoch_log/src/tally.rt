@@ -1,13 +1,13 @@
 ghost use Rattle.std.specs.Prelude.{◌≡◌, ◌↔◌, ℕ, ◌+◌, ◌-◌, ◌^◌, ◌<◌, ◌≤◌, ◌==◌, ◌&&◌, ◌||◌, nat_lt, List, [], ◌∷◌, ◌++◌, length, filter, not, slice_set, slice_index_or, Some, None, IfOk, IsTrue, OnOk, OnErr, if◌then◌else◌};
 ghost use Rattle.object_id.specs.declared.entry.Member.{Member};
-ghost use Rattle.epoch_log.specs.declared.term.Term.{Term};
-ghost use Rattle.epoch_log.specs.Members.{moved};
-ghost use Rattle.epoch_log.specs.Epochs.{begins, recovery_of as recovered_by, epoch_of, members_in};
+ghost use Rattle.epoch_log.specs.declared.epoch_record.EpochRecord.{EpochRecord};
+ghost use Rattle.epoch_log.specs.Members.{members_after};
+ghost use Rattle.epoch_log.specs.Epochs.{begins_epoch, recovery_of as recovered_by, epoch_of, members_in};
 ghost use Rattle.epoch_log.specs.Appending.{MayAppend, IsLog};
 ghost use Rattle.epoch_log.specs.Tally.{IsTally, mark_of, new_term, lacking, is_early, early_key};
 
+use crate::epoch_record::{EpochRecord, Mark};
 use crate::roster::Roster;
-use crate::term::{Mark, Term};
 use object_id::{Entry, Epoch, Member, NoMemory, NodeId};
 use std::alloc::Global;
 use std::collections::BTreeSet;
@@ -16,7 +16,7 @@ use std::collections::BTreeSet;
 #[derive(Drop)]
 pub struct Tally {
     /// The epochs that have begun, in order.
-    pub terms: Vec<Term>,
+    pub terms: Vec<EpochRecord>,
     /// Each `Recovered` whose epoch had not begun, by epoch and node.
     pub early: BTreeSet<u64>,
     pub settled: Epoch,
@@ -70,7 +70,7 @@ fn keep_early(early: &mut BTreeSet<u64>, epoch: Epoch, node: NodeId) -> Result<(
 
 /// The members of the epoch that an entry begins; `None` where it begins none.
 fn next_members(alloc: Global, newest: &Roster, entry: &Entry) -> Result<Option<Roster>, NoMemory>
-    ensures { IfOk result (λ next. next ≡ (if begins entry.now then Some (moved newest.now entry.now) else None)) }
+    ensures { IfOk result (λ next. next ≡ (if begins_epoch entry.now then Some (members_after newest.now entry.now) else None)) }
 {
     match entry {
         Entry::Join { node, zone, vnodes } => {
@@ -92,18 +92,18 @@ fn next_members(alloc: Global, newest: &Roster, entry: &Entry) -> Result<Option<
     }
 }
 
-fn has_begun(terms: &[Term], epoch: Epoch) -> bool
+fn has_begun(terms: &[EpochRecord], epoch: Epoch) -> bool
     ensures { IsTrue result ↔ ((1 ≤ epoch.0) × (epoch.0 ≤ length terms.now)) }
 {
     1 <= epoch.0 && epoch.0 as usize <= terms.len()
 }
 
 /// The node has recovered in an epoch that has begun; answers the epoch that is settled then.
-fn settle(terms: &mut Vec<Term>, settled: Epoch, node: NodeId, epoch: Epoch) -> Epoch
+fn settle(terms: &mut Vec<EpochRecord>, settled: Epoch, node: NodeId, epoch: Epoch) -> Epoch
     requires begun { (1 ≤ epoch.0) × (epoch.0 ≤ length terms.old.items) }
-    ensures terms { (d : Term) → terms.new.items
+    ensures terms { (d : EpochRecord) → terms.new.items
         ≡ slice_set terms.old.items (epoch.0 - 1) (lacking node.0 (slice_index_or terms.old.items (epoch.0 - 1) d)) }
-    ensures settled { (d : Term) → let rest = (slice_index_or terms.new.items (epoch.0 - 1) d).missing in
+    ensures settled { (d : EpochRecord) → let rest = (slice_index_or terms.new.items (epoch.0 - 1) d).missing in
         result.0 ≡ (if length rest == 0 && nat_lt settled.0 epoch.0 then epoch.0 else settled.0) }
 {
     let term = &mut terms[epoch.0 as usize - 1];
@@ -121,7 +121,7 @@ impl Tally {
         ensures { IfOk result (λ tally. IsTally (Entry.Format members.now ∷ []) tally) }
     {
         let mut terms = Vec::new(alloc);
-        terms.push(Term {
+        terms.push(EpochRecord {
             members: Roster::from_slice(alloc, members)?,
             missing: Roster::from_slice(alloc, members)?,
         })?;
@@ -157,7 +157,7 @@ impl Tally {
         let epoch = Epoch(self.terms.len() as u32 + 1);
         let missing = not_early(alloc, members.as_slice(), &self.early, epoch)?;
         let is_settled = missing.is_empty();
-        self.terms.push(Term {
+        self.terms.push(EpochRecord {
             members,
             missing: Roster::from_vec(missing),
         })?;

@@ -8,10 +8,10 @@ use Rattle.peer_proto.specs.declared.work.ObjWork.{ObjWork}
 use Rattle.peer_proto.specs.declared.work.ObjWork.TheVariants.{Create, Write, Read}
 use Rattle.gateway.specs.declared.message.Message.{Message}
 use Rattle.gateway.specs.declared.message.Status.{Status}
-use Rattle.gateway.specs.Attempt.{Attempt, is_unanswered, is_success, is_awaited, marked, is_over, is_done, bytes_given, first_failure}
-use Rattle.gateway.specs.State.{Stage, Open, Work, Gateway, is_touched, asker}
-use Rattle.gateway.specs.Step.{with_work, waiting, done, refusal_at, not_done, ended, went_on, known, known_in, known_by, touched_by, answered}
-use Rattle.gateway.specs.Told.{HasEnough, Tells}
+use Rattle.gateway.specs.Attempt.{Attempt, is_unanswered, is_success, is_awaited_message, messages_with_status, is_over, is_done, bytes_given, first_failure}
+use Rattle.gateway.specs.State.{WorkStage, Open, Work, Gateway, is_touched, asker}
+use Rattle.gateway.specs.Step.{with_work, waiting_step, done_step, refusal_after_attempt, failure_step, attempt_ended, attempt_continued, attempt_with_status, status_step_in, status_step_by, touched_by, message_ended}
+use Rattle.gateway.specs.Outcomes.{HasEnough, Tells}
 
 enough_from : (work : ObjWork) (messages : List Message) → is_done work messages ≡ true → HasEnough work messages
 enough_from (Create oid policy size offset bytes) messages e = AllPass-from_list_all (λ (message : Message). is_success message.status) messages e
@@ -26,66 +26,66 @@ some_from : (b : Bool) (o : Option Cause) (cause : Cause) → cond b o None ≡ 
 some_from true o cause e = (refl, e)
 some_from false o cause e = absurd (cc)
 
-not_done-tells : (gateway : Gateway) (req : ℕ) (work : Work) (attempt : Attempt) → is_over attempt.messages ≡ true
-    → is_done work.work attempt.messages ≡ false → (o : Option Cause) → refusal_at gateway req work.work (work.ended + 1) attempt ≡ o
-    → Tells gateway req work attempt (not_done gateway req work o).act
-not_done-tells gateway req work attempt over missing None e = inr ((over, missing), e)
-not_done-tells gateway req work attempt over missing (Some cause) e =
+failure_step-tells : (gateway : Gateway) (req : ℕ) (work : Work) (attempt : Attempt) → is_over attempt.messages ≡ true
+    → is_done work.work attempt.messages ≡ false → (o : Option Cause) → refusal_after_attempt gateway req work.work (work.ended + 1) attempt ≡ o
+    → Tells gateway req work attempt (failure_step gateway req work o).act
+failure_step-tells gateway req work attempt over missing None e = inr ((over, missing), e)
+failure_step-tells gateway req work attempt over missing (Some cause) e =
     let parts = some_from (nat_le gateway.tries (work.ended + 1) && not (is_touched req gateway))
     (first_failure work.work attempt.epoch attempt.messages) cause e in
     let both = and_parts (nat_le gateway.tries (work.ended + 1)) (not (is_touched req gateway)) parts.0 in
     (refl, not_true (is_touched req gateway) both.1, (over, missing), leb-true _ _ both.0, parts.1)
 
-ended-tells : (gateway : Gateway) (req : ℕ) (work : Work) (attempt : Attempt) → is_over attempt.messages ≡ true
+attempt_ended-tells : (gateway : Gateway) (req : ℕ) (work : Work) (attempt : Attempt) → is_over attempt.messages ≡ true
     → (b : Bool) → is_done work.work attempt.messages ≡ b
     → Tells gateway req work attempt
-    (cond b (done gateway req (bytes_given work.work attempt.messages)) (not_done gateway req work (refusal_at gateway req work.work (work.ended + 1) attempt))).act
-ended-tells gateway req work attempt over true e = (refl, over, enough_from work.work attempt.messages e, refl)
-ended-tells gateway req work attempt over false e =
-    not_done-tells gateway req work attempt over e (refusal_at gateway req work.work (work.ended + 1) attempt) refl
+    (cond b (done_step gateway req (bytes_given work.work attempt.messages)) (failure_step gateway req work (refusal_after_attempt gateway req work.work (work.ended + 1) attempt))).act
+attempt_ended-tells gateway req work attempt over true e = (refl, over, enough_from work.work attempt.messages e, refl)
+attempt_ended-tells gateway req work attempt over false e =
+    failure_step-tells gateway req work attempt over e (refusal_after_attempt gateway req work.work (work.ended + 1) attempt) refl
 
 went_on_if : (gateway : Gateway) (req : ℕ) (work : Work) (attempt : Attempt) (b : Bool) → is_over attempt.messages ≡ b
     → Tells gateway req work attempt
-    (cond b (ended gateway req work attempt) (waiting (with_work req (record work { stage = Open attempt }) gateway))).act
-unfolding ended
+    (cond b (attempt_ended gateway req work attempt) (waiting_step (with_work req (record work { stage = Open attempt }) gateway))).act
+unfolding attempt_ended
 went_on_if gateway req work attempt true e =
-    ended-tells gateway req work attempt e (is_done work.work attempt.messages) refl
+    attempt_ended-tells gateway req work attempt e (is_done work.work attempt.messages) refl
 went_on_if gateway req work attempt false e = inl e
 
-pub went_on-tells : (gateway : Gateway) (req : ℕ) (work : Work) (attempt : Attempt)
-    → Tells gateway req work attempt (went_on gateway req work attempt).act
-unfolding went_on
-went_on-tells gateway req work attempt = went_on_if gateway req work attempt (is_over attempt.messages) refl
+pub attempt_continued-tells : (gateway : Gateway) (req : ℕ) (work : Work) (attempt : Attempt)
+    → Tells gateway req work attempt (attempt_continued gateway req work attempt).act
+unfolding attempt_continued
+attempt_continued-tells gateway req work attempt = went_on_if gateway req work attempt (is_over attempt.messages) refl
 
-stage_of : (gateway : Gateway) (req : ℕ) (work : Work) (number : ℕ) (status : Status) (attempt : Attempt) (stage : Stage)
+stage_of : (gateway : Gateway) (req : ℕ) (work : Work) (number : ℕ) (status : Status) (attempt : Attempt) (stage : WorkStage)
     → stage ≡ Open attempt
-    → known_in gateway req work number status stage ≡ went_on gateway req work (known number status attempt)
-stage_of gateway req work number status attempt stage e = ap (known_in gateway req work number status) e
+    → status_step_in gateway req work number status stage ≡ attempt_continued gateway req work (attempt_with_status number status attempt)
+stage_of gateway req work number status attempt stage e = ap (status_step_in gateway req work number status) e
 
 -- an answer goes to the attempt that its message belongs to
-pub answered-open : (gateway : Gateway) (req : ℕ) (work : Work) (number : ℕ) (status : Status) (attempt : Attempt)
+pub message_ended-open : (gateway : Gateway) (req : ℕ) (work : Work) (number : ℕ) (status : Status) (attempt : Attempt)
     → asker number gateway ≡ Some (req, work) → work.stage ≡ Open attempt
-    → answered gateway number status ≡ went_on (touched_by req work.work status gateway) req work (known number status attempt)
-unfolding answered
-answered-open gateway req work number status attempt found open_is =
-    ap (known_by gateway number status) found
+    → message_ended gateway number status ≡ attempt_continued (touched_by req work.work status gateway) req work (attempt_with_status number status attempt)
+unfolding message_ended
+message_ended-open gateway req work number status attempt found open_is =
+    ap (status_step_by gateway number status) found
     ∙ stage_of (touched_by req work.work status gateway) req work number status attempt work.stage open_is
 
-pub answered-none : (gateway : Gateway) (number : ℕ) (status : Status) → asker number gateway ≡ None
-    → answered gateway number status ≡ waiting gateway
-unfolding answered
-answered-none gateway number status none = ap (known_by gateway number status) none
+pub message_ended-none : (gateway : Gateway) (number : ℕ) (status : Status) → asker number gateway ≡ None
+    → message_ended gateway number status ≡ waiting_step gateway
+unfolding message_ended
+message_ended-none gateway number status none = ap (status_step_by gateway number status) none
 
 marked_one : (number : ℕ) (status : Status) (message : Message) (b : Bool) → is_unanswered status ≡ false → (message.number == number) ≡ b
-    → is_awaited number (cond b (record message { status = status }) message) ≡ false
+    → is_awaited_message number (cond b (record message { status = status }) message) ≡ false
 marked_one number status message true settled e = ap (λ b. cond b (is_unanswered status) false) e ∙ settled
 marked_one number status message false settled e = ap (λ b. cond b (is_unanswered message.status) false) e
 
 -- what is known is waited for no more
-pub marked-awaited : (number : ℕ) (status : Status) (messages : List Message) → is_unanswered status ≡ false
-    → list_any (is_awaited number) (marked number status messages) ≡ false
-marked-awaited number status [] settled = refl
-marked-awaited number status (message ∷ messages) settled =
-    ap (λ b. b || list_any (is_awaited number) (marked number status messages))
+pub messages_with_status-awaited : (number : ℕ) (status : Status) (messages : List Message) → is_unanswered status ≡ false
+    → list_any (is_awaited_message number) (messages_with_status number status messages) ≡ false
+messages_with_status-awaited number status [] settled = refl
+messages_with_status-awaited number status (message ∷ messages) settled =
+    ap (λ b. b || list_any (is_awaited_message number) (messages_with_status number status messages))
     (marked_one number status message (message.number == number) settled refl)
-    ∙ marked-awaited number status messages settled
+    ∙ messages_with_status-awaited number status messages settled

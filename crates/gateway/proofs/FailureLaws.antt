@@ -12,16 +12,16 @@ use Rattle.peer_proto.specs.declared.work.ObjWork.TheVariants.{Create, Write, Re
 use Rattle.gateway.specs.declared.message.Message.{Message}
 use Rattle.gateway.specs.declared.message.Status.{Status}
 use Rattle.gateway.specs.declared.message.Status.TheVariants.{Unanswered, Succeeded, Refused, Lost}
-use Rattle.gateway.specs.Attempt.{Attempt, is_unanswered, is_success, successes, is_over, is_done, failure, first_of, first_failure}
+use Rattle.gateway.specs.Attempt.{Attempt, is_unanswered, is_success, successes, is_over, is_done, failure, first_cause, first_failure}
 use Rattle.gateway.specs.State.{Gateway, is_touched}
-use Rattle.gateway.specs.Step.{refusal_at}
-use Rattle.gateway.specs.Told.{HasFailed, AsksEnough}
+use Rattle.gateway.specs.Step.{refusal_after_attempt}
+use Rattle.gateway.specs.Outcomes.{HasFailed, AsksEnough}
 
 abbrev succeeded : Message → Bool
 succeeded message = is_success message.status
 
 one_succeeded : (work : ObjWork) (epoch : Epoch) (node : NodeId) (status : Status) (any all : Bool) (later : Option Cause)
-    → not (is_unanswered status || any) ≡ true → first_of (failure work epoch node status) later ≡ None
+    → not (is_unanswered status || any) ≡ true → first_cause (failure work epoch node status) later ≡ None
     → (not any ≡ true → later ≡ None → all ≡ true) → (is_success status && all) ≡ true
 one_succeeded work epoch node Unanswered any all later over none rest = absurd (cc)
 one_succeeded work epoch node (Succeeded bytes) any all later over none rest = rest over none
@@ -52,7 +52,7 @@ done-from (Read oid policy offset size) messages e asks =
 
 pub refusal-there : (gateway : Gateway) (req : ℕ) (work : ObjWork) (number : ℕ) (attempt : Attempt)
     → HasFailed work attempt.messages → AsksEnough work attempt.messages
-    → is_touched req gateway ≡ false → gateway.tries ≤ number → refusal_at gateway req work number attempt ≢ None
+    → is_touched req gateway ≡ false → gateway.tries ≤ number → refusal_after_attempt gateway req work number attempt ≢ None
 refusal-there gateway req work number attempt failed asks untouched tried none =
     let test : (nat_le gateway.tries number && not (is_touched req gateway)) ≡ true
     = and_from _ _ (le-leb _ _ tried) (not_from_false (is_touched req gateway) untouched) in

@@ -10,7 +10,7 @@ use Rattle.gateway.specs.declared.message.Status.{Status}
 use Rattle.gateway.specs.Work.{is_making}
 use Rattle.gateway.specs.Attempt.{may_be_made}
 use Rattle.gateway.specs.State.{Work, Gateway, is_touched, has_work}
-use Rattle.gateway.specs.Step.{with_work, without_work, touched_by, forgotten}
+use Rattle.gateway.specs.Step.{with_work, without_work, touched_by, without_touch}
 
 own : (key : ℕ) → eq_by_cmp nat_cmp key key ≡ true
 own key = ap is_eq (tied_itself nat_cmp_total key)
@@ -36,12 +36,12 @@ pub touched-stays : (q req : ℕ) (work : ObjWork) (status : Status) (gateway : 
     → is_touched q (touched_by req work status gateway) ≡ true
 touched-stays q req work status gateway before = stays_if q req gateway (is_making work && may_be_made status) before
 
-pub forgotten-own : (req : ℕ) (gateway : Gateway) → is_touched req (forgotten req gateway) ≡ false
-forgotten-own req gateway =
+pub without_touch-own : (req : ℕ) (gateway : Gateway) → is_touched req (without_touch req gateway) ≡ false
+without_touch-own req gateway =
     set.contains-remove nat_cmp_total gateway.touched req req ∙ ap (λ b. not b && set.contains gateway.touched req) (own req)
 
-pub forgotten-others : (q req : ℕ) (gateway : Gateway) → q ≢ req → is_touched q (forgotten req gateway) ≡ is_touched q gateway
-forgotten-others q req gateway apart =
+pub without_touch-others : (q req : ℕ) (gateway : Gateway) → q ≢ req → is_touched q (without_touch req gateway) ≡ is_touched q gateway
+without_touch-others q req gateway apart =
     set.contains-remove nat_cmp_total gateway.touched req q ∙ ap (λ b. not b && set.contains gateway.touched q) (other q req apart)
 
 pub with_work-own : (req : ℕ) (work : Work) (gateway : Gateway) → tree.get (with_work req work gateway).works req ≡ Some work

@@ -8,7 +8,7 @@ use Rattle.object_id.specs.declared.node.Epoch.{Epoch}
 use Rattle.object_id.specs.declared.node.NodeId.{NodeId}
 use Rattle.object_id.specs.declared.policy.Policy.TheVariants.{Copies, Coded}
 use Rattle.hash_ring.specs.Placement.{zone_count}
-use Rattle.vnode_table.specs.Epochs.{Entered, members_at}
+use Rattle.vnode_table.specs.Epochs.{EpochMembers, members_at}
 use Rattle.peer_proto.specs.declared.say.Refusal.TheVariants as refusals
 use Rattle.peer_proto.specs.declared.work.ObjWork.{ObjWork}
 use Rattle.peer_proto.specs.declared.work.ObjWork.TheVariants.{Create, Write, Read}
@@ -16,10 +16,10 @@ use Rattle.gateway.specs.declared.act.Act.TheVariants as acts
 use Rattle.gateway.specs.declared.message.Message.{Message}
 use Rattle.gateway.specs.declared.message.Status.{Status}
 use Rattle.gateway.specs.declared.message.Status.TheVariants.{Unanswered, Succeeded, Refused, Lost}
-use Rattle.gateway.specs.Work.{asked}
+use Rattle.gateway.specs.Work.{targets_asked}
 use Rattle.gateway.specs.Attempt.{is_over, is_done, first_failure}
-use Rattle.gateway.specs.State.{Ended, Short, Work, opening}
-use Rattle.gateway.specs.Step.{tried, refused, waiting, with_work}
+use Rattle.gateway.specs.State.{Ended, WaitsForMembers, Work, initial_gateway}
+use Rattle.gateway.specs.Step.{attempt_step, refusal_step, waiting_step, with_work}
 
 abbrev node : ℕ → NodeId
 node n = record { 0 = n }
@@ -44,20 +44,20 @@ abbrev write : ObjWork
 write = Write object (Copies 3) 0 []
 
 -- whole reads ask the targets in turn: the first attempt the first one, the fifth of three the second
-whole_reads_go_round : asked (Read object (Copies 3) 0 512) 0 three ≡ (0, node 4) ∷ []
+whole_reads_go_round : targets_asked (Read object (Copies 3) 0 512) 0 three ≡ (0, node 4) ∷ []
 whole_reads_go_round = refl
 
-and_round : asked (Read object (Copies 3) 0 512) 4 three ≡ (1, node 7) ∷ []
+and_round : targets_asked (Read object (Copies 3) 0 512) 4 three ≡ (1, node 7) ∷ []
 and_round = refl
 
 -- the inode of a coded disk is kept whole, its data in strips
-inodes_are_whole : asked (Read inode (Coded 2 2) 0 512) 1 three ≡ (1, node 7) ∷ []
+inodes_are_whole : targets_asked (Read inode (Coded 2 2) 0 512) 1 three ≡ (1, node 7) ∷ []
 inodes_are_whole = refl
 
-strips_are_read_everywhere : asked (Read object (Coded 2 1) 0 512) 1 three ≡ (0, node 4) ∷ (1, node 7) ∷ (2, node 2) ∷ []
+strips_are_read_everywhere : targets_asked (Read object (Coded 2 1) 0 512) 1 three ≡ (0, node 4) ∷ (1, node 7) ∷ (2, node 2) ∷ []
 strips_are_read_everywhere = refl
 
-writes_go_everywhere : asked write 1 three ≡ (0, node 4) ∷ (1, node 7) ∷ (2, node 2) ∷ []
+writes_go_everywhere : targets_asked write 1 three ≡ (0, node 4) ∷ (1, node 7) ∷ (2, node 2) ∷ []
 writes_go_everywhere = refl
 
 -- an attempt isn't over while a message is unanswered
@@ -84,7 +84,7 @@ a_lost_link = refl
 abbrev member : ℕ → ℕ → Member
 member n zone = record { node = node n; zone = zone; vnodes = 64 }
 
-abbrev four : List Entered
+abbrev four : List EpochMembers
 four = record { epoch = 1; members = member 0 9 ∷ member 1 9 ∷ member 2 9 ∷ member 3 3 ∷ [] } ∷ []
 
 two_zones : zone_count (members_at four 1) ≡ 2
@@ -94,10 +94,10 @@ two_zones = refl
 abbrev create : ℕ → Work
 create copies = record { work = Create inode (Copies copies) 4198968 0 []; ended = 0; stage = Ended }
 
-too_few_zones : (tried four (opening (node 0) 4) 1 (create 3) 0 (epoch 1)).act ≡ acts.Refused 1 (causes.Halt 2 3)
-unfolding tried zone_count
+too_few_zones : (attempt_step four (initial_gateway (node 0) 4) 1 (create 3) 0 (epoch 1)).act ≡ acts.Refused 1 (causes.Halt 2 3)
+unfolding attempt_step zone_count
 too_few_zones =
     ap (λ touched. (cond touched
-    (waiting (with_work 1 (record (create 3) { stage = Short (epoch 1) }) (opening (node 0) 4)))
-    (refused (opening (node 0) 4) 1 (causes.Halt 2 3))).act)
+    (waiting_step (with_work 1 (record (create 3) { stage = WaitsForMembers (epoch 1) }) (initial_gateway (node 0) 4)))
+    (refusal_step (initial_gateway (node 0) 4) 1 (causes.Halt 2 3))).act)
     (contains-empty nat_cmp 1)

@@ -21,7 +21,7 @@ use Rattle.gateway.specs.declared.message.Message.{Message}
 use Rattle.gateway.specs.declared.message.Status.{Status}
 use Rattle.gateway.specs.declared.message.Status.TheVariants.{Unanswered, Succeeded, Refused, Lost}
 use Rattle.peer_proto.specs.Work.{oid_of, policy_of}
-use Rattle.gateway.specs.Work.{asked, ask_for}
+use Rattle.gateway.specs.Work.{targets_asked, ask_for}
 
 -- an attempt belongs to an epoch, and has its messages in the order of the targets
 pub record Attempt : Type 0 where
@@ -29,8 +29,8 @@ pub record Attempt : Type 0 where
   pub messages : List Message
 
 -- the message of a number to a target, which stands at a place of the target list
-abbrev pub message_to : ObjWork → ℕ × (ℕ × NodeId) → Message
-message_to work target = record {
+abbrev pub message_for : ObjWork → ℕ × (ℕ × NodeId) → Message
+message_for work target = record {
   number = target.0;
   node = target.1.1;
   index = index_at (policy_of work) (kind_of (oid_of work)) target.1.0;
@@ -39,7 +39,7 @@ message_to work target = record {
 
 -- the messages of a work's attempt to these targets, numbered upwards from `first`
 abbrev pub messages_of : ObjWork → ℕ → ℕ → List NodeId → List Message
-messages_of work attempt first targets = map (message_to work) (enumerate_from first (asked work attempt targets))
+messages_of work attempt first targets = map (message_for work) (enumerate_from first (targets_asked work attempt targets))
 
 -- how a message is sent: the node that it goes to, and what it asks there
 abbrev pub send_of : NodeId → Epoch → ObjWork → Message → NodeId × PeerReq
@@ -77,12 +77,12 @@ status_by says.NoRow = Unanswered
 status_by (says.Refused refusal) = Refused refusal
 
 -- whether the message of this number is unanswered
-abbrev pub is_awaited : ℕ → Message → Bool
-is_awaited number message = if message.number == number then is_unanswered message.status else false
+abbrev pub is_awaited_message : ℕ → Message → Bool
+is_awaited_message number message = if message.number == number then is_unanswered message.status else false
 
 -- the messages, with what is now known of the one of this number
-abbrev pub marked : ℕ → Status → List Message → List Message
-marked number status messages =
+abbrev pub messages_with_status : ℕ → Status → List Message → List Message
+messages_with_status number status messages =
     map (λ (message : Message). if message.number == number then record message { status = status } else message) messages
 
 -- an attempt ends where none of its messages is unanswered
@@ -135,12 +135,12 @@ failure work epoch node (Refused refusal) = Some (cause_by work epoch node refus
 failure work epoch node Lost = Some (causes.Link node)
 
 -- the first of two causes that is there
-abbrev pub first_of : Option Cause → Option Cause → Option Cause
-first_of None later = later
-first_of (Some cause) later = Some cause
+abbrev pub first_cause : Option Cause → Option Cause → Option Cause
+first_cause None later = later
+first_cause (Some cause) later = Some cause
 
 -- why the first message, in the order of the targets, that didn't succeed didn't
 abbrev pub first_failure : ObjWork → Epoch → List Message → Option Cause
 first_failure work epoch [] = None
 first_failure work epoch (message ∷ messages) =
-    first_of (failure work epoch message.node message.status) (first_failure work epoch messages)
+    first_cause (failure work epoch message.node message.status) (first_failure work epoch messages)

@@ -2,4 +2,4 @@ pub mod Work
 pub mod Attempt
 pub mod State
 pub mod Step
-pub mod Told
+pub mod Outcomes

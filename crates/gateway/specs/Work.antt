@@ -25,19 +25,19 @@ zones_for (Write oid policy offset bytes) = wanted_of policy (kind_of oid)
 zones_for (Read oid policy offset size) = need_of policy (kind_of oid)
 
 -- of places the one at the attempt's number modulo their count; attempts are numbered from 0
-abbrev pub in_turn : ℕ → List (ℕ × NodeId) → List (ℕ × NodeId)
-in_turn attempt places = take 1 (drop (attempt % length places) places)
+abbrev pub place_in_turn : ℕ → List (ℕ × NodeId) → List (ℕ × NodeId)
+place_in_turn attempt places = take 1 (drop (attempt % length places) places)
 
 -- a read asks every target for its strip, or one target after another for the bytes
 abbrev pub read_from : Bool → ℕ → List (ℕ × NodeId) → List (ℕ × NodeId)
 read_from true attempt places = places
-read_from false attempt places = in_turn attempt places
+read_from false attempt places = place_in_turn attempt places
 
 -- the targets that an attempt asks, each with its place: a create or write asks all of them
-abbrev pub asked : ObjWork → ℕ → List NodeId → List (ℕ × NodeId)
-asked (Create oid policy size offset bytes) attempt targets = enumerate_from 0 targets
-asked (Write oid policy offset bytes) attempt targets = enumerate_from 0 targets
-asked (Read oid policy offset size) attempt targets =
+abbrev pub targets_asked : ObjWork → ℕ → List NodeId → List (ℕ × NodeId)
+targets_asked (Create oid policy size offset bytes) attempt targets = enumerate_from 0 targets
+targets_asked (Write oid policy offset bytes) attempt targets = enumerate_from 0 targets
+targets_asked (Read oid policy offset size) attempt targets =
     read_from (is_in_strips policy (kind_of oid)) attempt (enumerate_from 0 targets)
 
 -- what the target that keeps the part of this index is asked: the work, on that part

@@ -11,46 +11,46 @@ ghost use Rattle.object_id.specs.Policy.{IsPolicy, need_of};
 ghost use Rattle.gf256.specs.Polynomial.{AreBytes, ArePoints};
 ghost use Rattle.strip_coding.specs.Part.{IsAligned, part, is_in_strips, index_at};
 ghost use Rattle.hash_ring.specs.Placement.{zone_count};
-ghost use Rattle.vnode_table.specs.Epochs.{Entered, members_at};
+ghost use Rattle.vnode_table.specs.Epochs.{EpochMembers, members_at};
 ghost use Rattle.peer_proto.specs.declared.work.ObjWork.{ObjWork};
 ghost use Rattle.gateway.specs.declared.message.Message.{Message};
 ghost use Rattle.gateway.specs.declared.message.Status.{Status};
 ghost use Rattle.peer_proto.specs.Work.{oid_of, policy_of};
 ghost use Rattle.gateway.specs.Work.{is_making};
-ghost use Rattle.gateway.specs.Attempt.{Attempt, is_unanswered, is_awaited, may_be_made, marked, messages_of, bytes_in, bytes_through};
+ghost use Rattle.gateway.specs.Attempt.{Attempt, is_unanswered, is_awaited_message, may_be_made, messages_with_status, messages_of, bytes_in, bytes_through};
 ghost use Rattle.gateway.specs.State.{Open, Work, Gateway, is_touched, has_work, asker, next_try};
-ghost use Rattle.gateway.specs.Step.{with_work, without_work, forgotten, waiting, known, went_on, touched_by, refusal_at, answered, tried};
-ghost use Rattle.gateway.specs.Told.{HasFailed, AsksEnough, Tells, Begins};
+ghost use Rattle.gateway.specs.Step.{with_work, without_work, without_touch, waiting_step, attempt_with_status, attempt_continued, touched_by, refusal_after_attempt, message_ended, attempt_step};
+ghost use Rattle.gateway.specs.Outcomes.{HasFailed, AsksEnough, Tells, BeginsAttempt};
 
 /// What is told when it is known what a message came to: a work is done only where its attempt has enough, and a
 /// request is refused only while it is untouched, with the first cause of its work's last attempt.
 pub fn what_an_answer_tells()
     ensures tells { (gateway : Gateway) (req : ℕ) (work : Work) (attempt : Attempt)
-        → Tells gateway req work attempt (went_on gateway req work attempt).act }
+        → Tells gateway req work attempt (attempt_continued gateway req work attempt).act }
     // An answer goes to the attempt that its message belongs to; one of no message changes nothing.
     ensures attempt { (gateway : Gateway) (req : ℕ) (work : Work) (number : ℕ) (status : Status) (attempt : Attempt)
         → asker number gateway ≡ Some (req, work) → work.stage ≡ Open attempt
-        → answered gateway number status
-        ≡ went_on (touched_by req work.work status gateway) req work (known number status attempt) }
+        → message_ended gateway number status
+        ≡ attempt_continued (touched_by req work.work status gateway) req work (attempt_with_status number status attempt) }
     ensures none { (gateway : Gateway) (number : ℕ) (status : Status) → asker number gateway ≡ None
-        → answered gateway number status ≡ waiting gateway }
+        → message_ended gateway number status ≡ waiting_step gateway }
     // What is known is waited for no more.
     ensures known { (number : ℕ) (status : Status) (messages : List Message) → is_unanswered status ≡ false
-        → list_any (is_awaited number) (marked number status messages) ≡ false }
+        → list_any (is_awaited_message number) (messages_with_status number status messages) ≡ false }
 {}
 
 /// A request that is still untouched when `tries` attempts of its work have failed is refused.
 pub fn an_untouched_request_is_refused()
     ensures { (gateway : Gateway) (req : ℕ) (work : ObjWork) (number : ℕ) (attempt : Attempt)
         → HasFailed work attempt.messages → AsksEnough work attempt.messages
-        → is_touched req gateway ≡ false → gateway.tries ≤ number → refusal_at gateway req work number attempt ≢ None }
+        → is_touched req gateway ≡ false → gateway.tries ≤ number → refusal_after_attempt gateway req work number attempt ≢ None }
 {}
 
 /// What is told when an attempt is to begin: it is sent with numbers from `first` upwards, or for want of zones its
 /// request is refused while it is untouched, and else waits.
 pub fn what_a_beginning_tells()
-    ensures { (epochs : List Entered) (gateway : Gateway) (req : ℕ) (work : Work) (first : ℕ) (epoch : Epoch)
-        → Begins gateway req work first (zone_count (members_at epochs epoch.0)) (tried epochs gateway req work first epoch).act }
+    ensures { (epochs : List EpochMembers) (gateway : Gateway) (req : ℕ) (work : Work) (first : ℕ) (epoch : Epoch)
+        → BeginsAttempt gateway req work first (zone_count (members_at epochs epoch.0)) (attempt_step epochs gateway req work first epoch).act }
 {}
 
 /// A create, a write and a read of strips ask every target, in order: of strips each for that of its place.
@@ -88,9 +88,9 @@ pub fn what_may_be_made_touches()
         → may_be_made status ≡ true → is_touched req (touched_by req work status gateway) ≡ true }
     ensures stays { (other req : ℕ) (work : ObjWork) (status : Status) (gateway : Gateway) → is_touched other gateway ≡ true
         → is_touched other (touched_by req work status gateway) ≡ true }
-    ensures forgotten { (req : ℕ) (gateway : Gateway) → is_touched req (forgotten req gateway) ≡ false }
+    ensures forgotten { (req : ℕ) (gateway : Gateway) → is_touched req (without_touch req gateway) ≡ false }
     ensures others { (other req : ℕ) (gateway : Gateway) → other ≢ req
-        → is_touched other (forgotten req gateway) ≡ is_touched other gateway }
+        → is_touched other (without_touch req gateway) ≡ is_touched other gateway }
 {}
 
 /// A step changes the work of its request alone.

@@ -7,7 +7,7 @@ use Rattle.std.proofs.lemmas.Bool.{not-true, not_from_false, or_cases, cond-fals
 use Rattle.std.proofs.lemmas.List.{drop_more, take-append-drop, get_or-take, length-take-le, get_or_default}
 use Rattle.std.proofs.lemmas.List.Elements.{filter-append, All-nil, All-cons, All-head, All-tail, All-weaker}
 use Rattle.gateway_queue.specs.declared.queue.Queued.{Queued}
-use Rattle.gateway_queue.specs.Queue.{is_request, is_queued, is_queue, without, meet, earlier, may_run, AreApart}
+use Rattle.gateway_queue.specs.Queue.{has_request_number, is_queued, is_queue, queue_without, meet, earlier, may_run, AreApart}
 use Rattle.gateway_queue.proofs.QueueLemmas.{Split, split_at, may_run-split, list_any-filter, MayRun-from, before_first-split, before_first-more}
 
 pub may_run-pushed : (queue later : List Queued) (req : ℕ) → is_queued req queue ≡ true → may_run req (queue ++ later) ≡ may_run req queue
@@ -20,33 +20,33 @@ may_run-pushed queue later req there =
 
 -- only a request that is there may run
 there_from : (req : ℕ) (queue rest : List Queued)
-    → option_map_or (λ mine. not (list_any (meet mine) rest)) (find (is_request req) queue) false ≡ true → is_queued req queue ≡ true
+    → option_map_or (λ mine. not (list_any (meet mine) rest)) (find (has_request_number req) queue) false ≡ true → is_queued req queue ≡ true
 there_from req [] rest runs = absurd (cc)
-there_from req (queued ∷ queue) rest runs = elim (cases_Bool (is_request req queued)) [
+there_from req (queued ∷ queue) rest runs = elim (cases_Bool (has_request_number req queued)) [
   | inl here ↦ ap (λ b. b || is_queued req queue) here
   | inr other ↦ (
-      let next : option_map_or (λ mine. not (list_any (meet mine) rest)) (find (is_request req) queue) false ≡ true
-      = sym (ap (λ b. option_map_or (λ mine. not (list_any (meet mine) rest)) (cond b (Some queued) (find (is_request req) queue)) false) other) ∙ runs in
+      let next : option_map_or (λ mine. not (list_any (meet mine) rest)) (find (has_request_number req) queue) false ≡ true
+      = sym (ap (λ b. option_map_or (λ mine. not (list_any (meet mine) rest)) (cond b (Some queued) (find (has_request_number req) queue)) false) other) ∙ runs in
       ap (λ b. b || is_queued req queue) other ∙ there_from req queue rest next)
 ]
 
-pub may_run-done : (queue : List Queued) (req other : ℕ) → other ≢ req → may_run req queue ≡ true → may_run req (without other queue) ≡ true
+pub may_run-done : (queue : List Queued) (req other : ℕ) → other ≢ req → may_run req queue ≡ true → may_run req (queue_without other queue) ≡ true
 may_run-done queue req other apart runs =
     let there : is_queued req queue ≡ true = there_from req queue (earlier req queue) runs in
     let s : Split req queue = split_at req queue there in
-    let stays : not (is_request other s.mine) ≡ true
-    = not_from_false (is_request other s.mine) (ne_eqb s.mine.req other (λ (same : s.mine.req ≡ other). apart (sym same ∙ s.number))) in
-    let is : without other queue ≡ without other s.before ++ s.mine ∷ without other s.after
-    = ap (without other) s.is ∙ filter-append (λ queued. not (is_request other queued)) s.before (s.mine ∷ s.after)
-    ∙ ap (λ qs. without other s.before ++ qs) (cond-true (not (is_request other s.mine)) (s.mine ∷ without other s.after) (without other s.after) stays) in
+    let stays : not (has_request_number other s.mine) ≡ true
+    = not_from_false (has_request_number other s.mine) (ne_eqb s.mine.req other (λ (same : s.mine.req ≡ other). apart (sym same ∙ s.number))) in
+    let is : queue_without other queue ≡ queue_without other s.before ++ s.mine ∷ queue_without other s.after
+    = ap (queue_without other) s.is ∙ filter-append (λ queued. not (has_request_number other queued)) s.before (s.mine ∷ s.after)
+    ∙ ap (λ qs. queue_without other s.before ++ qs) (cond-true (not (has_request_number other s.mine)) (s.mine ∷ queue_without other s.after) (queue_without other s.after) stays) in
     let free : list_any (meet s.mine) s.before ≡ false
     = not-true (list_any (meet s.mine) s.before)
     (sym (may_run-split req s.before s.mine s.after s.none s.number) ∙ sym (ap (may_run req) s.is) ∙ runs) in
     ap (may_run req) is
-    ∙ may_run-split req (without other s.before) s.mine (without other s.after)
-    (list_any-filter (is_request req) (λ queued. not (is_request other queued)) s.before s.none) s.number
-    ∙ not_from_false (list_any (meet s.mine) (without other s.before))
-    (list_any-filter (meet s.mine) (λ queued. not (is_request other queued)) s.before free)
+    ∙ may_run-split req (queue_without other s.before) s.mine (queue_without other s.after)
+    (list_any-filter (has_request_number req) (λ queued. not (has_request_number other queued)) s.before s.none) s.number
+    ∙ not_from_false (list_any (meet s.mine) (queue_without other s.before))
+    (list_any-filter (meet s.mine) (λ queued. not (has_request_number other queued)) s.before free)
 
 pub may_run-oldest : (oldest : Queued) (queue : List Queued) → may_run oldest.req (oldest ∷ queue) ≡ true
 may_run-oldest oldest queue = may_run-split oldest.req [] oldest queue refl refl
@@ -109,7 +109,7 @@ lower-none req (queued ∷ queue) above =
 
 below_queued : (n req : ℕ) (queue : List Queued) → is_queued req queue ≡ true → All (λ y. n < y) (numbers queue) → n < req
 below_queued n req [] there above = absurd (cc)
-below_queued n req (queued ∷ queue) there above = elim (or_cases (is_request req queued) (is_queued req queue) there) [
+below_queued n req (queued ∷ queue) there above = elim (or_cases (has_request_number req queued) (is_queued req queue) there) [
   | inl here ↦ subst (λ y. n < y) (eqb-true queued.req req here) (All-head (λ y. n < y) queued.req (numbers queue) above)
   | inr later ↦ below_queued n req queue later (All-tail (λ y. n < y) queued.req (numbers queue) above)
 ]
@@ -120,16 +120,16 @@ pub earlier-lower : (queue : List Queued) (req : ℕ) → IsStrictlyIncreasing (
 earlier-lower [] req up there = absurd (cc)
 earlier-lower (queued ∷ queue) req up there =
     let above : All (λ y. queued.req < y) (numbers queue) = ascending-first queued.req (numbers queue) up in
-    elim (cases_Bool (is_request req queued)) [
+    elim (cases_Bool (has_request_number req queued)) [
       | inl here ↦ (
           let same : queued.req ≡ req = eqb-true queued.req req here in
           let rest : lower req queue ≡ [] = lower-none req queue (subst (λ n. All (λ y. n < y) (numbers queue)) same above) in
-          before_first-split (is_request req) [] queued queue refl here
+          before_first-split (has_request_number req) [] queued queue refl here
           ∙ sym (cond-false (nat_lt queued.req req) (queued ∷ lower req queue) (lower req queue) (le-ltb queued.req req (omega arith)) ∙ rest))
       | inr other ↦ (
           let later : is_queued req queue ≡ true = sym (ap (λ b. b || is_queued req queue) other) ∙ there in
           let below : queued.req < req = below_queued queued.req req queue later above in
-          before_first-more (is_request req) queued queue other
+          before_first-more (has_request_number req) queued queue other
           ∙ ap (λ qs. queued ∷ qs) (earlier-lower queue req (ascending-tail queued.req (numbers queue) up) later)
           ∙ sym (cond-true (nat_lt queued.req req) (queued ∷ lower req queue) (lower req queue) (lt-ltb queued.req req below)))
     ]

@@ -8,7 +8,7 @@ use Rattle.std.proofs.lemmas.List.Quantifiers.{position-Some}
 use Rattle.std.proofs.lemmas.List.Elements.{All-nil, All-cons}
 use Rattle.std.proofs.lemmas.List.Folds.{list_any-append, list_any_none, list_any_at}
 use Rattle.gateway_queue.specs.declared.queue.Queued.{Queued}
-use Rattle.gateway_queue.specs.Queue.{is_request, is_queued, is_queue, without, meet, earlier, may_run, AreApart, MayRun}
+use Rattle.gateway_queue.specs.Queue.{has_request_number, is_queued, is_queue, queue_without, meet, earlier, may_run, AreApart, MayRun}
 
 find-split : {X : Type 0} (p : X → Bool) (before : List X) (x : X) (after : List X) → list_any p before ≡ false → p x ≡ true
     → find p (before ++ x ∷ after) ≡ Some x
@@ -55,7 +55,7 @@ pub record Split (req : ℕ) (queue : List Queued) : Type 0 where
 
 pub split_at : (req : ℕ) (queue : List Queued) → is_queued req queue ≡ true → Split req queue
 split_at req [] there = absurd (cc)
-split_at req (queued ∷ queue) there = elim (cases_Bool (is_request req queued)) [
+split_at req (queued ∷ queue) there = elim (cases_Bool (has_request_number req queued)) [
   | inl here ↦ record { before = []; mine = queued; after = queue; is = refl; number = eqb-true queued.req req here; none = refl }
   | inr other ↦ (
       let rest : Split req queue = split_at req queue (sym (ap (λ b. b || is_queued req queue) other) ∙ there) in
@@ -65,7 +65,7 @@ split_at req (queued ∷ queue) there = elim (cases_Bool (is_request req queued)
         after = rest.after;
         is = ap (λ qs. queued ∷ qs) rest.is;
         number = rest.number;
-        none = or_from (is_request req queued) (is_queued req rest.before) other rest.none;
+        none = or_from (has_request_number req queued) (is_queued req rest.before) other rest.none;
       })
 ]
 
@@ -73,10 +73,10 @@ split_at req (queued ∷ queue) there = elim (cases_Bool (is_request req queued)
 pub may_run-split : (req : ℕ) (before : List Queued) (mine : Queued) (after : List Queued) → is_queued req before ≡ false
     → mine.req ≡ req → may_run req (before ++ mine ∷ after) ≡ not (list_any (meet mine) before)
 may_run-split req before mine after none number =
-    let here : is_request req mine ≡ true = eq-eqb mine.req req number in
+    let here : has_request_number req mine ≡ true = eq-eqb mine.req req number in
     ap (λ (o : Option Queued). option_map_or (λ one. not (list_any (meet one) (earlier req (before ++ mine ∷ after)))) o false)
-    (find-split (is_request req) before mine after none here)
-    ∙ ap (λ others. not (list_any (meet mine) others)) (before_first-split (is_request req) before mine after none here)
+    (find-split (has_request_number req) before mine after none here)
+    ∙ ap (λ others. not (list_any (meet mine) others)) (before_first-split (has_request_number req) before mine after none here)
 
 -- what a queue is, at its first request
 is_queue-parts : (queued : Queued) (queue : List Queued) → is_queue (queued ∷ queue) ≡ true
@@ -100,9 +100,9 @@ pub none_before : (before : List Queued) (mine : Queued) (after : List Queued) �
 none_before [] mine after kept = refl
 none_before (queued ∷ before) mine after kept =
     let parts = is_queue-parts queued (before ++ mine ∷ after) kept in
-    or_from (is_request mine.req queued) (is_queued mine.req before)
+    or_from (has_request_number mine.req queued) (is_queued mine.req before)
     (ne_eqb queued.req mine.req (λ (same : queued.req ≡ mine.req). both_ways (is_queued queued.req (before ++ mine ∷ after)) parts.1
-    (list_any-here (is_request queued.req) before mine after (eq-eqb mine.req queued.req (sym same)))))
+    (list_any-here (has_request_number queued.req) before mine after (eq-eqb mine.req queued.req (sym same)))))
     (none_before before mine after parts.2)
 
 pub is_queue-push : (queue : List Queued) (queued : Queued) → is_queue queue ≡ true → is_queued queued.req queue ≡ false
@@ -110,23 +110,23 @@ pub is_queue-push : (queue : List Queued) (queued : Queued) → is_queue queue �
 is_queue-push [] queued kept new span = is_queue-cons queued [] (le-leb queued.first queued.last span) refl refl
 is_queue-push (first ∷ queue) queued kept new span =
     let parts = is_queue-parts first queue kept in
-    let others : (is_request queued.req first ≡ false) × (is_queued queued.req queue ≡ false)
-    = or_parts (is_request queued.req first) (is_queued queued.req queue) new in
-    let apart : is_request first.req queued ≡ false
+    let others : (has_request_number queued.req first ≡ false) × (is_queued queued.req queue ≡ false)
+    = or_parts (has_request_number queued.req first) (is_queued queued.req queue) new in
+    let apart : has_request_number first.req queued ≡ false
     = ne_eqb queued.req first.req (λ (same : queued.req ≡ first.req). eqb-false first.req queued.req others.0 (sym same)) in
     let absent : is_queued first.req (queue ++ queued ∷ []) ≡ false
-    = list_any-append (is_request first.req) queue (queued ∷ [])
-    ∙ or_from (is_queued first.req queue) (is_queued first.req (queued ∷ [])) parts.1 (or_from (is_request first.req queued) false apart refl) in
+    = list_any-append (has_request_number first.req) queue (queued ∷ [])
+    ∙ or_from (is_queued first.req queue) (is_queued first.req (queued ∷ [])) parts.1 (or_from (has_request_number first.req queued) false apart refl) in
     is_queue-cons first (queue ++ queued ∷ []) parts.0 absent (is_queue-push queue queued parts.2 others.1 span)
 
-pub is_queue-without : (req : ℕ) (queue : List Queued) → is_queue queue ≡ true → is_queue (without req queue) ≡ true
-is_queue-without req [] kept = refl
-is_queue-without req (queued ∷ queue) kept =
+pub is_queue-queue_without : (req : ℕ) (queue : List Queued) → is_queue queue ≡ true → is_queue (queue_without req queue) ≡ true
+is_queue-queue_without req [] kept = refl
+is_queue-queue_without req (queued ∷ queue) kept =
     let parts = is_queue-parts queued queue kept in
-    let rest : is_queue (without req queue) ≡ true = is_queue-without req queue parts.2 in
-    cond_both (not (is_request req queued)) (queued ∷ without req queue) (without req queue) (λ qs. is_queue qs ≡ true)
-    (λ _. is_queue-cons queued (without req queue) parts.0
-    (list_any-filter (is_request queued.req) (λ other. not (is_request req other)) queue parts.1) rest)
+    let rest : is_queue (queue_without req queue) ≡ true = is_queue-queue_without req queue parts.2 in
+    cond_both (not (has_request_number req queued)) (queued ∷ queue_without req queue) (queue_without req queue) (λ qs. is_queue qs ≡ true)
+    (λ _. is_queue-cons queued (queue_without req queue) parts.0
+    (list_any-filter (has_request_number queued.req) (λ other. not (has_request_number req other)) queue parts.1) rest)
     (λ _. rest)
 
 -- two requests meet exactly where some index is in both
@@ -193,22 +193,22 @@ first-below p (x ∷ xs) there = elim (cases_Bool (p x)) [
       omega arith)
 ]
 
-pub position-there : (req : ℕ) (queue : List Queued) → is_queued req queue ≡ true → is_some (position (is_request req) queue) ≡ true
+pub position-there : (req : ℕ) (queue : List Queued) → is_queued req queue ≡ true → is_some (position (has_request_number req) queue) ≡ true
 position-there req queue there =
-    let first : ℕ = position_or_len (is_request req) queue in
-    ap (λ b. is_some (cond b (Some first) None)) (lt-ltb first (length queue) (first-below (is_request req) queue there))
+    let first : ℕ = position_or_len (has_request_number req) queue in
+    ap (λ b. is_some (cond b (Some first) None)) (lt-ltb first (length queue) (first-below (has_request_number req) queue there))
 
 -- whether the request at this place may run
-pub may_run-place : (req : ℕ) (queue : List Queued) (place : ℕ) (d : Queued) → position (is_request req) queue ≡ Some place
+pub may_run-place : (req : ℕ) (queue : List Queued) (place : ℕ) (d : Queued) → position (has_request_number req) queue ≡ Some place
     → may_run req queue ≡ not (list_any (meet (get_or queue place d)) (take place queue))
 may_run-place req queue place d found =
-    let at_place = position-Some (is_request req) queue place d found in
+    let at_place = position-Some (has_request_number req) queue place d found in
     let is : queue ≡ take place queue ++ get_or queue place d ∷ drop (place + 1) queue
     = sym (take-append-drop place queue) ∙ ap (λ rest. take place queue ++ rest) (drop_more queue place d at_place.0) in
     let long : length (take place queue) ≡ place = length-take-le place queue (omega arith) in
     let none : is_queued req (take place queue) ≡ false
-    = list_any_none (is_request req) (take place queue) (λ k e within.
+    = list_any_none (has_request_number req) (take place queue) (λ k e within.
     (let below : k < place = omega arith in
-    ap (is_request req) (get_or-take place queue k e below ∙ get_or_default queue k e d (omega (arith, at_place.0))) ∙ at_place.2 k below)) in
+    ap (has_request_number req) (get_or-take place queue k e below ∙ get_or_default queue k e d (omega (arith, at_place.0))) ∙ at_place.2 k below)) in
     ap (may_run req) is
     ∙ may_run-split req (take place queue) (get_or queue place d) (drop (place + 1) queue) none (eqb-true (get_or queue place d).req req at_place.1)

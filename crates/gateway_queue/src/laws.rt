@@ -2,7 +2,7 @@
 ghost use Rattle.std.specs.Prelude.{◌≡◌, ◌≢◌, ℕ, nat_lt, List, [], ◌∷◌, ◌++◌, map, filter, IsTrue, Contains};
 ghost use Rattle.std.specs.List.Sorted.{IsStrictlyIncreasing};
 ghost use Rattle.gateway_queue.specs.declared.queue.Queued.{Queued};
-ghost use Rattle.gateway_queue.specs.Queue.{is_queued, is_queue, without, earlier, may_run, AreApart};
+ghost use Rattle.gateway_queue.specs.Queue.{is_queued, is_queue, queue_without, earlier, may_run, AreApart};
 
 /// Two requests that may both run have no index in common.
 pub fn running_requests_are_apart()
@@ -17,7 +17,7 @@ pub fn what_may_run_stays_so()
     ensures pushed { (queue later : List Queued) (req : ℕ) → IsTrue (is_queued req queue)
         → may_run req (queue ++ later) ≡ may_run req queue }
     ensures done { (queue : List Queued) (req other : ℕ) → other ≢ req → IsTrue (may_run req queue)
-        → IsTrue (may_run req (without other queue)) }
+        → IsTrue (may_run req (queue_without other queue)) }
 {}
 
 /// The request at the front may run, so of requests that wait for each other one always can.

@@ -18,5 +18,4 @@ pub use laws::{
     earlier_has_the_lower_number, running_requests_are_apart, the_oldest_may_run,
     what_may_run_stays_so,
 };
-pub use object_id::NoMemory;
 pub use queue::{Queue, Queued};

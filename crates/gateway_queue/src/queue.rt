@@ -1,6 +1,6 @@
 ghost use Rattle.std.specs.Prelude.{◌≡◌, ◌↔◌, ◌≤◌, List, [], ◌∷◌, ◌++◌, false, OnOk, OnErr, IsTrue, position};
 ghost use Rattle.std.specs.List.{list_any};
-ghost use Rattle.gateway_queue.specs.Queue.{is_request, is_queued, without, meet, may_run, MayRun};
+ghost use Rattle.gateway_queue.specs.Queue.{has_request_number, is_queued, queue_without, meet, may_run, MayRun};
 
 use object_id::NoMemory;
 use std::alloc::Global;
@@ -41,7 +41,7 @@ impl Model for Queue {
 }
 
 fn place_of(queue: &[Queued], req: u32) -> Option<usize>
-    ensures { result ≡ position (is_request req) queue.now }
+    ensures { result ≡ position (has_request_number req) queue.now }
 {
     queue.iter().position(|queued| queued.req == req)
 }
@@ -98,7 +98,7 @@ impl Queue {
     /// Takes a request out: from now on it blocks no other.
     pub fn done(&mut self, req: u32)
         requires { IsTrue (is_queued req self.old) }
-        ensures { self.new ≡ without req self.old }
+        ensures { self.new ≡ queue_without req self.old }
     {
         self.queued.retain(|queued| queued.req != req);
     }

@@ -8,7 +8,7 @@ use Rattle.std.proofs.Math.Nat.{max-eq_left, max-eq_right, min-eq_left, min-eq_r
 use Rattle.std.proofs.lemmas.List.Elements.{All-nil, All-cons}
 use Rattle.object_id.specs.declared.entry.VdiSpec.{VdiSpec}
 use Rattle.object_id.specs.Spec.{objects_of}
-use Rattle.guest_driver.specs.Pieces.{Piece, first_index, last_index, indexes, piece_in, pieces, bytes_of, IsPiece, AreBlocks}
+use Rattle.guest_driver.specs.Pieces.{Piece, first_index, last_index, indexes, piece_in, pieces, piece_bytes, IsPiece, AreBlocks}
 
 -- a slice with all that stands behind it, or at the end
 slice_and_rest : (payload : List ℕ) (at end behind : ℕ)
@@ -59,7 +59,7 @@ piece_and_rest payload offset low high begun ordered =
 -- the pieces from an object on give the bytes from its border on
 joined_from : (shift offset : ℕ) (payload : List ℕ) (n index : ℕ) → offset < (index + 1) * 2 ^ shift
     → offset + length payload ≤ (index + n) * 2 ^ shift
-    → flat_map (bytes_of payload) (map (piece_in shift offset (length payload)) (range_with_len index n))
+    → flat_map (piece_bytes payload) (map (piece_in shift offset (length payload)) (range_with_len index n))
     ≡ drop (max offset (index * 2 ^ shift) - offset) payload
 joined_from shift offset payload zero index begun ended =
     let here : (index + zero) * 2 ^ shift ≡ index * 2 ^ shift = ap (λ k. k * 2 ^ shift) (omega arith) in
@@ -77,13 +77,13 @@ joined_from shift offset payload (suc n) index begun ended =
     let higher : (index + 1 + 1) * 2 ^ shift ≡ (index + 1) * 2 ^ shift + 2 ^ shift = grind arith in
     let same : (index + suc n) * 2 ^ shift ≡ (index + 1 + n) * 2 ^ shift = ap (λ k. k * 2 ^ shift) (omega arith) in
     let next : max offset ((index + 1) * 2 ^ shift) ≡ (index + 1) * 2 ^ shift = max-eq_right (omega (arith, begun)) in
-    ap (λ xs. bytes_of payload (piece_in shift offset (length payload) index) ++ xs)
+    ap (λ xs. piece_bytes payload (piece_in shift offset (length payload) index) ++ xs)
     (joined_from shift offset payload n (index + 1) (omega (arith, begun, higher)) (omega (arith, ended, same))
     ∙ ap (λ k. drop (k - offset) payload) next)
     ∙ piece_and_rest payload offset (index * 2 ^ shift) ((index + 1) * 2 ^ shift) begun (omega (arith, high))
 
 pub pieces_joined : (shift offset : ℕ) (payload : List ℕ) → 1 ≤ length payload
-    → flat_map (bytes_of payload) (pieces shift offset (length payload)) ≡ payload
+    → flat_map (piece_bytes payload) (pieces shift offset (length payload)) ≡ payload
 unfolding pieces
 pieces_joined shift offset payload some =
     let wide : 0 < 2 ^ shift = pow_pos shift in

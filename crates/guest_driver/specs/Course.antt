@@ -8,8 +8,8 @@ use Rattle.peer_proto.specs.declared.work.ObjWork.TheVariants.{Create}
 use Rattle.guest_driver.specs.declared.act.DriverAct.{DriverAct}
 use Rattle.guest_driver.specs.declared.act.DriverAct.TheVariants.{Work, Reply}
 use Rattle.guest_driver.specs.Pieces.{Piece}
-use Rattle.guest_driver.specs.Works.{Backing, Hole, Own, Inherited, entry_of, backing_of, object_bytes, read_piece, write_piece, create_piece, read_object, create_copy, write_entry, entered}
-use Rattle.guest_driver.specs.Driver.{Stage, InPlace, Fetching, Creating, Entering, Driver, Reads, Writes, Answered, Step, on_done}
+use Rattle.guest_driver.specs.PieceWorks.{Backing, Hole, Own, Inherited, entry_of, backing_of, object_bytes, read_piece, write_piece, create_piece, read_object, create_copy, write_entry, table_with_entry}
+use Rattle.guest_driver.specs.Driver.{DriverStage, InPlace, Fetching, Creating, Entering, Driver, Reads, Writes, Answered, DriverStep, driver_on_done}
 
 -- the disk's own object of a piece is created, with some bytes in it
 abbrev pub Creates : Content → Piece → DriverAct → Type 0
@@ -17,24 +17,24 @@ Creates inode piece act = (offset : ℕ) × (bytes : List ℕ)
     × (act ≡ Work (Create (object_number inode.vid piece.index) inode.spec.policy (object_bytes inode) offset bytes))
 
 -- the act is a reply
-abbrev pub IsReply : DriverAct → Type 0
-IsReply act = (reply : GuestRsp) × (act ≡ Reply reply)
+abbrev pub IsReplyAct : DriverAct → Type 0
+IsReplyAct act = (reply : GuestRsp) × (act ≡ Reply reply)
 
 -- the act is the work that a write waits for
-abbrev pub IsAwaitedAt : Content → List ℕ → Piece → DriverAct → Stage → Type 0
-IsAwaitedAt inode payload piece act InPlace = act ≡ Work (write_piece inode payload piece)
-IsAwaitedAt inode payload piece act Fetching = act ≡ Work (read_object inode piece (entry_of inode piece))
-IsAwaitedAt inode payload piece act Creating = Creates inode piece act
-IsAwaitedAt inode payload piece act Entering = act ≡ Work (write_entry inode piece)
+abbrev pub IsAwaitedAtDriverStage : Content → List ℕ → Piece → DriverAct → DriverStage → Type 0
+IsAwaitedAtDriverStage inode payload piece act InPlace = act ≡ Work (write_piece inode payload piece)
+IsAwaitedAtDriverStage inode payload piece act Fetching = act ≡ Work (read_object inode piece (entry_of inode piece))
+IsAwaitedAtDriverStage inode payload piece act Creating = Creates inode piece act
+IsAwaitedAtDriverStage inode payload piece act Entering = act ≡ Work (write_entry inode piece)
 
 -- the act is the work that the driver waits for, or the reply of a request that waits for none
-abbrev pub IsAwaited : Content → Driver → DriverAct → Type 0
-IsAwaited inode (Reads told piece rest) act = act ≡ Work (read_piece inode piece (entry_of inode piece))
-IsAwaited inode (Writes payload stage piece rest) act = IsAwaitedAt inode payload piece act stage
-IsAwaited inode Answered act = IsReply act
+abbrev pub IsAwaitedByDriver : Content → Driver → DriverAct → Type 0
+IsAwaitedByDriver inode (Reads told piece rest) act = act ≡ Work (read_piece inode piece (entry_of inode piece))
+IsAwaitedByDriver inode (Writes payload stage piece rest) act = IsAwaitedAtDriverStage inode payload piece act stage
+IsAwaitedByDriver inode Answered act = IsReplyAct act
 
 -- an entry is written only after the creation of its object
-abbrev pub EntersAfter : Driver → List ℕ → Piece → List Piece → Stage → Type 0
+abbrev pub EntersAfter : Driver → List ℕ → Piece → List Piece → DriverStage → Type 0
 EntersAfter before payload piece rest InPlace = Unit {0}
 EntersAfter before payload piece rest Fetching = Unit {0}
 EntersAfter before payload piece rest Creating = Unit {0}
@@ -47,11 +47,11 @@ EntersWhatIsMade before (Writes payload stage piece rest) = EntersAfter before p
 EntersWhatIsMade before Answered = Unit {0}
 
 -- the session's inode once a work is done: its table changes when an entry was written, and only then
-abbrev pub inode_at : Content → Piece → Stage → Content
+abbrev pub inode_at : Content → Piece → DriverStage → Content
 inode_at inode piece InPlace = inode
 inode_at inode piece Fetching = inode
 inode_at inode piece Creating = inode
-inode_at inode piece Entering = entered inode piece
+inode_at inode piece Entering = table_with_entry inode piece
 
 -- the same of every driver
 abbrev pub inode_after : Content → Driver → Content
@@ -60,20 +60,20 @@ inode_after inode (Writes payload stage piece rest) = inode_at inode piece stage
 inode_after inode Answered = inode
 
 -- a step of a driver: its act is what is waited for, what it enters was made, and this is the inode that it leaves
-pub record Goes (before : Driver) (inode : Content) (step : Step) : Type 0 where
-  pub told : IsAwaited step.inode step.driver step.act
+pub record Goes (before : Driver) (inode : Content) (step : DriverStep) : Type 0 where
+  pub told : IsAwaitedByDriver step.inode step.driver step.act
   pub made : EntersWhatIsMade before step.driver
   pub table : step.inode ≡ inode
 
 -- the acts of a request from a step on, where its works give these bytes, one after the other
-unfoldable pub acts : Option Step → List (List ℕ) → List DriverAct
-acts None answers = []
-acts (Some step) [] = step.act ∷ []
-acts (Some step) (bytes ∷ later) = step.act ∷ acts (on_done step.inode bytes step.driver) later
+unfoldable pub driver_acts_from : Option DriverStep → List (List ℕ) → List DriverAct
+driver_acts_from None answers = []
+driver_acts_from (Some step) [] = step.act ∷ []
+driver_acts_from (Some step) (bytes ∷ later) = step.act ∷ driver_acts_from (driver_on_done step.inode bytes step.driver) later
 
 -- whether there is an object behind a piece
-abbrev pub is_there : Content → Piece → Bool
-is_there inode piece = not (entry_of inode piece == 0)
+abbrev pub has_object : Content → Piece → Bool
+has_object inode piece = not (entry_of inode piece == 0)
 
 -- the act that reads it
 abbrev pub read_act : Content → Piece → DriverAct

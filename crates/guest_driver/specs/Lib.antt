@@ -1,6 +1,6 @@
 pub mod Pieces
-pub mod Works
+pub mod PieceWorks
 pub mod Refusals
 pub mod Driver
 pub mod Course
-pub mod InodeLine
+pub mod InodeQueue

@@ -60,8 +60,8 @@ unfoldable pub pieces : ℕ → ℕ → ℕ → List Piece
 pieces shift offset size = map (piece_in shift offset size) (indexes shift offset size)
 
 -- the bytes of a write that belong to a piece
-abbrev pub bytes_of : List ℕ → Piece → List ℕ
-bytes_of payload piece = slice_range payload piece.place (piece.place + piece.size)
+abbrev pub piece_bytes : List ℕ → Piece → List ℕ
+piece_bytes payload piece = slice_range payload piece.place (piece.place + piece.size)
 
 -- a piece isn't empty, and lies in its object
 pub record IsPiece (shift : ℕ) (piece : Piece) : Type 0 where

@@ -20,6 +20,6 @@ refusal_on disk deleted (Write offset bytes) =
     if disk.snapshot then Some Readonly else past_end disk.inode (Write offset bytes)
 
 -- before all that, a disk has to be open
-abbrev pub refusal : Option Disk → Bool → DiskAsk → Option Cause
-refusal None deleted ask = Some VdiNotLocked
-refusal (Some disk) deleted ask = refusal_on disk deleted ask
+abbrev pub disk_refusal : Option Disk → Bool → DiskAsk → Option Cause
+disk_refusal None deleted ask = Some VdiNotLocked
+disk_refusal (Some disk) deleted ask = refusal_on disk deleted ask

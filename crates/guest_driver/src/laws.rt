@@ -8,16 +8,16 @@ ghost use Rattle.peer_proto.specs.declared.work.ObjWork.{ObjWork};
 ghost use Rattle.peer_proto.specs.declared.guest.GuestRsp.TheVariants.{Done, Piece as Told};
 ghost use Rattle.guest_driver.specs.declared.act.DriverAct.TheVariants.{Reply};
 ghost use Rattle.guest_driver.specs.declared.disk.Disk.{Disk as TheDisk};
-ghost use Rattle.guest_driver.specs.Pieces.{Piece, indexes, pieces, bytes_of, IsPiece, AreBlocks};
-ghost use Rattle.guest_driver.specs.Driver.{Driver, read_on, write_on, begin, on_done, bytes_wanted};
-ghost use Rattle.guest_driver.specs.Course.{Goes, inode_after, acts, is_there, read_act, told_of, write_acts, answers};
-ghost use Rattle.guest_driver.specs.InodeLine.{Line, is_on_inode, requests_in, may_begin, queued, finished, next_taken};
+ghost use Rattle.guest_driver.specs.Pieces.{Piece, indexes, pieces, piece_bytes, IsPiece, AreBlocks};
+ghost use Rattle.guest_driver.specs.Driver.{Driver, read_on, write_on, begin_driver, driver_on_done, driver_bytes_wanted};
+ghost use Rattle.guest_driver.specs.Course.{Goes, inode_after, driver_acts_from, has_object, read_act, told_of, write_acts, answers};
+ghost use Rattle.guest_driver.specs.InodeQueue.{InodeQueue, is_on_inode, requests_in, may_open_work, queue_with_waiting, queue_after_end, queue_after_start};
 
 /// The pieces of a request are the request, cut at the borders of objects.
 pub fn pieces_are_the_request()
     // Joined in their order they are its bytes.
     ensures joined { (shift offset : ℕ) (payload : List ℕ) → 1 ≤ length payload
-        → flat_map (bytes_of payload) (pieces shift offset (length payload)) ≡ payload }
+        → flat_map (piece_bytes payload) (pieces shift offset (length payload)) ≡ payload }
     // There is one for each object that is touched, and it lies in that object.
     ensures indexes { (shift offset size : ℕ)
         → map (λ (piece : Piece). piece.index) (pieces shift offset size) ≡ indexes shift offset size }
@@ -33,38 +33,39 @@ pub fn pieces_are_the_request()
 /// How pieces are read: those that aren't holes one after another, and the reply is what they gave, with zeros for the holes.
 pub fn a_read_goes_by_its_pieces()
     ensures { (inode : Content) (given : Piece → List ℕ) (rest : List Piece)
-        → acts (Some (read_on inode [] rest)) (map given (filter (is_there inode) rest))
-        ≡ map (read_act inode) (filter (is_there inode) rest) ++ Reply (Told (flat_map (told_of inode given) rest)) ∷ [] }
+        → driver_acts_from (Some (read_on inode [] rest)) (map given (filter (has_object inode) rest))
+        ≡ map (read_act inode) (filter (has_object inode) rest) ++ Reply (Told (flat_map (told_of inode given) rest)) ∷ [] }
 {}
 
 /// How pieces are written: one after another, each by what the table said of its object when the write began.
 pub fn a_write_goes_by_its_entries()
     ensures { (inode : Content) (payload : List ℕ) (given : Piece → List ℕ) (shift offset size : ℕ)
-        → acts (Some (write_on inode payload (pieces shift offset size))) (flat_map (answers inode given) (pieces shift offset size))
+        → driver_acts_from (Some (write_on inode payload (pieces shift offset size)))
+        (flat_map (answers inode given) (pieces shift offset size))
         ≡ flat_map (write_acts inode payload given) (pieces shift offset size) ++ Reply Done ∷ [] }
 {}
 
 /// What a driver does is what it then waits for; an entry of the table is written only after its object was created, and
 /// the session's table changes when it was written, and only then.
 pub fn entries_follow_their_objects()
-    ensures begun { (before : Driver) (disk : TheDisk) (ask : DiskAsk) → Goes before disk.inode (begin disk ask) }
+    ensures begun { (before : Driver) (disk : TheDisk) (ask : DiskAsk) → Goes before disk.inode (begin_driver disk ask) }
     ensures done { (inode : Content) (bytes : List ℕ) (driver : Driver)
-        → IfSome (on_done inode bytes driver) (λ step. Goes driver (inode_after inode driver) step) }
+        → IfSome (driver_on_done inode bytes driver) (λ step. Goes driver (inode_after inode driver) step) }
 {}
 
 /// A driver goes on exactly where it waits for a work.
 pub fn a_driver_waits_for_works()
     ensures { (inode : Content) (bytes : List ℕ) (driver : Driver)
-        → is_some (on_done inode bytes driver) ≡ is_some (bytes_wanted inode driver) }
+        → is_some (driver_on_done inode bytes driver) ≡ is_some (driver_bytes_wanted inode driver) }
 {}
 
 /// Works on an inode are done one at a time, in the order in which they came.
 pub fn the_line_keeps_its_order()
-    ensures one { (line : Line) (work : ObjWork) → IsTrue (is_on_inode work) → IsTrue (may_begin line work)
-        → line.current ≡ None }
-    ensures queued { (line : Line) (req : ℕ) (work : ObjWork)
-        → requests_in (queued line req work) ≡ requests_in line ++ req ∷ [] }
-    ensures next { (line : Line) → requests_in (next_taken line) ≡ requests_in line }
-    ensures ends { (line : Line) (req : ℕ) (work : ObjWork) → IsTrue (is_on_inode work) → line.current ≡ Some req
-        → requests_in line ≡ req ∷ requests_in (finished line work) }
+    ensures one { (inode_queue : InodeQueue) (work : ObjWork) → IsTrue (is_on_inode work) → IsTrue (may_open_work inode_queue work)
+        → inode_queue.current ≡ None }
+    ensures queued { (inode_queue : InodeQueue) (req : ℕ) (work : ObjWork)
+        → requests_in (queue_with_waiting inode_queue req work) ≡ requests_in inode_queue ++ req ∷ [] }
+    ensures next { (inode_queue : InodeQueue) → requests_in (queue_after_start inode_queue) ≡ requests_in inode_queue }
+    ensures ends { (inode_queue : InodeQueue) (req : ℕ) (work : ObjWork) → IsTrue (is_on_inode work) → inode_queue.current ≡ Some req
+        → requests_in inode_queue ≡ req ∷ requests_in (queue_after_end inode_queue work) }
 {}

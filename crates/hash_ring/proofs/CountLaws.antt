@@ -3,7 +3,7 @@ use Rattle.std.proofs.Common.{◌≡◌, ℕ, ◌+◌, Bool, true, false, cond, 
 use Rattle.std.specs.Prelude.{◌==◌, ◌||◌}
 use Rattle.std.specs.List.{list_any}
 use Rattle.object_id.specs.declared.entry.Member.{Member}
-use Rattle.hash_ring.specs.Placement.{Place, comes_first, put_in, in_order, is_among, one_a_zone, member_place, zone_count}
+use Rattle.hash_ring.specs.Placement.{Place, comes_first, put_in, places_in_order, is_among, one_a_zone, member_place, zone_count}
 
 -- how many zones are met that weren't seen
 abbrev pub fresh : List ℕ → List ℕ → ℕ
@@ -73,10 +73,10 @@ fresh-put_in seen p (q ∷ qs) = go (comes_first p q) (fresh-put_in (q.zone ∷ 
     go true e = refl
     go false e = ap (λ n. cond (is_among q.zone seen) 0 1 + n) e ∙ fresh_swap seen q.zone p.zone (zones_of qs)
 
-pub fresh-in_order : (seen : List ℕ) (ps : List Place) → fresh seen (zones_of (in_order ps)) ≡ fresh seen (zones_of ps)
-fresh-in_order seen [] = refl
-fresh-in_order seen (p ∷ ps) =
-    fresh-put_in seen p (in_order ps) ∙ ap (λ n. cond (is_among p.zone seen) 0 1 + n) (fresh-in_order (p.zone ∷ seen) ps)
+pub fresh-places_in_order : (seen : List ℕ) (ps : List Place) → fresh seen (zones_of (places_in_order ps)) ≡ fresh seen (zones_of ps)
+fresh-places_in_order seen [] = refl
+fresh-places_in_order seen (p ∷ ps) =
+    fresh-put_in seen p (places_in_order ps) ∙ ap (λ n. cond (is_among p.zone seen) 0 1 + n) (fresh-places_in_order (p.zone ∷ seen) ps)
 
 less_step : (t a b c : Bool) (f g n : ℕ) → (t ≡ true → a ≡ b) → g + cond (t || a) 0 (cond c 1 0) ≡ n → f ≡ g
     → (cond (t || b) 0 1 + f) + cond a 0 (cond (t || c) 1 0) ≡ cond b 0 1 + n

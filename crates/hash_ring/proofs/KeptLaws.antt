@@ -1,7 +1,7 @@
 -- What is kept of places in order, one a zone: the nearest place of each zone, whatever else there is.
 use Rattle.std.proofs.Common.{◌≡◌, ◌⊎◌, ℕ, ◌<◌, ◌≤◌, Bool, true, false, cond, List, [], ◌∷◌, map, take, refl, sym, ap, ap₂, ◌∙◌, subst, inl, inr, arith}
 use Rattle.std.specs.Prelude.{◌==◌, ◌||◌}
-use Rattle.hash_ring.specs.Placement.{Place, ComesFirst, in_order, is_among, one_a_zone, placed}
+use Rattle.hash_ring.specs.Placement.{Place, ComesFirst, places_in_order, is_among, one_a_zone, nodes_one_a_zone}
 use Rattle.hash_ring.proofs.InLaws.{In}
 use Rattle.hash_ring.proofs.OrderLaws.{comes_first_itself, comes_first_then, same_place, IsInOrder, in_order_ordered, from_in_order, into_in_order}
 
@@ -184,10 +184,10 @@ same_kept xs ys up vp zones h =
 
 -- so placement depends on the nearest places alone
 pub same_placed : (xs ys : List Place) → NodesKeepZones xs → HasTheNearest xs ys → (wanted : ℕ)
-    → placed xs wanted ≡ placed ys wanted
+    → nodes_one_a_zone xs wanted ≡ nodes_one_a_zone ys wanted
 same_placed xs ys zones h wanted =
     ap (λ kept. take wanted (map (λ (place : Place). place.node) kept))
-    (same_kept (in_order xs) (in_order ys) (in_order_ordered xs) (in_order_ordered ys)
+    (same_kept (places_in_order xs) (places_in_order ys) (in_order_ordered xs) (in_order_ordered ys)
     (λ p q i j e. zones p q (from_in_order xs p i) (from_in_order xs q j) e) (
       (λ p k. into_in_order xs p (h.0 p (from_in_order ys p k))),
       (λ p k. let n = h.1 p (from_in_order xs p k) in (n.0, into_in_order ys n.0 n.1, n.2, n.3)),

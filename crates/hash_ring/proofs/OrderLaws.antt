@@ -1,7 +1,7 @@
 -- The order of places: it is total, and `in_order` brings the same places into it.
 use Rattle.std.proofs.Common.{◌≡◌, ◌⊎◌, ℕ, ◌<◌, ◌≤◌, Bool, true, false, cond, List, [], ◌∷◌, refl, subst, inl, inr, arith}
 use Rattle.std.specs.Prelude.{◌==◌, nat_lt, nat_le, ◌&&◌, ◌||◌}
-use Rattle.hash_ring.specs.Placement.{Place, comes_first, ComesFirst, put_in, in_order}
+use Rattle.hash_ring.specs.Placement.{Place, comes_first, ComesFirst, put_in, places_in_order}
 use Rattle.hash_ring.proofs.InLaws.{In}
 
 pub comes_first_itself : (p : Place) → ComesFirst p p
@@ -76,19 +76,19 @@ put_in_ordered p (first ∷ rest) up = go (comes_first p first) refl (put_in_ord
     go false e ih =
         ((λ q k. behind (test_false p.distance first.distance p.node.0 first.node.0 e) q (from_put_in p rest q k)), ih)
 
-pub in_order_ordered : (ps : List Place) → IsInOrder (in_order ps)
+pub in_order_ordered : (ps : List Place) → IsInOrder (places_in_order ps)
 in_order_ordered [] = tt
-in_order_ordered (p ∷ ps) = put_in_ordered p (in_order ps) (in_order_ordered ps)
+in_order_ordered (p ∷ ps) = put_in_ordered p (places_in_order ps) (in_order_ordered ps)
 
-pub from_in_order : (ps : List Place) (q : Place) → In q (in_order ps) → In q ps
+pub from_in_order : (ps : List Place) (q : Place) → In q (places_in_order ps) → In q ps
 from_in_order [] q h = h
-from_in_order (p ∷ ps) q h = go (from_put_in p (in_order ps) q h) (λ k. from_in_order ps q k)
+from_in_order (p ∷ ps) q h = go (from_put_in p (places_in_order ps) q h) (λ k. from_in_order ps q k)
   where
-    go : (p ≡ q) ⊎ In q (in_order ps) → (In q (in_order ps) → In q ps) → (p ≡ q) ⊎ In q ps
+    go : (p ≡ q) ⊎ In q (places_in_order ps) → (In q (places_in_order ps) → In q ps) → (p ≡ q) ⊎ In q ps
     go (inl e) ih = inl e
     go (inr k) ih = inr (ih k)
 
-pub into_in_order : (ps : List Place) (q : Place) → In q ps → In q (in_order ps)
+pub into_in_order : (ps : List Place) (q : Place) → In q ps → In q (places_in_order ps)
 into_in_order [] q h = h
-into_in_order (p ∷ ps) q (inl e) = in_put_in p (in_order ps) q (inl e)
-into_in_order (p ∷ ps) q (inr h) = in_put_in p (in_order ps) q (inr (into_in_order ps q h))
+into_in_order (p ∷ ps) q (inl e) = in_put_in p (places_in_order ps) q (inl e)
+into_in_order (p ∷ ps) q (inr h) = in_put_in p (places_in_order ps) q (inr (into_in_order ps q h))

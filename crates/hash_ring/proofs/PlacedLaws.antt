@@ -8,7 +8,7 @@ use Rattle.std.proofs.lemmas.List.Sorted.{Contains-permutation, IsPermutation-sy
 use Rattle.object_id.specs.declared.entry.Member.{Member}
 use Rattle.hash_ring.specs.declared.point.Point.{Point}
 use Rattle.hash_ring.specs.Circle.{hash_of_virtual, distance}
-use Rattle.hash_ring.specs.Placement.{Place, ComesFirst, least, virtual_hashes, member_place, placed, targets_of, AreWeighted}
+use Rattle.hash_ring.specs.Placement.{Place, ComesFirst, least, virtual_hashes, member_place, nodes_one_a_zone, targets_of, AreWeighted}
 use Rattle.hash_ring.specs.Points.{points_of_member, points_of, hashes_of, node_place, targets_among, NodesHaveOneZone}
 use Rattle.hash_ring.proofs.InLaws.{In, in_from_contains, contains_from_in, in_map, from_map, in_filter, from_filter, in_flat_map, from_flat_map}
 use Rattle.hash_ring.proofs.OrderLaws.{comes_first_itself, same_parts}
@@ -80,7 +80,7 @@ nodes_are_nearest object points one = (to, from)
 
 -- the targets among points are placed by each point's own distance
 pub targets_among_points : (points : List Point) → NodesHaveOneZone points → (object wanted : ℕ)
-    → targets_among points object wanted ≡ placed (point_places object points) wanted
+    → targets_among points object wanted ≡ nodes_one_a_zone (point_places object points) wanted
 unfolding targets_among
 targets_among_points points one object wanted =
     sym (same_placed (point_places object points) (map (node_place points object) points)

@@ -5,13 +5,13 @@ use Rattle.std.proofs.lemmas.List.Sorted.{IsPermutation-refl, IsPermutation-cons
 use Rattle.object_id.specs.declared.node.NodeId.{NodeId}
 use Rattle.object_id.specs.declared.entry.Member.{Member}
 use Rattle.hash_ring.specs.declared.point.Point.{Point}
-use Rattle.hash_ring.specs.Placement.{Place, ComesFirst, comes_first, put_in, in_order, is_among, one_a_zone, member_place, targets_of, AreWeighted, zone_count}
+use Rattle.hash_ring.specs.Placement.{Place, ComesFirst, comes_first, put_in, places_in_order, is_among, one_a_zone, member_place, targets_of, AreWeighted, zone_count}
 use Rattle.hash_ring.specs.Points.{targets_among}
 use Rattle.hash_ring.proofs.InLaws.{In, in_at, in_from_contains, contains_from_in, from_map}
 use Rattle.hash_ring.proofs.OrderLaws.{IsInOrder, in_order_ordered, from_in_order, into_in_order}
 use Rattle.hash_ring.proofs.KeptLaws.{kept_is, is_kept, other_zone}
 use Rattle.hash_ring.proofs.PlacedLaws.{same_member}
-use Rattle.hash_ring.proofs.CountLaws.{fresh, length-one_a_zone, fresh-in_order, fresh-members, zones-member_places}
+use Rattle.hash_ring.proofs.CountLaws.{fresh, length-one_a_zone, fresh-places_in_order, fresh-members, zones-member_places}
 
 -- each element, and those after it
 abbrev pub EachLater : {X : Type 0} → (X → X → Type 0) → List X → Type 0
@@ -40,8 +40,8 @@ pub in_order_pairs : (ps : List Place) → IsInOrder ps → EachLater ComesFirst
 in_order_pairs [] h = tt
 in_order_pairs (p ∷ ps) h = (h.0, in_order_pairs ps h.1)
 
-pub in_order_ascends : (ps : List Place) → AllPairs ComesFirst (in_order ps)
-in_order_ascends ps = all_pairs_from_later ComesFirst (in_order ps) (in_order_pairs (in_order ps) (in_order_ordered ps))
+pub in_order_ascends : (ps : List Place) → AllPairs ComesFirst (places_in_order ps)
+in_order_ascends ps = all_pairs_from_later ComesFirst (places_in_order ps) (in_order_pairs (places_in_order ps) (in_order_ordered ps))
 
 swap_front : (p q : Place) (ps : List Place) → IsPermutation (p ∷ q ∷ ps) (q ∷ p ∷ ps)
 swap_front p q ps = IsPermutation-swap (p ∷ q ∷ ps) (q ∷ p ∷ ps) 0 1 (omega arith) (omega arith) refl
@@ -56,11 +56,11 @@ put_in_same p (q ∷ qs) = go (comes_first p q) (put_in_same p qs)
         IsPermutation-trans (p ∷ q ∷ qs) (q ∷ p ∷ qs) (q ∷ put_in p qs) (swap_front p q qs)
         (IsPermutation-cons q (p ∷ qs) (put_in p qs) h)
 
-pub in_order_same : (ps : List Place) → IsPermutation ps (in_order ps)
+pub in_order_same : (ps : List Place) → IsPermutation ps (places_in_order ps)
 in_order_same [] = IsPermutation-refl []
 in_order_same (p ∷ ps) =
-    IsPermutation-trans (p ∷ ps) (p ∷ in_order ps) (put_in p (in_order ps))
-    (IsPermutation-cons p ps (in_order ps) (in_order_same ps)) (put_in_same p (in_order ps))
+    IsPermutation-trans (p ∷ ps) (p ∷ places_in_order ps) (put_in p (places_in_order ps))
+    (IsPermutation-cons p ps (places_in_order ps) (in_order_same ps)) (put_in_same p (places_in_order ps))
 
 -- no two that are kept have one zone
 kept_apart : (seen : List ℕ) (ps : List Place) → IsInOrder ps → EachLater (λ (p q : Place). p.zone ≢ q.zone) (one_a_zone seen ps)
@@ -75,10 +75,10 @@ kept_apart seen (p ∷ ps) up = go (is_among p.zone seen) (kept_apart (p.zone �
     go true h = h
     go false h = (head, h)
 
-pub kept_zones : (places : List Place) → AllPairs (λ (p q : Place). p.zone ≢ q.zone) (one_a_zone [] (in_order places))
+pub kept_zones : (places : List Place) → AllPairs (λ (p q : Place). p.zone ≢ q.zone) (one_a_zone [] (places_in_order places))
 kept_zones places =
-    all_pairs_from_later (λ (p q : Place). p.zone ≢ q.zone) (one_a_zone [] (in_order places))
-    (kept_apart [] (in_order places) (in_order_ordered places))
+    all_pairs_from_later (λ (p q : Place). p.zone ≢ q.zone) (one_a_zone [] (places_in_order places))
+    (kept_apart [] (places_in_order places) (in_order_ordered places))
 
 kept_ascends : (seen : List ℕ) (ps : List Place) → IsInOrder ps → EachLater ComesFirst (one_a_zone seen ps)
 kept_ascends seen [] up = tt
@@ -92,33 +92,33 @@ kept_ascends seen (p ∷ ps) up = go (is_among p.zone seen) (kept_ascends (p.zon
     go true h = h
     go false h = (head, h)
 
-pub kept_in_order : (places : List Place) → AllPairs ComesFirst (one_a_zone [] (in_order places))
+pub kept_in_order : (places : List Place) → AllPairs ComesFirst (one_a_zone [] (places_in_order places))
 kept_in_order places =
-    all_pairs_from_later ComesFirst (one_a_zone [] (in_order places)) (kept_ascends [] (in_order places) (in_order_ordered places))
+    all_pairs_from_later ComesFirst (one_a_zone [] (places_in_order places)) (kept_ascends [] (places_in_order places) (in_order_ordered places))
 
 -- a place is kept exactly where it comes first of its zone
 pub kept_exactly : (places : List Place) (place : Place)
-    → Contains (one_a_zone [] (in_order places)) place
+    → Contains (one_a_zone [] (places_in_order places)) place
     ↔ (Contains places place × ((other : Place) → Contains places other → other.zone ≡ place.zone → ComesFirst place other))
 kept_exactly places place = (to, from)
   where
-    to : Contains (one_a_zone [] (in_order places)) place
+    to : Contains (one_a_zone [] (places_in_order places)) place
         → Contains places place × ((other : Place) → Contains places other → other.zone ≡ place.zone → ComesFirst place other)
     to c =
-        let r = kept_is [] (in_order places) place (in_order_ordered places) (in_from_contains (one_a_zone [] (in_order places)) place c) in (
+        let r = kept_is [] (places_in_order places) place (in_order_ordered places) (in_from_contains (one_a_zone [] (places_in_order places)) place c) in (
           contains_from_in places place (from_in_order places place r.0),
           λ q d z. r.2 q (into_in_order places q (in_from_contains places q d)) z,
         )
 
     from : Contains places place × ((other : Place) → Contains places other → other.zone ≡ place.zone → ComesFirst place other)
-        → Contains (one_a_zone [] (in_order places)) place
+        → Contains (one_a_zone [] (places_in_order places)) place
     from h =
-        contains_from_in (one_a_zone [] (in_order places)) place
-        (is_kept [] (in_order places) place (in_order_ordered places) (into_in_order places place (in_from_contains places place h.0)) refl
+        contains_from_in (one_a_zone [] (places_in_order places)) place
+        (is_kept [] (places_in_order places) place (in_order_ordered places) (into_in_order places place (in_from_contains places place h.0)) refl
         (λ q i z. h.1 q (contains_from_in places q (from_in_order places q i)) z))
 
 kept : List Member → ℕ → List Place
-kept members object = one_a_zone [] (in_order (map (member_place object) members))
+kept members object = one_a_zone [] (places_in_order (map (member_place object) members))
 
 -- each that is kept is a member's place
 member_of : (members : List Member) (object : ℕ) (p : Place) → In p (kept members object)
@@ -126,7 +126,7 @@ member_of : (members : List Member) (object : ℕ) (p : Place) → In p (kept me
 unfolding kept
 member_of members object p i =
     let places : List Place = map (member_place object) members in
-    let r = kept_is [] (in_order places) p (in_order_ordered places) i in
+    let r = kept_is [] (places_in_order places) p (in_order_ordered places) i in
     from_map (member_place object) members p (from_in_order places p r.0)
 
 pub target_is_member : (members : List Member) (object wanted : ℕ) (node : NodeId) → In node (targets_of members object wanted)
@@ -176,7 +176,7 @@ targets_apart members object wanted are =
     let places : List Place = map (member_place object) members in
     later_take (StandApart members) wanted (map (λ (p : Place). p.node) (kept members object))
     (nodes_apart members object are (kept members object) (member_of members object)
-    (kept_apart [] (in_order places) (in_order_ordered places)))
+    (kept_apart [] (places_in_order places) (in_order_ordered places)))
 
 pub targets_zones : (members : List Member) (object wanted : ℕ) → AreWeighted members
     → AllPairs (StandApart members) (targets_of members object wanted)
@@ -211,8 +211,8 @@ length-targets_of members object wanted =
     length-take wanted (map (λ (p : Place). p.node) (kept members object))
     ∙ ap (min wanted)
     (length-map (kept members object) (λ (p : Place). p.node)
-    ∙ length-one_a_zone [] (in_order places)
-    ∙ fresh-in_order [] places
+    ∙ length-one_a_zone [] (places_in_order places)
+    ∙ fresh-places_in_order [] places
     ∙ ap (fresh []) (zones-member_places object members)
     ∙ fresh-members members)
 

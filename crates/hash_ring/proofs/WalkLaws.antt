@@ -6,7 +6,7 @@ use Rattle.std.proofs.lemmas.List.Elements.{All-contains, All-drop}
 use Rattle.object_id.specs.declared.node.NodeId.{NodeId}
 use Rattle.hash_ring.specs.declared.point.Point.{Point}
 use Rattle.hash_ring.specs.Circle.{distance}
-use Rattle.hash_ring.specs.Placement.{Place, ComesFirst, in_order, is_among, one_a_zone}
+use Rattle.hash_ring.specs.Placement.{Place, ComesFirst, places_in_order, is_among, one_a_zone}
 use Rattle.hash_ring.specs.Points.{StandsBefore, IsRing, targets_among}
 use Rattle.hash_ring.specs.Walk.{walk, first_nodes}
 use Rattle.hash_ring.proofs.InLaws.{In, contains_from_in, in_append, in_append_left, in_append_right, in_map, from_map}
@@ -170,21 +170,21 @@ targets_among-walk object start points n ring before behind fits f =
     let zones = points_keep_zones object points ring.one_zone in
     let own : List Place = point_places object points in
     let met : List Place = point_places object (walk start points) in
-    let kept : one_a_zone [] (in_order own) ≡ one_a_zone [] met
-    = same_kept (in_order own) met (in_order_ordered own) walked
+    let kept : one_a_zone [] (places_in_order own) ≡ one_a_zone [] met
+    = same_kept (places_in_order own) met (in_order_ordered own) walked
     (λ p q i j e. zones p q (from_in_order own p i) (from_in_order own q j) e) (to, from) in
     sym (ap (take n) (first_nodes-places object [] (walk start points)))
     ∙ sym (ap (λ ps. take n (map (λ (p : Place). p.node) ps)) kept)
     ∙ sym (targets_among_points points ring.one_zone object n)
   where
-    to : (p : Place) → In p (point_places object (walk start points)) → In p (in_order (point_places object points))
+    to : (p : Place) → In p (point_places object (walk start points)) → In p (places_in_order (point_places object points))
     to p i =
         let a = from_map (point_place object) (walk start points) p i in
         let P : Place → Type 0 = λ r. In r (point_places object points) in
         into_in_order (point_places object points) p
         (subst P a.2 (in_map (point_place object) points a.0 (from_walk start points a.0 a.1)))
 
-    from : (p : Place) → In p (in_order (point_places object points))
+    from : (p : Place) → In p (places_in_order (point_places object points))
         → (q : Place) × In q (point_places object (walk start points)) × (q.zone ≡ p.zone) × ComesFirst q p
     from p i =
         let a = from_map (point_place object) points p (from_in_order (point_places object points) p i) in

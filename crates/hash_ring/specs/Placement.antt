@@ -38,9 +38,9 @@ put_in place [] = place ∷ []
 put_in place (first ∷ rest) = if comes_first place first then place ∷ first ∷ rest else first ∷ put_in place rest
 
 -- places in that order
-abbrev pub in_order : List Place → List Place
-in_order [] = []
-in_order (place ∷ places) = put_in place (in_order places)
+abbrev pub places_in_order : List Place → List Place
+places_in_order [] = []
+places_in_order (place ∷ places) = put_in place (places_in_order places)
 
 abbrev pub is_among : ℕ → List ℕ → Bool
 is_among zone zones = list_any (λ z. z == zone) zones
@@ -54,12 +54,12 @@ one_a_zone earlier (place ∷ later) =
     else place ∷ one_a_zone (place.zone ∷ earlier) later
 
 -- the nodes of places in order, one a zone, cut to the wanted number
-abbrev pub placed : List Place → ℕ → List NodeId
-placed places wanted = take wanted (map (λ (place : Place). place.node) (one_a_zone [] (in_order places)))
+abbrev pub nodes_one_a_zone : List Place → ℕ → List NodeId
+nodes_one_a_zone places wanted = take wanted (map (λ (place : Place). place.node) (one_a_zone [] (places_in_order places)))
 
 -- the targets of an object among members
 unfoldable pub targets_of : List Member → ℕ → ℕ → List NodeId
-targets_of members object wanted = placed (map (member_place object) members) wanted
+targets_of members object wanted = nodes_one_a_zone (map (member_place object) members) wanted
 
 -- no node stands twice, and each has a weight of 1 to 256
 pub record AreWeighted (members : List Member) : Type 0 where

@@ -4,7 +4,7 @@ use Rattle.object_id.specs.declared.node.NodeId.{NodeId}
 use Rattle.object_id.specs.declared.entry.Member.{Member}
 use Rattle.hash_ring.specs.declared.point.Point.{Point}
 use Rattle.hash_ring.specs.Circle.{distance}
-use Rattle.hash_ring.specs.Placement.{Place, least, virtual_hashes, placed}
+use Rattle.hash_ring.specs.Placement.{Place, least, virtual_hashes, nodes_one_a_zone}
 
 -- a member's points: one for each virtual node
 abbrev pub points_of_member : Member → List Point
@@ -29,7 +29,7 @@ node_place points object point = record {
 -- the targets of an object among the nodes of points. A node stands here once for each of its points, always
 -- alike; it is kept once, since its zone was seen then.
 unfoldable pub targets_among : List Point → ℕ → ℕ → List NodeId
-targets_among points object wanted = placed (map (node_place points object) points) wanted
+targets_among points object wanted = nodes_one_a_zone (map (node_place points object) points) wanted
 
 -- the points of one node have one zone
 pub record NodesHaveOneZone (points : List Point) : Type 0 where

@@ -3,21 +3,21 @@ ghost use Rattle.std.specs.Prelude.{◌≡◌, ◌≢◌, ◌↔◌, ℕ, ◌<�
 ghost use Rattle.object_id.specs.declared.node.NodeId.{NodeId};
 ghost use Rattle.object_id.specs.declared.entry.Member.{Member};
 ghost use Rattle.hash_ring.specs.declared.point.Point.{Point};
-ghost use Rattle.hash_ring.specs.Placement.{Place, ComesFirst, in_order, one_a_zone, AreWeighted, targets_of, zone_count};
+ghost use Rattle.hash_ring.specs.Placement.{Place, ComesFirst, places_in_order, one_a_zone, AreWeighted, targets_of, zone_count};
 ghost use Rattle.hash_ring.specs.Points.{points_of, targets_among};
 
 /// Places in order are the same places, by distance, then by number.
 pub fn order_of_places()
-    ensures same { (places : List Place) → IsPermutation places (in_order places) }
-    ensures ascends { (places : List Place) → AllPairs ComesFirst (in_order places) }
+    ensures same { (places : List Place) → IsPermutation places (places_in_order places) }
+    ensures ascends { (places : List Place) → AllPairs ComesFirst (places_in_order places) }
 {}
 
 /// Of places in order the first of each zone are kept, in that order, and no others.
 pub fn first_of_each_zone()
-    ensures kept { (places : List Place) (place : Place) → Contains (one_a_zone [] (in_order places)) place
+    ensures kept { (places : List Place) (place : Place) → Contains (one_a_zone [] (places_in_order places)) place
         ↔ (Contains places place × ((other : Place) → Contains places other → other.zone ≡ place.zone → ComesFirst place other)) }
-    ensures ascends { (places : List Place) → AllPairs ComesFirst (one_a_zone [] (in_order places)) }
-    ensures zones { (places : List Place) → AllPairs (λ (p q : Place). p.zone ≢ q.zone) (one_a_zone [] (in_order places)) }
+    ensures ascends { (places : List Place) → AllPairs ComesFirst (one_a_zone [] (places_in_order places)) }
+    ensures zones { (places : List Place) → AllPairs (λ (p q : Place). p.zone ≢ q.zone) (one_a_zone [] (places_in_order places)) }
 {}
 
 /// Targets are different members, no two of one zone.

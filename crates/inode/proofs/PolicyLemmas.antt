@@ -5,7 +5,7 @@ use Rattle.object_id.specs.declared.policy.Policy.{Policy}
 use Rattle.object_id.specs.declared.policy.Policy.TheVariants.{Copies, Coded}
 use Rattle.object_id.specs.declared.oid.Kind.TheVariants.{Block}
 use Rattle.object_id.specs.Policy.{is_width, IsPolicy, policy_byte, strips_of, wanted_of}
-use Rattle.inode.specs.Reading.{policy_of}
+use Rattle.inode.specs.Reading.{spelled_policy}
 
 abbrev some : Policy → Option Policy
 some policy = Some policy
@@ -45,7 +45,7 @@ by-byte byte copies policy true zero e = whole-copies byte copies policy (leb 1 
 by-byte byte copies policy false zero e =
     coded byte copies policy (is_width (byte / 16 * 2) && not (eqb (byte % 16) 0) && eqb copies (byte / 16 * 2 + byte % 16)) refl e
 
-pub policy-spelled : (byte copies : ℕ) (policy : Policy) → policy_of byte copies ≡ Some policy → IsSpelledBy byte copies policy
+pub policy-spelled : (byte copies : ℕ) (policy : Policy) → spelled_policy byte copies ≡ Some policy → IsSpelledBy byte copies policy
 policy-spelled byte copies policy e = by-byte byte copies policy (eqb byte 0) refl e
 
 -- ---- each policy is read from its spelling
@@ -77,7 +77,7 @@ halves d h =
       ]
     ]
 
-pub policy-again : (policy : Policy) → IsPolicy policy → policy_of (policy_byte policy) (strips_of policy) ≡ Some policy
+pub policy-again : (policy : Policy) → IsPolicy policy → spelled_policy (policy_byte policy) (strips_of policy) ≡ Some policy
 policy-again (Copies copies) valid =
     let fits : (leb 1 copies && leb copies 31) ≡ true = and_from (leb 1 copies) (leb copies 31) (le-leb 1 copies valid.0) (le-leb copies 31 valid.1) in
     rw fits refl
@@ -96,16 +96,16 @@ policy-again (Coded d p) valid =
 
 -- where no policy has these bytes, none is read
 pub policy-none : (byte copies : ℕ) → ((policy : Policy) → IsPolicy policy → policy_byte policy ≡ byte → strips_of policy ≡ copies → ⊥)
-    → policy_of byte copies ≡ None
-policy-none byte copies never = go (policy_of byte copies) refl
+    → spelled_policy byte copies ≡ None
+policy-none byte copies never = go (spelled_policy byte copies) refl
   where
-    go : (read : Option Policy) → policy_of byte copies ≡ read → read ≡ None
+    go : (read : Option Policy) → spelled_policy byte copies ≡ read → read ≡ None
     go None e = refl
     go (Some policy) e = let spelled = policy-spelled byte copies policy e in absurd (never policy spelled.valid spelled.byte_is spelled.copies_is)
 
-pub policy-read : (byte copies : ℕ) (policy : Policy) → IsPolicy policy → policy_byte policy ≡ byte → strips_of policy ≡ copies → policy_of byte copies ≡ Some policy
+pub policy-read : (byte copies : ℕ) (policy : Policy) → IsPolicy policy → policy_byte policy ≡ byte → strips_of policy ≡ copies → spelled_policy byte copies ≡ Some policy
 policy-read byte copies policy valid byte_is copies_is =
-    sym (ap (λ b. policy_of b (strips_of policy)) byte_is ∙ ap (policy_of byte) copies_is) ∙ policy-again policy valid
+    sym (ap (λ b. spelled_policy b (strips_of policy)) byte_is ∙ ap (spelled_policy byte) copies_is) ∙ policy-again policy valid
 
 -- the number of copies is that of the nodes that keep a data object
 pub wanted-strips : (policy : Policy) → wanted_of policy Block ≡ strips_of policy

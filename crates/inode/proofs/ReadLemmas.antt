@@ -14,7 +14,7 @@ use Rattle.object_id.proofs.FieldLemmas.{stands-first, stands-second, stands-fro
 use Rattle.inode.specs.declared.layout.TheConstants.{INODE_HEADER_BYTES, TEXT_BYTES, CHILDREN_BYTES}
 use Rattle.inode.specs.declared.fault.InodeFault.{InodeFault}
 use Rattle.inode.specs.declared.fault.InodeFault.TheVariants as faults
-use Rattle.inode.specs.Layout.{Content, Unread, Fills, text_bytes, inode_bytes, blank, no_children, SpellsInode, IsContent, IsText, IsEntry}
+use Rattle.inode.specs.Layout.{Content, UnreadParts, Fills, text_bytes, inode_bytes, unread_zeros, no_children, SpellsInode, IsContent, IsFieldText, IsEntry}
 use Rattle.inode.specs.Reading.{GivesOrNoMemory, is_entry, text_at, spec_at, vid_at, table_at, content_at, inode_of}
 use Rattle.inode.proofs.TextLemmas.{text-is_read}
 use Rattle.inode.proofs.TableLemmas.{pass-entries, entries-fit}
@@ -45,7 +45,7 @@ fourteen : (a b c d e f g h i j k l m t : List ℕ)
     ≡ length a + (length b + (length c + (length d + (length e + (length f + (length g + (length h + (length i + (length j + (length k + (length l + (length m + length t))))))))))))
 fourteen a b c d e f g h i j k l m t = simp length-append
 
-record ArePlaced (bytes : List ℕ) (content : Content) (unread : Unread) : Type 0 where
+record ArePlaced (bytes : List ℕ) (content : Content) (unread : UnreadParts) : Type 0 where
   name : Stands bytes 0 256 (text_bytes content.name unread.after_name)
   tag : Stands bytes 256 512 (text_bytes content.tag unread.after_tag)
   size : Stands bytes 536 544 (u64_bytes content.spec.size)
@@ -102,7 +102,7 @@ cut bytes a b c d e f g h i j k l m t to la lb lc ld le lf lg lh li lj lk ll lm 
       at_4664 = pm.then;
     }
 
-placed : (bytes : List ℕ) (content : Content) (unread : Unread) (rest : List ℕ) → Fills content unread → bytes ≡ inode_bytes content unread ++ rest
+placed : (bytes : List ℕ) (content : Content) (unread : UnreadParts) (rest : List ℕ) → Fills content unread → bytes ≡ inode_bytes content unread ++ rest
     → ArePlaced bytes content unread
 placed bytes content unread rest fills whole =
     let a : List ℕ = text_bytes content.name unread.after_name in
@@ -223,9 +223,9 @@ children-fill : length no_children ≡ CHILDREN_BYTES
 unfolding no_children
 children-fill = length-replicate {A = ℕ} CHILDREN_BYTES 0
 
-pub encoded-inode : (content : Content) (rest : List ℕ) → IsText content.name → IsText content.tag → SpellsInode (inode_bytes content (blank content) ++ rest) content
+pub encoded-inode : (content : Content) (rest : List ℕ) → IsFieldText content.name → IsFieldText content.tag → SpellsInode (inode_bytes content (unread_zeros content) ++ rest) content
 encoded-inode content rest name tag = record {
-  unread = blank content;
+  unread = unread_zeros content;
   rest = rest;
   fills = record {
     name = text-fills content.name name.0;

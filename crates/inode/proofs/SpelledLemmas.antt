@@ -13,8 +13,8 @@ use Rattle.object_id.proofs.FieldLemmas.{stands-then, stands-part, stands-u8, st
 use Rattle.inode.specs.declared.layout.TheConstants.{INODE_HEADER_BYTES, TEXT_BYTES, CHILDREN_BYTES}
 use Rattle.inode.specs.declared.fault.InodeFault.{InodeFault}
 use Rattle.inode.specs.declared.fault.InodeFault.TheVariants as faults
-use Rattle.inode.specs.Layout.{Content, Unread, text_bytes, SpellsInode, IsContent, IsEntry}
-use Rattle.inode.specs.Reading.{Fails, GivesOrNoMemory, is_entry, text_at, spec_at, vid_at, table_at, content_at, inode_of}
+use Rattle.inode.specs.Layout.{Content, UnreadParts, text_bytes, SpellsInode, IsContent, IsEntry}
+use Rattle.inode.specs.Reading.{FailsField, GivesOrNoMemory, is_entry, text_at, spec_at, vid_at, table_at, content_at, inode_of}
 use Rattle.inode.proofs.TextLemmas.{text-stands}
 use Rattle.inode.proofs.TableLemmas.{entries-pass}
 use Rattle.inode.proofs.SpecLemmas.{bind-ok, spec-read, vid-read}
@@ -102,7 +102,7 @@ content-spelled bytes content fits long read =
     let spec = spec-read bytes content.spec read.spec in
     let vid = vid-read bytes content.vid read.vid in
     let table = table-read content.spec bytes content.table read.table in
-    let unread : Unread = record {
+    let unread : UnreadParts = record {
       after_name = name.after;
       after_tag = tag.after;
       times = take 24 (drop 512 bytes);
@@ -149,7 +149,7 @@ inode-spelled bytes content fits e =
     (content-fits bytes content fits long read, content-spelled bytes content fits long read)
 
 -- a refusal that reading gives
-pub fails-as : (fault : InodeFault) (read : Result Content InodeFault) → read ≡ Err fault → Fails fault read
+pub fails-as : (fault : InodeFault) (read : Result Content InodeFault) → read ≡ Err fault → FailsField fault read
 fails-as faults.ShortInode read e = e
 fails-as faults.NameNotEnded read e = e
 fails-as faults.BadShift read e = e

@@ -9,8 +9,8 @@ use Rattle.object_id.specs.Fields.{Stands}
 use Rattle.object_id.proofs.FieldLemmas.{stands-as, range-is, part-length, range-stands}
 use Rattle.inode.specs.declared.layout.TheConstants.{TEXT_BYTES}
 use Rattle.inode.specs.declared.fault.InodeFault.{InodeFault}
-use Rattle.inode.specs.Layout.{text_bytes, IsText}
-use Rattle.inode.specs.Reading.{is_end, cut_at, text_of, text_at}
+use Rattle.inode.specs.Layout.{text_bytes, IsFieldText}
+use Rattle.inode.specs.Reading.{is_end, cut_at, text_in_field, text_at}
 
 -- what is known of a field whose text was read
 pub record IsCut (field text : List ℕ) : Type 0 where
@@ -35,7 +35,7 @@ cut-ends field end at =
           eqb-false (get_or field k 0) 0 (first.2 k within_end) (sym byte_is ∙ none),
     )
 
-pub text-cut : (field text : List ℕ) → text_of field ≡ Ok text → IsCut field text
+pub text-cut : (field text : List ℕ) → text_in_field field ≡ Ok text → IsCut field text
 text-cut field text e = go (position is_end field) refl e
   where
     go : (found : Option ℕ) → position is_end field ≡ found → cut_at field found ≡ Ok text → IsCut field text
@@ -61,7 +61,7 @@ text-position (b ∷ bs) after h =
 found-case : (there : Bool) (at place : ℕ) → there ≡ true → at ≡ place → cond there (Some at) None ≡ Some place
 found-case there at place a b = rw (a, b) refl
 
-pub text-again : (text after : List ℕ) → All (λ byte. byte ≢ 0) text → text_of (text_bytes text after) ≡ Ok text
+pub text-again : (text after : List ℕ) → All (λ byte. byte ≢ 0) text → text_in_field (text_bytes text after) ≡ Ok text
 text-again text after h =
     let at : position_or_len is_end (text ++ 0 ∷ after) ≡ length text = text-position text after (recursion_from_All (λ byte. byte ≢ 0) text h) in
     let inside : ltb (position_or_len is_end (text ++ 0 ∷ after)) (length (text ++ 0 ∷ after)) ≡ true
@@ -75,7 +75,7 @@ pub record StandsText (bytes : List ℕ) (at : ℕ) (text : List ℕ) : Type 0 w
   pub after : List ℕ
   pub stands : Stands bytes at (at + TEXT_BYTES) (text_bytes text after)
   pub long : length (text_bytes text after) ≡ TEXT_BYTES
-  pub valid : IsText text
+  pub valid : IsFieldText text
 
 pub text-stands : (bytes : List ℕ) (at : ℕ) (text : List ℕ) → at + TEXT_BYTES ≤ length bytes → text_at at bytes ≡ Ok text → StandsText bytes at text
 unfolding text_at
@@ -91,8 +91,8 @@ text-stands bytes at text within e =
       valid = (omega (arith, cut.inside, field_long), cut.no_end);
     }
 
-pub text-is_read : (bytes : List ℕ) (at to : ℕ) (text after : List ℕ) → IsText text → length (text_bytes text after) ≡ TEXT_BYTES
+pub text-is_read : (bytes : List ℕ) (at to : ℕ) (text after : List ℕ) → IsFieldText text → length (text_bytes text after) ≡ TEXT_BYTES
     → Stands bytes at to (text_bytes text after) → text_at at bytes ≡ Ok text
 unfolding text_at
 text-is_read bytes at to text after valid long stands =
-    ap text_of (range-stands bytes at to TEXT_BYTES (text_bytes text after) long stands) ∙ text-again text after valid.1
+    ap text_in_field (range-stands bytes at to TEXT_BYTES (text_bytes text after) long stands) ∙ text-again text after valid.1

@@ -22,7 +22,7 @@ pub record Content : Type 0 where
 
 -- bytes of the header that reading doesn't look at: behind the ends of name and tag, three times, the size of the state of
 -- a machine, the store policy, and the table of children
-pub record Unread : Type 0 where
+pub record UnreadParts : Type 0 where
   pub after_name : List ℕ
   pub after_tag : List ℕ
   pub times : List ℕ
@@ -35,18 +35,18 @@ abbrev pub text_bytes : List ℕ → List ℕ → List ℕ
 text_bytes text after = text ++ 0 ∷ after
 
 -- the header, field by field
-abbrev pub header_bytes : Content → Unread → List ℕ
+abbrev pub header_bytes : Content → UnreadParts → List ℕ
 header_bytes content unread =
     text_bytes content.name unread.after_name ++ text_bytes content.tag unread.after_tag ++ unread.times
     ++ u64_bytes content.spec.size ++ unread.vm_state_size ++ u8_bytes (policy_byte content.spec.policy) ++ unread.store_policy
     ++ u8_bytes (strips_of content.spec.policy) ++ u8_bytes content.spec.shift ++ u32_bytes content.snap_id
     ++ u32_bytes content.vid ++ u32_bytes content.parent ++ unread.children
 
-abbrev pub inode_bytes : Content → Unread → List ℕ
+abbrev pub inode_bytes : Content → UnreadParts → List ℕ
 inode_bytes content unread = header_bytes content unread ++ numbers_bytes w32 content.table
 
 -- each of these parts fills its place
-pub record Fills (content : Content) (unread : Unread) : Type 0 where
+pub record Fills (content : Content) (unread : UnreadParts) : Type 0 where
   pub name : length (text_bytes content.name unread.after_name) ≡ TEXT_BYTES
   pub tag : length (text_bytes content.tag unread.after_tag) ≡ TEXT_BYTES
   pub times : length unread.times ≡ 24
@@ -56,14 +56,14 @@ pub record Fills (content : Content) (unread : Unread) : Type 0 where
 
 -- the bytes begin with the spelling of what the inode says; what isn't read may be any
 pub record SpellsInode (bytes : List ℕ) (content : Content) : Type 0 where
-  pub unread : Unread
+  pub unread : UnreadParts
   pub rest : List ℕ
   pub fills : Fills content unread
   pub whole : bytes ≡ inode_bytes content unread ++ rest
 
 -- a text that ends inside its field: at most 255 bytes, none of them 0
-abbrev pub IsText : List ℕ → Type 0
-IsText text = (length text < TEXT_BYTES) × All (λ byte. byte ≢ 0) text
+abbrev pub IsFieldText : List ℕ → Type 0
+IsFieldText text = (length text < TEXT_BYTES) × All (λ byte. byte ≢ 0) text
 
 -- what may stand in a table
 abbrev pub IsEntry : ℕ → Type 0
@@ -71,8 +71,8 @@ IsEntry entry = entry < 2 ^ 24
 
 -- what an inode of the format may say
 pub record IsContent (content : Content) : Type 0 where
-  pub name : IsText content.name
-  pub tag : IsText content.tag
+  pub name : IsFieldText content.name
+  pub tag : IsFieldText content.tag
   pub spec : IsSpec content.spec
   pub snap_id : content.snap_id < 2 ^ 32
   pub vid : IsVid content.vid
@@ -85,8 +85,8 @@ unfoldable pub no_children : List ℕ
 no_children = zeros CHILDREN_BYTES
 
 -- what this store writes: zeros wherever nothing is read
-abbrev pub blank : Content → Unread
-blank content = record {
+abbrev pub unread_zeros : Content → UnreadParts
+unread_zeros content = record {
   after_name = zeros (TEXT_BYTES - 1 - length content.name);
   after_tag = zeros (TEXT_BYTES - 1 - length content.tag);
   times = zeros 24;

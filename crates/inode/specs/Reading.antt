@@ -6,7 +6,7 @@ use Rattle.std.specs.Int.{w32}
 use Rattle.object_id.specs.declared.policy.Policy.{Policy}
 use Rattle.object_id.specs.declared.policy.Policy.TheVariants.{Copies, Coded}
 use Rattle.object_id.specs.declared.entry.VdiSpec.{VdiSpec}
-use Rattle.object_id.specs.declared.entry.TheConstants.{SHIFT_MIN, SHIFT_MAX}
+use Rattle.object_id.specs.declared.limits.TheConstants.{SHIFT_MIN, SHIFT_MAX, VID_MAX}
 use Rattle.object_id.specs.Policy.{is_width}
 use Rattle.object_id.specs.Spec.{objects_of}
 use Rattle.object_id.specs.Fields.{u8_at, u32_at, u64_at, numbers_at}
@@ -22,18 +22,18 @@ abbrev pub ◌>>=◌ : {A B : Type 0} → Result A InodeFault → (A → Result 
 (Err fault) >>= f = Err fault
 
 -- what a function returned, seen by view, is what reading gives
-abbrev pub Gives : {X Y : Type 0} → (X → Y) → Result X InodeFault → Result Y InodeFault → Type 0
-Gives view (Ok x) read = read ≡ Ok (view x)
-Gives view (Err fault) read = read ≡ Err fault
+abbrev pub GivesField : {X Y : Type 0} → (X → Y) → Result X InodeFault → Result Y InodeFault → Type 0
+GivesField view (Ok x) read = read ≡ Ok (view x)
+GivesField view (Err fault) read = read ≡ Err fault
 
 -- the same, unless memory ran out
-abbrev pub Fails : {Y : Type 0} → InodeFault → Result Y InodeFault → Type 0
-Fails faults.NoMemory read = Unit {0}
-Fails fault read = read ≡ Err fault
+abbrev pub FailsField : {Y : Type 0} → InodeFault → Result Y InodeFault → Type 0
+FailsField faults.NoMemory read = Unit {0}
+FailsField fault read = read ≡ Err fault
 
 abbrev pub GivesOrNoMemory : {X Y : Type 0} → (X → Y) → Result X InodeFault → Result Y InodeFault → Type 0
 GivesOrNoMemory view (Ok x) read = read ≡ Ok (view x)
-GivesOrNoMemory view (Err fault) read = Fails fault read
+GivesOrNoMemory view (Err fault) read = FailsField fault read
 
 -- the text before the first 0 of a field
 abbrev pub is_end : ℕ → Bool
@@ -43,25 +43,27 @@ abbrev pub cut_at : List ℕ → Option ℕ → Result (List ℕ) InodeFault
 cut_at field (Some end) = Ok (take end field)
 cut_at field None = Err faults.NameNotEnded
 
-abbrev pub text_of : List ℕ → Result (List ℕ) InodeFault
-text_of field = cut_at field (position is_end field)
+abbrev pub text_in_field : List ℕ → Result (List ℕ) InodeFault
+text_in_field field = cut_at field (position is_end field)
 
 unfoldable pub text_at : ℕ → List ℕ → Result (List ℕ) InodeFault
-text_at at bytes = text_of (slice_range bytes at (at + TEXT_BYTES))
+text_at at bytes = text_in_field (slice_range bytes at (at + TEXT_BYTES))
 
 -- the policy that a policy byte and the number of copies beside it spell
-abbrev pub policy_of : ℕ → ℕ → Option Policy
-policy_of byte copies =
+abbrev pub spelled_policy : ℕ → ℕ → Option Policy
+spelled_policy byte copies =
     if byte == 0 then
     if nat_le 1 copies && nat_le copies 31 then Some (Copies copies) else None
     else
-    if is_width (byte / 16 * 2) && not (byte % 16 == 0) && copies == byte / 16 * 2 + byte % 16 then Some (Coded (byte / 16 * 2) (byte % 16)) else None
+    if is_width (byte / 16 * 2) && not (byte % 16 == 0) && copies == byte / 16 * 2 + byte % 16
+    then Some (Coded (byte / 16 * 2) (byte % 16)) else None
 
 unfoldable pub shift_at : List ℕ → Result ℕ InodeFault
-shift_at bytes = if nat_le SHIFT_MIN (u8_at 555 bytes) && nat_le (u8_at 555 bytes) SHIFT_MAX then Ok (u8_at 555 bytes) else Err faults.BadShift
+shift_at bytes = if nat_le SHIFT_MIN (u8_at 555 bytes) && nat_le (u8_at 555 bytes) SHIFT_MAX then Ok (u8_at 555 bytes)
+    else Err faults.BadShift
 
 unfoldable pub policy_at : List ℕ → Result Policy InodeFault
-policy_at bytes = ok_or (policy_of (u8_at 552 bytes) (u8_at 554 bytes)) faults.BadPolicy
+policy_at bytes = ok_or (spelled_policy (u8_at 552 bytes) (u8_at 554 bytes)) faults.BadPolicy
 
 -- whole blocks, that at most 2^20 objects hold
 abbrev pub is_size : ℕ → ℕ → Bool
@@ -78,7 +80,7 @@ spec_at bytes = do
   Ok (record { size = size; policy = policy; shift = shift })
 
 unfoldable pub vid_at : List ℕ → Result ℕ InodeFault
-vid_at bytes = if nat_le 1 (u32_at 560 bytes) && nat_lt (u32_at 560 bytes) (2 ^ 24) then Ok (u32_at 560 bytes) else Err faults.BadSize
+vid_at bytes = if nat_le 1 (u32_at 560 bytes) && nat_le (u32_at 560 bytes) VID_MAX then Ok (u32_at 560 bytes) else Err faults.BadSize
 
 -- as many entries as the disk has objects
 abbrev pub is_entry : ℕ → Bool
@@ -87,7 +89,8 @@ is_entry entry = nat_lt entry (2 ^ 24)
 unfoldable pub table_at : VdiSpec → List ℕ → Result (List ℕ) InodeFault
 table_at spec bytes =
     if nat_lt (length bytes) (INODE_HEADER_BYTES + 4 * objects_of spec) then Err faults.ShortInode else
-    if list_all is_entry (numbers_at w32 (objects_of spec) INODE_HEADER_BYTES bytes) then Ok (numbers_at w32 (objects_of spec) INODE_HEADER_BYTES bytes)
+    if list_all is_entry (numbers_at w32 (objects_of spec) INODE_HEADER_BYTES bytes)
+    then Ok (numbers_at w32 (objects_of spec) INODE_HEADER_BYTES bytes)
     else Err faults.BadEntry
 
 -- bytes that have a header

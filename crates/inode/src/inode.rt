@@ -2,7 +2,7 @@ ghost use Rattle.std.specs.Prelude.{◌≡◌, ◌<◌, [], length, slice_index,
 ghost use Rattle.std.specs.Int.{w32};
 ghost use Rattle.object_id.specs.Spec.{IsSpec, IsName, objects_of};
 ghost use Rattle.object_id.specs.Fields.{zeros};
-ghost use Rattle.inode.specs.Layout.{Content, IsContent, IsText, SpellsInode, inode_bytes, blank, parent_number};
+ghost use Rattle.inode.specs.Layout.{Content, IsContent, IsFieldText, SpellsInode, inode_bytes, unread_zeros, parent_number};
 ghost use Rattle.inode.specs.Reading.{GivesOrNoMemory, inode_of};
 
 use crate::fault::InodeFault;
@@ -28,13 +28,21 @@ pub struct Inode {
 impl Model for Inode {
     ghost use Rattle.std.specs.Prelude.{◌≡◌, length};
     ghost use Rattle.object_id.specs.Spec.{IsSpec, objects_of};
-    ghost use Rattle.inode.specs.Layout.{Content, IsText};
+    ghost use Rattle.inode.specs.Layout.{Content, IsFieldText};
 
     ghost Value = { Content };
 
-    ghost view = { λ i. record { name = i.name; tag = i.tag; spec = i.spec; snap_id = i.snap_id; vid = i.vid.0; parent = i.parent; table = i.table.items } };
+    ghost view = { λ i. record {
+      name = i.name;
+      tag = i.tag;
+      spec = i.spec;
+      snap_id = i.snap_id;
+      vid = i.vid.0;
+      parent = i.parent;
+      table = i.table.items;
+    } };
 
-    ghost invariant = { λ i. IsText i.name × IsText i.tag × IsSpec i.spec × (length i.table.items ≡ objects_of i.spec) };
+    ghost invariant = { λ i. IsFieldText i.name × IsFieldText i.tag × IsSpec i.spec × (length i.table.items ≡ objects_of i.spec) };
 }
 
 /// How many data objects a disk of this spec has: its size in objects, rounded up.
@@ -172,7 +180,7 @@ impl Inode {
 
     /// The inode's spelling, with zeros wherever nothing is read: 4,664 bytes and four for each object.
     pub fn to_bytes(&self, alloc: Global) -> Result<Bytes, NoMemory>
-        ensures { IfOk result (λ bytes. bytes ≡ inode_bytes self.now (blank self.now)) }
+        ensures { IfOk result (λ bytes. bytes ≡ inode_bytes self.now (unread_zeros self.now)) }
     {
         write_inode(alloc, self)
     }

@@ -1,14 +1,14 @@
 //! Laws of the spelling, for the proofs of the layers above: each is the contract of a function that does nothing.
 ghost use Rattle.std.specs.Prelude.{◌≡◌, ℕ, ◌+◌, ◌*◌, ◌^◌, List, ◌++◌};
 ghost use Rattle.inode.specs.declared.layout.TheConstants.{INODE_BYTES, INODE_HEADER_BYTES};
-ghost use Rattle.inode.specs.Layout.{Content, IsText, IsContent, SpellsInode, inode_bytes, blank};
+ghost use Rattle.inode.specs.Layout.{Content, IsFieldText, IsContent, SpellsInode, inode_bytes, unread_zeros};
 
 /// Bytes begin with the spelling of one inode at most, and what `to_bytes` gives begins with that of the inode, whatever
 /// follows it. So reading it gives the inode.
 pub fn inodes_are_read_again()
     ensures one { (bytes : List ℕ) (a b : Content) → IsContent a → IsContent b → SpellsInode bytes a → SpellsInode bytes b → a ≡ b }
-    ensures encoded { (content : Content) (rest : List ℕ) → IsText content.name → IsText content.tag
-        → SpellsInode (inode_bytes content (blank content) ++ rest) content }
+    ensures encoded { (content : Content) (rest : List ℕ) → IsFieldText content.name → IsFieldText content.tag
+        → SpellsInode (inode_bytes content (unread_zeros content) ++ rest) content }
 {}
 
 /// An inode object has room for the header and the most entries that a disk may have.

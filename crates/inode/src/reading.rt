@@ -5,7 +5,7 @@ ghost use Rattle.std.specs.Int.{w32};
 ghost use Rattle.object_id.specs.Policy.{IsPolicy};
 ghost use Rattle.object_id.specs.Spec.{IsSpec, objects_of};
 ghost use Rattle.object_id.specs.Fields.{numbers_at};
-ghost use Rattle.inode.specs.Layout.{IsText};
+ghost use Rattle.inode.specs.Layout.{IsFieldText};
 ghost use Rattle.inode.specs.Reading as reading;
 ghost use Rattle.inode.specs.Parts.{parts_content};
 
@@ -25,7 +25,7 @@ fn end_of(field: &[u8]) -> Option<usize>
 
 /// The text before the first 0 of a field.
 fn text_of(field: &[u8]) -> Result<&[u8], InodeFault>
-    ensures value { reading.Gives (λ text. text.now) result (reading.text_of field.now) }
+    ensures value { reading.GivesField (λ text. text.now) result (reading.text_in_field field.now) }
     ensures ends { IfOk result (λ text. (length text.now < length field.now) × All (λ byte. byte ≢ 0) text.now) }
 {
     match end_of(field) {
@@ -37,8 +37,8 @@ fn text_of(field: &[u8]) -> Result<&[u8], InodeFault>
 #[tactic(auto, unfolding(crate::specs::Reading::text_at))]
 fn text_at(bytes: &[u8], at: usize) -> Result<&[u8], InodeFault>
     requires { at + TEXT_BYTES ≤ length bytes.now }
-    ensures value { reading.Gives (λ text. text.now) result (reading.text_at at bytes.now) }
-    ensures valid { IfOk result (λ text. IsText text.now) }
+    ensures value { reading.GivesField (λ text. text.now) result (reading.text_at at bytes.now) }
+    ensures valid { IfOk result (λ text. IsFieldText text.now) }
 {
     text_of(&bytes[at..at + TEXT_BYTES])
 }
@@ -58,7 +58,7 @@ fn shift_at(bytes: &[u8]) -> Result<u8, InodeFault>
 }
 
 fn policy_of(byte: u8, copies: u8) -> Option<Policy>
-    ensures value { result ≡ reading.policy_of byte copies }
+    ensures value { result ≡ reading.spelled_policy byte copies }
     ensures valid { IfSome result (λ policy. IsPolicy policy) }
 {
     match Policy::from_byte(byte, copies) {
@@ -114,11 +114,11 @@ fn spec_at(bytes: &[u8]) -> Result<VdiSpec, InodeFault>
 #[tactic(auto, unfolding(crate::specs::Reading::vid_at))]
 fn vid_at(bytes: &[u8]) -> Result<Vid, InodeFault>
     requires { INODE_HEADER_BYTES ≤ length bytes.now }
-    ensures { reading.Gives (λ vid. vid.0) result (reading.vid_at bytes.now) }
+    ensures { reading.GivesField (λ vid. vid.0) result (reading.vid_at bytes.now) }
 {
-    let vid = u32_at(bytes, 560);
-    if 1 <= vid && vid < ENTRY_END {
-        Ok(Vid(vid))
+    let vid = Vid(u32_at(bytes, 560));
+    if vid.is_valid() {
+        Ok(vid)
     } else {
         Err(InodeFault::BadSize)
     }
@@ -141,7 +141,8 @@ fn are_entries(count: u32, bytes: &[u8]) -> bool
 #[tactic(auto, unfolding(crate::specs::Reading::table_at))]
 fn check_table(spec: VdiSpec, bytes: &[u8]) -> Result<(), InodeFault>
     requires { IsSpec spec }
-    ensures value { reading.Gives (λ _. numbers_at w32 (objects_of spec) INODE_HEADER_BYTES bytes.now) result (reading.table_at spec bytes.now) }
+    ensures value { reading.GivesField (λ _. numbers_at w32 (objects_of spec) INODE_HEADER_BYTES bytes.now) result
+        (reading.table_at spec bytes.now) }
     ensures long { IfOk result (λ _. INODE_HEADER_BYTES + 4 * objects_of spec ≤ length bytes.now) }
 {
     let count = objects(spec);
@@ -181,8 +182,8 @@ struct Parts<'a> {
 #[tactic(auto, unfolding(crate::specs::Reading::content_at))]
 fn read_parts(bytes: &[u8]) -> Result<Parts<'_>, InodeFault>
     requires { INODE_HEADER_BYTES ≤ length bytes.now }
-    ensures value { reading.Gives (λ parts. parts_content parts bytes.now) result (reading.content_at bytes.now) }
-    ensures texts { IfOk result (λ parts. IsText parts.name.now × IsText parts.tag.now) }
+    ensures value { reading.GivesField (λ parts. parts_content parts bytes.now) result (reading.content_at bytes.now) }
+    ensures texts { IfOk result (λ parts. IsFieldText parts.name.now × IsFieldText parts.tag.now) }
     ensures spec { IfOk result (λ parts. IsSpec parts.spec) }
     ensures long { IfOk result (λ parts. INODE_HEADER_BYTES + 4 * objects_of parts.spec ≤ length bytes.now) }
 {
@@ -202,7 +203,7 @@ fn read_parts(bytes: &[u8]) -> Result<Parts<'_>, InodeFault>
 }
 
 fn make(alloc: Global, parts: &Parts<'_>, bytes: &[u8]) -> Result<Inode, NoMemory>
-    requires texts { IsText parts.now.name.now × IsText parts.now.tag.now }
+    requires texts { IsFieldText parts.now.name.now × IsFieldText parts.now.tag.now }
     requires spec { IsSpec parts.now.spec }
     requires long { INODE_HEADER_BYTES + 4 * objects_of parts.now.spec ≤ length bytes.now }
     ensures { IfOk result (λ inode. inode ≡ parts_content parts.now bytes.now) }

@@ -3,7 +3,7 @@ ghost use Rattle.std.specs.Prelude.{◌≡◌, ◌+◌, ◌*◌, ◌-◌, ◌<�
 ghost use Rattle.std.specs.Int.{w32};
 ghost use Rattle.object_id.specs.Policy.{IsPolicy, strips_of};
 ghost use Rattle.object_id.specs.Fields.{zeros, numbers_bytes};
-ghost use Rattle.inode.specs.Layout.{header_bytes, inode_bytes, text_bytes, blank, no_children};
+ghost use Rattle.inode.specs.Layout.{header_bytes, inode_bytes, text_bytes, unread_zeros, no_children};
 
 use crate::inode::Inode;
 use crate::layout::{CHILDREN_BYTES, INODE_HEADER_BYTES, TEXT_BYTES};
@@ -45,7 +45,7 @@ fn copies(policy: Policy) -> u8
 }
 
 fn write_header(alloc: Global, inode: &Inode) -> Result<Vec<u8>, NoMemory>
-    ensures { IfOk result (λ out. out.items ≡ header_bytes inode.now (blank inode.now)) }
+    ensures { IfOk result (λ out. out.items ≡ header_bytes inode.now (unread_zeros inode.now)) }
 {
     let mut out = Vec::with_capacity(alloc, INODE_HEADER_BYTES + 4 * inode.table.len())?;
     push_text(&mut out, inode.name.as_slice())?;
@@ -74,7 +74,7 @@ fn push_table(out: &mut Vec<u8>, table: &[u32]) -> Result<(), NoMemory>
 }
 
 pub(crate) fn write_inode(alloc: Global, inode: &Inode) -> Result<Bytes, NoMemory>
-    ensures { IfOk result (λ bytes. bytes ≡ inode_bytes inode.now (blank inode.now)) }
+    ensures { IfOk result (λ bytes. bytes ≡ inode_bytes inode.now (unread_zeros inode.now)) }
 {
     let mut out = write_header(alloc, inode)?;
     push_table(&mut out, inode.table.as_slice())?;

@@ -7,12 +7,12 @@ use Rattle.std.proofs.lemmas.List.Elements.{filter_agree, All-head, All-tail}
 use Rattle.std.proofs.lemmas.List.Folds.{list_any_at}
 use Rattle.object_id.specs.declared.node.NodeId.{NodeId}
 use Rattle.object_list.specs.Union.{union}
-use Rattle.object_list.specs.Gathered.{Gathered, Answer, is_node, has_node, asked, answered, after, has_answered}
+use Rattle.object_list.specs.Gathered.{GatheredLists, ListAnswer, is_same_node, has_node, gathered_of_none, gathered_with_answer, gathered_after, has_answered}
 use Rattle.object_list.proofs.AscendingLemmas.{ascending-nil, contains-nil}
 use Rattle.object_list.proofs.UnionLemmas.{union-ascending, union-has, union-only}
 
-abbrev from_there : Gathered → List Answer → Gathered
-from_there gathered answers = fold (λ gathered (answer : Answer). answered answer.from answer.list gathered) gathered answers
+abbrev from_there : GatheredLists → List ListAnswer → GatheredLists
+from_there gathered answers = fold (λ gathered (answer : ListAnswer). gathered_with_answer answer.from answer.list gathered) gathered answers
 
 filter-filter : {X : Type 0} (p q : X → Bool) (xs : List X) → filter p (filter q xs) ≡ filter (λ x. q x && p x) xs
 filter-filter p q [] = refl
@@ -30,49 +30,49 @@ not-or : (a b : Bool) → (not a && not b) ≡ not (a || b)
 not-or true b = refl
 not-or false b = refl
 
-waiting_from : (gathered : Gathered) (answers : List Answer)
+waiting_from : (gathered : GatheredLists) (answers : List ListAnswer)
     → (from_there gathered answers).waiting ≡ filter (λ node. not (has_answered node answers)) gathered.waiting
 waiting_from gathered [] = sym (filter-all gathered.waiting)
 waiting_from gathered (answer ∷ answers) =
-    waiting_from (answered answer.from answer.list gathered) answers
-    ∙ filter-filter (λ node. not (has_answered node answers)) (λ node. not (is_node answer.from node)) gathered.waiting
-    ∙ filter_agree (λ node. not (is_node answer.from node) && not (has_answered node answers)) (λ node. not (has_answered node (answer ∷ answers)))
-    (λ node. not-or (is_node answer.from node) (has_answered node answers)) gathered.waiting
+    waiting_from (gathered_with_answer answer.from answer.list gathered) answers
+    ∙ filter-filter (λ node. not (has_answered node answers)) (λ node. not (is_same_node answer.from node)) gathered.waiting
+    ∙ filter_agree (λ node. not (is_same_node answer.from node) && not (has_answered node answers)) (λ node. not (has_answered node (answer ∷ answers)))
+    (λ node. not-or (is_same_node answer.from node) (has_answered node answers)) gathered.waiting
 
-pub waiting_after : (me : NodeId) (members : List NodeId) (answers : List Answer)
-    → (after me members answers).waiting ≡ filter (λ node. not (is_node me node) && not (has_answered node answers)) members
+pub waiting_after : (me : NodeId) (members : List NodeId) (answers : List ListAnswer)
+    → (gathered_after me members answers).waiting ≡ filter (λ node. not (is_same_node me node) && not (has_answered node answers)) members
 waiting_after me members answers =
-    waiting_from (asked me members) answers
-    ∙ filter-filter (λ node. not (has_answered node answers)) (λ node. not (is_node me node)) members
+    waiting_from (gathered_of_none me members) answers
+    ∙ filter-filter (λ node. not (has_answered node answers)) (λ node. not (is_same_node me node)) members
 
 -- nodes of one number are the same
-node_from : (node other : NodeId) → is_node node other ≡ true → node ≡ other
+node_from : (node other : NodeId) → is_same_node node other ≡ true → node ≡ other
 node_from node other here = let same : other.0 ≡ node.0 = eqb-true other.0 node.0 here in λ i. record { 0 = sym same i }
 
 -- a test of a node by its number picks from a list as it judges that node
 pub has_node-filter : (p : NodeId → Bool) (node : NodeId) (nodes : List NodeId) → has_node node (filter p nodes) ≡ (has_node node nodes && p node)
 has_node-filter p node [] = refl
-has_node-filter p node (first ∷ nodes) = by_test (has_node-filter p node nodes) (cases_Bool (is_node node first)) (p first) refl
+has_node-filter p node (first ∷ nodes) = by_test (has_node-filter p node nodes) (cases_Bool (is_same_node node first)) (p first) refl
   where
-    by_test : has_node node (filter p nodes) ≡ (has_node node nodes && p node) → (is_node node first ≡ true) ⊎ (is_node node first ≡ false)
+    by_test : has_node node (filter p nodes) ≡ (has_node node nodes && p node) → (is_same_node node first ≡ true) ⊎ (is_same_node node first ≡ false)
         → (b : Bool) → p first ≡ b
-        → has_node node (cond b (first ∷ filter p nodes) (filter p nodes)) ≡ ((is_node node first || has_node node nodes) && p node)
+        → has_node node (cond b (first ∷ filter p nodes) (filter p nodes)) ≡ ((is_same_node node first || has_node node nodes) && p node)
     by_test rest (inl here) true passes =
         let same : p node ≡ true = ap p (node_from node first here) ∙ passes in
         ap (λ t. t || has_node node (filter p nodes)) here ∙ sym (ap (λ t. (t || has_node node nodes) && p node) here ∙ same)
     by_test rest (inl here) false fails =
         let same : p node ≡ false = ap p (node_from node first here) ∙ fails in
-        rest ∙ and_right (has_node node nodes) (p node) same ∙ sym (and_right (is_node node first || has_node node nodes) (p node) same)
+        rest ∙ and_right (has_node node nodes) (p node) same ∙ sym (and_right (is_same_node node first || has_node node nodes) (p node) same)
     by_test rest (inr other) true passes =
         ap (λ t. t || has_node node (filter p nodes)) other ∙ rest ∙ sym (ap (λ t. (t || has_node node nodes) && p node) other)
     by_test rest (inr other) false fails =
         rest ∙ sym (ap (λ t. (t || has_node node nodes) && p node) other)
 
-pub waits_for_after : (me : NodeId) (members : List NodeId) (answers : List Answer) (node : NodeId)
-    → has_node node (after me members answers).waiting ≡ (has_node node members && (not (is_node me node) && not (has_answered node answers)))
+pub waits_for_after : (me : NodeId) (members : List NodeId) (answers : List ListAnswer) (node : NodeId)
+    → has_node node (gathered_after me members answers).waiting ≡ (has_node node members && (not (is_same_node me node) && not (has_answered node answers)))
 waits_for_after me members answers node =
     ap (has_node node) (waiting_after me members answers)
-    ∙ has_node-filter (λ other. not (is_node me other) && not (has_answered other answers)) node members
+    ∙ has_node-filter (λ other. not (is_same_node me other) && not (has_answered other answers)) node members
 
 -- two tests that agree on the elements of a list keep the same of it
 filter-on : {X : Type 0} (p q : X → Bool) (xs : List X) → All (λ x. p x ≡ q x) xs → filter p xs ≡ filter q xs
@@ -81,14 +81,14 @@ filter-on p q (x ∷ xs) same =
     ap (λ b. cond b (x ∷ filter p xs) (filter p xs)) (All-head (λ x. p x ≡ q x) x xs same)
     ∙ ap (λ rest. cond (q x) (x ∷ rest) rest) (filter-on p q xs (All-tail (λ x. p x ≡ q x) x xs same))
 
-pub in_order_after : (me : NodeId) (members : List NodeId) (answers : List Answer)
-    → filter (λ node. has_node node (after me members answers).waiting) members ≡ (after me members answers).waiting
+pub in_order_after : (me : NodeId) (members : List NodeId) (answers : List ListAnswer)
+    → filter (λ node. has_node node (gathered_after me members answers).waiting) members ≡ (gathered_after me members answers).waiting
 in_order_after me members answers =
-    filter-on (λ node. has_node node (after me members answers).waiting) (λ node. not (is_node me node) && not (has_answered node answers)) members
+    filter-on (λ node. has_node node (gathered_after me members answers).waiting) (λ node. not (is_same_node me node) && not (has_answered node answers)) members
     (λ k d within.
     (let node : NodeId = get_or members k d in
     waits_for_after me members answers node
-    ∙ ap (λ b. b && (not (is_node me node) && not (has_answered node answers))) (list_any_at (is_node node) members k d within (eq-eqb node.0 node.0 refl))))
+    ∙ ap (λ b. b && (not (is_same_node me node) && not (has_answered node answers))) (list_any_at (is_same_node node) members k d within (eq-eqb node.0 node.0 refl))))
     ∙ sym (waiting_after me members answers)
 
 none_left : (p q : NodeId → Bool) (nodes : List NodeId) → ((node : NodeId) → p node ≡ not (q node)) → (filter p nodes ≡ []) ↔ (list_all q nodes ≡ true)
@@ -102,39 +102,39 @@ none_left p q (node ∷ nodes) other = by_test (none_left p q nodes other) (q no
     by_test rest false true is = (λ none. absurd (cc), λ no. absurd (cc))
     by_test rest false false is = absurd (cc)
 
-pub finished_after : (me : NodeId) (members : List NodeId) (answers : List Answer)
-    → ((after me members answers).waiting ≡ []) ↔ (list_all (λ node. is_node me node || has_answered node answers) members ≡ true)
+pub finished_after : (me : NodeId) (members : List NodeId) (answers : List ListAnswer)
+    → ((gathered_after me members answers).waiting ≡ []) ↔ (list_all (λ node. is_same_node me node || has_answered node answers) members ≡ true)
 finished_after me members answers =
-    subst (λ (nodes : List NodeId). (nodes ≡ []) ↔ (list_all (λ node. is_node me node || has_answered node answers) members ≡ true))
+    subst (λ (nodes : List NodeId). (nodes ≡ []) ↔ (list_all (λ node. is_same_node me node || has_answered node answers) members ≡ true))
     (sym (waiting_after me members answers))
-    (none_left (λ node. not (is_node me node) && not (has_answered node answers)) (λ node. is_node me node || has_answered node answers) members
-    (λ node. not-or (is_node me node) (has_answered node answers)))
+    (none_left (λ node. not (is_same_node me node) && not (has_answered node answers)) (λ node. is_same_node me node || has_answered node answers) members
+    (λ node. not-or (is_same_node me node) (has_answered node answers)))
 
-ascending_from : (gathered : Gathered) (answers : List Answer) → IsStrictlyIncreasing gathered.objects → IsStrictlyIncreasing (from_there gathered answers).objects
+ascending_from : (gathered : GatheredLists) (answers : List ListAnswer) → IsStrictlyIncreasing gathered.objects → IsStrictlyIncreasing (from_there gathered answers).objects
 ascending_from gathered [] up = up
 ascending_from gathered (answer ∷ answers) up =
-    ascending_from (answered answer.from answer.list gathered) answers (union-ascending gathered.objects answer.list up)
+    ascending_from (gathered_with_answer answer.from answer.list gathered) answers (union-ascending gathered.objects answer.list up)
 
-pub ascending_after : (me : NodeId) (members : List NodeId) (answers : List Answer) → IsStrictlyIncreasing (after me members answers).objects
-ascending_after me members answers = ascending_from (asked me members) answers ascending-nil
+pub ascending_after : (me : NodeId) (members : List NodeId) (answers : List ListAnswer) → IsStrictlyIncreasing (gathered_after me members answers).objects
+ascending_after me members answers = ascending_from (gathered_of_none me members) answers ascending-nil
 
-abbrev Named : List Answer → ℕ → Type 0
-Named answers oid = Any (λ (answer : Answer). Contains answer.list oid) answers
+abbrev Named : List ListAnswer → ℕ → Type 0
+Named answers oid = Any (λ (answer : ListAnswer). Contains answer.list oid) answers
 
-named-here : (answer : Answer) (answers : List Answer) (oid : ℕ) → Contains answer.list oid → Named (answer ∷ answers) oid
+named-here : (answer : ListAnswer) (answers : List ListAnswer) (oid : ℕ) → Contains answer.list oid → Named (answer ∷ answers) oid
 named-here answer answers oid there = (0, answer, omega arith, refl, there)
 
-named-later : (answer : Answer) (answers : List Answer) (oid : ℕ) → Named answers oid → Named (answer ∷ answers) oid
+named-later : (answer : ListAnswer) (answers : List ListAnswer) (oid : ℕ) → Named answers oid → Named (answer ∷ answers) oid
 named-later answer answers oid named = (suc named.0, named.1, (let within : named.0 < length answers = named.2 in omega arith), named.3, named.4)
 
-named-cases : (answer : Answer) (answers : List Answer) (oid : ℕ) → Named (answer ∷ answers) oid → Contains answer.list oid ⊎ Named answers oid
+named-cases : (answer : ListAnswer) (answers : List ListAnswer) (oid : ℕ) → Named (answer ∷ answers) oid → Contains answer.list oid ⊎ Named answers oid
 named-cases answer answers oid named = by_place named.0 named.1 named.2 named.3 named.4
   where
-    by_place : (k : ℕ) (one : Answer) → k < length (answer ∷ answers) → get_or (answer ∷ answers) k one ≡ one → Contains one.list oid → Contains answer.list oid ⊎ Named answers oid
-    by_place zero one within is there = inl (subst (λ (a : Answer). Contains a.list oid) (sym is) there)
+    by_place : (k : ℕ) (one : ListAnswer) → k < length (answer ∷ answers) → get_or (answer ∷ answers) k one ≡ one → Contains one.list oid → Contains answer.list oid ⊎ Named answers oid
+    by_place zero one within is there = inl (subst (λ (a : ListAnswer). Contains a.list oid) (sym is) there)
     by_place (suc k) one within is there = inr (k, one, omega arith, is, there)
 
-objects_from : (gathered : Gathered) (answers : List Answer) (oid : ℕ)
+objects_from : (gathered : GatheredLists) (answers : List ListAnswer) (oid : ℕ)
     → Contains (from_there gathered answers).objects oid ↔ (Contains gathered.objects oid ⊎ Named answers oid)
 objects_from gathered [] oid = (λ there. inl there, none)
   where
@@ -142,8 +142,8 @@ objects_from gathered [] oid = (λ there. inl there, none)
     none (inl there) = there
     none (inr named) = absurd (let within : named.0 < 0 = named.2 in omega arith)
 objects_from gathered (answer ∷ answers) oid = (
-  λ there. only ((objects_from (answered answer.from answer.list gathered) answers oid).0 there),
-  has (objects_from (answered answer.from answer.list gathered) answers oid).1,
+  λ there. only ((objects_from (gathered_with_answer answer.from answer.list gathered) answers oid).0 there),
+  has (objects_from (gathered_with_answer answer.from answer.list gathered) answers oid).1,
 )
   where
     in_union : Contains gathered.objects oid ⊎ Contains answer.list oid → Contains gathered.objects oid ⊎ Named (answer ∷ answers) oid
@@ -154,19 +154,19 @@ objects_from gathered (answer ∷ answers) oid = (
     only (inl there) = in_union (union-only gathered.objects answer.list oid there)
     only (inr named) = inr (named-later answer answers oid named)
 
-    has : (Contains (union gathered.objects answer.list) oid ⊎ Named answers oid → Contains (from_there (answered answer.from answer.list gathered) answers).objects oid)
-        → Contains gathered.objects oid ⊎ Named (answer ∷ answers) oid → Contains (from_there (answered answer.from answer.list gathered) answers).objects oid
+    has : (Contains (union gathered.objects answer.list) oid ⊎ Named answers oid → Contains (from_there (gathered_with_answer answer.from answer.list gathered) answers).objects oid)
+        → Contains gathered.objects oid ⊎ Named (answer ∷ answers) oid → Contains (from_there (gathered_with_answer answer.from answer.list gathered) answers).objects oid
     has later (inl there) = later (inl (union-has gathered.objects answer.list oid (inl there)))
     has later (inr named) = elim (named-cases answer answers oid named) [
       | inl there ↦ later (inl (union-has gathered.objects answer.list oid (inr there)))
       | inr more ↦ later (inr more)
     ]
 
-pub objects_after : (me : NodeId) (members : List NodeId) (answers : List Answer) (oid : ℕ)
-    → Contains (after me members answers).objects oid ↔ Any (λ (answer : Answer). Contains answer.list oid) answers
+pub objects_after : (me : NodeId) (members : List NodeId) (answers : List ListAnswer) (oid : ℕ)
+    → Contains (gathered_after me members answers).objects oid ↔ Any (λ (answer : ListAnswer). Contains answer.list oid) answers
 objects_after me members answers oid = (
-  λ there. named ((objects_from (asked me members) answers oid).0 there),
-  λ by. (objects_from (asked me members) answers oid).1 (inr by),
+  λ there. named ((objects_from (gathered_of_none me members) answers oid).0 there),
+  λ by. (objects_from (gathered_of_none me members) answers oid).1 (inr by),
 )
   where
     named : Contains [] oid ⊎ Named answers oid → Named answers oid

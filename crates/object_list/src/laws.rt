@@ -4,7 +4,7 @@ ghost use Rattle.std.specs.List.{list_all};
 ghost use Rattle.std.specs.List.Sorted.{IsStrictlyIncreasing};
 ghost use Rattle.object_id.specs.declared.node.NodeId.{NodeId};
 ghost use Rattle.object_list.specs.Union.{union};
-ghost use Rattle.object_list.specs.Gathered.{Answer, after, is_node, has_node, has_answered};
+ghost use Rattle.object_list.specs.Gathered.{ListAnswer, gathered_after, is_same_node, has_node, has_answered};
 
 /// The union is the one ascending list of the ids that stand in one of the two lists or in both.
 pub fn union_is_the_ascending_list()
@@ -17,22 +17,22 @@ pub fn union_is_the_ascending_list()
 /// What was gathered, whichever nodes answered, in whatever order, and however often.
 pub fn gathered_from_all_answers()
     // Waited for is each other member of which no answer came.
-    ensures waiting { (me : NodeId) (members : List NodeId) (answers : List Answer)
-        → (after me members answers).waiting
-        ≡ filter (λ node. not (is_node me node) && not (has_answered node answers)) members }
-    ensures waits_for { (me : NodeId) (members : List NodeId) (answers : List Answer) (node : NodeId)
-        → has_node node (after me members answers).waiting
-        ≡ (has_node node members && (not (is_node me node) && not (has_answered node answers))) }
+    ensures waiting { (me : NodeId) (members : List NodeId) (answers : List ListAnswer)
+        → (gathered_after me members answers).waiting
+        ≡ filter (λ node. not (is_same_node me node) && not (has_answered node answers)) members }
+    ensures waits_for { (me : NodeId) (members : List NodeId) (answers : List ListAnswer) (node : NodeId)
+        → has_node node (gathered_after me members answers).waiting
+        ≡ (has_node node members && (not (is_same_node me node) && not (has_answered node answers))) }
     // Who asks the members one after another whether they are waited for, finds them all, in this order.
-    ensures in_order { (me : NodeId) (members : List NodeId) (answers : List Answer)
-        → filter (λ node. has_node node (after me members answers).waiting) members
-        ≡ (after me members answers).waiting }
-    ensures finished { (me : NodeId) (members : List NodeId) (answers : List Answer)
-        → ((after me members answers).waiting ≡ [])
-        ↔ IsTrue (list_all (λ node. is_node me node || has_answered node answers) members) }
+    ensures in_order { (me : NodeId) (members : List NodeId) (answers : List ListAnswer)
+        → filter (λ node. has_node node (gathered_after me members answers).waiting) members
+        ≡ (gathered_after me members answers).waiting }
+    ensures finished { (me : NodeId) (members : List NodeId) (answers : List ListAnswer)
+        → ((gathered_after me members answers).waiting ≡ [])
+        ↔ IsTrue (list_all (λ node. is_same_node me node || has_answered node answers) members) }
 
-    ensures ascending { (me : NodeId) (members : List NodeId) (answers : List Answer)
-        → IsStrictlyIncreasing (after me members answers).objects }
-    ensures objects { (me : NodeId) (members : List NodeId) (answers : List Answer) (oid : ℕ)
-        → Contains (after me members answers).objects oid ↔ Any (λ (answer : Answer). Contains answer.list oid) answers }
+    ensures ascending { (me : NodeId) (members : List NodeId) (answers : List ListAnswer)
+        → IsStrictlyIncreasing (gathered_after me members answers).objects }
+    ensures objects { (me : NodeId) (members : List NodeId) (answers : List ListAnswer) (oid : ℕ)
+        → Contains (gathered_after me members answers).objects oid ↔ Any (λ (answer : ListAnswer). Contains answer.list oid) answers }
 {}

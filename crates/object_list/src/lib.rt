@@ -18,5 +18,3 @@ mod union;
 
 pub use laws::{gathered_from_all_answers, union_is_the_ascending_list};
 pub use lists::Lists;
-pub use object_id::{NoMemory, NodeId, Oid};
-pub use object_store::OidList;

@@ -1,6 +1,6 @@
 ghost use Rattle.std.specs.Prelude.{◌≡◌, ◌↔◌, [], IfOk, OnOk, OnErr, IsTrue};
 ghost use Rattle.std.specs.List.Sorted.{IsStrictlyIncreasing};
-ghost use Rattle.object_list.specs.Gathered.{Gathered, asked, answered, has_node};
+ghost use Rattle.object_list.specs.Gathered.{GatheredLists, gathered_of_none, gathered_with_answer, has_node};
 
 use crate::union::union;
 use object_id::{NoMemory, NodeId, Oid};
@@ -18,9 +18,9 @@ pub struct Lists {
 }
 
 impl Model for Lists {
-    ghost use Rattle.object_list.specs.Gathered.{Gathered};
+    ghost use Rattle.object_list.specs.Gathered.{GatheredLists};
 
-    ghost Value = { Gathered };
+    ghost Value = { GatheredLists };
 
     ghost view = { λ lists. record { waiting = lists.waiting.items; objects = lists.objects } };
 }
@@ -28,7 +28,7 @@ impl Model for Lists {
 impl Lists {
     /// Waits for every member but oneself.
     pub fn new(alloc: Global, me: NodeId, members: &[NodeId]) -> Result<Lists, NoMemory>
-        ensures { IfOk result (λ lists. lists ≡ asked me members.now) }
+        ensures { IfOk result (λ lists. lists ≡ gathered_of_none me members.now) }
     {
         let mut waiting = Vec::from_slice(alloc, members)?;
         waiting.retain(|node| *node != me);
@@ -42,7 +42,7 @@ impl Lists {
     /// Takes the list that a node answered with. A node that isn't waited for (any more) only adds its ids. Without
     /// memory everything stays.
     pub fn add(&mut self, from: NodeId, list: &OidList) -> Result<(), NoMemory>
-        ensures ok { OnOk result (self.new ≡ answered from list.now self.old) }
+        ensures ok { OnOk result (self.new ≡ gathered_with_answer from list.now self.old) }
         ensures err { OnErr result (self.new ≡ self.old) }
     {
         self.objects = union(self.alloc, self.objects.as_slice(), list.as_slice())?;

@@ -9,13 +9,13 @@ use Rattle.object_store.specs.declared.key.Key.{Key}
 use Rattle.object_store.specs.declared.row.Row.{Row}
 use Rattle.object_store.specs.declared.fault.StoreFault.{StoreFault}
 use Rattle.object_store.specs.declared.fault.StoreFault.TheVariants.{OutOfObject}
-use Rattle.object_store.specs.Bytes.{Kept}
+use Rattle.object_store.specs.Bytes.{KeptBytes}
 use Rattle.object_store.specs.Rows.{open_at, row_holding}
-use Rattle.object_store.specs.Store.{SeenRow, within, on_open, piece_there, copy_of, copy_at}
-use Rattle.object_store.specs.Kept.{seen}
-use Rattle.object_store.specs.Plain.{Objects, all_seen, kept_of}
-use Rattle.object_store.proofs.PlainLemmas.{open_row-all_seen, rows_of-all_seen}
-use Rattle.object_store.proofs.SeenLemmas.{seen-row_holding}
+use Rattle.object_store.specs.Store.{SeenRow, value_within, on_open, piece_there, copy_of, copy_at}
+use Rattle.object_store.specs.KeptRows.{seen_row}
+use Rattle.object_store.specs.Plain.{Objects, seen_rows, kept_of}
+use Rattle.object_store.proofs.PlainLemmas.{open_row-seen_rows, rows_of-seen_rows}
+use Rattle.object_store.proofs.SeenLemmas.{seen_row-row_holding}
 
 abbrev answer : {A : Type 0} → Bool → A → Result A StoreFault
 answer b there = cond b (Ok there) (Err OutOfObject)
@@ -25,38 +25,38 @@ taken true e = refl
 taken false e = absurd (cc)
 
 -- a piece within the size is within it for whatever is made
-pub within-Ok : {A : Type 0} (end size : ℕ) (there : A) → within end size (tt {0}) ≡ Ok (tt {0}) → within end size there ≡ Ok there
-within-Ok end size there e = ap (λ b. answer b there) (taken (nat_le end size) e)
+pub value_within-Ok : {A : Type 0} (end size : ℕ) (there : A) → value_within end size (tt {0}) ≡ Ok (tt {0}) → value_within end size there ≡ Ok there
+value_within-Ok end size there e = ap (λ b. answer b there) (taken (nat_le end size) e)
 
 pub on_open-Ok : {A : Type 0} (end : ℕ) (o : Option SeenRow) (there : A) → on_open end o (λ row. tt {0}) ≡ Ok (tt {0}) → on_open end o (λ row. there) ≡ Ok there
 on_open-Ok end None there e = absurd (cc)
-on_open-Ok end (Some row) there e = within-Ok end (length row.bytes) there e
+on_open-Ok end (Some row) there e = value_within-Ok end (length row.bytes) there e
 
-kept_end : (end : ℕ) (o : Option (Row Kept)) → on_open end (option_map seen o) (λ row. tt {0}) ≡ Ok (tt {0}) → IfSome o (λ row. end ≤ length row.bytes.bytes)
+kept_end : (end : ℕ) (o : Option (Row KeptBytes)) → on_open end (option_map seen_row o) (λ row. tt {0}) ≡ Ok (tt {0}) → IfSome o (λ row. end ≤ length row.bytes.bytes)
 kept_end end None e = absurd (cc)
 kept_end end (Some row) e = let t = taken (nat_le end (length row.bytes.bytes)) e in grind (arith, nat_tests)
 
 -- the open row reaches to the piece's end
-pub piece_there-within : (es : Objects) (key : Key) (offset n : ℕ) → piece_there (all_seen es) key offset n ≡ Ok (tt {0})
+pub piece_there-value_within : (es : Objects) (key : Key) (offset n : ℕ) → piece_there (seen_rows es) key offset n ≡ Ok (tt {0})
     → IfSome (open_at key.index (kept_of es key.oid)) (λ row. offset + n ≤ length row.bytes.bytes)
-piece_there-within es key offset n e =
+piece_there-value_within es key offset n e =
     kept_end (offset + n) (open_at key.index (kept_of es key.oid))
-    (ap (λ o. on_open (offset + n) o (λ row. tt {0})) (sym (open_row-all_seen es key)) ∙ e)
+    (ap (λ o. on_open (offset + n) o (λ row. tt {0})) (sym (open_row-seen_rows es key)) ∙ e)
 
 -- the object has rows
-pub piece_there-found : (es : Objects) (key : Key) (offset n : ℕ) → piece_there (all_seen es) key offset n ≡ Ok (tt {0})
+pub piece_there-found : (es : Objects) (key : Key) (offset n : ℕ) → piece_there (seen_rows es) key offset n ≡ Ok (tt {0})
     → IsSome (lookup (is_at (nat_cmp key.oid)) es)
 piece_there-found es key offset n e =
-    go (lookup (is_at (nat_cmp key.oid)) es) (ap (λ o. on_open (offset + n) o (λ row. tt {0})) (sym (open_row-all_seen es key)) ∙ e)
+    go (lookup (is_at (nat_cmp key.oid)) es) (ap (λ o. on_open (offset + n) o (λ row. tt {0})) (sym (open_row-seen_rows es key)) ∙ e)
   where
-    go : (o : Option (List (Row Kept))) → on_open (offset + n) (option_map seen (open_at key.index (unwrap_or o []))) (λ row. tt {0}) ≡ Ok (tt {0}) → IsSome o
+    go : (o : Option (List (Row KeptBytes))) → on_open (offset + n) (option_map seen_row (open_at key.index (unwrap_or o []))) (λ row. tt {0}) ≡ Ok (tt {0}) → IsSome o
     go None e = absurd (cc)
     go (Some rows) e = refl
 
-pub copy_at-all_seen : (es : Objects) (oid level : ℕ) → copy_at (all_seen es) oid level ≡ option_map copy_of (option_map seen (row_holding level (kept_of es oid)))
-copy_at-all_seen es oid level =
-    ap (λ rows. option_map copy_of (row_holding level rows)) (rows_of-all_seen es oid)
-    ∙ ap (option_map copy_of) (sym (seen-row_holding level (kept_of es oid)))
+pub copy_at-seen_rows : (es : Objects) (oid level : ℕ) → copy_at (seen_rows es) oid level ≡ option_map copy_of (option_map seen_row (row_holding level (kept_of es oid)))
+copy_at-seen_rows es oid level =
+    ap (λ rows. option_map copy_of (row_holding level rows)) (rows_of-seen_rows es oid)
+    ∙ ap (option_map copy_of) (sym (seen_row-row_holding level (kept_of es oid)))
 
 pub OnErr-weaker : {X Y : Type 0} (r : Result X Y) (P Q : Type 0) → (P → Q) → OnErr r P → OnErr r Q
 OnErr-weaker (Ok x) P Q more h = tt

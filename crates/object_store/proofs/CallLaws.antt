@@ -13,9 +13,9 @@ use Rattle.object_store.specs.declared.key.Key.{Key}
 use Rattle.object_store.specs.declared.fault.StoreFault.{StoreFault}
 use Rattle.object_store.specs.declared.fault.StoreFault.TheVariants.{OutOfObject}
 use Rattle.object_store.specs.Bytes.{zeros, piece_at}
-use Rattle.object_store.specs.Rows.{is_open, is_open_at, open_at, closed, closed_all, is_replaced, ended, created, changed, is_kept, advanced_row, advanced, purged, ended_before, without_disk}
-use Rattle.object_store.specs.Store.{SeenRow, AllRows, rows_of, open_row, within, on_open, read_at, create_in, write_in, each}
-use Rattle.object_store.specs.Calls.{Call, Create, Write, Advance, CloseAll, PurgeBelow, DropVid, step, after, Story, byte_at, with_piece, told, story_of, read_story, touches, Has}
+use Rattle.object_store.specs.Rows.{is_open, is_open_at, open_at, closed, closed_all, is_replaced, ended, created, changed, is_kept, advanced_row, advanced, purged, has_ended_below, without_disk}
+use Rattle.object_store.specs.Store.{SeenRow, AllRows, rows_of, open_row, value_within, on_open, read_at, create_in, write_in, each}
+use Rattle.object_store.specs.Calls.{Call, Create, Write, Advance, CloseAll, PurgeBelow, DropVid, rows_step, rows_after, Story, byte_at, with_piece, story_after, story_of, read_story, touches, Has}
 use Rattle.object_store.proofs.RowLemmas.{find-front, closed_all-closed, closed-same}
 use Rattle.object_store.proofs.RoomLemmas.{open-closed_all, open-advanced, open-purged, without_disk-none}
 use Rattle.object_store.proofs.StoreLaws.{rows_of-empty, rows_of-insert_same, rows_of-insert_other, rows_of-each}
@@ -23,7 +23,7 @@ use Rattle.object_store.proofs.StoreLaws.{rows_of-empty, rows_of-insert_same, ro
 -- ---- the bytes of a row, place by place
 
 pub length-laid_over : (bytes : List ℕ) (offset : ℕ) (piece : List ℕ) → offset + length piece ≤ length bytes → length (laid_over bytes offset piece) ≡ length bytes
-length-laid_over bytes offset piece within =
+length-laid_over bytes offset piece value_within =
     let front : length (take offset bytes) ≡ offset = length-take-le offset bytes (omega arith) in
     let rest : length (drop (offset + length piece) bytes) ≡ length bytes - (offset + length piece) = length-drop (offset + length piece) bytes in
     length-append (take offset bytes ++ piece) (drop (offset + length piece) bytes) ∙ (omega (arith, length-append (take offset bytes) piece))
@@ -77,7 +77,7 @@ HasBytes-zeros size = (length-replicate size 0, λ k inside. get_or-replicate si
 HasBytes-laid : (story : Story) (bytes : List ℕ) (offset : ℕ) (piece : List ℕ) → HasBytes story bytes → offset + length piece ≤ story.size
     → HasBytes (record { size = story.size; pieces = (offset, piece) ∷ story.pieces }) (laid_over bytes offset piece)
 unfolding HasBytes
-HasBytes-laid story bytes offset piece had within =
+HasBytes-laid story bytes offset piece had value_within =
     let inside : offset + length piece ≤ length bytes = omega (arith, had.0) in (
       length-laid_over bytes offset piece inside ∙ had.0,
       λ k below. get_or-laid_over bytes offset piece k inside (omega (arith, had.0))
@@ -86,7 +86,7 @@ HasBytes-laid story bytes offset piece had within =
 
 pub piece_of_bytes : (f : ℕ → ℕ) (bytes : List ℕ) (offset n : ℕ) → offset + n ≤ length bytes → ((k : ℕ) → k < length bytes → get_or bytes k 0 ≡ f k)
     → piece_at bytes offset n ≡ map f (range_with_len offset n)
-piece_of_bytes f bytes offset n within is =
+piece_of_bytes f bytes offset n value_within is =
     let rest : length (drop offset bytes) ≡ length bytes - offset = length-drop offset bytes in
     let long : length (piece_at bytes offset n) ≡ n = length-take-le n (drop offset bytes) (omega arith) in
     ext_get_or 0 (piece_at bytes offset n) (map f (range_with_len offset n)) (long ∙ sym (length-map-range_with_len f offset n))
@@ -169,10 +169,10 @@ open_row-each : (change : ℕ → List SeenRow → List SeenRow) (all : AllRows)
     → open_row (each change all) key ≡ open_at key.index (change key.oid (rows_of all key.oid))
 open_row-each change all key none = ap (open_at key.index) (rows_of-each change all key.oid none)
 
-told-create : (all : AllRows) (key : Key) (story : Option Story) (made : Key) (epoch size offset : ℕ) (piece : List ℕ) → Tells all key story
-    → Tells (step all (Create made epoch size offset piece)) key (told key story (Create made epoch size offset piece))
+story_after-create : (all : AllRows) (key : Key) (story : Option Story) (made : Key) (epoch size offset : ℕ) (piece : List ℕ) → Tells all key story
+    → Tells (rows_step all (Create made epoch size offset piece)) key (story_after key story (Create made epoch size offset piece))
 unfolding Tells HasBytes
-told-create all key story made epoch size offset piece had =
+story_after-create all key story made epoch size offset piece had =
     go (nat_le (offset + length piece) size) refl (nat_eq made.oid key.oid) refl (nat_eq made.index key.index) refl
   where
     bytes : List ℕ
@@ -194,14 +194,14 @@ told-create all key story made epoch size offset piece had =
         → Tells (result_unwrap_or (cond a (Ok new) (Err OutOfObject)) all) key
         (cond (a && b) (cond t (Some (record { size = size; pieces = (offset, piece) ∷ [] })) None) story)
     go false out b e t f = had
-    go true within false apart t f =
+    go true value_within false apart t f =
         Tells-same all new key story (ap (open_at key.index) (rows_of-insert_other all made.oid _ key.oid (λ same. other_number made.oid key.oid apart (sym same)))) had
-    go true within true same true this = (
+    go true value_within true same true this = (
       row,
       here (same_number made.oid key.oid same) ∙ ap (λ b. cond b (Some row) None) this,
       HasBytes-laid (record { size = size; pieces = [] }) (zeros size) offset piece (HasBytes-zeros size) (grind (arith, nat_tests)),
     )
-    go true within true same false other = here (same_number made.oid key.oid same) ∙ ap (λ b. cond b (Some row) None) other
+    go true value_within true same false other = here (same_number made.oid key.oid same) ∙ ap (λ b. cond b (Some row) None) other
 
 picked : {A : Type 0} → Bool → A → Result A StoreFault
 picked b there = cond b (Ok there) (Err OutOfObject)
@@ -277,26 +277,26 @@ module _ (all : AllRows) (key given : Key) (offset : ℕ) (piece : List ℕ) whe
       Tells-same all (written_at (open_row all given)) key story
       (unseen (open_row all given) (ap (open_at key.index) (rows_elsewhere (other_number given.oid key.oid apart)))) had
 
-  told-write : (story : Option Story) → Tells all key story → Tells (step all (Write given offset piece)) key (told key story (Write given offset piece))
+  told-write : (story : Option Story) → Tells all key story → Tells (rows_step all (Write given offset piece)) key (story_after key story (Write given offset piece))
   unfolding written_at wrote
   told-write story had = told_either story (nat_eq given.oid key.oid) (nat_eq given.index key.index) refl refl had
 
-told-call : (all : AllRows) (key : Key) (story : Option Story) (call : Call) → Tells all key story → Tells (step all call) key (told key story call)
-told-call all key story (Create made epoch size offset piece) had = told-create all key story made epoch size offset piece had
-told-call all key story (Write given offset piece) had = told-write all key given offset piece story had
-told-call all key story (Advance next keeps) had =
+story_after-call : (all : AllRows) (key : Key) (story : Option Story) (call : Call) → Tells all key story → Tells (rows_step all call) key (story_after key story call)
+story_after-call all key story (Create made epoch size offset piece) had = story_after-create all key story made epoch size offset piece had
+story_after-call all key story (Write given offset piece) had = told-write all key given offset piece story had
+story_after-call all key story (Advance next keeps) had =
     go (is_kept keeps key.oid key.index) (open_row-each (advanced keeps next) all key refl ∙ open-advanced keeps next key.oid key.index (rows_of all key.oid))
   where
     go : (b : Bool) → open_row (each (advanced keeps next) all) key ≡ cond b (open_row all key) None → Tells (each (advanced keeps next) all) key (cond b story None)
     go true is = Tells-same all (each (advanced keeps next) all) key story is had
     go false is = Tells-none (each (advanced keeps next) all) key is
-told-call all key story (CloseAll last) had =
+story_after-call all key story (CloseAll last) had =
     Tells-none (each (λ _. closed_all last) all) key
     (open_row-each (λ _. closed_all last) all key refl ∙ open-closed_all key.index last (rows_of all key.oid))
-told-call all key story (PurgeBelow settled) had =
+story_after-call all key story (PurgeBelow settled) had =
     Tells-same all (each (λ _. purged settled) all) key story
     (open_row-each (λ _. purged settled) all key refl ∙ open-purged settled key.index (rows_of all key.oid)) had
-told-call all key story (DropVid vid) had =
+story_after-call all key story (DropVid vid) had =
     go (nat_eq (vid_of key.oid) vid) (open_row-each (without_disk vid) all key (without_disk-none vid key.oid))
   where
     go : (b : Bool) → open_row (each (without_disk vid) all) key ≡ open_at key.index (cond b [] (rows_of all key.oid))
@@ -304,16 +304,16 @@ told-call all key story (DropVid vid) had =
     go true is = Tells-none (each (without_disk vid) all) key is
     go false is = Tells-same all (each (without_disk vid) all) key story is had
 
-told-calls : (calls : List Call) (all : AllRows) (key : Key) (story : Option Story) → Tells all key story → Tells (fold step all calls) key (fold (told key) story calls)
-told-calls [] all key story had = had
-told-calls (call ∷ calls) all key story had = told-calls calls (step all call) key (told key story call) (told-call all key story call had)
+story_after-calls : (calls : List Call) (all : AllRows) (key : Key) (story : Option Story) → Tells all key story → Tells (fold rows_step all calls) key (fold (story_after key) story calls)
+story_after-calls [] all key story had = had
+story_after-calls (call ∷ calls) all key story had = story_after-calls calls (rows_step all call) key (story_after key story call) (story_after-call all key story call had)
 
-read-told : (all : AllRows) (key : Key) (story : Option Story) (offset n : ℕ) → Tells all key story → read_at all key offset n ≡ read_story story offset n
+read-story_after : (all : AllRows) (key : Key) (story : Option Story) (offset n : ℕ) → Tells all key story → read_at all key offset n ≡ read_story story offset n
 unfolding Tells HasBytes
-read-told all key None offset n had = ap (λ o. on_open (offset + n) o (λ row. piece_at row.bytes offset n)) had
-read-told all key (Some story) offset n had =
+read-story_after all key None offset n had = ap (λ o. on_open (offset + n) o (λ row. piece_at row.bytes offset n)) had
+read-story_after all key (Some story) offset n had =
     ap (λ o. on_open (offset + n) o (λ row. piece_at row.bytes offset n)) had.1
-    ∙ ap (λ size. within (offset + n) size (piece_at had.0.bytes offset n)) had.2.0
+    ∙ ap (λ size. value_within (offset + n) size (piece_at had.0.bytes offset n)) had.2.0
     ∙ go (nat_le (offset + n) story.size) refl
   where
     told_bytes : List ℕ
@@ -327,10 +327,10 @@ read-told all key (Some story) offset n had =
     go false e = refl
 
 -- a read gives the byte of the latest piece at each place, and 0 where none reaches
-pub read-after : (calls : List Call) (key : Key) (offset n : ℕ) → read_at (after calls) key offset n ≡ read_story (story_of key calls) offset n
-read-after calls key offset n =
-    read-told (after calls) key (story_of key calls) offset n
-    (told-calls calls tree.empty key None (Tells-none tree.empty key (ap (open_at key.index) (rows_of-empty key.oid))))
+pub read-rows_after : (calls : List Call) (key : Key) (offset n : ℕ) → read_at (rows_after calls) key offset n ≡ read_story (story_of key calls) offset n
+read-rows_after calls key offset n =
+    read-story_after (rows_after calls) key (story_of key calls) offset n
+    (story_after-calls calls tree.empty key None (Tells-none tree.empty key (ap (open_at key.index) (rows_of-empty key.oid))))
 
 -- ---- rows that a call isn't about
 
@@ -379,7 +379,7 @@ Has-insert all oid rows q row had new = go (nat_eq oid q) refl
 own_number : (a b : ℕ) → a ≡ b → nat_eq a b ≡ true
 own_number a b same = grind (arith, nat_tests)
 
-pub row_stays : (all : AllRows) (call : Call) (oid : ℕ) (row : SeenRow) → touches call oid row ≡ false → Has row (rows_of all oid) → Has row (rows_of (step all call) oid)
+pub row_stays : (all : AllRows) (call : Call) (oid : ℕ) (row : SeenRow) → touches call oid row ≡ false → Has row (rows_of all oid) → Has row (rows_of (rows_step all call) oid)
 row_stays all (Create key epoch size offset piece) oid row other had = go (nat_le (offset + length piece) size)
   where
     rows : List SeenRow
@@ -420,7 +420,7 @@ row_stays all (Advance next keeps) oid row other had =
 row_stays all (CloseAll last) oid row other had =
     Has-each (λ _. closed_all last) all oid row refl (Has-map (closed last) row (rows_of all oid) (closed-same last row other) had)
 row_stays all (PurgeBelow settled) oid row other had =
-    Has-each (λ _. purged settled) all oid row refl (Has-filter (λ r. not (ended_before settled r.to)) row (rows_of all oid) (ap not other) had)
+    Has-each (λ _. purged settled) all oid row refl (Has-filter (λ r. not (has_ended_below settled r.to)) row (rows_of all oid) (ap not other) had)
 row_stays all (DropVid vid) oid row other had =
     Has-each (without_disk vid) all oid row (without_disk-none vid oid)
     (subst (λ b. Has row (cond b [] (rows_of all oid))) (sym other) had)

@@ -4,7 +4,7 @@ use Rattle.std.proofs.lemmas.Bool.{leb-true, leb-false}
 use Rattle.std.proofs.lemmas.Bool.Decides.{nat_tests}
 use Rattle.std.specs.List.{AllByRecursion}
 use Rattle.object_store.specs.declared.row.Row.{Row}
-use Rattle.object_store.specs.Bytes.{zeros, trimmed}
+use Rattle.object_store.specs.Bytes.{zeros, trimmed_bytes}
 use Rattle.object_store.specs.Rows.{holds, is_no_later, better, row_holding, IsRowAt}
 
 both : (a b : Bool) → (a && b) ≡ false → a ≡ true → b ≡ false
@@ -104,22 +104,22 @@ nothing [] is = refl
 nothing (byte ∷ bytes) is = absurd (grind (arith, nat_tests))
 
 abbrev Padded : List ℕ → Type 0
-Padded bytes = trimmed bytes ++ zeros (length bytes - length (trimmed bytes)) ≡ bytes
+Padded bytes = trimmed_bytes bytes ++ zeros (length bytes - length (trimmed_bytes bytes)) ≡ bytes
 
-pub trimmed-padded : (bytes : List ℕ) → Padded bytes
-trimmed-padded [] = refl
-trimmed-padded (byte ∷ bytes) = go (trimmed-padded bytes) (nat_eq byte 0) (nat_eq (length (trimmed bytes)) 0) refl refl
+pub trimmed_bytes-padded : (bytes : List ℕ) → Padded bytes
+trimmed_bytes-padded [] = refl
+trimmed_bytes-padded (byte ∷ bytes) = go (trimmed_bytes-padded bytes) (nat_eq byte 0) (nat_eq (length (trimmed_bytes bytes)) 0) refl refl
   where
-    longer : length (byte ∷ bytes) - length (byte ∷ trimmed bytes) ≡ length bytes - length (trimmed bytes)
+    longer : length (byte ∷ bytes) - length (byte ∷ trimmed_bytes bytes) ≡ length bytes - length (trimmed_bytes bytes)
     longer = omega arith
 
-    kept : Padded bytes → (byte ∷ trimmed bytes) ++ zeros (length (byte ∷ bytes) - length (byte ∷ trimmed bytes)) ≡ byte ∷ bytes
-    kept rest = ap (λ n. byte ∷ (trimmed bytes ++ zeros n)) longer ∙ ap (λ xs. byte ∷ xs) rest
+    kept : Padded bytes → (byte ∷ trimmed_bytes bytes) ++ zeros (length (byte ∷ bytes) - length (byte ∷ trimmed_bytes bytes)) ≡ byte ∷ bytes
+    kept rest = ap (λ n. byte ∷ (trimmed_bytes bytes ++ zeros n)) longer ∙ ap (λ xs. byte ∷ xs) rest
 
-    go : Padded bytes → (z e : Bool) → nat_eq byte 0 ≡ z → nat_eq (length (trimmed bytes)) 0 ≡ e
-        → cond (z && e) [] (byte ∷ trimmed bytes) ++ zeros (length (byte ∷ bytes) - length (cond (z && e) [] (byte ∷ trimmed bytes))) ≡ byte ∷ bytes
+    go : Padded bytes → (z e : Bool) → nat_eq byte 0 ≡ z → nat_eq (length (trimmed_bytes bytes)) 0 ≡ e
+        → cond (z && e) [] (byte ∷ trimmed_bytes bytes) ++ zeros (length (byte ∷ bytes) - length (cond (z && e) [] (byte ∷ trimmed_bytes bytes))) ≡ byte ∷ bytes
     go rest true true is_zero none =
-        let nil : trimmed bytes ≡ [] = nothing (trimmed bytes) none in
+        let nil : trimmed_bytes bytes ≡ [] = nothing (trimmed_bytes bytes) none in
         let whole : length bytes - 0 ≡ length bytes = omega arith in
         let more : length (byte ∷ bytes) - 0 ≡ suc (length bytes) = omega arith in
         let all : zeros (length bytes) ≡ bytes = ap zeros (sym whole) ∙ subst (λ t. t ++ zeros (length bytes - length t) ≡ bytes) nil rest in
@@ -130,26 +130,26 @@ trimmed-padded (byte ∷ bytes) = go (trimmed-padded bytes) (nat_eq byte 0) (nat
     go rest false false other some = kept rest
 
 abbrev NoZeroAtEnd : List ℕ → Type 0
-NoZeroAtEnd bytes = (front : List ℕ) → trimmed bytes ≢ front ++ 0 ∷ []
+NoZeroAtEnd bytes = (front : List ℕ) → trimmed_bytes bytes ≢ front ++ 0 ∷ []
 
-pub trimmed-last : (bytes : List ℕ) → NoZeroAtEnd bytes
-trimmed-last [] [] is = absurd (cc is)
-trimmed-last [] (f ∷ front) is = absurd (cc is)
-trimmed-last (byte ∷ bytes) front is = go (trimmed-last bytes) (nat_eq byte 0) (nat_eq (length (trimmed bytes)) 0) refl refl front is
+pub trimmed_bytes-last : (bytes : List ℕ) → NoZeroAtEnd bytes
+trimmed_bytes-last [] [] is = absurd (cc is)
+trimmed_bytes-last [] (f ∷ front) is = absurd (cc is)
+trimmed_bytes-last (byte ∷ bytes) front is = go (trimmed_bytes-last bytes) (nat_eq byte 0) (nat_eq (length (trimmed_bytes bytes)) 0) refl refl front is
   where
     empty : (xs : List ℕ) → [] ≢ xs ++ 0 ∷ []
     empty [] is = absurd (cc is)
     empty (x ∷ xs) is = absurd (cc is)
 
-    kept : NoZeroAtEnd bytes → (front : List ℕ) → (nat_eq byte 0 && nat_eq (length (trimmed bytes)) 0) ≡ false → byte ∷ trimmed bytes ≢ front ++ 0 ∷ []
+    kept : NoZeroAtEnd bytes → (front : List ℕ) → (nat_eq byte 0 && nat_eq (length (trimmed_bytes bytes)) 0) ≡ false → byte ∷ trimmed_bytes bytes ≢ front ++ 0 ∷ []
     kept rest [] test is =
         let same : byte ≡ 0 = ap (λ xs. get_or xs 0 0) is in
-        let nil : trimmed bytes ≡ [] = ap (drop 1) is in
+        let nil : trimmed_bytes bytes ≡ [] = ap (drop 1) is in
         absurd (cc (test, ap (λ b. nat_eq b 0) same, ap (λ xs. nat_eq (length xs) 0) nil))
     kept rest (f ∷ front) test is = rest front (ap (drop 1) is)
 
-    go : NoZeroAtEnd bytes → (z e : Bool) → nat_eq byte 0 ≡ z → nat_eq (length (trimmed bytes)) 0 ≡ e → (front : List ℕ) → cond (z && e) [] (byte ∷ trimmed bytes) ≢ front ++ 0 ∷ []
+    go : NoZeroAtEnd bytes → (z e : Bool) → nat_eq byte 0 ≡ z → nat_eq (length (trimmed_bytes bytes)) 0 ≡ e → (front : List ℕ) → cond (z && e) [] (byte ∷ trimmed_bytes bytes) ≢ front ++ 0 ∷ []
     go rest true true is_zero none front is = empty front is
     go rest true false is_zero some front is = kept rest front (ap (λ e. nat_eq byte 0 && e) some ∙ ap (λ z. z && false) is_zero) is
-    go rest false true other none front is = kept rest front (ap (λ z. z && nat_eq (length (trimmed bytes)) 0) other) is
-    go rest false false other some front is = kept rest front (ap (λ z. z && nat_eq (length (trimmed bytes)) 0) other) is
+    go rest false true other none front is = kept rest front (ap (λ z. z && nat_eq (length (trimmed_bytes bytes)) 0) other) is
+    go rest false false other some front is = kept rest front (ap (λ z. z && nat_eq (length (trimmed_bytes bytes)) 0) other) is

@@ -9,9 +9,9 @@ use Rattle.std.specs.Result.{result_unwrap_or}
 use Rattle.object_id.specs.Oid.{vid_of}
 use Rattle.object_store.specs.declared.key.Key.{Key}
 use Rattle.object_store.specs.declared.fault.StoreFault.TheVariants.{OutOfObject}
-use Rattle.object_store.specs.Rows.{is_open, is_open_at, open_at, closed, closed_all, ended, changed, is_kept, advanced, purged, ended_before, without_disk, IsOrderly}
+use Rattle.object_store.specs.Rows.{is_open, is_open_at, open_at, closed, closed_all, ended, changed, is_kept, advanced, purged, has_ended_below, without_disk, IsOrderly}
 use Rattle.object_store.specs.Store.{SeenRow, AllRows, rows_of, open_row, on_open, create_in, write_in, with_rows, each_entry, each}
-use Rattle.object_store.specs.Calls.{Call, Create, Write, Advance, CloseAll, PurgeBelow, DropVid, step, after}
+use Rattle.object_store.specs.Calls.{Call, Create, Write, Advance, CloseAll, PurgeBelow, DropVid, rows_step, rows_after}
 use Rattle.object_store.proofs.RowLemmas.{closed_all-closed, orderly_closed, orderly_created, orderly_filter}
 use Rattle.object_store.proofs.RoomLemmas.{without_disk-none}
 use Rattle.object_store.proofs.MapLemmas.{find-lookup}
@@ -54,7 +54,7 @@ orderly_insert all oid rows q new old = subst IsOrderly (sym (rows_of-insert all
 orderly_each : (change : ℕ → List SeenRow → List SeenRow) (all : AllRows) (oid : ℕ) → change oid [] ≡ [] → IsOrderly (change oid (rows_of all oid)) → IsOrderly (rows_of (each change all) oid)
 orderly_each change all oid none orderly = subst IsOrderly (sym (rows_of-each change all oid none)) orderly
 
-orderly_step : (all : AllRows) (call : Call) → ((oid : ℕ) → IsOrderly (rows_of all oid)) → (oid : ℕ) → IsOrderly (rows_of (step all call) oid)
+orderly_step : (all : AllRows) (call : Call) → ((oid : ℕ) → IsOrderly (rows_of all oid)) → (oid : ℕ) → IsOrderly (rows_of (rows_step all call) oid)
 orderly_step all (Create key epoch size offset piece) had oid = go (nat_le (offset + length piece) size)
   where
     new : AllRows
@@ -83,15 +83,15 @@ orderly_step all (Write key offset piece) had oid = go (open_row all key)
     go (Some row) = pick (nat_le (offset + length piece) (length row.bytes))
 orderly_step all (Advance next keeps) had oid = orderly_each (advanced keeps next) all oid refl (orderly_advanced keeps next oid (rows_of all oid) (had oid))
 orderly_step all (CloseAll last) had oid = orderly_each (λ _. closed_all last) all oid refl (orderly_closed (closed_all last (rows_of all oid)) (closed_all-closed last (rows_of all oid)))
-orderly_step all (PurgeBelow settled) had oid = orderly_each (λ _. purged settled) all oid refl (orderly_filter (λ row. not (ended_before settled row.to)) (rows_of all oid) (had oid))
+orderly_step all (PurgeBelow settled) had oid = orderly_each (λ _. purged settled) all oid refl (orderly_filter (λ row. not (has_ended_below settled row.to)) (rows_of all oid) (had oid))
 orderly_step all (DropVid vid) had oid = orderly_each (without_disk vid) all oid (without_disk-none vid oid) (orderly_without_disk vid oid (rows_of all oid) (had oid))
 
-orderly_steps : (calls : List Call) (all : AllRows) → ((oid : ℕ) → IsOrderly (rows_of all oid)) → (oid : ℕ) → IsOrderly (rows_of (fold step all calls) oid)
+orderly_steps : (calls : List Call) (all : AllRows) → ((oid : ℕ) → IsOrderly (rows_of all oid)) → (oid : ℕ) → IsOrderly (rows_of (fold rows_step all calls) oid)
 orderly_steps [] all had = had
-orderly_steps (call ∷ calls) all had = orderly_steps calls (step all call) (orderly_step all call had)
+orderly_steps (call ∷ calls) all had = orderly_steps calls (rows_step all call) (orderly_step all call had)
 
-pub orderly-after : (calls : List Call) (oid : ℕ) → IsOrderly (rows_of (after calls) oid)
-orderly-after calls = orderly_steps calls tree.empty (λ oid. subst IsOrderly (sym (rows_of-empty oid)) tt)
+pub orderly-rows_after : (calls : List Call) (oid : ℕ) → IsOrderly (rows_of (rows_after calls) oid)
+orderly-rows_after calls = orderly_steps calls tree.empty (λ oid. subst IsOrderly (sym (rows_of-empty oid)) tt)
 
 -- ---- no object is there without rows
 
@@ -136,7 +136,7 @@ some_changed test change index (r ∷ rows) row found is = go (test r) is
     go true e = absurd (cc (e))
     go false e = absurd (cc (e))
 
-there_step : (all : AllRows) (call : Call) → AreThere all → AreThere (step all call)
+there_step : (all : AllRows) (call : Call) → AreThere all → AreThere (rows_step all call)
 there_step all (Create key epoch size offset piece) had = go (nat_le (offset + length piece) size)
   where
     new : AllRows
@@ -167,10 +167,10 @@ there_step all (CloseAll last) had = AreThere-each (λ _. closed_all last) all
 there_step all (PurgeBelow settled) had = AreThere-each (λ _. purged settled) all
 there_step all (DropVid vid) had = AreThere-each (without_disk vid) all
 
-there_steps : (calls : List Call) (all : AllRows) → AreThere all → AreThere (fold step all calls)
+there_steps : (calls : List Call) (all : AllRows) → AreThere all → AreThere (fold rows_step all calls)
 there_steps [] all had = had
-there_steps (call ∷ calls) all had = there_steps calls (step all call) (there_step all call had)
+there_steps (call ∷ calls) all had = there_steps calls (rows_step all call) (there_step all call had)
 
-pub there-after : (calls : List Call) (oid : ℕ) → tree.get (after calls) oid ≢ Some []
+pub there-rows_after : (calls : List Call) (oid : ℕ) → tree.get (rows_after calls) oid ≢ Some []
 unfolding AreThere
-there-after calls = there_steps calls tree.empty (λ oid is. absurd (cc (sym (tree.get-empty nat_cmp oid) ∙ is)))
+there-rows_after calls = there_steps calls tree.empty (λ oid is. absurd (cc (sym (tree.get-empty nat_cmp oid) ∙ is)))

@@ -10,78 +10,78 @@ use Rattle.std.specs.FinMap as tree
 use Rattle.std.specs.FinMap.Entries.{find}
 use Rattle.object_store.specs.declared.key.Key.{Key}
 use Rattle.object_store.specs.declared.row.Row.{Row}
-use Rattle.object_store.specs.Bytes.{Kept}
+use Rattle.object_store.specs.Bytes.{KeptBytes}
 use Rattle.object_store.specs.Rows.{open_at}
 use Rattle.object_store.specs.Store.{SeenRow, rows_of, open_row, with_rows, each_entry, each}
 use Rattle.object_store.specs.Answers.{KeepsRoom, KeepsOtherRoom}
-use Rattle.object_store.specs.Kept.{seen, RoomIn, KeepsRowRoom}
-use Rattle.object_store.specs.Plain.{Objects, seen_entry, all_seen, kept_of, HasRoomIn, IsPut}
+use Rattle.object_store.specs.KeptRows.{seen_row, RoomIn, KeepsRowRoom}
+use Rattle.object_store.specs.Plain.{Objects, seen_entry, seen_rows, kept_of, HasRoomIn, IsPut}
 use Rattle.object_store.proofs.MapLemmas.{same_key, own_key, other_key, turned_key, sorted_from, entries-from_entries, rows_at-each_entry}
-use Rattle.object_store.proofs.SeenLemmas.{seen-open_at}
+use Rattle.object_store.proofs.SeenLemmas.{seen_row-open_at}
 
-find-seen : (q : ℕ) (es : Objects) → find nat_cmp q (map seen_entry es) ≡ option_map (map seen) (lookup (is_at (nat_cmp q)) es)
-find-seen q [] = refl
-find-seen q (e ∷ es) = go (is_eq (nat_cmp q e.0)) (find-seen q es)
+find-seen_row : (q : ℕ) (es : Objects) → find nat_cmp q (map seen_entry es) ≡ option_map (map seen_row) (lookup (is_at (nat_cmp q)) es)
+find-seen_row q [] = refl
+find-seen_row q (e ∷ es) = go (is_eq (nat_cmp q e.0)) (find-seen_row q es)
   where
-    go : (b : Bool) → find nat_cmp q (map seen_entry es) ≡ option_map (map seen) (lookup (is_at (nat_cmp q)) es)
-        → cond b (Some (map seen e.1)) (find nat_cmp q (map seen_entry es)) ≡ option_map (map seen) (cond b (Some e.1) (lookup (is_at (nat_cmp q)) es))
+    go : (b : Bool) → find nat_cmp q (map seen_entry es) ≡ option_map (map seen_row) (lookup (is_at (nat_cmp q)) es)
+        → cond b (Some (map seen_row e.1)) (find nat_cmp q (map seen_entry es)) ≡ option_map (map seen_row) (cond b (Some e.1) (lookup (is_at (nat_cmp q)) es))
     go true rest = refl
     go false rest = rest
 
-pub get-all_seen : (es : Objects) (q : ℕ) → tree.get (all_seen es) q ≡ option_map (map seen) (lookup (is_at (nat_cmp q)) es)
-get-all_seen es q = tree.get-from_entries nat_cmp_total (map seen_entry es) q ∙ find-seen q es
+pub get-seen_rows : (es : Objects) (q : ℕ) → tree.get (seen_rows es) q ≡ option_map (map seen_row) (lookup (is_at (nat_cmp q)) es)
+get-seen_rows es q = tree.get-from_entries nat_cmp_total (map seen_entry es) q ∙ find-seen_row q es
 
-or_none : (o : Option (List (Row Kept))) → unwrap_or (option_map (map seen) o) [] ≡ map seen (unwrap_or o [])
+or_none : (o : Option (List (Row KeptBytes))) → unwrap_or (option_map (map seen_row) o) [] ≡ map seen_row (unwrap_or o [])
 or_none None = refl
 or_none (Some rows) = refl
 
-pub rows_of-all_seen : (es : Objects) (oid : ℕ) → rows_of (all_seen es) oid ≡ map seen (kept_of es oid)
-rows_of-all_seen es oid = ap (λ o. unwrap_or o []) (get-all_seen es oid) ∙ or_none (lookup (is_at (nat_cmp oid)) es)
+pub rows_of-seen_rows : (es : Objects) (oid : ℕ) → rows_of (seen_rows es) oid ≡ map seen_row (kept_of es oid)
+rows_of-seen_rows es oid = ap (λ o. unwrap_or o []) (get-seen_rows es oid) ∙ or_none (lookup (is_at (nat_cmp oid)) es)
 
-pub open_row-all_seen : (es : Objects) (key : Key) → open_row (all_seen es) key ≡ option_map seen (open_at key.index (kept_of es key.oid))
-open_row-all_seen es key = ap (open_at key.index) (rows_of-all_seen es key.oid) ∙ sym (seen-open_at key.index (kept_of es key.oid))
+pub open_row-seen_rows : (es : Objects) (key : Key) → open_row (seen_rows es) key ≡ option_map seen_row (open_at key.index (kept_of es key.oid))
+open_row-seen_rows es key = ap (open_at key.index) (rows_of-seen_rows es key.oid) ∙ sym (seen_row-open_at key.index (kept_of es key.oid))
 
-pub kept_of-found : (es : Objects) (oid : ℕ) (rows : List (Row Kept)) → lookup (is_at (nat_cmp oid)) es ≡ Some rows → kept_of es oid ≡ rows
+pub kept_of-found : (es : Objects) (oid : ℕ) (rows : List (Row KeptBytes)) → lookup (is_at (nat_cmp oid)) es ≡ Some rows → kept_of es oid ≡ rows
 kept_of-found es oid rows found = ap (λ o. unwrap_or o []) found
 
-put-here : (es fs : Objects) (oid : ℕ) (rows : List (Row Kept)) → IsPut es fs oid rows → kept_of fs oid ≡ rows
+put-here : (es fs : Objects) (oid : ℕ) (rows : List (Row KeptBytes)) → IsPut es fs oid rows → kept_of fs oid ≡ rows
 put-here es fs oid rows put =
     ap (λ o. unwrap_or o []) (put oid ∙ ap (λ b. cond b (Some rows) (lookup (is_at (nat_cmp oid)) es)) (own_key oid))
 
-put-other : (es fs : Objects) (oid q : ℕ) (rows : List (Row Kept)) → IsPut es fs oid rows → is_at (nat_cmp oid) q ≡ false → kept_of fs q ≡ kept_of es q
+put-other : (es fs : Objects) (oid q : ℕ) (rows : List (Row KeptBytes)) → IsPut es fs oid rows → is_at (nat_cmp oid) q ≡ false → kept_of fs q ≡ kept_of es q
 put-other es fs oid q rows put other =
     ap (λ o. unwrap_or o []) (put q ∙ ap (λ b. cond b (Some rows) (lookup (is_at (nat_cmp q)) es)) other)
 
 -- one object's rows are put
-pub one_put : (es fs : Objects) (oid : ℕ) (rows : List (Row Kept)) → IsPut es fs oid rows → all_seen fs ≡ tree.insert (all_seen es) oid (map seen rows)
-one_put es fs oid rows put = tree.same_map nat_cmp_total tree.nat_cmp-IsAntisymmetric (all_seen fs) (tree.insert (all_seen es) oid (map seen rows)) at
+pub one_put : (es fs : Objects) (oid : ℕ) (rows : List (Row KeptBytes)) → IsPut es fs oid rows → seen_rows fs ≡ tree.insert (seen_rows es) oid (map seen_row rows)
+one_put es fs oid rows put = tree.same_map nat_cmp_total tree.nat_cmp-IsAntisymmetric (seen_rows fs) (tree.insert (seen_rows es) oid (map seen_row rows)) at
   where
-    choice : (b : Bool) (o : Option (List (Row Kept))) → option_map (map seen) (cond b (Some rows) o) ≡ cond b (Some (map seen rows)) (option_map (map seen) o)
+    choice : (b : Bool) (o : Option (List (Row KeptBytes))) → option_map (map seen_row) (cond b (Some rows) o) ≡ cond b (Some (map seen_row rows)) (option_map (map seen_row) o)
     choice true o = refl
     choice false o = refl
 
-    at : (q : ℕ) → tree.get (all_seen fs) q ≡ tree.get (tree.insert (all_seen es) oid (map seen rows)) q
+    at : (q : ℕ) → tree.get (seen_rows fs) q ≡ tree.get (tree.insert (seen_rows es) oid (map seen_row rows)) q
     at q =
-        get-all_seen fs q ∙ ap (option_map (map seen)) (put q) ∙ choice (is_at (nat_cmp oid) q) (lookup (is_at (nat_cmp q)) es)
-        ∙ sym (tree.get-insert nat_cmp_total (all_seen es) oid (map seen rows) q
-        ∙ ap (λ b. cond b (Some (map seen rows)) (tree.get (all_seen es) q)) (turned_key q oid)
-        ∙ ap (cond (is_at (nat_cmp oid) q) (Some (map seen rows))) (get-all_seen es q))
+        get-seen_rows fs q ∙ ap (option_map (map seen_row)) (put q) ∙ choice (is_at (nat_cmp oid) q) (lookup (is_at (nat_cmp q)) es)
+        ∙ sym (tree.get-insert nat_cmp_total (seen_rows es) oid (map seen_row rows) q
+        ∙ ap (λ b. cond b (Some (map seen_row rows)) (tree.get (seen_rows es) q)) (turned_key q oid)
+        ∙ ap (cond (is_at (nat_cmp oid) q) (Some (map seen_row rows))) (get-seen_rows es q))
 
 -- rows that are seen as those before are put in their place
-pub put_unseen : (es fs : Objects) (oid : ℕ) (rows old : List (Row Kept)) → IsPut es fs oid rows → lookup (is_at (nat_cmp oid)) es ≡ Some old
-    → map seen rows ≡ map seen old → all_seen fs ≡ all_seen es
-put_unseen es fs oid rows old put found same = tree.same_map nat_cmp_total tree.nat_cmp-IsAntisymmetric (all_seen fs) (all_seen es) at
+pub put_unseen : (es fs : Objects) (oid : ℕ) (rows old : List (Row KeptBytes)) → IsPut es fs oid rows → lookup (is_at (nat_cmp oid)) es ≡ Some old
+    → map seen_row rows ≡ map seen_row old → seen_rows fs ≡ seen_rows es
+put_unseen es fs oid rows old put found same = tree.same_map nat_cmp_total tree.nat_cmp-IsAntisymmetric (seen_rows fs) (seen_rows es) at
   where
     choice : (q : ℕ) (b : Bool) → is_at (nat_cmp oid) q ≡ b
-        → option_map (map seen) (cond b (Some rows) (lookup (is_at (nat_cmp q)) es)) ≡ option_map (map seen) (lookup (is_at (nat_cmp q)) es)
-    choice q true here = ap Some same ∙ ap (option_map (map seen)) (sym found ∙ ap (λ k. lookup (is_at (nat_cmp k)) es) (same_key oid q here))
+        → option_map (map seen_row) (cond b (Some rows) (lookup (is_at (nat_cmp q)) es)) ≡ option_map (map seen_row) (lookup (is_at (nat_cmp q)) es)
+    choice q true here = ap Some same ∙ ap (option_map (map seen_row)) (sym found ∙ ap (λ k. lookup (is_at (nat_cmp k)) es) (same_key oid q here))
     choice q false other = refl
 
-    at : (q : ℕ) → tree.get (all_seen fs) q ≡ tree.get (all_seen es) q
-    at q = get-all_seen fs q ∙ ap (option_map (map seen)) (put q) ∙ choice q (is_at (nat_cmp oid) q) refl ∙ sym (get-all_seen es q)
+    at : (q : ℕ) → tree.get (seen_rows fs) q ≡ tree.get (seen_rows es) q
+    at q = get-seen_rows fs q ∙ ap (option_map (map seen_row)) (put q) ∙ choice q (is_at (nat_cmp oid) q) refl ∙ sym (get-seen_rows es q)
 
 -- what one object keeps, all keep
-pub KeepsRoom-put : (es fs : Objects) (oid : ℕ) (rows : List (Row Kept)) → IsPut es fs oid rows → KeepsRowRoom (kept_of es oid) rows
+pub KeepsRoom-put : (es fs : Objects) (oid : ℕ) (rows : List (Row KeptBytes)) → IsPut es fs oid rows → KeepsRowRoom (kept_of es oid) rows
     → KeepsRoom (HasRoomIn es) (HasRoomIn fs)
 KeepsRoom-put es fs oid rows put keeps key offset n had = go (is_at (nat_cmp oid) key.oid) refl
   where
@@ -93,34 +93,34 @@ KeepsRoom-put es fs oid rows put keeps key offset n had = go (is_at (nat_cmp oid
         (keeps key.index (offset + n) (subst (λ k. RoomIn (open_at key.index (kept_of es k)) (offset + n)) (sym same) had))
     go false other = subst (λ rs. RoomIn (open_at key.index rs) (offset + n)) (sym (put-other es fs oid key.oid rows put other)) had
 
-pub KeepsOtherRoom-put : (es fs : Objects) (oid : ℕ) (rows : List (Row Kept)) → IsPut es fs oid rows → KeepsOtherRoom oid (HasRoomIn es) (HasRoomIn fs)
+pub KeepsOtherRoom-put : (es fs : Objects) (oid : ℕ) (rows : List (Row KeptBytes)) → IsPut es fs oid rows → KeepsOtherRoom oid (HasRoomIn es) (HasRoomIn fs)
 KeepsOtherRoom-put es fs oid rows put key offset n apart had =
     subst (λ rs. RoomIn (open_at key.index rs) (offset + n)) (sym (put-other es fs oid key.oid rows put (other_key oid key.oid apart))) had
 
-pub HasRoomIn-put : (es fs : Objects) (key : Key) (rows : List (Row Kept)) (end : ℕ) → IsPut es fs key.oid rows → RoomIn (open_at key.index rows) end
+pub HasRoomIn-put : (es fs : Objects) (key : Key) (rows : List (Row KeptBytes)) (end : ℕ) → IsPut es fs key.oid rows → RoomIn (open_at key.index rows) end
     → RoomIn (open_at key.index (kept_of fs key.oid)) end
 HasRoomIn-put es fs key rows end put room = subst (λ rs. RoomIn (open_at key.index rs) end) (sym (put-here es fs key.oid rows put)) room
 
-keys-seen : (es : Objects) → keys_of (map seen_entry es) ≡ keys_of es
-keys-seen [] = refl
-keys-seen (e ∷ es) = ap (λ ks. e.0 ∷ ks) (keys-seen es)
+keys-seen_row : (es : Objects) → keys_of (map seen_entry es) ≡ keys_of es
+keys-seen_row [] = refl
+keys-seen_row (e ∷ es) = ap (λ ks. e.0 ∷ ks) (keys-seen_row es)
 
-pub entries-all_seen : (es : Objects) → IsStrictlySortedBy nat_cmp (keys_of es) → tree.entries (all_seen es) ≡ map seen_entry es
-entries-all_seen es sorted =
-    entries-from_entries (map seen_entry es) (sorted_from (map seen_entry es) (subst (IsStrictlySortedBy nat_cmp) (sym (keys-seen es)) sorted))
+pub entries-seen_rows : (es : Objects) → IsStrictlySortedBy nat_cmp (keys_of es) → tree.entries (seen_rows es) ≡ map seen_entry es
+entries-seen_rows es sorted =
+    entries-from_entries (map seen_entry es) (sorted_from (map seen_entry es) (subst (IsStrictlySortedBy nat_cmp) (sym (keys-seen_row es)) sorted))
 
-pub keys-all_seen : (es : Objects) → IsStrictlySortedBy nat_cmp (keys_of es) → tree.keys (all_seen es) ≡ keys_of es
-keys-all_seen es sorted = ap keys_of (entries-all_seen es sorted) ∙ keys-seen es
+pub keys-seen_rows : (es : Objects) → IsStrictlySortedBy nat_cmp (keys_of es) → tree.keys (seen_rows es) ≡ keys_of es
+keys-seen_rows es sorted = ap keys_of (entries-seen_rows es sorted) ∙ keys-seen_row es
 
 -- each object's rows are changed, and are seen changed
-pub all_seen-each_entry : (change : ℕ → List (Row Kept) → List (Row Kept)) (shown : ℕ → List SeenRow → List SeenRow)
-    → ((oid : ℕ) (rows : List (Row Kept)) → map seen (change oid rows) ≡ shown oid (map seen rows))
-    → (es : Objects) → IsStrictlySortedBy nat_cmp (keys_of es) → all_seen (each_entry change es) ≡ each shown (all_seen es)
+pub seen_rows-each_entry : (change : ℕ → List (Row KeptBytes) → List (Row KeptBytes)) (shown : ℕ → List SeenRow → List SeenRow)
+    → ((oid : ℕ) (rows : List (Row KeptBytes)) → map seen_row (change oid rows) ≡ shown oid (map seen_row rows))
+    → (es : Objects) → IsStrictlySortedBy nat_cmp (keys_of es) → seen_rows (each_entry change es) ≡ each shown (seen_rows es)
 unfolding each
-all_seen-each_entry change shown same es sorted =
-    ap tree.from_entries (entry_by_entry es ∙ ap (each_entry shown) (sym (entries-all_seen es sorted)))
+seen_rows-each_entry change shown same es sorted =
+    ap tree.from_entries (entry_by_entry es ∙ ap (each_entry shown) (sym (entries-seen_rows es sorted)))
   where
-    one : (oid : ℕ) (rows : List (Row Kept)) (rest : Objects) → map seen_entry (with_rows oid rows rest) ≡ with_rows oid (map seen rows) (map seen_entry rest)
+    one : (oid : ℕ) (rows : List (Row KeptBytes)) (rest : Objects) → map seen_entry (with_rows oid rows rest) ≡ with_rows oid (map seen_row rows) (map seen_entry rest)
     one oid [] rest = refl
     one oid (row ∷ rows) rest = refl
 
@@ -131,8 +131,8 @@ all_seen-each_entry change shown same es sorted =
         ∙ (λ i. with_rows f.0 (same f.0 f.1 i) (entry_by_entry fs i))
 
 -- no row loses room where no object's rows do
-pub KeepsRoom-each_entry : (change : ℕ → List (Row Kept) → List (Row Kept)) → ((oid : ℕ) → change oid [] ≡ [])
-    → ((oid : ℕ) (rows : List (Row Kept)) → KeepsRowRoom rows (change oid rows))
+pub KeepsRoom-each_entry : (change : ℕ → List (Row KeptBytes) → List (Row KeptBytes)) → ((oid : ℕ) → change oid [] ≡ [])
+    → ((oid : ℕ) (rows : List (Row KeptBytes)) → KeepsRowRoom rows (change oid rows))
     → (es : Objects) → IsStrictlySortedBy nat_cmp (keys_of es) → KeepsRoom (HasRoomIn es) (HasRoomIn (each_entry change es))
 KeepsRoom-each_entry change none keeps es sorted key offset n had =
     subst (λ rs. RoomIn (open_at key.index rs) (offset + n)) (sym (rows_at-each_entry change key.oid (none key.oid) es (sorted_from es sorted)))

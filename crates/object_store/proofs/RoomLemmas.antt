@@ -5,9 +5,9 @@ use Rattle.object_id.specs.Oid.{vid_of}
 use Rattle.object_id.specs.declared.node.Epoch.{Epoch}
 use Rattle.object_store.specs.declared.key.Key.{Key}
 use Rattle.object_store.specs.declared.row.Row.{Row}
-use Rattle.object_store.specs.Bytes.{Kept}
-use Rattle.object_store.specs.Rows.{is_open, is_open_at, open_at, closed, closed_all, is_kept, advanced, purged, ended_before, without_disk}
-use Rattle.object_store.specs.Kept.{RoomIn, KeepsRowRoom, lay, written}
+use Rattle.object_store.specs.Bytes.{KeptBytes}
+use Rattle.object_store.specs.Rows.{is_open, is_open_at, open_at, closed, closed_all, is_kept, advanced, purged, has_ended_below, without_disk}
+use Rattle.object_store.specs.KeptRows.{RoomIn, KeepsRowRoom, lay, rows_with_piece}
 use Rattle.object_store.proofs.RowLemmas.{AllClosed, closed_all-closed}
 
 same_number : (a b : ℕ) → nat_eq a b ≡ true → a ≡ b
@@ -93,18 +93,18 @@ module _ {B : Type 0} where
       either false other = refl
 
       step : (o : Option Epoch) → row.to ≡ o → open_at index left ≡ open_at index rows
-          → open_at index (cond (not (ended_before settled row.to)) (row ∷ left) left) ≡ cond (is_open_at index row) (Some row) (open_at index rows)
+          → open_at index (cond (not (has_ended_below settled row.to)) (row ∷ left) left) ≡ cond (is_open_at index row) (Some row) (open_at index rows)
       step None is rest =
-          ap (λ to. open_at index (cond (not (ended_before settled to)) (row ∷ left) left)) is
+          ap (λ to. open_at index (cond (not (has_ended_below settled to)) (row ∷ left) left)) is
           ∙ ap (cond (is_open_at index row) (Some row)) rest
       step (Some to) is rest =
           let other : is_open_at index row ≡ false = ap (λ o. not (is_some o) && nat_eq row.index index) is in
-          either (not (ended_before settled row.to)) other ∙ rest ∙ sym (ap (λ t. cond t (Some row) (open_at index rows)) other)
+          either (not (has_ended_below settled row.to)) other ∙ rest ∙ sym (ap (λ t. cond t (Some row) (open_at index rows)) other)
 
-pub KeepsRowRoom-closed_all : (last : ℕ) (rows : List (Row Kept)) → KeepsRowRoom rows (closed_all last rows)
+pub KeepsRowRoom-closed_all : (last : ℕ) (rows : List (Row KeptBytes)) → KeepsRowRoom rows (closed_all last rows)
 KeepsRowRoom-closed_all last rows index n had = subst (λ o. RoomIn o n) (sym (open-closed_all index last rows)) tt
 
-pub KeepsRowRoom-advanced : (keeps : List Key) (next oid : ℕ) (rows : List (Row Kept)) → KeepsRowRoom rows (advanced keeps next oid rows)
+pub KeepsRowRoom-advanced : (keeps : List Key) (next oid : ℕ) (rows : List (Row KeptBytes)) → KeepsRowRoom rows (advanced keeps next oid rows)
 KeepsRowRoom-advanced keeps next oid rows index n had =
     subst (λ o. RoomIn o n) (sym (open-advanced keeps next oid index rows)) (go (is_kept keeps oid index))
   where
@@ -112,35 +112,35 @@ KeepsRowRoom-advanced keeps next oid rows index n had =
     go true = had
     go false = tt
 
-pub KeepsRowRoom-purged : (settled : ℕ) (rows : List (Row Kept)) → KeepsRowRoom rows (purged settled rows)
+pub KeepsRowRoom-purged : (settled : ℕ) (rows : List (Row KeptBytes)) → KeepsRowRoom rows (purged settled rows)
 KeepsRowRoom-purged settled rows index n had = subst (λ o. RoomIn o n) (sym (open-purged settled index rows)) had
 
-pub KeepsRowRoom-without_disk : (vid oid : ℕ) (rows : List (Row Kept)) → KeepsRowRoom rows (without_disk vid oid rows)
+pub KeepsRowRoom-without_disk : (vid oid : ℕ) (rows : List (Row KeptBytes)) → KeepsRowRoom rows (without_disk vid oid rows)
 KeepsRowRoom-without_disk vid oid rows index n had = go (nat_eq (vid_of oid) vid)
   where
     go : (b : Bool) → RoomIn (open_at index (cond b [] rows)) n
     go true = tt
     go false = had
 
-pub KeepsRowRoom-written : (at offset : ℕ) (piece : List ℕ) (rows : List (Row Kept)) → KeepsRowRoom rows (written at offset piece rows)
-KeepsRowRoom-written at offset piece [] index n had = tt
-KeepsRowRoom-written at offset piece (row ∷ rows) index n had =
-    step (is_open_at at row) (KeepsRowRoom-written at offset piece rows index n)
+pub KeepsRowRoom-rows_with_piece : (at offset : ℕ) (piece : List ℕ) (rows : List (Row KeptBytes)) → KeepsRowRoom rows (rows_with_piece at offset piece rows)
+KeepsRowRoom-rows_with_piece at offset piece [] index n had = tt
+KeepsRowRoom-rows_with_piece at offset piece (row ∷ rows) index n had =
+    step (is_open_at at row) (KeepsRowRoom-rows_with_piece at offset piece rows index n)
   where
-    new : Row Kept
+    new : Row KeptBytes
     new = record row { bytes = lay offset piece row.bytes }
 
     laid : (u : Bool) → RoomIn (cond u (Some row) (open_at index rows)) n → RoomIn (cond u (Some new) (open_at index rows)) n
     laid true room = room
     laid false room = room
 
-    passed : (u : Bool) → (RoomIn (open_at index rows) n → RoomIn (open_at index (written at offset piece rows)) n)
-        → RoomIn (cond u (Some row) (open_at index rows)) n → RoomIn (cond u (Some row) (open_at index (written at offset piece rows))) n
+    passed : (u : Bool) → (RoomIn (open_at index rows) n → RoomIn (open_at index (rows_with_piece at offset piece rows)) n)
+        → RoomIn (cond u (Some row) (open_at index rows)) n → RoomIn (cond u (Some row) (open_at index (rows_with_piece at offset piece rows))) n
     passed true rest room = room
     passed false rest room = rest room
 
-    step : (t : Bool) → (RoomIn (open_at index rows) n → RoomIn (open_at index (written at offset piece rows)) n)
-        → RoomIn (open_at index (cond t (new ∷ rows) (row ∷ written at offset piece rows))) n
+    step : (t : Bool) → (RoomIn (open_at index rows) n → RoomIn (open_at index (rows_with_piece at offset piece rows)) n)
+        → RoomIn (open_at index (cond t (new ∷ rows) (row ∷ rows_with_piece at offset piece rows))) n
     step true rest = laid (is_open_at index row) had
     step false rest = passed (is_open_at index row) rest had
 

@@ -9,7 +9,7 @@ use Rattle.object_store.specs.declared.key.Key.{Key}
 use Rattle.object_store.specs.declared.row.Row.{Row}
 use Rattle.object_store.specs.declared.fault.StoreFault.{StoreFault}
 use Rattle.object_store.specs.declared.fault.StoreFault.TheVariants.{NoObj, OutOfObject, NoMemory}
-use Rattle.object_store.specs.Rows.{is_open, is_open_at, closed, closed_all, is_replaced, ended, created, changed, is_kept, advanced, purged, ended_before, without_disk, OpenFrom}
+use Rattle.object_store.specs.Rows.{is_open, is_open_at, closed, closed_all, is_replaced, ended, created, changed, is_kept, advanced, purged, has_ended_below, without_disk, OpenFrom}
 use Rattle.object_store.specs.Store.{SeenRow, AllRows, rows_of, open_row, on_open, create_at, write_at, each_entry, each, OpenUpTo, OpenBelow}
 use Rattle.object_store.specs.Answers.{Makes, MakesSurely}
 use Rattle.object_store.proofs.RowLemmas.{AllClosed, closed_all-closed}
@@ -146,7 +146,7 @@ OpenUpTo-close_all last all to oid =
 
 pub OpenUpTo-purge : (last : ℕ) (all : AllRows) (settled : ℕ) → OpenUpTo last all → OpenUpTo last (each (λ _. purged settled) all)
 OpenUpTo-purge last all settled had =
-    OpenUpTo-each last (λ _. purged settled) (λ _. refl) (λ _. OpenFrom-filter (λ from. from ≤ last) (λ row. not (ended_before settled row.to))) all had
+    OpenUpTo-each last (λ _. purged settled) (λ _. refl) (λ _. OpenFrom-filter (λ from. from ≤ last) (λ row. not (has_ended_below settled row.to))) all had
 
 pub OpenUpTo-drop_vid : (last : ℕ) (all : AllRows) (vid : ℕ) → OpenUpTo last all → OpenUpTo last (each (without_disk vid) all)
 OpenUpTo-drop_vid last all vid had =

@@ -7,8 +7,8 @@ use Rattle.object_id.specs.Oid.{vid_of}
 use Rattle.object_store.specs.declared.fault.StoreFault.{StoreFault}
 use Rattle.object_store.specs.declared.fault.StoreFault.TheVariants.{NoObj}
 use Rattle.object_store.specs.declared.key.Key.{Key}
-use Rattle.object_store.specs.Rows.{is_open, is_open_at, is_kept, closed_all, advanced, purged, ended_before, without_disk}
-use Rattle.object_store.specs.Store.{SeenRow, AllRows, within, create_at, write_at, each}
+use Rattle.object_store.specs.Rows.{is_open, is_open_at, is_kept, closed_all, advanced, purged, has_ended_below, without_disk}
+use Rattle.object_store.specs.Store.{SeenRow, AllRows, value_within, create_at, write_at, each}
 
 -- the calls that change rows, with what they are given
 pub data Call : Type 0 where
@@ -20,16 +20,16 @@ pub data Call : Type 0 where
   DropVid : ℕ → Call
 
 -- what the rows are after a call. A refused one changes none
-abbrev pub step : AllRows → Call → AllRows
-step all (Create key epoch size offset piece) = result_unwrap_or (create_at all key epoch size offset piece) all
-step all (Write key offset piece) = result_unwrap_or (write_at all key offset piece) all
-step all (Advance next keeps) = each (advanced keeps next) all
-step all (CloseAll last) = each (λ _. closed_all last) all
-step all (PurgeBelow settled) = each (λ _. purged settled) all
-step all (DropVid vid) = each (without_disk vid) all
+abbrev pub rows_step : AllRows → Call → AllRows
+rows_step all (Create key epoch size offset piece) = result_unwrap_or (create_at all key epoch size offset piece) all
+rows_step all (Write key offset piece) = result_unwrap_or (write_at all key offset piece) all
+rows_step all (Advance next keeps) = each (advanced keeps next) all
+rows_step all (CloseAll last) = each (λ _. closed_all last) all
+rows_step all (PurgeBelow settled) = each (λ _. purged settled) all
+rows_step all (DropVid vid) = each (without_disk vid) all
 
-abbrev pub after : List Call → AllRows
-after calls = fold step tree.empty calls
+abbrev pub rows_after : List Call → AllRows
+rows_after calls = fold rows_step tree.empty calls
 
 -- a row's length, and the pieces that were laid over it since it was made, the latest first, each with its offset
 pub record Story : Type 0 where
@@ -42,34 +42,35 @@ byte_at [] place = 0
 byte_at (piece ∷ earlier) place =
     if nat_le piece.0 place && nat_lt place (piece.0 + length piece.1) then slice_index piece.1 (place - piece.0) else byte_at earlier place
 
-abbrev pub is_same : Key → Key → Bool
-is_same a b = nat_eq a.oid b.oid && nat_eq a.index b.index
+abbrev pub is_same_key : Key → Key → Bool
+is_same_key a b = nat_eq a.oid b.oid && nat_eq a.index b.index
 
 -- a piece more, where it ends within the row
 abbrev pub with_piece : ℕ → List ℕ → Option Story → Option Story
 with_piece offset piece None = None
 with_piece offset piece (Some story) =
-    if nat_le (offset + length piece) story.size then Some (record { size = story.size; pieces = (offset, piece) ∷ story.pieces }) else Some story
+    if nat_le (offset + length piece) story.size then Some (record { size = story.size; pieces = (offset, piece) ∷ story.pieces })
+    else Some story
 
 -- what one call more means for the open row of a key
-abbrev pub told : Key → Option Story → Call → Option Story
-told key story (Create made epoch size offset piece) =
+abbrev pub story_after : Key → Option Story → Call → Option Story
+story_after key story (Create made epoch size offset piece) =
     if nat_le (offset + length piece) size && nat_eq made.oid key.oid
     then (if nat_eq made.index key.index then Some (record { size = size; pieces = (offset, piece) ∷ [] }) else None)
     else story
-told key story (Write given offset piece) = if is_same given key then with_piece offset piece story else story
-told key story (Advance next keeps) = if is_kept keeps key.oid key.index then story else None
-told key story (CloseAll last) = None
-told key story (PurgeBelow settled) = story
-told key story (DropVid vid) = if nat_eq (vid_of key.oid) vid then None else story
+story_after key story (Write given offset piece) = if is_same_key given key then with_piece offset piece story else story
+story_after key story (Advance next keeps) = if is_kept keeps key.oid key.index then story else None
+story_after key story (CloseAll last) = None
+story_after key story (PurgeBelow settled) = story
+story_after key story (DropVid vid) = if nat_eq (vid_of key.oid) vid then None else story
 
 abbrev pub story_of : Key → List Call → Option Story
-story_of key calls = fold (told key) None calls
+story_of key calls = fold (story_after key) None calls
 
 -- what a read gives by the pieces alone
 abbrev pub read_story : Option Story → ℕ → ℕ → Result (List ℕ) StoreFault
 read_story None offset n = Err NoObj
-read_story (Some story) offset n = within (offset + n) story.size (map (byte_at story.pieces) (range_with_len offset n))
+read_story (Some story) offset n = value_within (offset + n) story.size (map (byte_at story.pieces) (range_with_len offset n))
 
 -- whether a call is about the row of the object: makes another in its place, writes it, ends it or drops it
 abbrev pub touches : Call → ℕ → SeenRow → Bool
@@ -77,7 +78,7 @@ touches (Create key epoch size offset piece) oid row = nat_eq key.oid oid && is_
 touches (Write key offset piece) oid row = nat_eq key.oid oid && is_open_at key.index row
 touches (Advance next keeps) oid row = is_open row && not (is_kept keeps oid row.index)
 touches (CloseAll last) oid row = is_open row
-touches (PurgeBelow settled) oid row = ended_before settled row.to
+touches (PurgeBelow settled) oid row = has_ended_below settled row.to
 touches (DropVid vid) oid row = nat_eq (vid_of oid) vid
 
 -- the row is among the rows

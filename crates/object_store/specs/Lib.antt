@@ -2,6 +2,6 @@ pub mod Bytes
 pub mod Rows
 pub mod Store
 pub mod Answers
-pub mod Kept
+pub mod KeptRows
 pub mod Plain
 pub mod Calls

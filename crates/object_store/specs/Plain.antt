@@ -6,22 +6,22 @@ use Rattle.std.specs.Ordering.{nat_cmp}
 use Rattle.std.specs.FinMap as tree
 use Rattle.object_store.specs.declared.key.Key.{Key}
 use Rattle.object_store.specs.declared.row.Row.{Row}
-use Rattle.object_store.specs.Bytes.{Kept}
+use Rattle.object_store.specs.Bytes.{KeptBytes}
 use Rattle.object_store.specs.Rows.{open_at}
 use Rattle.object_store.specs.Store.{AllRows}
-use Rattle.object_store.specs.Kept.{seen, RoomIn}
+use Rattle.object_store.specs.KeptRows.{seen_row, RoomIn}
 
 abbrev pub Objects : Type 0
-Objects = List (ℕ × List (Row Kept))
+Objects = List (ℕ × List (Row KeptBytes))
 
-abbrev pub seen_entry : ℕ × List (Row Kept) → ℕ × List (Row (List ℕ))
-seen_entry e = (e.0, map seen e.1)
+abbrev pub seen_entry : ℕ × List (Row KeptBytes) → ℕ × List (Row (List ℕ))
+seen_entry e = (e.0, map seen_row e.1)
 
-abbrev pub all_seen : Objects → AllRows
-all_seen es = tree.from_entries (map seen_entry es)
+abbrev pub seen_rows : Objects → AllRows
+seen_rows es = tree.from_entries (map seen_entry es)
 
 -- what is kept of an object
-abbrev pub kept_of : Objects → ℕ → List (Row Kept)
+abbrev pub kept_of : Objects → ℕ → List (Row KeptBytes)
 kept_of es oid = unwrap_or (lookup (is_at (nat_cmp oid)) es) []
 
 -- the open row of the key keeps its first bytes up to the piece's end
@@ -29,6 +29,6 @@ abbrev pub HasRoomIn : Objects → Key → ℕ → ℕ → Type 0
 HasRoomIn es key offset n = RoomIn (open_at key.index (kept_of es key.oid)) (offset + n)
 
 -- one object has these rows, and each other what it had
-abbrev pub IsPut : Objects → Objects → ℕ → List (Row Kept) → Type 0
+abbrev pub IsPut : Objects → Objects → ℕ → List (Row KeptBytes) → Type 0
 IsPut old new oid rows =
     (q : ℕ) → lookup (is_at (nat_cmp q)) new ≡ cond (is_at (nat_cmp oid) q) (Some rows) (lookup (is_at (nat_cmp q)) old)

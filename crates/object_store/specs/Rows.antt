@@ -8,9 +8,9 @@ use Rattle.object_store.specs.declared.key.Key.{Key}
 use Rattle.object_store.specs.declared.row.Row.{Row}
 
 -- whether a row that ends so ended below the settled epoch
-abbrev pub ended_before : ℕ → Option Epoch → Bool
-ended_before settled None = false
-ended_before settled (Some to) = nat_lt to.0 settled
+abbrev pub has_ended_below : ℕ → Option Epoch → Bool
+has_ended_below settled None = false
+has_ended_below settled (Some to) = nat_lt to.0 settled
 
 -- whether a row that ends so reaches to the level
 abbrev pub reaches : ℕ → Option Epoch → Bool
@@ -64,7 +64,7 @@ module _ {B : Type 0} where
   advanced keeps next oid rows = map (advanced_row keeps next oid) rows
 
   abbrev pub purged : ℕ → List (Row B) → List (Row B)
-  purged settled rows = filter (λ row. not (ended_before settled row.to)) rows
+  purged settled rows = filter (λ row. not (has_ended_below settled row.to)) rows
 
   -- what is left of an object's rows where a disk's rows go
   abbrev pub without_disk : ℕ → ℕ → List (Row B) → List (Row B)

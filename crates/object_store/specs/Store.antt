@@ -9,7 +9,7 @@ use Rattle.object_store.specs.declared.fault.StoreFault.TheVariants.{NoObj, OutO
 use Rattle.object_store.specs.declared.key.Key.{Key}
 use Rattle.object_store.specs.declared.row.Row.{Row}
 use Rattle.object_store.specs.declared.row.RowCopy.{RowCopy}
-use Rattle.object_store.specs.Bytes.{zeros, piece_at, trimmed}
+use Rattle.object_store.specs.Bytes.{zeros, piece_at, trimmed_bytes}
 use Rattle.object_store.specs.Rows.{is_open_at, open_at, created, changed, row_holding, OpenFrom}
 
 -- a row whose bytes are a list of its length
@@ -27,13 +27,13 @@ abbrev pub open_row : AllRows → Key → Option SeenRow
 open_row all key = open_at key.index (rows_of all key.oid)
 
 -- of what is there, where the end is within a length; outside, the refusal
-abbrev pub within : {A : Type 0} → ℕ → ℕ → A → Result A StoreFault
-within end size there = if nat_le end size then Ok there else Err OutOfObject
+abbrev pub value_within : {A : Type 0} → ℕ → ℕ → A → Result A StoreFault
+value_within end size there = if nat_le end size then Ok there else Err OutOfObject
 
 -- what is made of an open row that the end is within, or the first refusal
 abbrev pub on_open : {A : Type 0} → ℕ → Option SeenRow → (SeenRow → A) → Result A StoreFault
 on_open end None make = Err NoObj
-on_open end (Some row) make = within end (length row.bytes) (make row)
+on_open end (Some row) make = value_within end (length row.bytes) (make row)
 
 -- whether the piece is inside an open row
 abbrev pub piece_there : AllRows → Key → ℕ → ℕ → Result (Unit {0}) StoreFault
@@ -47,25 +47,26 @@ write_in index offset piece rows = changed (is_open_at index) (λ bytes. laid_ov
 
 abbrev pub write_at : AllRows → Key → ℕ → List ℕ → Result AllRows StoreFault
 write_at all key offset piece =
-    on_open (offset + length piece) (open_row all key) (λ row. tree.insert all key.oid (write_in key.index offset piece (rows_of all key.oid)))
+    on_open (offset + length piece) (open_row all key) (λ row. tree.insert all key.oid
+    (write_in key.index offset piece (rows_of all key.oid)))
 
 abbrev pub create_in : ℕ → ℕ → ℕ → ℕ → List ℕ → List SeenRow → List SeenRow
 create_in index epoch size offset piece rows = created index epoch (laid_over (zeros size) offset piece) rows
 
 abbrev pub create_at : AllRows → Key → ℕ → ℕ → ℕ → List ℕ → Result AllRows StoreFault
 create_at all key epoch size offset piece =
-    within (offset + length piece) size (tree.insert all key.oid (create_in key.index epoch size offset piece (rows_of all key.oid)))
+    value_within (offset + length piece) size (tree.insert all key.oid (create_in key.index epoch size offset piece (rows_of all key.oid)))
 
 abbrev pub copy_of : SeenRow → RowCopy
-copy_of row = record { index = row.index; from = row.from; to = row.to; length = length row.bytes; bytes = trimmed row.bytes }
+copy_of row = record { index = row.index; from = row.from; to = row.to; length = length row.bytes; bytes = trimmed_bytes row.bytes }
 
 -- a copy of the object's row at the level, if a row holds it
 abbrev pub copy_at : AllRows → ℕ → ℕ → Option RowCopy
 copy_at all oid level = option_map copy_of (row_holding level (rows_of all oid))
 
 -- all the bytes of a row, whose copy leaves out the last zeros
-abbrev pub bytes_of : RowCopy → List ℕ
-bytes_of row = row.bytes ++ zeros (row.length - length row.bytes)
+abbrev pub row_bytes : RowCopy → List ℕ
+row_bytes row = row.bytes ++ zeros (row.length - length row.bytes)
 
 -- an object without rows isn't there
 abbrev pub with_rows : {B : Type 0} → ℕ → List B → List (ℕ × List B) → List (ℕ × List B)

@@ -1,6 +1,6 @@
 ghost use Rattle.std.specs.Prelude.{◌≡◌, ◌+◌, ◌≤◌, length, take, IfOk, OnOk};
 ghost use Rattle.object_id.specs.Piece.{laid_over};
-ghost use Rattle.object_store.specs.Bytes.{zeros, piece_at, trimmed};
+ghost use Rattle.object_store.specs.Bytes.{zeros, piece_at, trimmed_bytes};
 
 use object_id::{Bytes, NoMemory, lay_over};
 use std::alloc::Global;
@@ -15,9 +15,9 @@ pub struct Content {
 
 impl Model for Content {
     ghost use Rattle.std.specs.Prelude.{◌++◌, ◌-◌, ◌≤◌, length};
-    ghost use Rattle.object_store.specs.Bytes.{Kept, zeros};
+    ghost use Rattle.object_store.specs.Bytes.{KeptBytes, zeros};
 
-    ghost Value = { Kept };
+    ghost Value = { KeptBytes };
 
     ghost view = { λ c. record { bytes = c.kept.items ++ zeros (c.size - length c.kept.items); room = length c.kept.items } };
 
@@ -88,7 +88,7 @@ impl Content {
 
     /// The bytes up to the last one that isn't 0.
     pub fn trimmed(&self, alloc: Global) -> Result<Bytes, NoMemory>
-        ensures { IfOk result (λ bytes. bytes ≡ trimmed self.now.bytes) }
+        ensures { IfOk result (λ bytes. bytes ≡ trimmed_bytes self.now.bytes) }
     {
         let kept = self.kept.as_slice();
         Bytes::from_slice(alloc, &kept[..trimmed_len(kept)])
@@ -97,7 +97,7 @@ impl Content {
 
 /// Up to where bytes go that end at their last one that isn't 0.
 fn trimmed_len(bytes: &[u8]) -> usize
-    ensures value { take result bytes.now ≡ trimmed bytes.now }
+    ensures value { take result bytes.now ≡ trimmed_bytes bytes.now }
     ensures within { result ≤ length bytes.now }
 {
     let mut end = bytes.len();

@@ -1,7 +1,7 @@
 ghost use Rattle.std.specs.Prelude.{◌≡◌, ◌↔◌, ℕ, ◌+◌, ◌-◌, ◌≤◌, Bool, true, not, ◌&&◌, List, [], ◌∷◌, length, map, filter, IfSome, OnOk, OnErr, IsTrue, nat_eq, if◌then◌else◌, Some, vec_len, vec_capacity};
 ghost use Rattle.std.specs.Option.{option_copied};
-ghost use Rattle.object_store.specs.Rows.{is_open_at, is_replaced, ended, open_at, closed, closed_all, created, advanced_row, advanced, purged, without_disk, ended_before, row_holding, better, IsOrderly};
-ghost use Rattle.object_store.specs.Kept.{seen, written, lay, RoomIn, KeepsRowRoom};
+ghost use Rattle.object_store.specs.Rows.{is_open_at, is_replaced, ended, open_at, closed, closed_all, created, advanced_row, advanced, purged, without_disk, has_ended_below, row_holding, better, IsOrderly};
+ghost use Rattle.object_store.specs.KeptRows.{seen_row, rows_with_piece, lay, RoomIn, KeepsRowRoom};
 
 use crate::content::Content;
 use crate::keeps::Keeps;
@@ -20,10 +20,10 @@ pub struct ObjectRows {
 impl Model for ObjectRows {
     ghost use Rattle.std.specs.Prelude.{List};
     ghost use Rattle.object_store.specs.declared.row.Row.{Row};
-    ghost use Rattle.object_store.specs.Bytes.{Kept};
+    ghost use Rattle.object_store.specs.Bytes.{KeptBytes};
     ghost use Rattle.object_store.specs.Rows.{IsOrderly};
 
-    ghost Value = { List (Row Kept) };
+    ghost Value = { List (Row KeptBytes) };
 
     ghost view = { λ s. s.rows.items };
 
@@ -83,7 +83,7 @@ impl ObjectRows {
     /// Keeps the first `end` bytes of the open row of an index.
     pub fn reserve(&mut self, index: u8, end: usize) -> Result<(), NoMemory>
         requires { IfSome (open_at index self.old) (λ row. end ≤ length row.bytes.bytes) }
-        ensures rows { map seen self.new ≡ map seen self.old }
+        ensures rows { map seen_row self.new ≡ map seen_row self.old }
         ensures room { KeepsRowRoom self.old self.new }
         ensures ok { OnOk result (RoomIn (open_at index self.new) end) }
     {
@@ -97,7 +97,7 @@ impl ObjectRows {
     /// Lays a piece over the bytes of the open row of an index.
     pub fn write(&mut self, index: u8, offset: u32, piece: &[u8])
         requires { RoomIn (open_at index self.old) (offset + length piece.now) }
-        ensures { self.new ≡ written index offset piece.now self.old }
+        ensures { self.new ≡ rows_with_piece index offset piece.now self.old }
     {
         let count = self.rows.len();
         if count > 0 {
@@ -168,7 +168,7 @@ fn is_replaced(row: &Row<Content>, epoch: Epoch) -> bool
 }
 
 fn is_old(row: &Row<Content>, settled: Epoch) -> bool
-    ensures { result ≡ ended_before settled.0 row.now.to }
+    ensures { result ≡ has_ended_below settled.0 row.now.to }
 {
     match row.to {
         Some(to) => to.0 < settled.0,
@@ -228,7 +228,7 @@ fn end_open(rows: &mut Vec<Row<Content>>, epoch: Epoch)
 /// What a row keeps, if it is the open one of the index.
 fn reserve_in(row: &mut Row<Content>, index: u8, end: usize) -> Result<(), NoMemory>
     requires { is_open_at index row.old ≡ true → end ≤ length row.old.bytes.bytes }
-    ensures row { seen row.new ≡ seen row.old }
+    ensures row { seen_row row.new ≡ seen_row row.old }
     ensures room { row.old.bytes.room ≤ row.new.bytes.room }
     ensures ok { OnOk result (is_open_at index row.new ≡ true → end ≤ row.new.bytes.room) }
 {

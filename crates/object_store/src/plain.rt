@@ -5,10 +5,10 @@ ghost use Rattle.std.specs.BTreeMap.{is_at};
 ghost use Rattle.std.specs.Ordering.{nat_cmp};
 ghost use Rattle.std.specs.FinMap as tree;
 ghost use Rattle.object_store.specs.Rows.{open_at, created};
-ghost use Rattle.object_store.specs.Store.{open_row, piece_there, within, copy_of};
+ghost use Rattle.object_store.specs.Store.{open_row, piece_there, value_within, copy_of};
 ghost use Rattle.object_store.specs.Answers.{KeepsRoom};
-ghost use Rattle.object_store.specs.Kept.{seen, written, RoomIn};
-ghost use Rattle.object_store.specs.Plain.{all_seen, kept_of, HasRoomIn, IsPut};
+ghost use Rattle.object_store.specs.KeptRows.{seen_row, rows_with_piece, RoomIn};
+ghost use Rattle.object_store.specs.Plain.{seen_rows, kept_of, HasRoomIn, IsPut};
 
 use crate::content::Content;
 use crate::fault::StoreFault;
@@ -51,7 +51,7 @@ impl PlainStore {
 
     /// The open row of a key.
     fn open_row(&self, key: &Key) -> Option<&Row<Content>>
-        ensures { option_map seen (option_copied result) ≡ open_row (all_seen self.now) key.now }
+        ensures { option_map seen_row (option_copied result) ≡ open_row (seen_rows self.now) key.now }
     {
         match self.objects.get(&key.oid) {
             Some(rows) => rows.open_row(key.index),
@@ -61,7 +61,7 @@ impl PlainStore {
 
     /// Whether a piece is inside the open row of a key, or why not.
     fn check_piece(&self, key: &Key, offset: u32, length: usize) -> Result<(), StoreFault>
-        ensures { result ≡ piece_there (all_seen self.now) key.now offset length }
+        ensures { result ≡ piece_there (seen_rows self.now) key.now offset length }
     {
         match self.open_row(key) {
             Some(row) => check_end(offset, length, row.bytes.len()),
@@ -71,7 +71,8 @@ impl PlainStore {
 
     /// Makes the open row of an object. Without memory the rows stay.
     fn put(&mut self, key: &Key, epoch: Epoch, bytes: Content) -> Result<(), NoMemory>
-        ensures ok { OnOk result (IsPut self.old self.new key.now.oid (created key.now.index epoch.0 bytes (kept_of self.old key.now.oid))) }
+        ensures ok { OnOk result (IsPut self.old self.new key.now.oid
+            (created key.now.index epoch.0 bytes (kept_of self.old key.now.oid))) }
         ensures err { OnErr result (self.new ≡ self.old) }
     {
         if self.objects.contains_key(&key.oid) {
@@ -83,7 +84,8 @@ impl PlainStore {
 
     fn put_there(&mut self, key: &Key, epoch: Epoch, bytes: Content) -> Result<(), NoMemory>
         requires { IsSome (lookup (is_at (nat_cmp key.now.oid)) self.old) }
-        ensures ok { OnOk result (IsPut self.old self.new key.now.oid (created key.now.index epoch.0 bytes (kept_of self.old key.now.oid))) }
+        ensures ok { OnOk result (IsPut self.old self.new key.now.oid
+            (created key.now.index epoch.0 bytes (kept_of self.old key.now.oid))) }
         ensures err { OnErr result (self.new ≡ self.old) }
     {
         let Some(rows) = self.objects.get_mut(&key.oid) else {
@@ -94,7 +96,8 @@ impl PlainStore {
 
     fn put_new(&mut self, key: &Key, epoch: Epoch, bytes: Content) -> Result<(), NoMemory>
         requires { lookup (is_at (nat_cmp key.now.oid)) self.old ≡ None }
-        ensures ok { OnOk result (IsPut self.old self.new key.now.oid (created key.now.index epoch.0 bytes (kept_of self.old key.now.oid))) }
+        ensures ok { OnOk result (IsPut self.old self.new key.now.oid
+            (created key.now.index epoch.0 bytes (kept_of self.old key.now.oid))) }
         ensures err { OnErr result (self.new ≡ self.old) }
     {
         let mut rows = ObjectRows::new(self.alloc);
@@ -106,7 +109,7 @@ impl PlainStore {
     /// Keeps the first `end` bytes of the open row of a key.
     fn keep(&mut self, key: &Key, end: usize) -> Result<(), NoMemory>
         requires { IfSome (open_at key.now.index (kept_of self.old key.now.oid)) (λ row. end ≤ length row.bytes.bytes) }
-        ensures rows { all_seen self.new ≡ all_seen self.old }
+        ensures rows { seen_rows self.new ≡ seen_rows self.old }
         ensures room { KeepsRoom (HasRoomIn self.old) (HasRoomIn self.new) }
         ensures ok { OnOk result (RoomIn (open_at key.now.index (kept_of self.new key.now.oid)) end) }
     {
@@ -120,7 +123,7 @@ impl PlainStore {
     fn lay(&mut self, key: &Key, offset: u32, piece: &[u8])
         requires there { IsSome (lookup (is_at (nat_cmp key.now.oid)) self.old) }
         requires room { HasRoomIn self.old key.now offset (length piece.now) }
-        ensures { IsPut self.old self.new key.now.oid (written key.now.index offset piece.now (kept_of self.old key.now.oid)) }
+        ensures { IsPut self.old self.new key.now.oid (rows_with_piece key.now.index offset piece.now (kept_of self.old key.now.oid)) }
     {
         let Some(rows) = self.objects.get_mut(&key.oid) else {
             return;
@@ -130,7 +133,7 @@ impl PlainStore {
 }
 
 impl ObjStore for PlainStore {
-    ghost rows = { all_seen };
+    ghost rows = { seen_rows };
 
     ghost HasRoom = { HasRoomIn };
 
@@ -216,7 +219,7 @@ impl ObjStore for PlainStore {
 
 /// Whether a piece of `length` bytes from `offset` on ends within `size` bytes.
 fn check_end(offset: u32, length: usize, size: u32) -> Result<(), StoreFault>
-    ensures { result ≡ within (offset + length) size tt }
+    ensures { result ≡ value_within (offset + length) size tt }
 {
     if length <= size as usize && offset as usize <= size as usize - length {
         Ok(())
@@ -226,7 +229,7 @@ fn check_end(offset: u32, length: usize, size: u32) -> Result<(), StoreFault>
 }
 
 fn copy_row(alloc: Global, row: &Row<Content>) -> Result<RowCopy, NoMemory>
-    ensures { IfOk result (λ copy. copy ≡ copy_of (seen row.now)) }
+    ensures { IfOk result (λ copy. copy ≡ copy_of (seen_row row.now)) }
 {
     Ok(RowCopy {
         index: row.index,

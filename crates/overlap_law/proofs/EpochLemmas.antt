@@ -15,95 +15,95 @@ use Rattle.peer_proto.specs.declared.say.Refusal.{Refusal}
 use Rattle.peer_proto.specs.declared.say.Refusal.TheVariants.{OldEpoch, NewEpoch}
 use Rattle.peer_proto.specs.declared.fault.PeerFault.{PeerFault}
 use Rattle.peer_proto.specs.Ask.{ask_in}
-use Rattle.peer_service.specs.Fence.{refusal_at}
+use Rattle.peer_service.specs.Fence.{epoch_refusal}
 use Rattle.sheep_node.specs.declared.input.Input.{Input}
 use Rattle.sheep_node.specs.declared.input.Input.TheVariants as inputs
 use Rattle.sheep_node.specs.declared.event.Event.{Event}
 use Rattle.sheep_node.specs.State.{Node}
-use Rattle.sheep_node.specs.Turn.{Turn}
-use Rattle.sheep_node.specs.Told.{only_said}
-use Rattle.sheep_node.specs.Step.{is_due, stepped}
+use Rattle.sheep_node.specs.StepState.{StepState}
+use Rattle.sheep_node.specs.StepFacts.{only_reply}
+use Rattle.sheep_node.specs.Step.{is_due, node_step}
 use Rattle.sheep_node.proofs.StepLaws.{older_step, newer_step}
 use Rattle.sheep_world.specs.declared.name.MessageName.{MessageName}
-use Rattle.sheep_world.specs.World.{Letter, Request, Seat, World, node_at, is_up, message_at}
-use Rattle.sheep_world.specs.Stepped.{turned, seat_stepped, node_stepped, at_rest}
+use Rattle.sheep_world.specs.World.{Packet, Request, Host, World, node_at, is_up, message_at}
+use Rattle.sheep_world.specs.NodeSteps.{world_after_step, host_stepped, node_stepped, at_rest}
 use Rattle.sheep_world.specs.Conditions.{may_deliver}
-use Rattle.sheep_world.specs.Messages.{without_message, with_reply, request_got, request_delivered, delivered_as, delivered}
-use Rattle.sheep_world.specs.Grown.{reply_grown}
-use Rattle.sheep_world.specs.Step.{Made, with_replies, step}
-use Rattle.overlap_law.specs.Words.{Seats}
-use Rattle.overlap_law.specs.Past.{Moment, run_with_past}
+use Rattle.sheep_world.specs.Messages.{without_message, with_reply_packet, request_got, request_delivered, delivered_as, message_delivered}
+use Rattle.sheep_world.specs.HistoryAdditions.{reply_grown}
+use Rattle.sheep_world.specs.Step.{EventOutcome, with_replies, step}
+use Rattle.overlap_law.specs.Words.{Hosts}
+use Rattle.overlap_law.specs.Past.{MomentWithPast, run_with_past}
 use Rattle.overlap_law.specs.Headline.{IsOfAnotherEpoch, ChangesNothing, OtherEpochsChangeNothing}
 use Rattle.overlap_law.proofs.RestEffects.{AreRested}
 use Rattle.overlap_law.proofs.RestLemmas.{run-rested}
 
-got-own : (seats : Seats) (n : ℕ) (seat : Seat) → tree.get (tree.insert seats n seat) n ≡ Some seat
-got-own seats n seat =
-    tree.get-insert nat_cmp_total seats n seat n
-    ∙ ap (λ (b : Bool). cond b (Some seat) (tree.get seats n)) (ap is_eq (tied_itself nat_cmp_total n))
+got-own : (hosts : Hosts) (n : ℕ) (host : Host) → tree.get (tree.insert hosts n host) n ≡ Some host
+got-own hosts n host =
+    tree.get-insert nat_cmp_total hosts n host n
+    ∙ ap (λ (b : Bool). cond b (Some host) (tree.get hosts n)) (ap is_eq (tied_itself nat_cmp_total n))
 
 -- the world after says only this, and the node is as it was
 record IsAsBefore (n : ℕ) (node : Node) (rsp : PeerRsp) (after : World) : Type 0 where
-  said : after.outputs ≡ only_said rsp
+  said : after.outputs ≡ only_reply rsp
   same : node_at n after ≡ Some node
 
 -- a step that only says this
-abbrev saying : Node → PeerRsp → Turn
-saying node rsp = record { node = node; outputs = only_said rsp }
+abbrev saying : Node → PeerRsp → StepState
+saying node rsp = record { node = node; outputs = only_reply rsp }
 
-turned-as_before : (script : List Statement) (n : ℕ) (input : Input) (seat : Seat) (rsp : PeerRsp) (world : World)
-    → IsAsBefore n seat.node rsp (turned script n input seat (saying seat.node rsp) world)
-turned-as_before script n input seat rsp world =
-    record { said = refl; same = ap (option_map (λ (s : Seat). s.node)) (got-own world.seats n seat) }
+world_after_step-as_before : (script : List Statement) (n : ℕ) (input : Input) (host : Host) (rsp : PeerRsp) (world : World)
+    → IsAsBefore n host.node rsp (world_after_step script n input host (saying host.node rsp) world)
+world_after_step-as_before script n input host rsp world =
+    record { said = refl; same = ap (option_map (λ (s : Host). s.node)) (got-own world.hosts n host) }
 
-seat-as_before : (script : List Statement) (n : ℕ) (input : Input) (o : Option Seat) (node : Node) (rsp : PeerRsp) (world : World)
-    → option_map (λ (s : Seat). s.node) o ≡ Some node → stepped input node ≡ saying node rsp
-    → IsAsBefore n node rsp (seat_stepped script n input o world)
-seat-as_before script n input None node rsp world found says_so = absurd (cc (found))
-seat-as_before script n input (Some seat) node rsp world found says_so =
-    let same : seat.node ≡ node = same_Some seat.node node found in
-    let own : stepped input seat.node ≡ saying seat.node rsp
-    = subst (λ (x : Node). stepped input x ≡ saying x rsp) (sym same) says_so in
-    subst (λ (x : Node). IsAsBefore n x rsp (turned script n input seat (stepped input seat.node) world)) same
-    (subst (λ (turn : Turn). IsAsBefore n seat.node rsp (turned script n input seat turn world)) (sym own)
-    (turned-as_before script n input seat rsp world))
+host-as_before : (script : List Statement) (n : ℕ) (input : Input) (o : Option Host) (node : Node) (rsp : PeerRsp) (world : World)
+    → option_map (λ (s : Host). s.node) o ≡ Some node → node_step input node ≡ saying node rsp
+    → IsAsBefore n node rsp (host_stepped script n input o world)
+host-as_before script n input None node rsp world found says_so = absurd (cc (found))
+host-as_before script n input (Some host) node rsp world found says_so =
+    let same : host.node ≡ node = same_Some host.node node found in
+    let own : node_step input host.node ≡ saying host.node rsp
+    = subst (λ (x : Node). node_step input x ≡ saying x rsp) (sym same) says_so in
+    subst (λ (x : Node). IsAsBefore n x rsp (world_after_step script n input host (node_step input host.node) world)) same
+    (subst (λ (so_far : StepState). IsAsBefore n host.node rsp (world_after_step script n input host so_far world)) (sym own)
+    (world_after_step-as_before script n input host rsp world))
 
 node-as_before : (script : List Statement) (n : ℕ) (input : Input) (node : Node) (rsp : PeerRsp) (world : World)
-    → node_at n world ≡ Some node → stepped input node ≡ saying node rsp
+    → node_at n world ≡ Some node → node_step input node ≡ saying node rsp
     → IsAsBefore n node rsp (node_stepped script n input world)
 unfolding node_stepped
 node-as_before script n input node rsp world found says_so =
-    seat-as_before script n input (tree.get world.seats n) node rsp world found says_so
+    host-as_before script n input (tree.get world.hosts n) node rsp world found says_so
 
-with_reply-as_before : (n : ℕ) (node : Node) (rsp : PeerRsp) (name : MessageName) (from : NodeId) (say : Option PeerRsp) (world : World)
-    → IsAsBefore n node rsp world → IsAsBefore n node rsp (with_reply name from say world)
-with_reply-as_before n node rsp name from None world before = before
-with_reply-as_before n node rsp name from (Some said) world before = record { said = before.said; same = before.same }
+with_reply_packet-as_before : (n : ℕ) (node : Node) (rsp : PeerRsp) (name : MessageName) (from : NodeId) (say : Option PeerRsp) (world : World)
+    → IsAsBefore n node rsp world → IsAsBefore n node rsp (with_reply_packet name from say world)
+with_reply_packet-as_before n node rsp name from None world before = before
+with_reply_packet-as_before n node rsp name from (Some said) world before = record { said = before.said; same = before.same }
 
 replied_if : (n : ℕ) (node : Node) (rsp : PeerRsp) (name : MessageName) (from : NodeId) (world : World) (b : Bool)
     → IsAsBefore n node rsp world
-    → IsAsBefore n node rsp (cond b (with_reply name from world.outputs.say world) (without_message name world))
-replied_if n node rsp name from world true before = with_reply-as_before n node rsp name from world.outputs.say world before
+    → IsAsBefore n node rsp (cond b (with_reply_packet name from world.outputs.say world) (without_message name world))
+replied_if n node rsp name from world true before = with_reply_packet-as_before n node rsp name from world.outputs.say world before
 replied_if n node rsp name from world false before = record { said = before.said; same = before.same }
 
 got-as_before : (script : List Statement) (name : MessageName) (to : NodeId) (request : PeerReq) (node : Node) (rsp : PeerRsp) (world : World)
-    → node_at to.0 world ≡ Some node → stepped (inputs.Request request) node ≡ saying node rsp
+    → node_at to.0 world ≡ Some node → node_step (inputs.Request request) node ≡ saying node rsp
     → IsAsBefore to.0 node rsp (request_got script name to (Ok request) world)
 got-as_before script name to request node rsp world found says_so =
     let after = node_stepped script to.0 (inputs.Request request) world in
     replied_if to.0 node rsp name to after (is_up name.sender.0 after)
     (node-as_before script to.0 (inputs.Request request) node rsp world found says_so)
 
-delivered-as_before : (script : List Statement) (name : MessageName) (to : NodeId) (bytes : List ℕ) (request : PeerReq) (node : Node) (rsp : PeerRsp)
+message_delivered-as_before : (script : List Statement) (name : MessageName) (to : NodeId) (bytes : List ℕ) (request : PeerReq) (node : Node) (rsp : PeerRsp)
     (world : World) → message_at name world ≡ Some (Request to bytes) → ask_in bytes ≡ Ok request → node_at to.0 world ≡ Some node
-    → stepped (inputs.Request request) node ≡ saying node rsp → IsAsBefore to.0 node rsp (delivered script name world)
+    → node_step (inputs.Request request) node ≡ saying node rsp → IsAsBefore to.0 node rsp (message_delivered script name world)
 unfolding request_delivered
-delivered-as_before script name to bytes request node rsp world letter decoded found says_so =
-    subst (λ (l : Option Letter). IsAsBefore to.0 node rsp (delivered_as script name l world)) (sym letter)
+message_delivered-as_before script name to bytes request node rsp world packet decoded found says_so =
+    subst (λ (l : Option Packet). IsAsBefore to.0 node rsp (delivered_as script name l world)) (sym packet)
     (subst (λ (r : Result PeerReq PeerFault). IsAsBefore to.0 node rsp (request_got script name to r (at_rest world))) (sym decoded)
     (got-as_before script name to request node rsp (at_rest world) found says_so))
 
-made-same : (b : Bool) (one made : Made) → cond b (Some one) None ≡ Some made → one ≡ made
+made-same : (b : Bool) (one made : EventOutcome) → cond b (Some one) None ≡ Some made → one ≡ made
 made-same true one made e = same_Some one made e
 made-same false one made e = absurd (cc (e))
 
@@ -111,18 +111,18 @@ made-same false one made e = absurd (cc (e))
 abbrev refusing : Node → PeerReq → Refusal → PeerRsp
 refusing node request refusal = record { number = request.number; epoch = record { 0 = node.peer.epoch }; say = says.Refused refusal }
 
-refused-changes_nothing : (script : List Statement) (world : World) (name : MessageName) (to : NodeId) (node : Node) (request : PeerReq) (made : Made)
+refused-changes_nothing : (script : List Statement) (world : World) (name : MessageName) (to : NodeId) (node : Node) (request : PeerReq) (made : EventOutcome)
     (refusal : Refusal) → IsOfAnotherEpoch script world name to node request made
-    → refusal_at node.peer.epoch request.epoch.0 ≡ Some refusal
-    → stepped (inputs.Request request) node ≡ saying node (refusing node request refusal)
+    → epoch_refusal node.peer.epoch request.epoch.0 ≡ Some refusal
+    → node_step (inputs.Request request) node ≡ saying node (refusing node request refusal)
     → ChangesNothing to node request made
 unfolding step
 refused-changes_nothing script world name to node request made refusal is why says_so =
-    let before : IsAsBefore to.0 node (refusing node request refusal) (delivered script name world)
-    = delivered-as_before script name to is.bytes request node (refusing node request refusal) world is.letter is.decoded is.asked says_so in
-    let so : with_replies script world (delivered script name world) ≡ made
-    = made-same (may_deliver name world) (with_replies script world (delivered script name world)) made is.delivered in
-    subst (λ (m : Made). ChangesNothing to node request m) so
+    let before : IsAsBefore to.0 node (refusing node request refusal) (message_delivered script name world)
+    = message_delivered-as_before script name to is.bytes request node (refusing node request refusal) world is.packet is.decoded is.asked says_so in
+    let so : with_replies script world (message_delivered script name world) ≡ made
+    = made-same (may_deliver name world) (with_replies script world (message_delivered script name world)) made is.delivered in
+    subst (λ (m : EventOutcome). ChangesNothing to node request m) so
     (record {
       refusal = refusal;
       why = why;
@@ -131,12 +131,12 @@ refused-changes_nothing script world name to node request made refusal is why sa
       silent = ap (λ outputs. flat_map (reply_grown script world) outputs.replies) before.said;
     })
 
-older : (own requested : ℕ) → requested < own → refusal_at own requested ≡ Some (OldEpoch (record { 0 = own }))
+older : (own requested : ℕ) → requested < own → epoch_refusal own requested ≡ Some (OldEpoch (record { 0 = own }))
 older own requested below =
     ap (λ (b : Bool). cond b (Some (OldEpoch (record { 0 = own }))) (cond (nat_lt own requested) (Some (NewEpoch (record { 0 = own }))) None))
     (lt-ltb requested own below)
 
-newer : (own requested : ℕ) → own < requested → refusal_at own requested ≡ Some (NewEpoch (record { 0 = own }))
+newer : (own requested : ℕ) → own < requested → epoch_refusal own requested ≡ Some (NewEpoch (record { 0 = own }))
 newer own requested above =
     let below : own ≤ requested = omega arith in
     ap (λ (b : Bool). cond b (Some (OldEpoch (record { 0 = own }))) (cond (nat_lt own requested) (Some (NewEpoch (record { 0 = own }))) None))
@@ -146,15 +146,15 @@ newer own requested above =
 above-others : (own requested : ℕ) → requested ≢ own → own ≤ requested → own < requested
 above-others own requested apart most = omega (arith, apart)
 
-due_of : (seats : Seats) (n : ℕ) (node : Node) (o : Option Seat) → AreRested seats → tree.get seats n ≡ o
-    → option_map (λ (s : Seat). s.node) o ≡ Some node → is_due node ≡ false
-due_of seats n node None rested at found = absurd (cc (found))
-due_of seats n node (Some seat) rested at found =
-    subst (λ (x : Node). is_due x ≡ false) (same_Some seat.node node found) (rested n seat at)
+due_of : (hosts : Hosts) (n : ℕ) (node : Node) (o : Option Host) → AreRested hosts → tree.get hosts n ≡ o
+    → option_map (λ (s : Host). s.node) o ≡ Some node → is_due node ≡ false
+due_of hosts n node None rested at found = absurd (cc (found))
+due_of hosts n node (Some host) rested at found =
+    subst (λ (x : Node). is_due x ≡ false) (same_Some host.node node found) (rested n host at)
 
-other_epoch-changes_nothing : (script : List Statement) (world : World) → AreRested world.seats → OtherEpochsChangeNothing script world
+other_epoch-changes_nothing : (script : List Statement) (world : World) → AreRested world.hosts → OtherEpochsChangeNothing script world
 other_epoch-changes_nothing script world rested name to node request made is =
-    let due : is_due node ≡ false = due_of world.seats to.0 node (tree.get world.seats to.0) rested refl is.asked in
+    let due : is_due node ≡ false = due_of world.hosts to.0 node (tree.get world.hosts to.0) rested refl is.asked in
     ⊎_elim
     (λ (below : request.epoch.0 < node.peer.epoch). refused-changes_nothing
     script world name to node request made (OldEpoch (record { 0 = node.peer.epoch })) is
@@ -165,6 +165,6 @@ other_epoch-changes_nothing script world rested name to node request made is =
     (newer_step request node (above-others node.peer.epoch request.epoch.0 is.another most) due))
     (cases_lt request.epoch.0 node.peer.epoch)
 
-pub run-changes_nothing : (script : List Statement) (all : List Event) (moment : Moment) → run_with_past script all ≡ Some moment
+pub run-changes_nothing : (script : List Statement) (all : List Event) (moment : MomentWithPast) → run_with_past script all ≡ Some moment
     → OtherEpochsChangeNothing script moment.world
 run-changes_nothing script all moment e = other_epoch-changes_nothing script moment.world (run-rested script all moment e)

@@ -4,55 +4,55 @@ use Rattle.std.specs.List.{list_any}
 use Rattle.std.proofs.lemmas.Bool.{eqb-true, or_left, or_right, cases_eq, lt-ltb}
 use Rattle.object_id.specs.Oid.{kind_of}
 use Rattle.strip_coding.specs.Part.{is_in_strips}
-use Rattle.vdi_directory.specs.Decisions.{happened}
+use Rattle.vdi_directory.specs.Decisions.{log_effects}
 use Rattle.peer_proto.specs.Work.{policy_of}
-use Rattle.overlap_law.specs.Attempts.{Attempt, object_of, attempts_on}
-use Rattle.overlap_law.specs.Units.{covers, part_by, row_bytes_at}
+use Rattle.overlap_law.specs.Attempts.{AttemptRecord, object_of, attempts_on}
+use Rattle.overlap_law.specs.Units.{covers_unit, unit_part_by, row_bytes_at}
 use Rattle.overlap_law.specs.Words.{is_doomed, has_served}
-use Rattle.overlap_law.specs.Past.{Moment}
+use Rattle.overlap_law.specs.Past.{MomentWithPast}
 use Rattle.overlap_law.specs.Contents.{AttemptsStand, is_covered_behind, IsHeld}
 use Rattle.overlap_law.specs.Facts.{EachGood}
 use Rattle.overlap_law.specs.Holders.{is_good}
-use Rattle.overlap_law.specs.Each.{end_of, policy_in}
+use Rattle.overlap_law.specs.Each.{end_of_row, policy_in}
 use Rattle.overlap_law.specs.Since.{reading_by}
 use Rattle.overlap_law.specs.Overlap.{Overlap}
 use Rattle.overlap_law.proofs.OverlapLemmas.{filter-passed}
 
 -- an attempt that covers a unit is found among those that do
-any-covers : (unit : ℕ) (attempts : List Attempt) (k : ℕ) (found : Attempt) → slice_get attempts k ≡ Some found → covers unit found ≡ true
-    → list_any (covers unit) attempts ≡ true
-any-covers unit [] k found e covering = absurd (cc)
-any-covers unit (attempt ∷ attempts) zero found e covering = or_left (covers unit attempt) (list_any (covers unit) attempts) (cc (e, covering))
-any-covers unit (attempt ∷ attempts) (suc k) found e covering =
-    or_right (covers unit attempt) (list_any (covers unit) attempts) (any-covers unit attempts k found e covering)
+any-covers_unit : (unit : ℕ) (attempts : List AttemptRecord) (k : ℕ) (found : AttemptRecord) → slice_get attempts k ≡ Some found → covers_unit unit found ≡ true
+    → list_any (covers_unit unit) attempts ≡ true
+any-covers_unit unit [] k found e covering = absurd (cc)
+any-covers_unit unit (attempt ∷ attempts) zero found e covering = or_left (covers_unit unit attempt) (list_any (covers_unit unit) attempts) (cc (e, covering))
+any-covers_unit unit (attempt ∷ attempts) (suc k) found e covering =
+    or_right (covers_unit unit attempt) (list_any (covers_unit unit) attempts) (any-covers_unit unit attempts k found e covering)
 
 -- also behind a place
-any-behind : (unit : ℕ) (attempts : List Attempt) (j k : ℕ) (found : Attempt) → j < k → slice_get attempts k ≡ Some found
-    → covers unit found ≡ true → list_any (covers unit) (drop (suc j) attempts) ≡ true
+any-behind : (unit : ℕ) (attempts : List AttemptRecord) (j k : ℕ) (found : AttemptRecord) → j < k → slice_get attempts k ≡ Some found
+    → covers_unit unit found ≡ true → list_any (covers_unit unit) (drop (suc j) attempts) ≡ true
 any-behind unit [] j k found below e covering = absurd (cc)
 any-behind unit (attempt ∷ attempts) j zero found below e covering = absurd (omega arith)
-any-behind unit (attempt ∷ attempts) zero (suc k) found below e covering = any-covers unit attempts k found e covering
+any-behind unit (attempt ∷ attempts) zero (suc k) found below e covering = any-covers_unit unit attempts k found e covering
 any-behind unit (attempt ∷ attempts) (suc j) (suc k) found below e covering = any-behind unit attempts j k found (omega arith) e covering
 
 -- so none is there where it is said that none covers it
-none-behind : (unit : ℕ) (attempts : List Attempt) (j k : ℕ) (found : Attempt) → is_covered_behind j unit attempts ≡ false → j < k
-    → slice_get attempts k ≡ Some found → covers unit found ≡ true → ⊥
+none-behind : (unit : ℕ) (attempts : List AttemptRecord) (j k : ℕ) (found : AttemptRecord) → is_covered_behind j unit attempts ≡ false → j < k
+    → slice_get attempts k ≡ Some found → covers_unit unit found ≡ true → ⊥
 none-behind unit attempts j k found none below e covering =
     let next : suc j ≡ j + 1 = omega arith in
-    let some = subst (λ (n : ℕ). list_any (covers unit) (drop n attempts) ≡ true) next (any-behind unit attempts j k found below e covering) in
+    let some = subst (λ (n : ℕ). list_any (covers_unit unit) (drop n attempts) ≡ true) next (any-behind unit attempts j k found below e covering) in
     cc (some, none)
 
 -- what may be read as of the last attempt on a unit is its part
-read-last : (strips : Bool) (attempts : List Attempt) (unit j index : ℕ) (bytes : List ℕ) (attempt : Attempt)
+read-last : (strips : Bool) (attempts : List AttemptRecord) (unit j index : ℕ) (bytes : List ℕ) (attempt : AttemptRecord)
     → reading_by strips attempts unit j index bytes → slice_get attempts j ≡ Some attempt → is_covered_behind j unit attempts ≡ false
-    → bytes ≡ part_by index unit attempt.work
+    → bytes ≡ unit_part_by index unit attempt.work
 read-last true attempts unit j index bytes attempt read there none =
     read.own attempt there (record { each = λ k later at below covering. absurd (none-behind unit attempts j k later none below at covering) })
 read-last false attempts unit j index bytes attempt read there none = ⊎_elim
     (λ (same : read.place ≡ j).
     let there' = subst (λ (k : ℕ). slice_get attempts k ≡ Some read.attempt) same read.there in
     let one : read.attempt ≡ attempt = cc (there', there) in
-    read.same ∙ ap (λ (a : Attempt). part_by index unit a.work) one)
+    read.same ∙ ap (λ (a : AttemptRecord). unit_part_by index unit a.work) one)
     (λ (other : ¬ (read.place ≡ j)). absurd (none-behind unit attempts j read.place read.attempt none (above other read.no_earlier) read.there read.covering))
     (cases_eq read.place j)
   where
@@ -60,19 +60,19 @@ read-last false attempts unit j index bytes attempt read there none = ⊎_elim
     above other later = omega arith
 
 -- a row has the attempt, where it isn't doomed
-holds : (moment : Moment) → Overlap moment → (oid : ℕ) → is_good moment.world.log moment.past.attempts moment.past.unborne oid ≡ true
-    → (j : ℕ) (attempt : Attempt) → slice_get (attempts_on oid moment.past.attempts) j ≡ Some attempt
-    → is_doomed moment.world.seats attempt ≡ false → IsHeld moment.world.seats oid (attempts_on oid moment.past.attempts) j attempt
+holds : (moment : MomentWithPast) → Overlap moment → (oid : ℕ) → is_good moment.world.log moment.past.attempts moment.past.unavailable oid ≡ true
+    → (j : ℕ) (attempt : AttemptRecord) → slice_get (attempts_on oid moment.past.attempts) j ≡ Some attempt
+    → is_doomed moment.world.hosts attempt ≡ false → IsHeld moment.world.hosts oid (attempts_on oid moment.past.attempts) j attempt
 holds moment o oid good j attempt there stands = record {
-  each = λ n seat at i row row_at reaches unit covering none.
-      let found = filter-passed (λ (a : Attempt). object_of a == oid) moment.past.attempts j attempt there in
+  each = λ n host at i row row_at reaches unit covering none.
+      let found = filter-passed (λ (a : AttemptRecord). object_of a == oid) moment.past.attempts j attempt there in
       let own = eqb-true (object_of attempt) oid found.passed in
-      let policy = subst (λ (q : ℕ). policy_in (happened moment.world.log) q ≡ Some (policy_of attempt.work)) own
+      let policy = subst (λ (q : ℕ). policy_in (log_effects moment.world.log) q ≡ Some (policy_of attempt.work)) own
       (o.attempts.shape.policy found.place attempt found.there) in
-      let since = o.rows.since.each n seat at oid i row row_at (policy_of attempt.work) good policy in
-      let owed = or_left _ (has_served (record { 0 = n }) attempt && _) (lt-ltb attempt.epoch (end_of seat.node.peer.epoch row.to) reaches) in
+      let since = o.rows.since.each n host at oid i row row_at (policy_of attempt.work) good policy in
+      let owed = or_left _ (has_served (record { 0 = n }) attempt && _) (lt-ltb attempt.epoch (end_of_row host.node.peer.epoch row.to) reaches) in
       ⊎_elim
-      (λ (doomed : is_doomed moment.world.seats attempt ≡ true). absurd (cc (doomed, stands)))
+      (λ (doomed : is_doomed moment.world.hosts attempt ≡ true). absurd (cc (doomed, stands)))
       (λ (read : reading_by (is_in_strips (policy_of attempt.work) (kind_of oid)) (attempts_on oid moment.past.attempts) unit j row.index
       (row_bytes_at (policy_of attempt.work) (kind_of oid) unit row.bytes)).
       read-last (is_in_strips (policy_of attempt.work) (kind_of oid)) (attempts_on oid moment.past.attempts) unit j row.index
@@ -80,15 +80,15 @@ holds moment o oid good j attempt there stands = record {
       (since.each j attempt there unit covering owed);
 }
 
-stands-or-doomed : (moment : Moment) → Overlap moment → (oid : ℕ)
-    → is_good moment.world.log moment.past.attempts moment.past.unborne oid ≡ true
-    → (j : ℕ) (attempt : Attempt) → slice_get (attempts_on oid moment.past.attempts) j ≡ Some attempt
-    → (b : Bool) → is_doomed moment.world.seats attempt ≡ b
-    → (is_doomed moment.world.seats attempt ≡ true) ⊎ IsHeld moment.world.seats oid (attempts_on oid moment.past.attempts) j attempt
+stands-or-doomed : (moment : MomentWithPast) → Overlap moment → (oid : ℕ)
+    → is_good moment.world.log moment.past.attempts moment.past.unavailable oid ≡ true
+    → (j : ℕ) (attempt : AttemptRecord) → slice_get (attempts_on oid moment.past.attempts) j ≡ Some attempt
+    → (b : Bool) → is_doomed moment.world.hosts attempt ≡ b
+    → (is_doomed moment.world.hosts attempt ≡ true) ⊎ IsHeld moment.world.hosts oid (attempts_on oid moment.past.attempts) j attempt
 stands-or-doomed moment o oid good j attempt there true is = inl is
 stands-or-doomed moment o oid good j attempt there false is = inr (holds moment o oid good j attempt there is)
 
-pub gives-stand : (moment : Moment) → Overlap moment → EachGood moment.world moment.past (AttemptsStand moment.world.seats)
+pub gives-stand : (moment : MomentWithPast) → Overlap moment → EachGood moment.world moment.past (AttemptsStand moment.world.hosts)
 gives-stand moment o oid good = record {
-  each = λ j attempt there unmade. stands-or-doomed moment o oid good j attempt there (is_doomed moment.world.seats attempt) refl;
+  each = λ j attempt there unmade. stands-or-doomed moment o oid good j attempt there (is_doomed moment.world.hosts attempt) refl;
 }

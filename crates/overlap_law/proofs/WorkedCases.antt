@@ -6,20 +6,20 @@ use Rattle.object_id.specs.declared.oid.Kind.TheVariants.{Block, Inode}
 use Rattle.object_id.specs.declared.policy.Policy.TheVariants.{Copies}
 use Rattle.disk_history.specs.declared.event.HistEvent.TheVariants as acts
 use Rattle.vdi_directory.specs.Dead.{is_above}
-use Rattle.vdi_directory.specs.Decisions.{happened}
+use Rattle.vdi_directory.specs.Decisions.{log_effects}
 use Rattle.peer_proto.specs.declared.work.ObjWork.{ObjWork}
 use Rattle.peer_proto.specs.declared.work.ObjWork.TheVariants.{Create, Write}
 use Rattle.peer_proto.specs.declared.say.PeerSay.TheVariants as says
 use Rattle.peer_proto.specs.declared.say.Refusal.TheVariants as refusals
 use Rattle.cluster_script.specs.declared.statement.Statement.{Statement}
 use Rattle.sheep_node.specs.declared.event.Event.TheVariants.{LoseRequest}
-use Rattle.sheep_world.specs.World.{Seat, World}
-use Rattle.overlap_law.specs.Attempts.{Fate, Flying, Served, Doomed, Attempt, marked, fate_said}
-use Rattle.overlap_law.specs.Begun.{begun, attempts_after}
+use Rattle.sheep_world.specs.World.{Host, World}
+use Rattle.overlap_law.specs.Attempts.{MessageFate, Flying, Served, Doomed, AttemptRecord, attempts_with_fate, fate_of_say}
+use Rattle.overlap_law.specs.BegunAttempts.{attempts_begun, attempts_after}
 use Rattle.overlap_law.specs.Reached.{has_come_in}
-use Rattle.overlap_law.specs.Added.{is_counted}
-use Rattle.overlap_law.specs.Words.{is_made, is_mute, covers, unit_start, unit_size, unit_of, base_of, own_base_of, later_on, is_quiet, has_served}
-use Rattle.overlap_law.specs.Holders.{has_enough, is_borne_since, birth_of, is_borne_disk, born_objects}
+use Rattle.overlap_law.specs.PastWords.{is_counted}
+use Rattle.overlap_law.specs.Words.{is_made, is_mute, covers_unit, unit_start, unit_size, unit_of, base_of, own_base_of, later_on, is_quiet, has_served}
+use Rattle.overlap_law.specs.Holders.{has_enough, is_available_since, birth_of, is_available_disk, born_objects}
 
 abbrev node : ℕ → NodeId
 node n = record { 0 = n }
@@ -29,12 +29,12 @@ abbrev object : ℕ
 object = 2 ^ 32
 
 -- an attempt of node 3 on the object, to nodes 4 and 7
-abbrev attempt : ObjWork → ℕ → ℕ → Fate → Fate → Attempt
+abbrev attempt : ObjWork → ℕ → ℕ → MessageFate → MessageFate → AttemptRecord
 attempt work epoch first four seven = record {
   req = 1;
   session = 1;
   gateway = node 3;
-  life = 1;
+  incarnation = 1;
   work = work;
   epoch = epoch;
   first = first;
@@ -43,16 +43,16 @@ attempt work epoch first four seven = record {
 }
 
 -- the object is created, its second block is written, and then its first one
-abbrev created : Attempt
+abbrev created : AttemptRecord
 created = attempt (Create object (Copies 2) 1024 0 []) 1 10 Served Served
 
-abbrev written : Fate → Fate → Attempt
+abbrev written : MessageFate → MessageFate → AttemptRecord
 written four seven = attempt (Write object (Copies 2) 512 (replicate 512 1)) 1 20 four seven
 
-abbrev tried : Attempt
+abbrev tried : AttemptRecord
 tried = attempt (Write object (Copies 2) 0 (replicate 512 2)) 2 30 Flying Doomed
 
-abbrev all : List Attempt
+abbrev all : List AttemptRecord
 all = created ∷ written Served Served ∷ tried ∷ []
 
 -- an attempt flies until both targets have served it
@@ -67,32 +67,32 @@ none_served_is_mute = refl
 
 -- message 21 of node 3 is the one to node 7
 a_message_is_found_by_its_number :
-    marked Served (node 3) 21 (created ∷ written Served Flying ∷ tried ∷ []) ≡ created ∷ written Served Served ∷ tried ∷ []
-unfolding marked
+    attempts_with_fate Served (node 3) 21 (created ∷ written Served Flying ∷ tried ∷ []) ≡ created ∷ written Served Served ∷ tried ∷ []
+unfolding attempts_with_fate
 a_message_is_found_by_its_number = refl
 
 -- what is known of a message stays
-a_fate_stays : marked Doomed (node 3) 20 all ≡ all
-unfolding marked
+a_fate_stays : attempts_with_fate Doomed (node 3) 20 all ≡ all
+unfolding attempts_with_fate
 a_fate_stays = refl
 
-another_sender's_number : marked Served (node 4) 30 all ≡ all
-unfolding marked
+another_sender's_number : attempts_with_fate Served (node 4) 30 all ≡ all
+unfolding attempts_with_fate
 another_sender's_number = refl
 
 -- an attempt whose request to node 4 is lost isn't made any more; what the node then begins stands behind it
 a_lost_request_dooms : (script : List Statement) (old new : World)
-    → attempts_after script (LoseRequest (node 3) 20) old new (written Flying Flying ∷ []) ≡ written Doomed Flying ∷ begun 3 old new
-unfolding attempts_after marked
+    → attempts_after script (LoseRequest (node 3) 20) old new (written Flying Flying ∷ []) ≡ written Doomed Flying ∷ attempts_begun 3 old new
+unfolding attempts_after attempts_with_fate
 a_lost_request_dooms script old new = refl
 
 -- only Success says that the target has served it
-what_answers_tell : (fate_said says.Success ≡ Served) × (fate_said says.NoRow ≡ Doomed) × (fate_said (says.Refused refusals.Recovery) ≡ Doomed)
+what_answers_tell : (fate_of_say says.Success ≡ Served) × (fate_of_say says.NoRow ≡ Doomed) × (fate_of_say (says.Refused refusals.Recovery) ≡ Doomed)
 what_answers_tell = (refl, refl, refl)
 
 -- whoever is lost is beyond each epoch
-the_lost_are_beyond : (epoch : ℕ) (seat : Seat) → has_come_in epoch (Some (record seat { is_lost = true })) ≡ true
-the_lost_are_beyond epoch seat = refl
+the_lost_are_beyond : (epoch : ℕ) (host : Host) → has_come_in epoch (Some (record host { is_lost = true })) ≡ true
+the_lost_are_beyond epoch host = refl
 
 -- of two targets of which one counts there is enough for a copy, and not for two strips
 one_of_two : (has_enough (λ target epoch. target.0 == 4) 1 (node 4 ∷ node 7 ∷ []) 1 ≡ true)
@@ -100,12 +100,12 @@ one_of_two : (has_enough (λ target epoch. target.0 == 4) 1 (node 4 ∷ node 7 �
 one_of_two = (refl, refl)
 
 -- in epoch 1 no holders are asked of an object that is born with epoch 2
-before_the_birth : is_borne_since (λ target epoch. false) (Format [] ∷ []) object (Copies 2) 2 ≡ true
+before_the_birth : is_available_since (λ target epoch. false) (Format [] ∷ []) object (Copies 2) 2 ≡ true
 before_the_birth = refl
 
--- a read of disk 1 is left out where its object wasn't borne, and one of disk 2 is not
+-- a read of disk 1 is left out where its object wasn't available, and one of disk 2 is not
 which_reads_are_left_out : (is_counted [] (object ∷ []) (acts.Read 1 0 []) ≡ false) × (is_counted [] (object ∷ []) (acts.Read 2 0 []) ≡ true)
-unfolding is_borne_disk happened is_above
+unfolding is_available_disk log_effects is_above
 which_reads_are_left_out = (refl, refl)
 
 node_4_served_the_write : has_served (node 4) (written Served Flying) ≡ true
@@ -115,10 +115,10 @@ node_7_didn't : has_served (node 7) (written Served Flying) ≡ false
 node_7_didn't = refl
 
 -- the create covers both blocks and no third one, each write one
-what_a_create_covers : (covers 0 created ≡ true) × (covers 1 created ≡ true) × (covers 2 created ≡ false)
+what_a_create_covers : (covers_unit 0 created ≡ true) × (covers_unit 1 created ≡ true) × (covers_unit 2 created ≡ false)
 what_a_create_covers = (refl, refl, refl)
 
-what_a_write_covers : (covers 0 (written Served Served) ≡ false) × (covers 1 (written Served Served) ≡ true)
+what_a_write_covers : (covers_unit 0 (written Served Served) ≡ false) × (covers_unit 1 (written Served Served) ≡ true)
 what_a_write_covers = (refl, refl)
 
 -- the base is the write that is made; the first block's own base is the create

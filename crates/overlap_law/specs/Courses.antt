@@ -12,14 +12,14 @@ use Rattle.guest_driver.specs.declared.act.DriverAct.TheVariants as acts
 use Rattle.guest_driver.specs.declared.disk.Disk.{Disk}
 use Rattle.guest_driver.specs.Driver.{Driver}
 use Rattle.guest_driver.specs.Course as drivers
-use Rattle.guest_driver.specs.InodeLine as lines
+use Rattle.guest_driver.specs.InodeQueue as lines
 use Rattle.peer_proto.specs.declared.guest.VdiAsk.{VdiAsk}
 use Rattle.vdi_ops.specs.Tables.{table_in}
-use Rattle.vdi_ops.specs.Works.{read_inode, create_inode, write_back, write_tag}
-use Rattle.vdi_ops.specs.Op.{Task, Opening, WritingBack, Tagging, Copying, Making, Stage, Asked, Working, Publishing, Answered, Op}
+use Rattle.vdi_ops.specs.InodeWorks.{read_inode, create_inode, write_back, write_tag}
+use Rattle.vdi_ops.specs.Op.{Task, Opening, WritingBack, Tagging, Copying, Making, OpStage, Asked, Working, Publishing, Answered, Op}
 use Rattle.sheep_node.specs.State.{Node, Session, Request, Course, Waiting, Driving, Commanding}
-use Rattle.overlap_law.specs.Attempts.{Attempt}
-use Rattle.overlap_law.specs.Reached.{Seats}
+use Rattle.overlap_law.specs.Attempts.{AttemptRecord}
+use Rattle.overlap_law.specs.Reached.{Hosts}
 use Rattle.overlap_law.specs.Each.{EachUp}
 use Rattle.overlap_law.specs.Writers.{MayWrite}
 use Rattle.vdi_directory.specs.declared.effect.Effect.{Effect}
@@ -48,16 +48,18 @@ pub record IsRead (parent : Option Vid) (header : Header) (work : ObjWork) : Typ
   pub work_of : work ≡ read_inode vid.0 header.spec
 
 -- an inode is created: that of the granted id, which is the one that the session then has open, if it has one by that; its
--- table is drawn from what the id is reserved for, where that was borne
-pub record IsCreatedNow (effects : List Effect) (good_id : ℕ → Bool) (attempts : List Attempt) (vid : Vid) (opened : Option Content) (work : ObjWork) : Type 0 where
+-- table is drawn from what the id is reserved for, where that was available
+pub record IsCreatedNow (effects : List Effect) (good_id : ℕ
+    → Bool) (attempts : List AttemptRecord) (vid : Vid) (opened : Option Content) (work : ObjWork) : Type 0 where
   pub inode : Content
   pub own : inode.vid ≡ vid.0
   pub work_of : work ≡ create_inode inode
   pub same : (content : Content) → opened ≡ Some content → content ≡ inode
-  pub drawn : (index : ℕ) → good_id vid.0 ≡ true → index < objects_of inode.spec → IsDrawn effects attempts vid.0 index (slice_index inode.table index)
+  pub drawn : (index : ℕ) → good_id vid.0 ≡ true → index < objects_of inode.spec
+      → IsDrawn effects attempts vid.0 index (slice_index inode.table index)
 
 -- a work is that of a command's task
-abbrev pub IsOfTask : List Effect → (ℕ → Bool) → List Attempt → Option Disk → Vid → Task → ObjWork → Type 0
+abbrev pub IsOfTask : List Effect → (ℕ → Bool) → List AttemptRecord → Option Disk → Vid → Task → ObjWork → Type 0
 IsOfTask effects good_id attempts disk vid (Opening snapshot ids header) work = work ≡ read_inode vid.0 header.spec
 IsOfTask effects good_id attempts disk vid (WritingBack inode) work = IsWrittenBack inode work
 IsOfTask effects good_id attempts disk vid (Tagging old inode) work = IsTagged disk old inode work
@@ -65,7 +67,7 @@ IsOfTask effects good_id attempts disk vid (Copying ids header) work = IsRead he
 IsOfTask effects good_id attempts disk vid (Making entry opened) work = IsCreatedNow effects good_id attempts vid opened work
 
 -- the same by what a command waits for
-abbrev pub IsOfStage : List Effect → (ℕ → Bool) → List Attempt → Option Disk → Stage → ObjWork → Type 0
+abbrev pub IsOfStage : List Effect → (ℕ → Bool) → List AttemptRecord → Option Disk → OpStage → ObjWork → Type 0
 IsOfStage effects good_id attempts disk (Asked entry ask old) work = ⊥
 IsOfStage effects good_id attempts disk (Working vid task) work = IsOfTask effects good_id attempts disk vid task work
 IsOfStage effects good_id attempts disk (Publishing entry opened) work = ⊥
@@ -75,16 +77,17 @@ IsOfStage effects good_id attempts disk (Answered opened) work = ⊥
 pub record IsOfDriver (open_disk : Option Disk) (driver : Driver) (work : ObjWork) : Type 0 where
   pub disk : Disk
   pub there : open_disk ≡ Some disk
-  pub awaited : drivers.IsAwaited disk.inode driver (acts.Work work)
+  pub awaited : drivers.IsAwaitedByDriver disk.inode driver (acts.Work work)
 
 -- a request waits for a work
-abbrev pub WaitsFor : List Effect → (ℕ → Bool) → List Attempt → Option Disk → Course → ObjWork → Type 0
+abbrev pub WaitsFor : List Effect → (ℕ → Bool) → List AttemptRecord → Option Disk → Course → ObjWork → Type 0
 WaitsFor effects good_id attempts disk (Waiting ask) work = ⊥
 WaitsFor effects good_id attempts disk (Driving driver) work = IsOfDriver disk driver work
 WaitsFor effects good_id attempts disk (Commanding ask op) work = IsOfStage effects good_id attempts disk op.stage work
 
 -- a node's request, with its session, waits for a work
-pub record IsWaitedFor (effects : List Effect) (good_id : ℕ → Bool) (attempts : List Attempt) (node : Node) (req : ℕ) (work : ObjWork) : Type 0 where
+pub record IsWaitedFor (effects : List Effect) (good_id : ℕ
+    → Bool) (attempts : List AttemptRecord) (node : Node) (req : ℕ) (work : ObjWork) : Type 0 where
   pub request : Request
   pub session : Session
   pub there : tree.get node.requests req ≡ Some request
@@ -92,10 +95,12 @@ pub record IsWaitedFor (effects : List Effect) (good_id : ℕ → Bool) (attempt
   pub waits : WaitsFor effects good_id attempts session.disk request.course work
 
 -- works that are open, and those that wait for the inode, are what their requests wait for
-pub record WorksAreWaitedFor (effects : List Effect) (good_id : ℕ → Bool) (seats : Seats) (attempts : List Attempt) : Type 0 where
-  pub opened : EachUp seats (λ n node. (req : ℕ) (work : Work) → tree.get node.gateway.works req ≡ Some work → IsWaitedFor effects good_id attempts node req work.work)
-  pub lined : EachUp seats (λ n node. (number place : ℕ) (session : Session) (waiting : lines.Waiting) → tree.get node.sessions number ≡ Some session
-      → slice_get session.line.waiting place ≡ Some waiting → IsWaitedFor effects good_id attempts node waiting.req waiting.work)
+pub record WorksAreWaitedFor (effects : List Effect) (good_id : ℕ → Bool) (hosts : Hosts) (attempts : List AttemptRecord) : Type 0 where
+  pub opened : EachUp hosts (λ n node. (req : ℕ) (work : Work) → tree.get node.gateway.works req ≡ Some work
+      → IsWaitedFor effects good_id attempts node req work.work)
+  pub lined : EachUp hosts (λ n node. (number place : ℕ) (session : Session) (waiting : lines.Waiting) → tree.get node.sessions number
+      ≡ Some session
+      → slice_get session.inode_queue.waiting place ≡ Some waiting → IsWaitedFor effects good_id attempts node waiting.req waiting.work)
 
 -- the id that a task works for under a grant; a snapshot that is opened is nobody's
 abbrev pub granted_by : Vid → Task → Option Vid
@@ -107,13 +112,14 @@ granted_by vid (Copying ids header) = Some vid
 granted_by vid (Making entry opened) = Some vid
 
 -- the same by what a command waits for
-abbrev pub granted_at : Stage → Option Vid
+abbrev pub granted_at : OpStage → Option Vid
 granted_at (Asked entry ask disk) = None
 granted_at (Working vid task) = granted_by vid task
 granted_at (Publishing entry opened) = None
 granted_at (Answered opened) = None
 
 -- a command that works for an id may write it
-pub record CommandsKeepTheirGrants (log : List Entry) (seats : Seats) : Type 0 where
-  pub each : EachUp seats (λ n node. (req : ℕ) (request : Request) (ask : VdiAsk) (op : Op) (vid : Vid) → tree.get node.requests req ≡ Some request
+pub record CommandsKeepTheirGrants (log : List Entry) (hosts : Hosts) : Type 0 where
+  pub each : EachUp hosts (λ n node. (req : ℕ) (request : Request) (ask : VdiAsk) (op : Op) (vid : Vid) → tree.get node.requests req
+      ≡ Some request
       → request.course ≡ Commanding ask op → granted_at op.stage ≡ Some vid → MayWrite log n request.session vid.0 node)

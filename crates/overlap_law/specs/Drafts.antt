@@ -10,34 +10,35 @@ use Rattle.inode.specs.Layout.{Content}
 use Rattle.peer_proto.specs.declared.guest.VdiAsk.{VdiAsk}
 use Rattle.vdi_ops.specs.Op.{Publishing, Op}
 use Rattle.sheep_node.specs.State.{Request, Commanding}
-use Rattle.overlap_law.specs.Attempts.{Attempt}
-use Rattle.overlap_law.specs.Reached.{Seats}
+use Rattle.overlap_law.specs.Attempts.{AttemptRecord}
+use Rattle.overlap_law.specs.Reached.{Hosts}
 use Rattle.overlap_law.specs.Each.{EachUp}
 use Rattle.overlap_law.specs.Fates.{IsCreated}
 use Rattle.overlap_law.specs.Tables.{AreAmong, candidates}
 use Rattle.vdi_directory.specs.declared.effect.Effect.{Effect}
-use Rattle.vdi_directory.specs.Effects.{claims_of, claim_on}
-use Rattle.vdi_directory.specs.Bearers.{parent_of}
+use Rattle.vdi_directory.specs.Effects.{reservations_of, reservation_on}
+use Rattle.vdi_directory.specs.References.{parent_of}
 use Rattle.overlap_law.specs.Attempts.{object_of}
-use Rattle.overlap_law.specs.Units.{covers}
+use Rattle.overlap_law.specs.Units.{covers_unit}
 use Rattle.overlap_law.specs.Each.{EachAttempt}
 use Rattle.overlap_law.specs.Tables.{entry_unit, entry_by}
-use Rattle.overlap_law.specs.Written.{IsCandidate}
+use Rattle.overlap_law.specs.WrittenBlocks.{IsCandidate}
 
 -- an entry of a new id's inode: one that may be read of the inode of what it is made from, and of a new disk a hole
-abbrev pub IsDrawnFrom : List Attempt → ℕ → ℕ → Option Vid → Type 0
+abbrev pub IsDrawnFrom : List AttemptRecord → ℕ → ℕ → Option Vid → Type 0
 IsDrawnFrom attempts index entry None = entry ≡ 0
 IsDrawnFrom attempts index entry (Some parent) = IsCandidate attempts parent.0 index entry
 
 -- the same of an id, while its reservation stands
-abbrev pub IsDrawn : List Effect → List Attempt → ℕ → ℕ → ℕ → Type 0
+abbrev pub IsDrawn : List Effect → List AttemptRecord → ℕ → ℕ → ℕ → Type 0
 IsDrawn effects attempts vid index entry =
-    is_some (claim_on (record { 0 = vid }) (claims_of effects)) ≡ true → IsDrawnFrom attempts index entry (parent_of effects vid)
+    is_some (reservation_on (record { 0 = vid }) (reservations_of effects)) ≡ true
+    → IsDrawnFrom attempts index entry (parent_of effects vid)
 
 -- the attempts on a reserved id's inode have such entries
-pub record ReservedInodesAreDrawn (effects : List Effect) (good_id : ℕ → Bool) (attempts : List Attempt) : Type 0 where
+pub record ReservedInodesAreDrawn (effects : List Effect) (good_id : ℕ → Bool) (attempts : List AttemptRecord) : Type 0 where
   pub each : EachAttempt attempts (λ j attempt. (vid index : ℕ) → object_of attempt ≡ inode_number vid → good_id vid ≡ true → index < 2 ^ 20
-      → covers (entry_unit index) attempt ≡ true → IsDrawn effects attempts vid index (entry_by index attempt))
+      → covers_unit (entry_unit index) attempt ≡ true → IsDrawn effects attempts vid index (entry_by index attempt))
 
 -- the id that an entry publishes
 abbrev pub published_by : Entry → Option Vid
@@ -55,10 +56,10 @@ published_by (Lock by session name tag) = None
 published_by (Unlock by session vid) = None
 
 -- the inode of an id that is to be published was created; and the one that the session then has open has its table alone
-pub record WhatIsPublishedIsCreated (good_id : ℕ → Bool) (seats : Seats) (attempts : List Attempt) : Type 0 where
-  pub created : EachUp seats (λ n node. (place : ℕ) (entry : Entry) (vid : Vid) → slice_get node.outbox place ≡ Some entry
+pub record WhatIsPublishedIsCreated (good_id : ℕ → Bool) (hosts : Hosts) (attempts : List AttemptRecord) : Type 0 where
+  pub created : EachUp hosts (λ n node. (place : ℕ) (entry : Entry) (vid : Vid) → slice_get node.outbox place ≡ Some entry
       → published_by entry ≡ Some vid → IsCreated attempts (inode_number vid.0) node.peer.epoch)
-  pub table : EachUp seats (λ n node. (req index : ℕ) (request : Request) (ask : VdiAsk) (op : Op) (entry : Entry) (inode : Content)
+  pub table : EachUp hosts (λ n node. (req index : ℕ) (request : Request) (ask : VdiAsk) (op : Op) (entry : Entry) (inode : Content)
       → tree.get node.requests req ≡ Some request → request.course ≡ Commanding ask op → op.stage ≡ Publishing entry (Some inode)
       → good_id inode.vid ≡ true → index < objects_of inode.spec
       → AreAmong (slice_index inode.table index ∷ []) (candidates attempts inode.vid index))

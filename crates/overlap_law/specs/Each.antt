@@ -14,68 +14,68 @@ use Rattle.vdi_directory.specs.Effects.{header_of}
 use Rattle.object_store.specs.Store.{SeenRow, AllRows, rows_of}
 use Rattle.strip_coding.specs.Part.{index_among}
 use Rattle.sheep_node.specs.State.{Node}
-use Rattle.sheep_world.specs.World.{Seat, is_seat_up}
-use Rattle.overlap_law.specs.Attempts.{Attempt}
-use Rattle.overlap_law.specs.Words.{Seats}
+use Rattle.sheep_world.specs.World.{Host, is_host_up}
+use Rattle.overlap_law.specs.Attempts.{AttemptRecord}
+use Rattle.overlap_law.specs.Words.{Hosts}
 
 -- the target list of an epoch, an object and its policy
 abbrev pub Placing : Type 0
 Placing = ℕ → ℕ → Policy → List NodeId
 
 -- of each node that is there
-abbrev pub EachSeat : Seats → (ℕ → Seat → Type 0) → Type 0
-EachSeat seats P = (n : ℕ) (seat : Seat) → tree.get seats n ≡ Some seat → P n seat
+abbrev pub EachHost : Hosts → (ℕ → Host → Type 0) → Type 0
+EachHost hosts P = (n : ℕ) (host : Host) → tree.get hosts n ≡ Some host → P n host
 
 -- of each node that isn't lost
-abbrev pub EachUp : Seats → (ℕ → Node → Type 0) → Type 0
-EachUp seats P = (n : ℕ) (seat : Seat) → tree.get seats n ≡ Some seat → seat.is_lost ≡ false → P n seat.node
+abbrev pub EachUp : Hosts → (ℕ → Node → Type 0) → Type 0
+EachUp hosts P = (n : ℕ) (host : Host) → tree.get hosts n ≡ Some host → host.is_lost ≡ false → P n host.node
 
 -- of each node that may still step: it isn't lost, and has numbers left
-abbrev pub EachAble : Seats → (ℕ → Node → Type 0) → Type 0
-EachAble seats P = (n : ℕ) (seat : Seat) → tree.get seats n ≡ Some seat → is_seat_up seat ≡ true → P n seat.node
+abbrev pub EachAble : Hosts → (ℕ → Node → Type 0) → Type 0
+EachAble hosts P = (n : ℕ) (host : Host) → tree.get hosts n ≡ Some host → is_host_up host ≡ true → P n host.node
 
 -- of each attempt, with its place in the order in which they began
-abbrev pub EachAttempt : List Attempt → (ℕ → Attempt → Type 0) → Type 0
-EachAttempt attempts P = (j : ℕ) (attempt : Attempt) → slice_get attempts j ≡ Some attempt → P j attempt
+abbrev pub EachAttempt : List AttemptRecord → (ℕ → AttemptRecord → Type 0) → Type 0
+EachAttempt attempts P = (j : ℕ) (attempt : AttemptRecord) → slice_get attempts j ≡ Some attempt → P j attempt
 
 -- of some attempt
-abbrev pub SomeAttempt : List Attempt → (Attempt → Type 0) → Type 0
-SomeAttempt attempts P = (j : ℕ) × (attempt : Attempt) × (slice_get attempts j ≡ Some attempt) × P attempt
+abbrev pub SomeAttempt : List AttemptRecord → (AttemptRecord → Type 0) → Type 0
+SomeAttempt attempts P = (j : ℕ) × (attempt : AttemptRecord) × (slice_get attempts j ≡ Some attempt) × P attempt
 
 -- of each row of an object in a store
 abbrev pub EachRowOf : AllRows → ℕ → (SeenRow → Type 0) → Type 0
 EachRowOf rows oid P = (i : ℕ) (row : SeenRow) → slice_get (rows_of rows oid) i ≡ Some row → P row
 
 -- of each row of each object at each node
-abbrev pub EachRow : Seats → (ℕ → Seat → ℕ → SeenRow → Type 0) → Type 0
-EachRow seats P = EachSeat seats (λ n seat. (oid : ℕ) → EachRowOf seat.node.peer.rows oid (P n seat oid))
+abbrev pub EachRow : Hosts → (ℕ → Host → ℕ → SeenRow → Type 0) → Type 0
+EachRow hosts P = EachHost hosts (λ n host. (oid : ℕ) → EachRowOf host.node.peer.rows oid (P n host oid))
 
 -- the epoch of a node, that of a lost one when it was lost
-abbrev pub epoch_in : Option Seat → ℕ
+abbrev pub epoch_in : Option Host → ℕ
 epoch_in None = 0
-epoch_in (Some seat) = seat.node.peer.epoch
+epoch_in (Some host) = host.node.peer.epoch
 
 -- whether a node came to an epoch
-abbrev pub has_reached : Seats → ℕ → NodeId → Bool
-has_reached seats epoch node = nat_le epoch (epoch_in (tree.get seats node.0))
+abbrev pub has_reached : Hosts → ℕ → NodeId → Bool
+has_reached hosts epoch node = nat_le epoch (epoch_in (tree.get hosts node.0))
 
 -- the last epoch that a row covers, at a node of an epoch: an open row covers that one
-abbrev pub end_of : ℕ → Option Epoch → ℕ
-end_of epoch None = epoch
-end_of epoch (Some to) = to.0
+abbrev pub end_of_row : ℕ → Option Epoch → ℕ
+end_of_row epoch None = epoch
+end_of_row epoch (Some to) = to.0
 
 -- whether a row covers a level, at a node of an epoch
 abbrev pub row_covers : ℕ → ℕ → SeenRow → Bool
-row_covers epoch level row = nat_le row.from.0 level && nat_le level (end_of epoch row.to)
+row_covers epoch level row = nat_le row.from.0 level && nat_le level (end_of_row epoch row.to)
 
 -- whether a row of the object does, in the store of a node of an epoch
 abbrev pub has_row_at : ℕ → AllRows → ℕ → ℕ → Bool
 has_row_at epoch rows oid level = list_any (row_covers epoch level) (rows_of rows oid)
 
 -- the same of a node
-abbrev pub holds_level : Option Seat → ℕ → ℕ → Bool
+abbrev pub holds_level : Option Host → ℕ → ℕ → Bool
 holds_level None oid level = false
-holds_level (Some seat) oid level = has_row_at seat.node.peer.epoch seat.node.peer.rows oid level
+holds_level (Some host) oid level = has_row_at host.node.peer.epoch host.node.peer.rows oid level
 
 -- what the disk of an id was made with
 abbrev pub spec_in : List Effect → ℕ → Option VdiSpec
@@ -86,5 +86,5 @@ abbrev pub policy_in : List Effect → ℕ → Option Policy
 policy_in effects oid = option_map (λ (spec : VdiSpec). spec.policy) (spec_in effects (vid_of oid))
 
 -- the index of a node's part of an object in an epoch, if it is one of the targets
-abbrev pub index_in : Placing → ℕ → ℕ → Policy → NodeId → Option ℕ
-index_in T epoch oid policy node = index_among node (T epoch oid policy) policy (kind_of oid)
+abbrev pub index_of_part : Placing → ℕ → ℕ → Policy → NodeId → Option ℕ
+index_of_part T epoch oid policy node = index_among node (T epoch oid policy) policy (kind_of oid)

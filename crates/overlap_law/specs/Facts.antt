@@ -9,58 +9,59 @@ use Rattle.object_id.specs.Fields.{u32_at}
 use Rattle.object_id.specs.Oid.{IsVid, kind_of, vid_of, inode_number, object_number}
 use Rattle.disk_lock.specs.declared.holder.Holder.{Holder}
 use Rattle.epoch_log.specs.Epochs.{settled_of}
-use Rattle.vdi_directory.specs.Decisions.{happened}
+use Rattle.vdi_directory.specs.Decisions.{log_effects}
 use Rattle.inode.specs.declared.layout.TheConstants.{INODE_HEADER_BYTES}
 use Rattle.peer_proto.specs.declared.ask.PeerReq.{PeerReq}
 use Rattle.peer_proto.specs.Ask.{ask_in}
 use Rattle.peer_proto.specs.Work.{policy_of}
 use Rattle.recovery.specs.State.{Recovery, is_listed}
 use Rattle.sheep_world.specs.declared.name.MessageName.{MessageName}
-use Rattle.sheep_world.specs.World.{name_cmp, Letter, Request, World}
-use Rattle.overlap_law.specs.Attempts.{Fate, Flying, Served, Doomed, Attempt, object_of, attempts_on}
-use Rattle.overlap_law.specs.Words.{Seats, is_made, covers, row_bytes_at, last_of, base_of}
-use Rattle.overlap_law.specs.Holders.{targets_by, creates, is_among, IsGood}
-use Rattle.overlap_law.specs.Each.{Placing, EachSeat, EachAttempt, EachRowOf, end_of, holds_level}
+use Rattle.sheep_world.specs.World.{name_cmp, Packet, Request, World}
+use Rattle.overlap_law.specs.Attempts.{MessageFate, Flying, Served, Doomed, AttemptRecord, object_of, attempts_on}
+use Rattle.overlap_law.specs.Words.{Hosts, is_made, covers_unit, row_bytes_at, last_of, base_of}
+use Rattle.overlap_law.specs.Holders.{targets_by, creates, is_object_among, IsGood}
+use Rattle.overlap_law.specs.Each.{Placing, EachHost, EachAttempt, EachRowOf, end_of_row, holds_level}
 use Rattle.overlap_law.specs.Grants.{leave_of, writer_of, granted_in}
-use Rattle.overlap_law.specs.Past.{Listed, Past, counts}
+use Rattle.overlap_law.specs.Past.{FinishedList, Past, counts}
 use Rattle.overlap_law.specs.Contents.{RowContents, AttemptsStand}
 
 -- Holders of the base. Each target of the greater of the base's epoch and the settled one that counts for it has a row that
 -- holds it
-pub record HoldersOfTheBase (T : Placing) (counts_in : NodeId → ℕ → Bool) (settled : ℕ) (seats : Seats) (oid : ℕ) (attempts : List Attempt) : Type 0 where
-  pub each : (base : Attempt) → base_of attempts ≡ Some base → All (λ (target : NodeId).
-      counts_in target (max base.epoch settled) ≡ true → holds_level (tree.get seats target.0) oid (max base.epoch settled) ≡ true)
+pub record HoldersOfTheBase (T : Placing) (counts_in : NodeId → ℕ
+    → Bool) (settled : ℕ) (hosts : Hosts) (oid : ℕ) (attempts : List AttemptRecord) : Type 0 where
+  pub each : (base : AttemptRecord) → base_of attempts ≡ Some base → All (λ (target : NodeId).
+      counts_in target (max base.epoch settled) ≡ true → holds_level (tree.get hosts target.0) oid (max base.epoch settled) ≡ true)
       (T (max base.epoch settled) oid (policy_of base.work))
 
 -- whether what a node had is that of its list of an epoch
-abbrev pub is_list_of : ℕ → ℕ → Listed → Bool
+abbrev pub is_list_of : ℕ → ℕ → FinishedList → Bool
 is_list_of node epoch listed = listed.node.0 == node && listed.epoch == epoch
 
 -- the objects of which a node had rows when its list of an epoch was finished
-abbrev pub own_at : List Listed → ℕ → ℕ → List ℕ
-own_at listed node epoch = option_map_or (λ (one : Listed). one.own) (find (is_list_of node epoch) listed) []
+abbrev pub own_at : List FinishedList → ℕ → ℕ → List ℕ
+own_at listed node epoch = option_map_or (λ (one : FinishedList). one.own) (find (is_list_of node epoch) listed) []
 
 -- whether a recovery's list has an object, with the node's own rows as they were when it was finished
-abbrev pub is_in_list : List Listed → ℕ → Recovery → ℕ → Bool
-is_in_list listed node recovery oid = is_among oid (recovery.lists.objects ++ own_at listed node recovery.epoch)
+abbrev pub is_in_list : List FinishedList → ℕ → Recovery → ℕ → Bool
+is_in_list listed node recovery oid = is_object_among oid (recovery.lists.objects ++ own_at listed node recovery.epoch)
 
 -- Complete lists. A node's finished list has the object where its base is of an epoch below the list's
-pub record CompleteLists (listed : List Listed) (seats : Seats) (oid : ℕ) (attempts : List Attempt) : Type 0 where
-  pub each : (base : Attempt) → base_of attempts ≡ Some base → EachSeat seats (λ n seat. is_listed seat.node.recovery ≡ true
-      → base.epoch < seat.node.recovery.epoch → is_in_list listed n seat.node.recovery oid ≡ true)
+pub record CompleteLists (listed : List FinishedList) (hosts : Hosts) (oid : ℕ) (attempts : List AttemptRecord) : Type 0 where
+  pub each : (base : AttemptRecord) → base_of attempts ≡ Some base → EachHost hosts (λ n host. is_listed host.node.recovery ≡ true
+      → base.epoch < host.node.recovery.epoch → is_in_list listed n host.node.recovery oid ≡ true)
 
 -- whether a message is on its way
-abbrev pub is_flying : Fate → Bool
+abbrev pub is_flying : MessageFate → Bool
 is_flying Flying = true
 is_flying Served = false
 is_flying Doomed = false
 
 -- whether a message of an attempt is still on its way
-abbrev pub flies : Attempt → Bool
+abbrev pub flies : AttemptRecord → Bool
 flies attempt = list_any is_flying attempt.fates
 
 -- an attempt is under the grant of a disk to a session
-pub record IsUnderGrant (log : List Entry) (vid : ℕ) (holder : Holder) (attempt : Attempt) : Type 0 where
+pub record IsUnderGrant (log : List Entry) (vid : ℕ) (holder : Holder) (attempt : AttemptRecord) : Type 0 where
   pub disk : vid_of (object_of attempt) ≡ vid
   pub node : attempt.gateway ≡ holder.node
   pub session : attempt.session ≡ holder.session
@@ -68,15 +69,19 @@ pub record IsUnderGrant (log : List Entry) (vid : ℕ) (holder : Holder) (attemp
 
 -- Lost gateways are fenced. The messages of a lost gateway are of epochs below that of its `Leave`; where one of them is still
 -- on its way, the disk is granted next after that entry, and every attempt under that grant is of a later epoch
-pub record LostGatewaysAreFenced (log : List Entry) (seats : Seats) (wire : tree.FinMap name_cmp Letter) (attempts : List Attempt) : Type 0 where
-  pub messages : EachSeat seats (λ n seat. (epoch : ℕ) (name : MessageName) (to : NodeId) (bytes : List ℕ) (request : PeerReq)
-      → seat.is_lost ≡ true → leave_of log n seat.life ≡ Some epoch → name.sender.0 ≡ n → tree.get wire name ≡ Some (Request to bytes)
+pub record LostGatewaysAreFenced (log : List Entry) (hosts : Hosts) (wire : tree.FinMap name_cmp Packet) (attempts : List AttemptRecord) :
+    Type 0 where
+  pub messages : EachHost hosts (λ n host. (epoch : ℕ) (name : MessageName) (to : NodeId) (bytes : List ℕ) (request : PeerReq)
+      → host.is_lost ≡ true → leave_of log n host.incarnation ≡ Some epoch → name.sender.0 ≡ n → tree.get wire name
+      ≡ Some (Request to bytes)
       → ask_in bytes ≡ Ok request → request.epoch.0 < epoch)
   pub grants : EachAttempt attempts (λ j attempt. (epoch : ℕ) (holder : Holder) → flies attempt ≡ true
-      → leave_of log attempt.gateway.0 attempt.life ≡ Some epoch → writer_of (happened log) (vid_of (object_of attempt)) ≡ Some holder
+      → leave_of log attempt.gateway.0 attempt.incarnation ≡ Some epoch → writer_of (log_effects log) (vid_of (object_of attempt))
+      ≡ Some holder
       → epoch ≤ granted_in log (vid_of (object_of attempt)))
   pub later : EachAttempt attempts (λ j attempt. EachAttempt attempts (λ k other. (epoch : ℕ) (holder : Holder) → flies attempt ≡ true
-      → leave_of log attempt.gateway.0 attempt.life ≡ Some epoch → writer_of (happened log) (vid_of (object_of attempt)) ≡ Some holder
+      → leave_of log attempt.gateway.0 attempt.incarnation ≡ Some epoch → writer_of (log_effects log) (vid_of (object_of attempt))
+      ≡ Some holder
       → IsUnderGrant log (vid_of (object_of attempt)) holder other → attempt.epoch < other.epoch))
 
 -- the entry of an object in the table of an inode
@@ -84,34 +89,37 @@ abbrev pub entry_in : ℕ → List ℕ → ℕ
 entry_in index bytes = u32_at (INODE_HEADER_BYTES + 4 * index) bytes
 
 -- whether an attempt to create an object is made
-abbrev pub is_made_create : ℕ → Attempt → Bool
+abbrev pub is_made_create : ℕ → AttemptRecord → Bool
 is_made_create oid attempt = object_of attempt == oid && creates attempt && is_made attempt
 
 -- two rows of an inode have the same where an attempt covers its table
-abbrev pub HaveOneTable : Attempt → List ℕ → List ℕ → Type 0
-HaveOneTable attempt bytes others = (unit : ℕ) → INODE_HEADER_BYTES ≤ unit → covers unit attempt ≡ true
+abbrev pub HaveOneTable : AttemptRecord → List ℕ → List ℕ → Type 0
+HaveOneTable attempt bytes others = (unit : ℕ) → INODE_HEADER_BYTES ≤ unit → covers_unit unit attempt ≡ true
     → row_bytes_at (policy_of attempt.work) (kind_of (object_of attempt)) unit bytes
     ≡ row_bytes_at (policy_of attempt.work) (kind_of (object_of attempt)) unit others
 
 -- Entries name made objects. An entry that says "own" stands in a copy of an inode only after a made create of its object; and
 -- where the last attempt on the inode is made, as that of an opening is, the copies that reach its epoch have one table
-pub record EntriesNameMadeObjects (seats : Seats) (vid : ℕ) (attempts : List Attempt) : Type 0 where
-  pub own : EachSeat seats (λ n seat. EachRowOf seat.node.peer.rows (inode_number vid) (λ row. (index : ℕ) → index < 2 ^ 20
+pub record EntriesNameMadeObjects (hosts : Hosts) (vid : ℕ) (attempts : List AttemptRecord) : Type 0 where
+  pub own : EachHost hosts (λ n host. EachRowOf host.node.peer.rows (inode_number vid) (λ row. (index : ℕ) → index < 2 ^ 20
       → entry_in index row.bytes ≡ vid → list_any (is_made_create (object_number vid index)) attempts ≡ true))
-  pub one_table : (last : Attempt) → last_of (attempts_on (inode_number vid) attempts) ≡ Some last → is_made last ≡ true
-      → EachSeat seats (λ n seat. EachRowOf seat.node.peer.rows (inode_number vid) (λ row. last.epoch ≤ end_of seat.node.peer.epoch row.to
-      → EachSeat seats (λ m other. EachRowOf other.node.peer.rows (inode_number vid) (λ copy. last.epoch ≤ end_of other.node.peer.epoch copy.to
+  pub one_table : (last : AttemptRecord) → last_of (attempts_on (inode_number vid) attempts) ≡ Some last → is_made last ≡ true
+      → EachHost hosts (λ n host. EachRowOf host.node.peer.rows (inode_number vid)
+      (λ row. last.epoch ≤ end_of_row host.node.peer.epoch row.to
+      → EachHost hosts (λ m other. EachRowOf other.node.peer.rows (inode_number vid)
+      (λ copy. last.epoch ≤ end_of_row other.node.peer.epoch copy.to
       → HaveOneTable last row.bytes copy.bytes))))
 
--- of each object that is live and was borne at every state so far, with the attempts on it
-abbrev pub EachGood : World → Past → (ℕ → List Attempt → Type 0) → Type 0
-EachGood world past P = (oid : ℕ) → IsGood world.log past.attempts past.unborne oid → P oid (attempts_on oid past.attempts)
+-- of each object that is live and was available at every state so far, with the attempts on it
+abbrev pub EachGood : World → Past → (ℕ → List AttemptRecord → Type 0) → Type 0
+EachGood world past P = (oid : ℕ) → IsGood world.log past.attempts past.unavailable oid → P oid (attempts_on oid past.attempts)
 
 -- the six facts of a moment
 pub record MeetsFacts (world : World) (past : Past) : Type 0 where
-  pub row_contents : EachGood world past (RowContents world.seats)
-  pub attempts_stand : EachGood world past (AttemptsStand world.seats)
-  pub holders : EachGood world past (HoldersOfTheBase (targets_by world.log) (counts past.ended world) (settled_of world.log) world.seats)
-  pub lists : EachGood world past (CompleteLists past.listed world.seats)
-  pub fenced : LostGatewaysAreFenced world.log world.seats world.wire past.attempts
-  pub entries : (vid : ℕ) → IsVid vid → IsGood world.log past.attempts past.unborne (inode_number vid) → EntriesNameMadeObjects world.seats vid past.attempts
+  pub row_contents : EachGood world past (RowContents world.hosts)
+  pub attempts_stand : EachGood world past (AttemptsStand world.hosts)
+  pub holders : EachGood world past (HoldersOfTheBase (targets_by world.log) (counts past.ended world) (settled_of world.log) world.hosts)
+  pub lists : EachGood world past (CompleteLists past.listed world.hosts)
+  pub fenced : LostGatewaysAreFenced world.log world.hosts world.wire past.attempts
+  pub entries : (vid : ℕ) → IsVid vid → IsGood world.log past.attempts past.unavailable (inode_number vid)
+      → EntriesNameMadeObjects world.hosts vid past.attempts

@@ -6,7 +6,7 @@ use Rattle.object_id.specs.declared.entry.Entry.{Entry}
 use Rattle.object_id.specs.Oid.{kind_of, vid_of}
 use Rattle.object_id.specs.Policy.{wanted_of}
 use Rattle.epoch_log.specs.Epochs.{epoch_of}
-use Rattle.vdi_directory.specs.Decisions.{happened}
+use Rattle.vdi_directory.specs.Decisions.{log_effects}
 use Rattle.peer_proto.specs.declared.work.ObjWork.{ObjWork}
 use Rattle.peer_proto.specs.declared.work.ObjWork.TheVariants.{Create, Write, Read}
 use Rattle.object_id.specs.declared.oid.Kind.{Kind}
@@ -16,45 +16,50 @@ use Rattle.peer_service.specs.State.{object_size}
 use Rattle.overlap_law.specs.Units.{unit_start}
 use Rattle.peer_proto.specs.Work.{policy_of}
 use Rattle.gateway.specs.Work.{is_making}
-use Rattle.sheep_world.specs.World.{Seat}
-use Rattle.overlap_law.specs.Attempts.{Fate, Flying, Served, Doomed, Attempt, object_of}
-use Rattle.overlap_law.specs.Words.{Seats, is_made, has_served}
+use Rattle.sheep_world.specs.World.{Host}
+use Rattle.overlap_law.specs.Attempts.{MessageFate, Flying, Served, Doomed, AttemptRecord, object_of}
+use Rattle.overlap_law.specs.Words.{Hosts, is_made, has_served}
 use Rattle.overlap_law.specs.Holders.{creates}
 use Rattle.overlap_law.specs.Each.{Placing, EachAttempt, has_reached, spec_in, policy_in}
-use Rattle.overlap_law.specs.Letters.{Wire, IsQuiet, name_at, request_at, is_request, IsAsking, HasLetter}
+use Rattle.overlap_law.specs.Packets.{Wire, IsQuiet, message_name_at, message_request_at, is_request_in_flight, IsAsking, HasPacket}
 use Rattle.overlap_law.specs.Grants.{reserved_in}
 
 -- a message flies exactly where its request is in the wire
-abbrev pub IsFateIn : Wire → Attempt → ℕ → NodeId → Fate → Type 0
-IsFateIn wire attempt place target Flying = IsAsking wire (name_at attempt place) target (request_at attempt place)
-IsFateIn wire attempt place target Served = is_request (tree.get wire (name_at attempt place)) ≡ false
-IsFateIn wire attempt place target Doomed = is_request (tree.get wire (name_at attempt place)) ≡ false
+abbrev pub IsFateIn : Wire → AttemptRecord → ℕ → NodeId → MessageFate → Type 0
+IsFateIn wire attempt place target Flying = IsAsking wire (message_name_at attempt place) target (message_request_at attempt place)
+IsFateIn wire attempt place target Served = is_request_in_flight (tree.get wire (message_name_at attempt place)) ≡ false
+IsFateIn wire attempt place target Doomed = is_request_in_flight (tree.get wire (message_name_at attempt place)) ≡ false
 
 -- each message of an attempt has one fate: it flies, was served, or is doomed
-pub record FatesAreOfTheWire (wire : Wire) (attempts : List Attempt) : Type 0 where
+pub record FatesAreOfTheWire (wire : Wire) (attempts : List AttemptRecord) : Type 0 where
   pub whole : EachAttempt attempts (λ j attempt. length attempt.fates ≡ length attempt.targets)
-  pub each : EachAttempt attempts (λ j attempt. (place : ℕ) (target : NodeId) (fate : Fate) → slice_get attempt.targets place ≡ Some target
+  pub each : EachAttempt attempts (λ j attempt. (place : ℕ) (target : NodeId) (fate : MessageFate) → slice_get attempt.targets place
+      ≡ Some target
       → slice_get attempt.fates place ≡ Some fate → IsFateIn wire attempt place target fate)
 
--- an attempt is of a life of its gateway that began, and one of an earlier life has no letters; its gateway gave its numbers, and a
+-- an attempt is of an incarnation of its gateway that began, and one of an earlier incarnation has no packets; its
+-- gateway gave its numbers, and a
 -- later attempt of that gateway has later ones
-pub record AttemptsAreOfLives (seats : Seats) (wire : Wire) (attempts : List Attempt) : Type 0 where
-  pub began : EachAttempt attempts (λ j attempt. (seat : Seat) → tree.get seats attempt.gateway.0 ≡ Some seat → attempt.life ≤ seat.life)
-  pub earlier : EachAttempt attempts (λ j attempt. (seat : Seat) → tree.get seats attempt.gateway.0 ≡ Some seat → attempt.life < seat.life
+pub record AttemptsAreOfIncarnations (hosts : Hosts) (wire : Wire) (attempts : List AttemptRecord) : Type 0 where
+  pub began : EachAttempt attempts (λ j attempt. (host : Host) → tree.get hosts attempt.gateway.0 ≡ Some host
+      → attempt.incarnation ≤ host.incarnation)
+  pub earlier : EachAttempt attempts (λ j attempt. (host : Host) → tree.get hosts attempt.gateway.0 ≡ Some host
+      → attempt.incarnation < host.incarnation
       → IsQuiet wire attempt)
-  pub given : EachAttempt attempts (λ j attempt. (seat : Seat) → tree.get seats attempt.gateway.0 ≡ Some seat
-      → attempt.first + length attempt.targets ≤ seat.node.sends)
+  pub given : EachAttempt attempts (λ j attempt. (host : Host) → tree.get hosts attempt.gateway.0 ≡ Some host
+      → attempt.first + length attempt.targets ≤ host.node.sends)
   pub apart : EachAttempt attempts (λ j first. EachAttempt attempts (λ k second. j < k → first.gateway.0 ≡ second.gateway.0
       → first.first + length first.targets ≤ second.first))
 
 -- a node that served an attempt came to its epoch
-pub record ServersReachedTheEpoch (seats : Seats) (attempts : List Attempt) : Type 0 where
-  pub each : EachAttempt attempts (λ j attempt. (node : NodeId) → has_served node attempt ≡ true → has_reached seats attempt.epoch node ≡ true)
+pub record ServersReachedTheEpoch (hosts : Hosts) (attempts : List AttemptRecord) : Type 0 where
+  pub each : EachAttempt attempts (λ j attempt. (node : NodeId) → has_served node attempt ≡ true → has_reached hosts attempt.epoch node
+      ≡ true)
 
 -- an attempt is to create or write by its object's policy, and went to the targets of its epoch, as many as are wanted
-pub record AttemptsAreShaped (T : Placing) (log : List Entry) (attempts : List Attempt) : Type 0 where
+pub record AttemptsAreShaped (T : Placing) (log : List Entry) (attempts : List AttemptRecord) : Type 0 where
   pub making : EachAttempt attempts (λ j attempt. is_making attempt.work ≡ true)
-  pub policy : EachAttempt attempts (λ j attempt. policy_in (happened log) (object_of attempt) ≡ Some (policy_of attempt.work))
+  pub policy : EachAttempt attempts (λ j attempt. policy_in (log_effects log) (object_of attempt) ≡ Some (policy_of attempt.work))
   pub targets : EachAttempt attempts (λ j attempt. attempt.targets ≡ T attempt.epoch (object_of attempt) (policy_of attempt.work))
   pub wanted : EachAttempt attempts (λ j attempt. length attempt.targets ≡ wanted_of (policy_of attempt.work) (kind_of (object_of attempt)))
   pub begun : EachAttempt attempts (λ j attempt. attempt.epoch ≤ epoch_of log)
@@ -73,29 +78,29 @@ IsWhole size (Write oid policy offset bytes) = (offset + length bytes ≤ size) 
 IsWhole size (Read oid policy offset long) = Unit {0}
 
 -- an attempt covers whole units, inside its object
-pub record AttemptsAreWhole (effects : List Effect) (attempts : List Attempt) : Type 0 where
+pub record AttemptsAreWhole (effects : List Effect) (attempts : List AttemptRecord) : Type 0 where
   pub each : EachAttempt attempts (λ j attempt. (spec : VdiSpec) → spec_in effects (vid_of (object_of attempt)) ≡ Some spec
       → IsWhole (object_size spec (kind_of (object_of attempt))) attempt.work)
 
 -- the id of an attempt's object was reserved in its epoch or before
-pub record IdsAreKnown (log : List Entry) (attempts : List Attempt) : Type 0 where
+pub record IdsAreKnown (log : List Entry) (attempts : List AttemptRecord) : Type 0 where
   pub reserved : EachAttempt attempts (λ j attempt. 1 ≤ reserved_in log (vid_of (object_of attempt)))
   pub before : EachAttempt attempts (λ j attempt. reserved_in log (vid_of (object_of attempt)) ≤ attempt.epoch)
 
--- of two attempts on an object the later one is of no earlier epoch, and of a later one while the other has letters
-pub record AreInOrder (wire : Wire) (first second : Attempt) : Type 0 where
+-- of two attempts on an object the later one is of no earlier epoch, and of a later one while the other has packets
+pub record AreInOrder (wire : Wire) (first second : AttemptRecord) : Type 0 where
   pub epochs : first.epoch ≤ second.epoch
-  pub flying : (place : ℕ) (target : NodeId) → HasLetter wire first place target → first.epoch < second.epoch
+  pub flying : (place : ℕ) (target : NodeId) → HasPacket wire first place target → first.epoch < second.epoch
 
 -- the attempts on an object are ordered
-pub record AttemptsAreOrdered (wire : Wire) (attempts : List Attempt) : Type 0 where
+pub record AttemptsAreOrdered (wire : Wire) (attempts : List AttemptRecord) : Type 0 where
   pub each : EachAttempt attempts (λ j first. EachAttempt attempts (λ k second.
       j < k → object_of first ≡ object_of second → AreInOrder wire first second))
 
 -- a made create of an object, of no later epoch than this one
-pub record IsCreated (attempts : List Attempt) (oid epoch : ℕ) : Type 0 where
+pub record IsCreated (attempts : List AttemptRecord) (oid epoch : ℕ) : Type 0 where
   pub place : ℕ
-  pub create : Attempt
+  pub create : AttemptRecord
   pub there : slice_get attempts place ≡ Some create
   pub object : object_of create ≡ oid
   pub creating : creates create ≡ true
@@ -103,6 +108,6 @@ pub record IsCreated (attempts : List Attempt) (oid epoch : ℕ) : Type 0 where
   pub epoch_of_it : create.epoch ≤ epoch
 
 -- before a write of an object of a good id stands a made create of the object
-pub record CreatesComeFirst (good_id : ℕ → Bool) (attempts : List Attempt) : Type 0 where
+pub record CreatesComeFirst (good_id : ℕ → Bool) (attempts : List AttemptRecord) : Type 0 where
   pub each : EachAttempt attempts (λ j attempt. good_id (vid_of (object_of attempt)) ≡ true → creates attempt ≡ false
       → (created : IsCreated attempts (object_of attempt) attempt.epoch) × (created.place < j))

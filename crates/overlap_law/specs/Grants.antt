@@ -1,22 +1,22 @@
--- Where in the log an id was reserved, given to its writer and published, and where a life of a node left: by epochs.
+-- Where in the log an id was reserved, given to its writer and published, and where an incarnation of a node left: by epochs.
 use Rattle.std.specs.Prelude.{ℕ, ◌+◌, ◌-◌, ◌==◌, Bool, false, List, length, map, fold, zip, Option, Some, None, slice_get, if◌then◌else◌}
 use Rattle.std.specs.List.{filter_map, range_with_len}
 use Rattle.object_id.specs.declared.entry.Entry.{Entry}
 use Rattle.epoch_log.specs.Epochs.{epoch_at}
 use Rattle.disk_lock.specs.declared.holder.Holder.{Holder}
-use Rattle.vdi_directory.specs.declared.effect.Claim.{Claim}
+use Rattle.vdi_directory.specs.declared.effect.Reservation.{Reservation}
 use Rattle.vdi_directory.specs.declared.effect.Effect.{Effect}
 use Rattle.vdi_directory.specs.declared.effect.Effect.TheVariants.{Nothing, Reserved, Published, Snapped, Deleted, Held, Freed, Withdrawn, Left}
-use Rattle.vdi_directory.specs.Effects.{grants, claims_of, claim_on, holder_of}
-use Rattle.vdi_directory.specs.Decisions.{happened}
+use Rattle.vdi_directory.specs.Effects.{grants, reservations_of, reservation_on, holder_of}
+use Rattle.vdi_directory.specs.Decisions.{log_effects}
 
 -- the epoch at each entry, which itself counts
 abbrev pub epochs_at_entries : List Entry → List ℕ
 epochs_at_entries log = map (λ place. epoch_at log (place + 1)) (range_with_len 0 (length log))
 
 -- what each entry of the log did, with the epoch at it
-unfoldable pub dated : List Entry → List (ℕ × Effect)
-dated log = zip (epochs_at_entries log) (happened log)
+unfoldable pub dated_effects : List Entry → List (ℕ × Effect)
+dated_effects log = zip (epochs_at_entries log) (log_effects log)
 
 -- the epoch so far, or that of one effect more, if it passes
 abbrev pub later_if : (Effect → Bool) → ℕ → ℕ × Effect → ℕ
@@ -24,12 +24,12 @@ later_if passes epoch effect = if passes effect.1 then effect.0 else epoch
 
 -- the epoch at the last entry whose effect passes; 0 where there is none
 abbrev pub last_epoch : (Effect → Bool) → List Entry → ℕ
-last_epoch passes log = fold (later_if passes) 0 (dated log)
+last_epoch passes log = fold (later_if passes) 0 (dated_effects log)
 
 -- whether an effect lets a session write the objects of an id: it reserves the id, takes it in a snapshot's place, or locks it
 abbrev pub gives : ℕ → Effect → Bool
 gives vid Nothing = false
-gives vid (Reserved grant) = grant.claim.vid.0 == vid
+gives vid (Reserved grant) = grant.reservation.vid.0 == vid
 gives vid (Published of name) = false
 gives vid (Snapped snap) = snap.vid.0 == vid
 gives vid (Deleted of name) = false
@@ -63,34 +63,34 @@ abbrev pub published_in : List Entry → ℕ → ℕ
 published_in log vid = last_epoch (publishes vid) log
 
 -- the session that has a reservation
-abbrev pub claimer : Claim → Holder
-claimer claim = record { node = claim.by; session = claim.session }
+abbrev pub reserver : Reservation → Holder
+reserver reservation = record { node = reservation.by; session = reservation.session }
 
 -- the session with the reservation, if one stands, or else the holder
-abbrev pub writer_by : Option Claim → Option Holder → Option Holder
+abbrev pub writer_by : Option Reservation → Option Holder → Option Holder
 writer_by None holder = holder
-writer_by (Some claim) holder = Some (claimer claim)
+writer_by (Some reservation) holder = Some (reserver reservation)
 
 -- who may write the objects of an id: the session that holds it or has its standing reservation
 unfoldable pub writer_of : List Effect → ℕ → Option Holder
-writer_of effects vid = writer_by (claim_on (record { 0 = vid }) (claims_of effects)) (holder_of effects vid)
+writer_of effects vid = writer_by (reservation_on (record { 0 = vid }) (reservations_of effects)) (holder_of effects vid)
 
 -- the epoch of an effect that is the node's `Leave`
-abbrev pub if_left : ℕ → ℕ → Effect → Option ℕ
-if_left node epoch Nothing = None
-if_left node epoch (Reserved grant) = None
-if_left node epoch (Published vid name) = None
-if_left node epoch (Snapped snap) = None
-if_left node epoch (Deleted vid name) = None
-if_left node epoch (Held vid holder) = None
-if_left node epoch (Freed vid) = None
-if_left node epoch (Withdrawn vid) = None
-if_left node epoch (Left other) = if other.0 == node then Some epoch else None
+abbrev pub leave_epoch_of : ℕ → ℕ → Effect → Option ℕ
+leave_epoch_of node epoch Nothing = None
+leave_epoch_of node epoch (Reserved grant) = None
+leave_epoch_of node epoch (Published vid name) = None
+leave_epoch_of node epoch (Snapped snap) = None
+leave_epoch_of node epoch (Deleted vid name) = None
+leave_epoch_of node epoch (Held vid holder) = None
+leave_epoch_of node epoch (Freed vid) = None
+leave_epoch_of node epoch (Withdrawn vid) = None
+leave_epoch_of node epoch (Left other) = if other.0 == node then Some epoch else None
 
 -- the epochs that a node's `Leave` entries began, in their order
 abbrev pub leaves_of : List Entry → ℕ → List ℕ
-leaves_of log node = filter_map (λ (effect : ℕ × Effect). if_left node effect.0 effect.1) (dated log)
+leaves_of log node = filter_map (λ (effect : ℕ × Effect). leave_epoch_of node effect.0 effect.1) (dated_effects log)
 
--- the epoch that the `Leave` of a node's life began, if that stands in the log; lives are counted from 1
+-- the epoch that the `Leave` of a node's incarnation began, if that stands in the log; incarnations are counted from 1
 abbrev pub leave_of : List Entry → ℕ → ℕ → Option ℕ
-leave_of log node life = slice_get (leaves_of log node) (life - 1)
+leave_of log node incarnation = slice_get (leaves_of log node) (incarnation - 1)

@@ -1,4 +1,4 @@
--- No missing object: what a node doesn't have is no reason to refuse a request on a disk that is there and was borne.
+-- No missing object: what a node doesn't have is no reason to refuse a request on a disk that is there and was available.
 use Rattle.std.specs.Prelude.{◌≡◌, ◌≢◌, ℕ, ◌&&◌, Bool, true, false, List, slice_get, Option, Some, None, if◌then◌else◌}
 use Rattle.std.specs.Option.{option_map}
 use Rattle.std.specs.FinMap as tree
@@ -7,7 +7,7 @@ use Rattle.object_id.specs.declared.cause.Cause.TheVariants as causes
 use Rattle.object_id.specs.declared.entry.Entry.{Entry}
 use Rattle.object_id.specs.Oid.{vid_of}
 use Rattle.vdi_directory.specs.declared.effect.Effect.{Effect}
-use Rattle.vdi_directory.specs.Decisions.{happened}
+use Rattle.vdi_directory.specs.Decisions.{log_effects}
 use Rattle.vdi_directory.specs.States.{state_of, is_live_state}
 use Rattle.peer_proto.specs.declared.guest.GuestRsp.TheVariants as replies
 use Rattle.peer_proto.specs.declared.say.PeerSay.TheVariants as says
@@ -24,39 +24,39 @@ use Rattle.cluster_script.specs.Language.{IsScript}
 use Rattle.sheep_node.specs.declared.event.Event.{Event}
 use Rattle.sheep_node.specs.State.{Node, Request, Course, Waiting, Driving, Commanding, session_at}
 use Rattle.sheep_world.specs.World.{World}
-use Rattle.sheep_world.specs.Conditions.{is_on_disk}
-use Rattle.sheep_world.specs.Grown.{disk_of}
-use Rattle.sheep_world.specs.Step.{Made, step}
-use Rattle.overlap_law.specs.Words.{Seats}
+use Rattle.sheep_world.specs.Conditions.{is_disk_request_at}
+use Rattle.sheep_world.specs.HistoryAdditions.{disk_of}
+use Rattle.sheep_world.specs.Step.{EventOutcome, step}
+use Rattle.overlap_law.specs.Words.{Hosts}
 use Rattle.overlap_law.specs.Each.{EachUp}
-use Rattle.overlap_law.specs.Holders.{is_borne_disk}
-use Rattle.overlap_law.specs.Letters.{Wire, named, IsAnswering}
-use Rattle.overlap_law.specs.Past.{Moment, run_with_past}
+use Rattle.overlap_law.specs.Holders.{is_available_disk}
+use Rattle.overlap_law.specs.Packets.{Wire, message_name, IsAnswering}
+use Rattle.overlap_law.specs.Past.{MomentWithPast, run_with_past}
 
 -- the disk that a request is on: a read or write is on the one that its session had open when it began, a command on the one
 -- whose inode it comes to
 abbrev pub disk_meant : List Statement → World → ℕ → ℕ → Option ℕ
-disk_meant script world req oid = if is_on_disk script req then disk_of script req world else Some (vid_of oid)
+disk_meant script world req oid = if is_disk_request_at script req then disk_of script req world else Some (vid_of oid)
 
--- whether a disk is published and not deleted by the log, and was borne up to here
-abbrev pub is_there_and_borne : List Entry → List ℕ → ℕ → Bool
-is_there_and_borne log unborne vid = is_live_state (state_of (happened log) vid) && is_borne_disk log unborne vid
+-- whether a disk is published and not deleted by the log, and was available up to here
+abbrev pub is_there_and_available : List Entry → List ℕ → ℕ → Bool
+is_there_and_available log unavailable vid = is_live_state (state_of (log_effects log) vid) && is_available_disk log unavailable vid
 
 -- an event replies to a request that a node doesn't have an object
-pub record RefusesForAnObject (made : Made) (req oid : ℕ) : Type 0 where
+pub record RefusesForAnObject (made : EventOutcome) (req oid : ℕ) : Type 0 where
   pub place : ℕ
   pub node : NodeId
   pub there : slice_get made.world.outputs.replies place ≡ Some (req, replies.Refused (causes.NoObj node oid))
 
--- where it does, the request is on no disk that is there by the log and was borne before the event
-abbrev pub NoObjectIsMissing : List Statement → Moment → Made → Type 0
+-- where it does, the request is on no disk that is there by the log and was available before the event
+abbrev pub NoObjectIsMissing : List Statement → MomentWithPast → EventOutcome → Type 0
 NoObjectIsMissing script before made = (req oid vid : ℕ) → RefusesForAnObject made req oid
-    → disk_meant script before.world req oid ≡ Some vid → is_there_and_borne made.world.log before.past.unborne vid ≡ false
+    → disk_meant script before.world req oid ≡ Some vid → is_there_and_available made.world.log before.past.unavailable vid ≡ false
 
 -- No missing object. For every script and every run of it, no reply says that a node doesn't have an object, where the request is
--- on a disk that is published, isn't deleted in the whole log, and was borne up to there.
+-- on a disk that is published, isn't deleted in the whole log, and was available up to there.
 abbrev pub NoObjects : List Statement → Type 0
-NoObjects script = IsScript script → (events : List Event) (before : Moment) (event : Event) (made : Made)
+NoObjects script = IsScript script → (events : List Event) (before : MomentWithPast) (event : Event) (made : EventOutcome)
     → run_with_past script events ≡ Some before → step script event before.world ≡ Some made → NoObjectIsMissing script before made
 
 -- the disk that a request's work is for, by its object: of a read or write the session's open one, of a command that of the inode
@@ -80,9 +80,9 @@ pub record IsMessageFor (node : Node) (vid : ℕ) (message : Message) : Type 0 w
 
 -- a part of the invariant: no message for such a disk is refused since its target doesn't have the object, as far as its gateway
 -- knows, or by a reply that is still on its way
-pub record NothingIsLacked (effects : List Effect) (good_id : ℕ → Bool) (seats : Seats) (wire : Wire) : Type 0 where
-  pub known : EachUp seats (λ n node. (vid : ℕ) (message : Message) → IsMessageFor node vid message
+pub record NothingIsLacked (effects : List Effect) (good_id : ℕ → Bool) (hosts : Hosts) (wire : Wire) : Type 0 where
+  pub known : EachUp hosts (λ n node. (vid : ℕ) (message : Message) → IsMessageFor node vid message
       → is_live_state (state_of effects vid) ≡ true → good_id vid ≡ true → message.status ≢ statuses.Refused refusals.NoObj)
-  pub told : EachUp seats (λ n node. (vid : ℕ) (message : Message) (from : NodeId) (reply : PeerRsp) → IsMessageFor node vid message
-      → is_live_state (state_of effects vid) ≡ true → good_id vid ≡ true → IsAnswering wire (named n message.number) from reply
+  pub told : EachUp hosts (λ n node. (vid : ℕ) (message : Message) (from : NodeId) (reply : PeerRsp) → IsMessageFor node vid message
+      → is_live_state (state_of effects vid) ≡ true → good_id vid ≡ true → IsAnswering wire (message_name n message.number) from reply
       → reply.say ≢ says.Refused refusals.NoObj)

@@ -1,45 +1,50 @@
 -- The invariant of the epoch overlap: the whole of it, over the parts of a moment; and what is owed of it.
 use Rattle.std.specs.Prelude.{◌≡◌, List, Some}
-use Rattle.vdi_directory.specs.Decisions.{happened}
+use Rattle.vdi_directory.specs.Decisions.{log_effects}
 use Rattle.cluster_script.specs.declared.statement.Statement.{Statement}
 use Rattle.cluster_script.specs.Language.{IsScript}
 use Rattle.sheep_node.specs.declared.event.Event.{Event}
-use Rattle.sheep_world.specs.Step.{Made, step}
-use Rattle.overlap_law.specs.Holders.{targets_by, is_live, is_good, is_borne_disk}
-use Rattle.overlap_law.specs.Past.{Moment, next_moment, first_moment}
+use Rattle.sheep_world.specs.Step.{EventOutcome, step}
+use Rattle.overlap_law.specs.Holders.{targets_by, is_live_object, is_good, is_available_disk}
+use Rattle.overlap_law.specs.Past.{MomentWithPast, next_moment, first_moment}
 use Rattle.overlap_law.specs.Facts.{MeetsFacts}
-use Rattle.overlap_law.specs.Headline.{IsLegalWhereBorne, RefusedHaveNoItems, RefusedMakeNothing, ledger_of}
+use Rattle.overlap_law.specs.Headline.{IsLegalWhereAvailable, RefusedHaveNoItems, RefusedMakeNothing, ledger_of}
 use Rattle.overlap_law.specs.NoObjects.{NothingIsLacked, NoObjectIsMissing}
-use Rattle.overlap_law.specs.Asked.{RequestsAreTheScripts, AttemptsAreTheScripts, TheRefusedAreAnswered, JoinsAreNew}
+use Rattle.overlap_law.specs.RequestsOfScript.{RequestsAreTheScripts, AttemptsAreTheScripts, TheRefusedAreAnswered, JoinsAreNew}
 use Rattle.overlap_law.specs.Groups.{FlightIsKept, AttemptsAreKept, WritersAreKept, TermsAreKept, RowsAreKept, SearchesAreKept, TablesAreKept, WrittenIsKept, PiecesAreKept, CoursesAreKept}
 
 -- the whole: the groups, and that the replies so far are legal and refused requests change nothing
-pub record Overlap (moment : Moment) : Type 0 where
-  pub flight : FlightIsKept moment.world.log moment.world.seats moment.world.wire moment.past.attempts
-  pub attempts : AttemptsAreKept (targets_by moment.world.log) moment.world.log (is_borne_disk moment.world.log moment.past.unborne)
-      moment.world.seats moment.world.wire moment.past.refused moment.past.lost moment.past.attempts
-  pub writers : WritersAreKept moment.world.log moment.world.seats moment.world.wire moment.past.attempts
-  pub terms : TermsAreKept moment.world.log moment.world.seats
-  pub rows : RowsAreKept (targets_by moment.world.log) moment.world.log (happened moment.world.log) (is_live moment.world.log moment.past.attempts)
-      (is_good moment.world.log moment.past.attempts moment.past.unborne) moment.world.seats moment.past.attempts
-  pub searches : SearchesAreKept (targets_by moment.world.log) moment.world.log (happened moment.world.log)
-      (is_live moment.world.log moment.past.attempts) (is_good moment.world.log moment.past.attempts moment.past.unborne) moment.past.listed
-      moment.world.seats moment.world.wire moment.past.attempts
-  pub tables : TablesAreKept moment.world.log (happened moment.world.log) (is_live moment.world.log moment.past.attempts)
-      (is_borne_disk moment.world.log moment.past.unborne) moment.world.seats moment.past.attempts
-  pub written : WrittenIsKept (ledger_of moment.past.history) (happened moment.world.log) (is_borne_disk moment.world.log moment.past.unborne)
-      moment.world.seats moment.past.attempts
-  pub courses : CoursesAreKept moment.world.log (happened moment.world.log) (is_borne_disk moment.world.log moment.past.unborne)
-      moment.world.seats moment.past.attempts
-  pub pieces : PiecesAreKept (ledger_of moment.past.history) (happened moment.world.log) (is_borne_disk moment.world.log moment.past.unborne)
-      moment.world.seats moment.past.attempts
-  pub lacked : NothingIsLacked (happened moment.world.log) (is_borne_disk moment.world.log moment.past.unborne) moment.world.seats moment.world.wire
-  pub legal : IsLegalWhereBorne moment.past
+pub record Overlap (moment : MomentWithPast) : Type 0 where
+  pub flight : FlightIsKept moment.world.log moment.world.hosts moment.world.wire moment.past.attempts
+  pub attempts : AttemptsAreKept (targets_by moment.world.log) moment.world.log (is_available_disk moment.world.log moment.past.unavailable)
+      moment.world.hosts moment.world.wire moment.past.refused moment.past.lost moment.past.attempts
+  pub writers : WritersAreKept moment.world.log moment.world.hosts moment.world.wire moment.past.attempts
+  pub terms : TermsAreKept moment.world.log moment.world.hosts
+  pub rows : RowsAreKept (targets_by moment.world.log) moment.world.log (log_effects moment.world.log)
+      (is_live_object moment.world.log moment.past.attempts)
+      (is_good moment.world.log moment.past.attempts moment.past.unavailable) moment.world.hosts moment.past.attempts
+  pub searches : SearchesAreKept (targets_by moment.world.log) moment.world.log (log_effects moment.world.log)
+      (is_live_object moment.world.log moment.past.attempts) (is_good moment.world.log moment.past.attempts moment.past.unavailable)
+      moment.past.listed
+      moment.world.hosts moment.world.wire moment.past.attempts
+  pub tables : TablesAreKept moment.world.log (log_effects moment.world.log) (is_live_object moment.world.log moment.past.attempts)
+      (is_available_disk moment.world.log moment.past.unavailable) moment.world.hosts moment.past.attempts
+  pub written : WrittenIsKept (ledger_of moment.past.history) (log_effects moment.world.log)
+      (is_available_disk moment.world.log moment.past.unavailable)
+      moment.world.hosts moment.past.attempts
+  pub courses : CoursesAreKept moment.world.log (log_effects moment.world.log) (is_available_disk moment.world.log moment.past.unavailable)
+      moment.world.hosts moment.past.attempts
+  pub pieces : PiecesAreKept (ledger_of moment.past.history) (log_effects moment.world.log)
+      (is_available_disk moment.world.log moment.past.unavailable)
+      moment.world.hosts moment.past.attempts
+  pub lacked : NothingIsLacked (log_effects moment.world.log) (is_available_disk moment.world.log moment.past.unavailable)
+      moment.world.hosts moment.world.wire
+  pub legal : IsLegalWhereAvailable moment.past
   pub no_items : RefusedHaveNoItems moment.past.refused moment.past.history
   pub nothing_made : RefusedMakeNothing moment.past.refused moment.past.lost moment.past.attempts
 
 -- the same of a run of a script, whose requests the gateways have
-pub record OverlapOf (script : List Statement) (moment : Moment) : Type 0 where
+pub record OverlapOf (script : List Statement) (moment : MomentWithPast) : Type 0 where
   pub overlap : Overlap moment
   pub asked : RequestsAreTheScripts script moment.world
   pub began : AttemptsAreTheScripts script moment.past.attempts
@@ -52,19 +57,19 @@ OpensWithOverlap script = IsScript script → OverlapOf script (first_moment scr
 
 -- owed: every event that may happen keeps it
 abbrev pub KeepsOverlap : List Statement → Event → Type 0
-KeepsOverlap script event = IsScript script → (before after : Moment) → OverlapOf script before
+KeepsOverlap script event = IsScript script → (before after : MomentWithPast) → OverlapOf script before
     → next_moment script event before ≡ Some after → OverlapOf script after
 
 -- owed: it gives the six facts, and that the replies are legal
-pub record GivesFacts (moment : Moment) : Type 0 where
+pub record GivesFacts (moment : MomentWithPast) : Type 0 where
   pub facts : MeetsFacts moment.world moment.past
-  pub legal : IsLegalWhereBorne moment.past
+  pub legal : IsLegalWhereAvailable moment.past
 
 -- the invariant gives the facts and the legality of the replies
 abbrev pub OverlapGivesFacts : Type 0
-OverlapGivesFacts = (moment : Moment) → Overlap moment → GivesFacts moment
+OverlapGivesFacts = (moment : MomentWithPast) → Overlap moment → GivesFacts moment
 
 -- owed: it gives that no object is missing, at each event that may come next
 abbrev pub OverlapGivesObjects : List Statement → Type 0
-OverlapGivesObjects script = (before : Moment) (event : Event) (made : Made) → OverlapOf script before
+OverlapGivesObjects script = (before : MomentWithPast) (event : Event) (made : EventOutcome) → OverlapOf script before
     → step script event before.world ≡ Some made → NoObjectIsMissing script before made

@@ -6,78 +6,78 @@ use Rattle.disk_history.specs.declared.event.HistEvent.{HistEvent}
 use Rattle.sheep_node.specs.declared.event.Event.{Event}
 use Rattle.sheep_world.specs.declared.name.MessageName.{MessageName}
 use Rattle.sheep_world.specs.World.{World}
-use Rattle.sheep_world.specs.Opening.{opening}
-use Rattle.sheep_world.specs.Step.{Made, step}
+use Rattle.sheep_world.specs.Opening.{initial_world}
+use Rattle.sheep_world.specs.Step.{EventOutcome, step}
 use Rattle.sheep_world.specs.Run as runs
-use Rattle.sheep_world.specs.Lives.{Ended, lives_after}
-use Rattle.overlap_law.specs.Begun.{attempts_after}
-use Rattle.overlap_law.specs.Added.{lost_by, refused_in, listed_by, is_counted, unborne_at}
-pub use Rattle.overlap_law.specs.Attempts.{Fate, Flying, Served, Doomed, Attempt}
-pub use Rattle.overlap_law.specs.Added.{Listed, counts}
+use Rattle.sheep_world.specs.Incarnations.{EndedIncarnation, incarnations_after}
+use Rattle.overlap_law.specs.BegunAttempts.{attempts_after}
+use Rattle.overlap_law.specs.PastWords.{lost_by, refused_in, listed_by, is_counted, unavailable_at}
+pub use Rattle.overlap_law.specs.Attempts.{MessageFate, Flying, Served, Doomed, AttemptRecord}
+pub use Rattle.overlap_law.specs.PastWords.{FinishedList, counts}
 
 -- what is kept of a run: the attempts, in the order in which they began; the requests that were refused; the messages that
--- were lost, or whose replies were; what nodes had when their lists were finished; the lives that ended; the objects that
--- were once not borne while they were born and not dead; the history, whole and without the reads of disks that weren't borne
+-- were lost, or whose replies were; what nodes had when their lists were finished; the incarnations that ended; the objects that
+-- were once not available while they were born and not dead; the history, whole and without the reads of disks that weren't available
 pub record Past : Type 0 where
-  pub attempts : List Attempt
+  pub attempts : List AttemptRecord
   pub refused : List ℕ
   pub lost : List MessageName
-  pub listed : List Listed
-  pub ended : List Ended
-  pub unborne : List ℕ
+  pub listed : List FinishedList
+  pub ended : List EndedIncarnation
+  pub unavailable : List ℕ
   pub history : List HistEvent
-  pub borne_history : List HistEvent
+  pub available_history : List HistEvent
 
 -- before the first event
 abbrev pub no_past : Past
-no_past = record { attempts = []; refused = []; lost = []; listed = []; ended = []; unborne = []; history = []; borne_history = [] }
+no_past = record { attempts = []; refused = []; lost = []; listed = []; ended = []; unavailable = []; history = []; available_history = [] }
 
 -- a state of a run, with its past
-pub record Moment : Type 0 where
+pub record MomentWithPast : Type 0 where
   pub world : World
   pub past : Past
 
--- the past after an event, by the attempts and the ended lives after it
-abbrev pub past_after : Event → World → Made → List Attempt → List Ended → Past → Past
+-- the past after an event, by the attempts and the ended incarnations after it
+abbrev pub past_after : Event → World → EventOutcome → List AttemptRecord → List EndedIncarnation → Past → Past
 past_after event old made attempts ended past = record {
   attempts = attempts;
   refused = past.refused ++ refused_in made.world.outputs.replies;
   lost = past.lost ++ lost_by event;
   listed = past.listed ++ listed_by old made.world;
   ended = ended;
-  unborne = past.unborne ++ unborne_at ended made.world attempts past.unborne;
+  unavailable = past.unavailable ++ unavailable_at ended made.world attempts past.unavailable;
   history = past.history ++ made.grown;
-  borne_history = past.borne_history ++ filter (is_counted made.world.log past.unborne) made.grown;
+  available_history = past.available_history ++ filter (is_counted made.world.log past.unavailable) made.grown;
 }
 
 -- the past after an event, which makes this of a world
-unfoldable pub grown : List Statement → Event → World → Made → Past → Past
-grown script event old made past =
-    past_after event old made (attempts_after script event old made.world past.attempts) (lives_after old past.ended event) past
+unfoldable pub past_after_event : List Statement → Event → World → EventOutcome → Past → Past
+past_after_event script event old made past =
+    past_after event old made (attempts_after script event old made.world past.attempts) (incarnations_after old past.ended event) past
 
 -- a moment after an event that is made
-abbrev pub moment_after : List Statement → Event → Moment → Made → Moment
+abbrev pub moment_after : List Statement → Event → MomentWithPast → EventOutcome → MomentWithPast
 moment_after script event before made =
-    record { world = made.world; past = grown script event before.world made before.past }
+    record { world = made.world; past = past_after_event script event before.world made before.past }
 
 -- the moment after one event more, where it may happen
-abbrev pub next_moment : List Statement → Event → Moment → Option Moment
+abbrev pub next_moment : List Statement → Event → MomentWithPast → Option MomentWithPast
 next_moment script event before = option_map (moment_after script event before) (step script event before.world)
 
 -- the moment after further events, where each may happen in its turn
-unfoldable pub run_on : List Statement → Moment → List Event → Option Moment
+unfoldable pub run_on : List Statement → MomentWithPast → List Event → Option MomentWithPast
 run_on script moment [] = Some moment
 run_on script moment (event ∷ events) =
-    option_and_then (λ (next : Moment). run_on script next events) (next_moment script event moment)
+    option_and_then (λ (next : MomentWithPast). run_on script next events) (next_moment script event moment)
 
 -- the moment that a script opens with
-abbrev pub first_moment : List Statement → Moment
-first_moment script = record { world = opening script; past = no_past }
+abbrev pub first_moment : List Statement → MomentWithPast
+first_moment script = record { world = initial_world script; past = no_past }
 
 -- the moment in which a run of a script ends; none where its events are no run
-unfoldable pub run_with_past : List Statement → List Event → Option Moment
+unfoldable pub run_with_past : List Statement → List Event → Option MomentWithPast
 run_with_past script events = run_on script (first_moment script) events
 
 -- a moment as a run alone has it
-abbrev pub without_past : Moment → runs.Moment
+abbrev pub without_past : MomentWithPast → runs.Moment
 without_past moment = record { world = moment.world; history = moment.past.history }

@@ -4,7 +4,7 @@ use Rattle.std.specs.List.{list_all}
 use Rattle.std.specs.FinMap as tree
 use Rattle.std.specs.Str.{bytes_eq}
 use Rattle.object_store.specs.Bytes.{piece_at}
-use Rattle.disk_history.specs.Ledger.{Item, Open, Ledger, is_of}
+use Rattle.disk_history.specs.Ledger.{Item, Open, Ledger, is_item_of}
 use Rattle.disk_history.specs.Ledger as histories
 use Rattle.disk_history.specs.Legal.{standing, is_torn}
 use Rattle.vdi_directory.specs.declared.effect.Effect.{Effect}
@@ -12,13 +12,13 @@ use Rattle.peer_proto.specs.declared.guest.DiskAsk.{DiskAsk}
 use Rattle.peer_proto.specs.declared.guest.DiskAsk.TheVariants.{Read, Write}
 use Rattle.guest_driver.specs.declared.disk.Disk.{Disk}
 use Rattle.guest_driver.specs.Pieces.{Piece, pieces}
-use Rattle.guest_driver.specs.Driver.{Driver, Stage, Reads, Writes, Answered}
+use Rattle.guest_driver.specs.Driver.{Driver, DriverStage, Reads, Writes, Answered}
 use Rattle.sheep_node.specs.State.{Node, Request, Course, Waiting, Driving, Commanding, session_at}
-use Rattle.overlap_law.specs.Attempts.{Attempt}
-use Rattle.overlap_law.specs.Words.{Seats, bytes_by}
+use Rattle.overlap_law.specs.Attempts.{AttemptRecord}
+use Rattle.overlap_law.specs.Words.{Hosts, bytes_by}
 use Rattle.overlap_law.specs.Each.{EachUp}
 use Rattle.overlap_law.specs.Tables.{AreAmong, candidates}
-use Rattle.overlap_law.specs.Written.{IsBlock, items_at, is_allowed, outcomes_in}
+use Rattle.overlap_law.specs.WrittenBlocks.{IsBlockOfDisk, items_at, is_allowed, outcomes_in}
 
 -- a block of an object is one of a piece
 pub record IsInPiece (piece : Piece) (unit : ℕ) : Type 0 where
@@ -46,10 +46,10 @@ left_of_driver (Writes payload stage piece rest) = piece ∷ rest
 left_of_driver Answered = []
 
 -- the bytes that a driver writes
-abbrev pub payload_of : Driver → List ℕ
-payload_of (Reads told piece rest) = []
-payload_of (Writes payload stage piece rest) = payload
-payload_of Answered = []
+abbrev pub driver_payload : Driver → List ℕ
+driver_payload (Reads told piece rest) = []
+driver_payload (Writes payload stage piece rest) = payload
+driver_payload Answered = []
 
 -- the same by where a request is
 abbrev pub left_to_write : ℕ → Course → List Piece
@@ -60,7 +60,7 @@ left_to_write shift (Commanding ask op) = []
 -- the bytes that a request writes, by where it is
 abbrev pub payload_at : Course → List ℕ
 payload_at (Waiting ask) = payload_in ask
-payload_at (Driving driver) = payload_of driver
+payload_at (Driving driver) = driver_payload driver
 payload_at (Commanding ask op) = []
 
 -- a request of a node, on the disk that its session has open, which is there by the history
@@ -79,36 +79,37 @@ pub record HasItem (items : List Item) (req : ℕ) (bytes : List ℕ) : Type 0 w
   pub same : item.bytes ≡ bytes
 
 -- what a request has still to write has its items
-pub record WritesHaveItems (ledger : Ledger) (seats : Seats) : Type 0 where
-  pub each : EachUp seats (λ n node. (req place unit : ℕ) (request : Request) (opened : Disk) (disk : histories.Disk) (piece : Piece)
+pub record WritesHaveItems (ledger : Ledger) (hosts : Hosts) : Type 0 where
+  pub each : EachUp hosts (λ n node. (req place unit : ℕ) (request : Request) (opened : Disk) (disk : histories.Disk) (piece : Piece)
       → IsOn ledger node req request opened disk → slice_get (left_to_write opened.inode.spec.shift request.course) place ≡ Some piece
       → IsInPiece piece unit
       → HasItem (items_at disk opened.inode.spec piece.index unit) req (bytes_for (payload_at request.course) piece unit))
 
 -- what a write has behind it is all that its blocks may be read as: in the disk's own object, by the entry, and by each attempt
-pub record WhatIsWrittenIsAlone (ledger : Ledger) (effects : List Effect) (good_id : ℕ → Bool) (seats : Seats) (attempts : List Attempt) : Type 0 where
-  pub entry : EachUp seats (λ n node. (req index unit place : ℕ) (request : Request) (opened : Disk) (disk : histories.Disk) (item : Item)
-      (payload : List ℕ) (stage : Stage) (piece : Piece) (rest : List Piece) → IsOn ledger node req request opened disk
+pub record WhatIsWrittenIsAlone (ledger : Ledger) (effects : List Effect) (good_id : ℕ
+    → Bool) (hosts : Hosts) (attempts : List AttemptRecord) : Type 0 where
+  pub entry : EachUp hosts (λ n node. (req index unit place : ℕ) (request : Request) (opened : Disk) (disk : histories.Disk) (item : Item)
+      (payload : List ℕ) (stage : DriverStage) (piece : Piece) (rest : List Piece) → IsOn ledger node req request opened disk
       → request.course ≡ Driving (Writes payload stage piece rest) → index < piece.index
-      → IsBlock ledger effects good_id opened.inode.vid disk opened.inode.spec index unit
-      → slice_get (items_at disk opened.inode.spec index unit) place ≡ Some item → is_of req item ≡ true
+      → IsBlockOfDisk ledger effects good_id opened.inode.vid disk opened.inode.spec index unit
+      → slice_get (items_at disk opened.inode.spec index unit) place ≡ Some item → is_item_of req item ≡ true
       → AreAmong (opened.inode.vid ∷ []) (candidates attempts opened.inode.vid index))
-  pub bytes : EachUp seats (λ n node. (req index unit place : ℕ) (request : Request) (opened : Disk) (disk : histories.Disk) (item : Item)
-      (payload : List ℕ) (stage : Stage) (piece : Piece) (rest : List Piece) → IsOn ledger node req request opened disk
+  pub bytes : EachUp hosts (λ n node. (req index unit place : ℕ) (request : Request) (opened : Disk) (disk : histories.Disk) (item : Item)
+      (payload : List ℕ) (stage : DriverStage) (piece : Piece) (rest : List Piece) → IsOn ledger node req request opened disk
       → request.course ≡ Driving (Writes payload stage piece rest) → index < piece.index
-      → IsBlock ledger effects good_id opened.inode.vid disk opened.inode.spec index unit
-      → slice_get (items_at disk opened.inode.spec index unit) place ≡ Some item → is_of req item ≡ true
-      → list_all (λ (attempt : Attempt). bytes_eq item.bytes (bytes_by unit attempt.work))
-      (outcomes_in seats attempts opened.inode.vid opened.inode.vid index unit) ≡ true)
+      → IsBlockOfDisk ledger effects good_id opened.inode.vid disk opened.inode.spec index unit
+      → slice_get (items_at disk opened.inode.spec index unit) place ≡ Some item → is_item_of req item ≡ true
+      → list_all (λ (attempt : AttemptRecord). bytes_eq item.bytes (bytes_by unit attempt.work))
+      (outcomes_in hosts attempts opened.inode.vid opened.inode.vid index unit) ≡ true)
 
 -- what a read was told so far is as long as its pieces were, and may be read of their blocks, unless one is torn
-pub record WhatIsReadMayBeRead (ledger : Ledger) (effects : List Effect) (good_id : ℕ → Bool) (seats : Seats) : Type 0 where
-  pub long : EachUp seats (λ n node. (req : ℕ) (request : Request) (told : List ℕ) (piece : Piece) (rest : List Piece)
+pub record WhatIsReadMayBeRead (ledger : Ledger) (effects : List Effect) (good_id : ℕ → Bool) (hosts : Hosts) : Type 0 where
+  pub long : EachUp hosts (λ n node. (req : ℕ) (request : Request) (told : List ℕ) (piece : Piece) (rest : List Piece)
       → tree.get node.requests req ≡ Some request → request.course ≡ Driving (Reads told piece rest) → length told ≡ piece.place)
-  pub bytes : EachUp seats (λ n node. (req offset size place unit : ℕ) (request : Request) (opened : Disk) (disk : histories.Disk)
+  pub bytes : EachUp hosts (λ n node. (req offset size place unit : ℕ) (request : Request) (opened : Disk) (disk : histories.Disk)
       (told : List ℕ) (piece : Piece) (rest before : List Piece) (one : Piece) → IsOn ledger node req request opened disk
       → request.course ≡ Driving (Reads told piece rest) → pieces opened.inode.spec.shift offset size ≡ before ++ piece ∷ rest
       → slice_get before place ≡ Some one → IsInPiece one unit
-      → IsBlock ledger effects good_id opened.inode.vid disk opened.inode.spec one.index unit
+      → IsBlockOfDisk ledger effects good_id opened.inode.vid disk opened.inode.spec one.index unit
       → (is_torn (items_at disk opened.inode.spec one.index unit) ≡ true)
       ⊎ (is_allowed (items_at disk opened.inode.spec one.index unit) (bytes_for told one unit) ≡ true))

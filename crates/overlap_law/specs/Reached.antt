@@ -7,42 +7,42 @@ use Rattle.object_id.specs.declared.node.NodeId.{NodeId}
 use Rattle.object_id.specs.declared.entry.Member.{Member}
 use Rattle.object_id.specs.declared.entry.Entry.{Entry}
 use Rattle.epoch_log.specs.Epochs.{members_in, recovers, has_recovered}
-use Rattle.sheep_world.specs.World.{Seat}
+use Rattle.sheep_world.specs.World.{Host}
 
 -- the nodes of a world, by number
-abbrev pub Seats : Type 0
-Seats = tree.FinMap nat_cmp Seat
+abbrev pub Hosts : Type 0
+Hosts = tree.FinMap nat_cmp Host
 
 -- whether a node is lost, or has come to an epoch; one that isn't there counts as lost
-abbrev pub has_come_in : ℕ → Option Seat → Bool
+abbrev pub has_come_in : ℕ → Option Host → Bool
 has_come_in epoch None = true
-has_come_in epoch (Some seat) = seat.is_lost || nat_le epoch seat.node.peer.epoch
+has_come_in epoch (Some host) = host.is_lost || nat_le epoch host.node.peer.epoch
 
 -- whether a node is lost or has come to the epoch
-abbrev pub has_come : Seats → ℕ → NodeId → Bool
-has_come seats epoch node = has_come_in epoch (tree.get seats node.0)
+abbrev pub has_come : Hosts → ℕ → NodeId → Bool
+has_come hosts epoch node = has_come_in epoch (tree.get hosts node.0)
 
 -- whether a node is beyond an epoch: it is lost, or has come to a later one
-abbrev pub is_beyond : Seats → ℕ → NodeId → Bool
-is_beyond seats epoch node = has_come seats (epoch + 1) node
+abbrev pub is_beyond : Hosts → ℕ → NodeId → Bool
+is_beyond hosts epoch node = has_come hosts (epoch + 1) node
 
 -- whether an epoch is entered: each of its members is lost or has come to it
-unfoldable pub has_entered : Seats → List Entry → ℕ → Bool
-has_entered seats log epoch = list_all (λ (member : Member). has_come seats epoch member.node) (members_in log epoch)
+unfoldable pub has_entered : Hosts → List Entry → ℕ → Bool
+has_entered hosts log epoch = list_all (λ (member : Member). has_come hosts epoch member.node) (members_in log epoch)
 
 -- whether a node that is up has `Recovered` of its epoch still to put
-abbrev pub is_putting_in : ℕ → ℕ → Option Seat → Bool
+abbrev pub is_putting_in : ℕ → ℕ → Option Host → Bool
 is_putting_in epoch node None = false
-is_putting_in epoch node (Some seat) = not seat.is_lost && list_any (recovers epoch node) seat.node.outbox
+is_putting_in epoch node (Some host) = not host.is_lost && list_any (recovers epoch node) host.node.outbox
 
 -- whether `Recovered` of a node and an epoch stands in the log, or is still to be put
-abbrev pub has_finished : Seats → List Entry → ℕ → NodeId → Bool
-has_finished seats log epoch node =
-    has_recovered log epoch node.0 || is_putting_in epoch node.0 (tree.get seats node.0)
+abbrev pub has_finished : Hosts → List Entry → ℕ → NodeId → Bool
+has_finished hosts log epoch node =
+    has_recovered log epoch node.0 || is_putting_in epoch node.0 (tree.get hosts node.0)
 
 -- whether an epoch is dying: one of its members went beyond it without a `Recovered` of it, so it will never be settled
-unfoldable pub is_dying : Seats → List Entry → ℕ → Bool
-is_dying seats log epoch =
+unfoldable pub is_dying : Hosts → List Entry → ℕ → Bool
+is_dying hosts log epoch =
     list_any
-    (λ (member : Member). not (has_finished seats log epoch member.node) && is_beyond seats epoch member.node)
+    (λ (member : Member). not (has_finished hosts log epoch member.node) && is_beyond hosts epoch member.node)
     (members_in log epoch)

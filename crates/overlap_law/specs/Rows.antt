@@ -13,41 +13,41 @@ use Rattle.object_store.specs.Rows.{is_open}
 use Rattle.object_store.specs.Store.{SeenRow, rows_of}
 use Rattle.vdi_directory.specs.declared.effect.Effect.{Effect}
 use Rattle.peer_service.specs.State.{row_size}
-use Rattle.overlap_law.specs.Attempts.{Attempt, object_of}
-use Rattle.overlap_law.specs.Words.{Seats, has_entered, has_finished, is_dying, is_made, is_doomed, has_served}
-use Rattle.overlap_law.specs.Each.{Placing, EachSeat, EachAttempt, EachRow, end_of, row_covers, has_row_at, spec_in, policy_in, index_in}
+use Rattle.overlap_law.specs.Attempts.{AttemptRecord, object_of}
+use Rattle.overlap_law.specs.Words.{Hosts, has_entered, has_finished, is_dying, is_made, is_doomed, has_served}
+use Rattle.overlap_law.specs.Each.{Placing, EachHost, EachAttempt, EachRow, end_of_row, row_covers, has_row_at, spec_in, policy_in, index_of_part}
 use Rattle.overlap_law.specs.Holders.{creates}
 
 -- a row begins no later than it ends
-pub record RowsHaveEnds (seats : Seats) : Type 0 where
-  pub order : EachRow seats (λ n seat oid row. row.from.0 ≤ end_of seat.node.peer.epoch row.to)
-  pub closed : EachRow seats (λ n seat oid row. seat.is_lost ≡ false → is_open row ≡ false → end_of 0 row.to < seat.node.peer.epoch)
+pub record RowsHaveEnds (hosts : Hosts) : Type 0 where
+  pub order : EachRow hosts (λ n host oid row. row.from.0 ≤ end_of_row host.node.peer.epoch row.to)
+  pub closed : EachRow hosts (λ n host oid row. host.is_lost ≡ false → is_open row ≡ false → end_of_row 0 row.to < host.node.peer.epoch)
 
 -- of an object at a node at most one row is open
-pub record OneRowIsOpen (seats : Seats) : Type 0 where
-  pub each : EachSeat seats (λ n seat. (oid i k : ℕ) (row other : SeenRow) → slice_get (rows_of seat.node.peer.rows oid) i ≡ Some row
-      → slice_get (rows_of seat.node.peer.rows oid) k ≡ Some other → is_open row ≡ true → is_open other ≡ true → i ≡ k)
+pub record OneRowIsOpen (hosts : Hosts) : Type 0 where
+  pub each : EachHost hosts (λ n host. (oid i k : ℕ) (row other : SeenRow) → slice_get (rows_of host.node.peer.rows oid) i ≡ Some row
+      → slice_get (rows_of host.node.peer.rows oid) k ≡ Some other → is_open row ≡ true → is_open other ≡ true → i ≡ k)
 
 -- no two rows of an object at a node cover one epoch
-pub record RowsAreApart (seats : Seats) : Type 0 where
-  pub each : EachSeat seats (λ n seat. (oid i k level : ℕ) (row other : SeenRow) → slice_get (rows_of seat.node.peer.rows oid) i ≡ Some row
-      → slice_get (rows_of seat.node.peer.rows oid) k ≡ Some other → row_covers seat.node.peer.epoch level row ≡ true
-      → row_covers seat.node.peer.epoch level other ≡ true → i ≡ k)
+pub record RowsAreApart (hosts : Hosts) : Type 0 where
+  pub each : EachHost hosts (λ n host. (oid i k level : ℕ) (row other : SeenRow) → slice_get (rows_of host.node.peer.rows oid) i ≡ Some row
+      → slice_get (rows_of host.node.peer.rows oid) k ≡ Some other → row_covers host.node.peer.epoch level row ≡ true
+      → row_covers host.node.peer.epoch level other ≡ true → i ≡ k)
 
 -- a row has the length of the object's parts
-pub record RowsAreWhole (effects : List Effect) (seats : Seats) : Type 0 where
-  pub each : EachRow seats (λ n seat oid row. (spec : VdiSpec) → spec_in effects (vid_of oid) ≡ Some spec
+pub record RowsAreWhole (effects : List Effect) (hosts : Hosts) : Type 0 where
+  pub each : EachRow hosts (λ n host oid row. (spec : VdiSpec) → spec_in effects (vid_of oid) ≡ Some spec
       → length row.bytes ≡ row_size (kind_of oid) spec)
 
 -- in each epoch that a row covers its node is a target, at the row's index
-pub record RowsAreAtTargets (T : Placing) (effects : List Effect) (seats : Seats) : Type 0 where
-  pub each : EachRow seats (λ n seat oid row. (policy : Policy) (epoch : ℕ) → policy_in effects oid ≡ Some policy
-      → row_covers seat.node.peer.epoch epoch row ≡ true → index_in T epoch oid policy (record { 0 = n }) ≡ Some row.index)
+pub record RowsAreAtTargets (T : Placing) (effects : List Effect) (hosts : Hosts) : Type 0 where
+  pub each : EachRow hosts (λ n host oid row. (policy : Policy) (epoch : ℕ) → policy_in effects oid ≡ Some policy
+      → row_covers host.node.peer.epoch epoch row ≡ true → index_of_part T epoch oid policy (record { 0 = n }) ≡ Some row.index)
 
 -- a create of the object in an epoch was served by the node
-pub record HasServedACreate (attempts : List Attempt) (oid epoch : ℕ) (node : NodeId) : Type 0 where
+pub record HasServedACreate (attempts : List AttemptRecord) (oid epoch : ℕ) (node : NodeId) : Type 0 where
   pub place : ℕ
-  pub create : Attempt
+  pub create : AttemptRecord
   pub there : slice_get attempts place ≡ Some create
   pub object : object_of create ≡ oid
   pub creating : creates create ≡ true
@@ -55,32 +55,34 @@ pub record HasServedACreate (attempts : List Attempt) (oid epoch : ℕ) (node : 
   pub served : has_served node create ≡ true
 
 -- a row begins with a create of its first epoch, or with an epoch that was entered
-pub record RowsAreBegun (log : List Entry) (live : ℕ → Bool) (seats : Seats) (attempts : List Attempt) : Type 0 where
-  pub each : EachRow seats (λ n seat oid row. live oid ≡ true
-      → HasServedACreate attempts oid row.from.0 (record { 0 = n }) ⊎ (has_entered seats log row.from.0 ≡ true))
+pub record RowsAreBegun (log : List Entry) (live : ℕ → Bool) (hosts : Hosts) (attempts : List AttemptRecord) : Type 0 where
+  pub each : EachRow hosts (λ n host oid row. live oid ≡ true
+      → HasServedACreate attempts oid row.from.0 (record { 0 = n }) ⊎ (has_entered hosts log row.from.0 ≡ true))
 
 -- a node that served an attempt has a row that covers its epoch, unless a later one is settled
-pub record ServedRowsStay (live : ℕ → Bool) (seats : Seats) (attempts : List Attempt) : Type 0 where
-  pub each : EachAttempt attempts (λ j attempt. EachSeat seats (λ n seat. live (object_of attempt) ≡ true
+pub record ServedRowsStay (live : ℕ → Bool) (hosts : Hosts) (attempts : List AttemptRecord) : Type 0 where
+  pub each : EachAttempt attempts (λ j attempt. EachHost hosts (λ n host. live (object_of attempt) ≡ true
       → has_served (record { 0 = n }) attempt ≡ true
-      → (has_row_at seat.node.peer.epoch seat.node.peer.rows (object_of attempt) attempt.epoch ≡ true) ⊎ (attempt.epoch < seat.node.peer.settled)))
+      → (has_row_at host.node.peer.epoch host.node.peer.rows (object_of attempt) attempt.epoch ≡ true)
+      ⊎ (attempt.epoch < host.node.peer.settled)))
 
 -- a made attempt on an object, of no later epoch than this one
-pub record IsMadeBy (attempts : List Attempt) (oid epoch : ℕ) : Type 0 where
+pub record IsMadeBy (attempts : List AttemptRecord) (oid epoch : ℕ) : Type 0 where
   pub place : ℕ
-  pub attempt : Attempt
+  pub attempt : AttemptRecord
   pub there : slice_get attempts place ≡ Some attempt
   pub object : object_of attempt ≡ oid
   pub made : is_made attempt ≡ true
   pub before : attempt.epoch ≤ epoch
 
 -- a target that has recovered in an epoch has a row that covers it, of each object that was made by then
-pub record RecoveredRowsAreKept (T : Placing) (log : List Entry) (effects : List Effect) (good : ℕ → Bool) (seats : Seats) (attempts : List Attempt)
+pub record RecoveredRowsAreKept (T : Placing) (log : List Entry) (effects : List Effect) (good : ℕ
+    → Bool) (hosts : Hosts) (attempts : List AttemptRecord)
     : Type 0 where
-  pub each : EachSeat seats (λ n seat. (oid epoch : ℕ) (policy : Policy) → good oid ≡ true → policy_in effects oid ≡ Some policy
-      → has_finished seats log epoch (record { 0 = n }) ≡ true → seat.node.peer.settled ≤ epoch
+  pub each : EachHost hosts (λ n host. (oid epoch : ℕ) (policy : Policy) → good oid ≡ true → policy_in effects oid ≡ Some policy
+      → has_finished hosts log epoch (record { 0 = n }) ≡ true → host.node.peer.settled ≤ epoch
       → has_node (record { 0 = n }) (T epoch oid policy) ≡ true → IsMadeBy attempts oid epoch
-      → has_row_at seat.node.peer.epoch seat.node.peer.rows oid epoch ≡ true)
+      → has_row_at host.node.peer.epoch host.node.peer.rows oid epoch ≡ true)
 
 -- how many targets of an epoch are members of another one
 abbrev pub common : Placing → List Entry → ℕ → ℕ → ℕ → Policy → ℕ
@@ -93,10 +95,13 @@ IsCarriedFrom T log epoch oid policy = (later : ℕ) → epoch ≤ later → lat
     → need_of policy (kind_of oid) ≤ common T log epoch later oid policy
 
 -- an attempt that isn't doomed is carried from its epoch on, and from each later one that isn't dying: what is settled already counts alone
-pub record AttemptsAreCarried (T : Placing) (log : List Entry) (effects : List Effect) (good : ℕ → Bool) (seats : Seats) (attempts : List Attempt)
+pub record AttemptsAreCarried (T : Placing) (log : List Entry) (effects : List Effect) (good : ℕ
+    → Bool) (hosts : Hosts) (attempts : List AttemptRecord)
     : Type 0 where
-  pub own : EachAttempt attempts (λ j attempt. (policy : Policy) → good (object_of attempt) ≡ true → policy_in effects (object_of attempt) ≡ Some policy
-      → is_doomed seats attempt ≡ false → settled_of log ≤ attempt.epoch → IsCarriedFrom T log attempt.epoch (object_of attempt) policy)
+  pub own : EachAttempt attempts (λ j attempt. (policy : Policy) → good (object_of attempt) ≡ true → policy_in effects (object_of attempt)
+      ≡ Some policy
+      → is_doomed hosts attempt ≡ false → settled_of log ≤ attempt.epoch → IsCarriedFrom T log attempt.epoch (object_of attempt) policy)
   pub later : EachAttempt attempts (λ j attempt. (policy : Policy) (epoch : ℕ) → good (object_of attempt) ≡ true
-      → policy_in effects (object_of attempt) ≡ Some policy → is_doomed seats attempt ≡ false → settled_of log ≤ epoch → attempt.epoch < epoch
-      → epoch ≤ epoch_of log → is_dying seats log epoch ≡ false → IsCarriedFrom T log epoch (object_of attempt) policy)
+      → policy_in effects (object_of attempt) ≡ Some policy → is_doomed hosts attempt ≡ false → settled_of log ≤ epoch
+      → attempt.epoch < epoch
+      → epoch ≤ epoch_of log → is_dying hosts log epoch ≡ false → IsCarriedFrom T log epoch (object_of attempt) policy)

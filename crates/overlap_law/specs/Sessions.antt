@@ -6,7 +6,7 @@ use Rattle.object_id.specs.declared.node.NodeId.{NodeId}
 use Rattle.object_id.specs.declared.entry.Entry.{Entry}
 use Rattle.object_id.specs.declared.entry.Entry.TheVariants.{Snapshot, Unlock}
 use Rattle.vdi_directory.specs.Effects.{holder_of}
-use Rattle.vdi_directory.specs.Decisions.{happened}
+use Rattle.vdi_directory.specs.Decisions.{log_effects}
 use Rattle.peer_proto.specs.Work.{oid_of}
 use Rattle.gateway.specs.Work.{is_making}
 use Rattle.gateway.specs.Attempt as gateways
@@ -15,17 +15,17 @@ use Rattle.gateway_queue.specs.declared.queue.Queued.{Queued}
 use Rattle.gateway_queue.specs.Queue.{AreApart}
 use Rattle.guest_driver.specs.declared.disk.Disk.{Disk}
 use Rattle.guest_driver.specs.Driver.{Driver}
-use Rattle.guest_driver.specs.InodeLine.{is_on_inode}
+use Rattle.guest_driver.specs.InodeQueue.{is_on_inode}
 use Rattle.peer_proto.specs.declared.guest.VdiAsk.{VdiAsk}
 use Rattle.vdi_ops.specs.Op.{Op, entry_wanted}
 use Rattle.sheep_node.specs.State.{Node, Session, Request, Driving, Commanding}
 use Rattle.sheep_node.specs.Same.{is_same_entry}
-use Rattle.overlap_law.specs.Attempts.{Attempt, object_of}
-use Rattle.overlap_law.specs.Words.{Seats}
+use Rattle.overlap_law.specs.Attempts.{AttemptRecord, object_of}
+use Rattle.overlap_law.specs.Words.{Hosts}
 use Rattle.overlap_law.specs.Each.{EachUp, EachAttempt}
-use Rattle.overlap_law.specs.Letters.{Wire, HasLetter}
+use Rattle.overlap_law.specs.Packets.{Wire, HasPacket}
 use Rattle.overlap_law.specs.Grants.{granted_in}
-use Rattle.overlap_law.specs.Writers.{session_of}
+use Rattle.overlap_law.specs.Writers.{session_holder}
 
 -- whether an entry gives the open disk back, or turns it into a snapshot
 abbrev pub lets_go : Entry → Bool
@@ -60,17 +60,18 @@ pub record HaveBegun (node : Node) (session : Session) (number : ℕ) (one two :
 
 -- a node's open works are on different objects, but for reads; a session has one open on its inode; and what has begun of a
 -- session meets on no index
-pub record WorksAreApart (seats : Seats) : Type 0 where
-  pub objects : EachUp seats (λ n node. (req other : ℕ) (work second : Work) → AreOpen node req work other second
+pub record WorksAreApart (hosts : Hosts) : Type 0 where
+  pub objects : EachUp hosts (λ n node. (req other : ℕ) (work second : Work) → AreOpen node req work other second
       → oid_of work.work ≡ oid_of second.work → (is_making work.work ≡ false) × (is_making second.work ≡ false))
-  pub inodes : EachUp seats (λ n node. (session req other : ℕ) (work second : Work) (request another : Request) → AreOpen node req work other second
+  pub inodes : EachUp hosts (λ n node. (session req other : ℕ) (work second : Work) (request another : Request)
+      → AreOpen node req work other second
       → AreOfOneSession node session req request other another → is_on_inode work.work ≡ true → is_on_inode second.work ≡ false)
-  pub indexes : EachUp seats (λ n node. (number : ℕ) (session : Session) (one two : Queued) → tree.get node.sessions number ≡ Some session
+  pub indexes : EachUp hosts (λ n node. (number : ℕ) (session : Session) (one two : Queued) → tree.get node.sessions number ≡ Some session
       → HaveBegun node session number one two → AreApart one two)
 
 -- a session holds its disk by the whole log, and its node has read that
 pub record HoldsDisk (log : List Entry) (n session vid : ℕ) (node : Node) : Type 0 where
-  pub holder : holder_of (happened log) vid ≡ Some (session_of n session)
+  pub holder : holder_of (log_effects log) vid ≡ Some (session_holder n session)
   pub read : granted_in log vid ≤ node.peer.epoch
 
 -- a session's request waits for an entry by which the disk is let go, and that is in the log already
@@ -88,16 +89,16 @@ pub record IsLettingGo (node : Node) (session : ℕ) : Type 0 where
   pub put : list_any (is_same_entry entry) node.outbox ≡ false
 
 -- a session that has a working disk open holds it, or is letting it go
-pub record OpenDisksAreHeld (log : List Entry) (seats : Seats) : Type 0 where
-  pub each : EachUp seats (λ n node. (number : ℕ) (session : Session) (disk : Disk) → tree.get node.sessions number ≡ Some session
+pub record OpenDisksAreHeld (log : List Entry) (hosts : Hosts) : Type 0 where
+  pub each : EachUp hosts (λ n node. (number : ℕ) (session : Session) (disk : Disk) → tree.get node.sessions number ≡ Some session
       → session.disk ≡ Some disk → disk.snapshot ≡ false → HoldsDisk log n number disk.inode.vid node ⊎ IsLettingGo node number)
 
--- no attempt on an object is of a later epoch than an open read, nor of the same while it has letters
-pub record ReadsAreLast (seats : Seats) (wire : Wire) (attempts : List Attempt) : Type 0 where
-  pub epochs : EachUp seats (λ n node. (req : ℕ) (work : Work) (current : gateways.Attempt) → tree.get node.gateway.works req ≡ Some work
+-- no attempt on an object is of a later epoch than an open read, nor of the same while it has packets
+pub record ReadsAreLast (hosts : Hosts) (wire : Wire) (attempts : List AttemptRecord) : Type 0 where
+  pub epochs : EachUp hosts (λ n node. (req : ℕ) (work : Work) (current : gateways.Attempt) → tree.get node.gateway.works req ≡ Some work
       → is_making work.work ≡ false → work.stage ≡ Open current
       → EachAttempt attempts (λ j attempt. object_of attempt ≡ oid_of work.work → attempt.epoch ≤ current.epoch.0))
-  pub flying : EachUp seats (λ n node. (req : ℕ) (work : Work) (current : gateways.Attempt) → tree.get node.gateway.works req ≡ Some work
+  pub flying : EachUp hosts (λ n node. (req : ℕ) (work : Work) (current : gateways.Attempt) → tree.get node.gateway.works req ≡ Some work
       → is_making work.work ≡ false → work.stage ≡ Open current
       → EachAttempt attempts (λ j attempt. object_of attempt ≡ oid_of work.work → (place : ℕ) (target : NodeId)
-      → HasLetter wire attempt place target → attempt.epoch < current.epoch.0))
+      → HasPacket wire attempt place target → attempt.epoch < current.epoch.0))

@@ -7,36 +7,37 @@ use Rattle.object_id.specs.declared.policy.Policy.{Policy}
 use Rattle.object_id.specs.Oid.{kind_of}
 use Rattle.strip_coding.specs.Part.{is_in_strips}
 use Rattle.vdi_directory.specs.declared.effect.Effect.{Effect}
-use Rattle.overlap_law.specs.Attempts.{Attempt, attempts_on}
-use Rattle.overlap_law.specs.Words.{Seats, is_doomed, is_mute, has_served, covers, part_by, row_bytes_at, unit_end}
-use Rattle.overlap_law.specs.Each.{EachAttempt, SomeAttempt, EachRow, end_of, policy_in}
+use Rattle.overlap_law.specs.Attempts.{AttemptRecord, attempts_on}
+use Rattle.overlap_law.specs.Words.{Hosts, is_doomed, is_mute, has_served, covers_unit, unit_part_by, row_bytes_at, unit_end}
+use Rattle.overlap_law.specs.Each.{EachAttempt, SomeAttempt, EachRow, end_of_row, policy_in}
 
 -- whether a row of a node that covers up to an end owes an attempt: one of an earlier epoch, or one that the node served, of
 -- no later epoch than this one
-abbrev pub owes : NodeId → ℕ → ℕ → Attempt → Bool
-owes node end served_to attempt = nat_lt attempt.epoch end || (has_served node attempt && nat_le attempt.epoch served_to)
+abbrev pub owes_attempt : NodeId → ℕ → ℕ → AttemptRecord → Bool
+owes_attempt node end served_to attempt = nat_lt attempt.epoch end || (has_served node attempt && nat_le attempt.epoch served_to)
 
 -- what the bytes of a row at a unit may be read as: the attempts on the object, the unit, an attempt's place, the row's index, the bytes
 abbrev pub Reading : Type 1
-Reading = List Attempt → ℕ → ℕ → ℕ → List ℕ → Type 0
+Reading = List AttemptRecord → ℕ → ℕ → ℕ → List ℕ → Type 0
 
 -- of copies: those of the attempt, or of a later one that covers the unit and that a target served
-pub record IsCopyFrom (attempts : List Attempt) (unit j index : ℕ) (bytes : List ℕ) : Type 0 where
+pub record IsCopyFrom (attempts : List AttemptRecord) (unit j index : ℕ) (bytes : List ℕ) : Type 0 where
   pub place : ℕ
-  pub attempt : Attempt
+  pub attempt : AttemptRecord
   pub there : slice_get attempts place ≡ Some attempt
   pub no_earlier : j ≤ place
-  pub covering : covers unit attempt ≡ true
+  pub covering : covers_unit unit attempt ≡ true
   pub served : is_mute attempt ≡ false
-  pub same : bytes ≡ part_by index unit attempt.work
+  pub same : bytes ≡ unit_part_by index unit attempt.work
 
 -- the later attempts that cover the unit are mute
-pub record AreMuteAfter (attempts : List Attempt) (unit j : ℕ) : Type 0 where
-  pub each : EachAttempt attempts (λ k later. j < k → covers unit later ≡ true → is_mute later ≡ true)
+pub record AreMuteAfter (attempts : List AttemptRecord) (unit j : ℕ) : Type 0 where
+  pub each : EachAttempt attempts (λ k later. j < k → covers_unit unit later ≡ true → is_mute later ≡ true)
 
 -- of strips: the attempt's own, where the later ones are mute
-pub record IsStripOf (attempts : List Attempt) (unit j index : ℕ) (bytes : List ℕ) : Type 0 where
-  pub own : (attempt : Attempt) → slice_get attempts j ≡ Some attempt → AreMuteAfter attempts unit j → bytes ≡ part_by index unit attempt.work
+pub record IsStripOf (attempts : List AttemptRecord) (unit j index : ℕ) (bytes : List ℕ) : Type 0 where
+  pub own : (attempt : AttemptRecord) → slice_get attempts j ≡ Some attempt → AreMuteAfter attempts unit j → bytes
+      ≡ unit_part_by index unit attempt.work
 
 -- which of the two an object's rows are
 abbrev pub reading_by : Bool → Reading
@@ -48,32 +49,36 @@ abbrev pub reading_of : Policy → ℕ → Reading
 reading_of policy oid = reading_by (is_in_strips policy (kind_of oid))
 
 -- a row has what it owes: each unit of each such attempt may be read as of it, unless the attempt is doomed
-pub record HasWhatItOwes (Reads : Reading) (policy : Policy) (kind : Kind) (seats : Seats) (attempts : List Attempt) (node : NodeId)
+pub record HasWhatItOwes (Reads : Reading) (policy : Policy) (kind : Kind) (hosts : Hosts) (attempts : List AttemptRecord) (node : NodeId)
     (index end served_to : ℕ) (bytes : List ℕ) : Type 0 where
-  pub each : EachAttempt attempts (λ j attempt. (unit : ℕ) → covers unit attempt ≡ true → owes node end served_to attempt ≡ true
-      → (is_doomed seats attempt ≡ true) ⊎ Reads attempts unit j index (row_bytes_at policy kind unit bytes))
+  pub each : EachAttempt attempts (λ j attempt. (unit : ℕ) → covers_unit unit attempt ≡ true → owes_attempt node end served_to attempt
+      ≡ true
+      → (is_doomed hosts attempt ≡ true) ⊎ Reads attempts unit j index (row_bytes_at policy kind unit bytes))
 
 -- the same of an object, by its policy
-abbrev pub IsSince : Policy → ℕ → Seats → List Attempt → NodeId → ℕ → ℕ → ℕ → List ℕ → Type 0
-IsSince policy oid seats attempts node index end served_to bytes =
-    HasWhatItOwes (reading_of policy oid) policy (kind_of oid) seats (attempts_on oid attempts) node index end served_to bytes
+abbrev pub IsSince : Policy → ℕ → Hosts → List AttemptRecord → NodeId → ℕ → ℕ → ℕ → List ℕ → Type 0
+IsSince policy oid hosts attempts node index end served_to bytes =
+    HasWhatItOwes (reading_of policy oid) policy (kind_of oid) hosts (attempts_on oid attempts) node index end served_to bytes
 
 -- each row of a node has what it owes
-pub record RowsAreSince (effects : List Effect) (good : ℕ → Bool) (seats : Seats) (attempts : List Attempt) : Type 0 where
-  pub each : EachRow seats (λ n seat oid row. (policy : Policy) → good oid ≡ true → policy_in effects oid ≡ Some policy
-      → IsSince policy oid seats attempts (record { 0 = n }) row.index (end_of seat.node.peer.epoch row.to) (end_of seat.node.peer.epoch row.to) row.bytes)
+pub record RowsAreSince (effects : List Effect) (good : ℕ → Bool) (hosts : Hosts) (attempts : List AttemptRecord) : Type 0 where
+  pub each : EachRow hosts (λ n host oid row. (policy : Policy) → good oid ≡ true → policy_in effects oid ≡ Some policy
+      → IsSince policy oid hosts attempts (record {
+        0 = n;
+      }) row.index (end_of_row host.node.peer.epoch row.to) (end_of_row host.node.peer.epoch row.to) row.bytes)
 
 -- at each unit a copy has the bytes of some attempt that covers it
-pub record IsOfAttempts (kind : Kind) (policy : Policy) (attempts : List Attempt) (index : ℕ) (bytes : List ℕ) : Type 0 where
+pub record IsOfAttempts (kind : Kind) (policy : Policy) (attempts : List AttemptRecord) (index : ℕ) (bytes : List ℕ) : Type 0 where
   pub each : (unit : ℕ) → nat_le (unit_end kind unit) (length bytes) ≡ true
-      → SomeAttempt attempts (λ attempt. (covers unit attempt ≡ true) × (row_bytes_at policy kind unit bytes ≡ part_by index unit attempt.work))
+      → SomeAttempt attempts (λ attempt. (covers_unit unit attempt ≡ true)
+      × (row_bytes_at policy kind unit bytes ≡ unit_part_by index unit attempt.work))
 
 -- the same of an object, if its rows are copies
-abbrev pub IsCopyOfAttempts : Policy → ℕ → List Attempt → ℕ → List ℕ → Type 0
+abbrev pub IsCopyOfAttempts : Policy → ℕ → List AttemptRecord → ℕ → List ℕ → Type 0
 IsCopyOfAttempts policy oid attempts index bytes =
     is_in_strips policy (kind_of oid) ≡ false → IsOfAttempts (kind_of oid) policy (attempts_on oid attempts) index bytes
 
 -- each copy in a store is of attempts, also where what it owes is doomed
-pub record CopiesAreOfAttempts (effects : List Effect) (live : ℕ → Bool) (seats : Seats) (attempts : List Attempt) : Type 0 where
-  pub each : EachRow seats (λ n seat oid row. (policy : Policy) → live oid ≡ true → policy_in effects oid ≡ Some policy
+pub record CopiesAreOfAttempts (effects : List Effect) (live : ℕ → Bool) (hosts : Hosts) (attempts : List AttemptRecord) : Type 0 where
+  pub each : EachRow hosts (λ n host oid row. (policy : Policy) → live oid ≡ true → policy_in effects oid ≡ Some policy
       → IsCopyOfAttempts policy oid attempts row.index row.bytes)

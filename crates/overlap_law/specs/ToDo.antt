@@ -9,15 +9,15 @@ use Rattle.vdi_directory.specs.declared.effect.Effect.{Effect}
 use Rattle.peer_proto.specs.declared.work.ObjWork.{ObjWork}
 use Rattle.peer_proto.specs.Work.{oid_of}
 use Rattle.gateway.specs.State.{Work}
-use Rattle.guest_driver.specs.InodeLine.{Waiting}
+use Rattle.guest_driver.specs.InodeQueue.{Waiting}
 use Rattle.sheep_node.specs.State.{Node, Session}
-use Rattle.overlap_law.specs.Attempts.{Attempt}
-use Rattle.overlap_law.specs.Words.{Seats}
+use Rattle.overlap_law.specs.Attempts.{AttemptRecord}
+use Rattle.overlap_law.specs.Words.{Hosts}
 use Rattle.overlap_law.specs.Units.{covers_by, bytes_by}
 use Rattle.overlap_law.specs.Each.{EachUp}
 use Rattle.overlap_law.specs.Fates.{IsCreated}
 use Rattle.overlap_law.specs.Tables.{entry_unit, StandsFor}
-use Rattle.overlap_law.specs.Written.{IsBlock, items_at, is_torn_here, is_allowed}
+use Rattle.overlap_law.specs.WrittenBlocks.{IsBlockOfDisk, items_at, is_torn_here, is_allowed}
 
 -- a work is open at a node
 pub record IsOpen (node : Node) (work : ObjWork) : Type 0 where
@@ -33,7 +33,7 @@ pub record IsInLine (node : Node) (work : ObjWork) : Type 0 where
   pub place : ℕ
   pub waiting : Waiting
   pub there : tree.get node.sessions number ≡ Some session
-  pub among : slice_get session.line.waiting place ≡ Some waiting
+  pub among : slice_get session.inode_queue.waiting place ≡ Some waiting
   pub same : waiting.work ≡ work
 
 -- a node has a work still to make
@@ -51,15 +51,15 @@ pub record IsEntryToDo (node : Node) (work : ObjWork) (vid index : ℕ) : Type 0
   pub inside : index < 2 ^ 20
   pub covered : covers_by (entry_unit index) work ≡ true
 
--- the entries of works stand for objects that are made by now; those that say "own" also where the disk wasn't borne
-pub record WorksNameWhatIsMade (effects : List Effect) (good_id : ℕ → Bool) (seats : Seats) (attempts : List Attempt) : Type 0 where
-  pub each : EachUp seats (λ n node. (work : ObjWork) (vid index : ℕ) → IsEntryToDo node work vid index → good_id vid ≡ true
+-- the entries of works stand for objects that are made by now; those that say "own" also where the disk wasn't available
+pub record WorksNameWhatIsMade (effects : List Effect) (good_id : ℕ → Bool) (hosts : Hosts) (attempts : List AttemptRecord) : Type 0 where
+  pub each : EachUp hosts (λ n node. (work : ObjWork) (vid index : ℕ) → IsEntryToDo node work vid index → good_id vid ≡ true
       → entry_made index work ≢ 0 → StandsFor effects attempts vid index node.peer.epoch (entry_made index work))
-  pub own : EachUp seats (λ n node. (work : ObjWork) (vid index : ℕ) → IsEntryToDo node work vid index → IsVid vid
+  pub own : EachUp hosts (λ n node. (work : ObjWork) (vid index : ℕ) → IsEntryToDo node work vid index → IsVid vid
       → entry_made index work ≡ vid → IsCreated attempts (object_number vid index) node.peer.epoch)
 
 -- what works on a disk's own objects would make of a block may be read of it, unless it is torn
-pub record WorksMayBeMade (ledger : Ledger) (effects : List Effect) (good_id : ℕ → Bool) (seats : Seats) : Type 0 where
-  pub each : EachUp seats (λ n node. (work : ObjWork) (vid index unit : ℕ) (disk : Disk) (spec : VdiSpec) → IsToDo node work
-      → oid_of work ≡ object_number vid index → IsBlock ledger effects good_id vid disk spec index unit → covers_by unit work ≡ true
+pub record WorksMayBeMade (ledger : Ledger) (effects : List Effect) (good_id : ℕ → Bool) (hosts : Hosts) : Type 0 where
+  pub each : EachUp hosts (λ n node. (work : ObjWork) (vid index unit : ℕ) (disk : Disk) (spec : VdiSpec) → IsToDo node work
+      → oid_of work ≡ object_number vid index → IsBlockOfDisk ledger effects good_id vid disk spec index unit → covers_by unit work ≡ true
       → is_torn_here spec (items_at disk spec index unit) ≡ false → is_allowed (items_at disk spec index unit) (bytes_by unit work) ≡ true)

@@ -11,7 +11,7 @@ use Rattle.inode.specs.declared.layout.TheConstants.{INODE_HEADER_BYTES}
 use Rattle.peer_proto.specs.declared.work.ObjWork.{ObjWork}
 use Rattle.peer_proto.specs.declared.work.ObjWork.TheVariants.{Create, Write, Read}
 use Rattle.peer_proto.specs.Work.{oid_of, policy_of}
-use Rattle.overlap_law.specs.Attempts.{Attempt}
+use Rattle.overlap_law.specs.Attempts.{AttemptRecord}
 
 -- where a unit of an object begins: one of a data object has 512 bytes; one of an inode is a byte of the header, or an
 -- entry of the table
@@ -36,8 +36,8 @@ unit_of Inode offset =
     if nat_lt offset INODE_HEADER_BYTES then offset else INODE_HEADER_BYTES + (offset - INODE_HEADER_BYTES) / 4
 
 -- the bytes of a unit, among those of the whole object
-abbrev pub bytes_at : Kind → ℕ → List ℕ → List ℕ
-bytes_at kind unit bytes = piece_at bytes (unit_start kind unit) (unit_size kind unit)
+abbrev pub unit_bytes : Kind → ℕ → List ℕ → List ℕ
+unit_bytes kind unit bytes = piece_at bytes (unit_start kind unit) (unit_size kind unit)
 
 -- the bytes of a unit in a row of the object: the unit, or its strip
 abbrev pub row_bytes_at : Policy → Kind → ℕ → List ℕ → List ℕ
@@ -52,12 +52,12 @@ covers_by unit (Write oid policy offset bytes) =
 covers_by unit (Read oid policy offset size) = false
 
 -- whether an attempt covers a unit of its object
-abbrev pub covers : ℕ → Attempt → Bool
-covers unit attempt = covers_by unit attempt.work
+abbrev pub covers_unit : ℕ → AttemptRecord → Bool
+covers_unit unit attempt = covers_by unit attempt.work
 
 -- the attempts that cover a unit, in their order
-abbrev pub covering : ℕ → List Attempt → List Attempt
-covering unit attempts = filter (covers unit) attempts
+abbrev pub covering : ℕ → List AttemptRecord → List AttemptRecord
+covering unit attempts = filter (covers_unit unit) attempts
 
 -- the bytes that a work makes, over those that were there
 abbrev pub laid_by : List ℕ → ObjWork → List ℕ
@@ -66,16 +66,16 @@ laid_by bytes (Write oid policy offset piece) = laid_over bytes offset piece
 laid_by bytes (Read oid policy offset size) = bytes
 
 -- the bytes of an object where attempts were laid over each other in their order
-unfoldable pub laid_over_in_order : List Attempt → List ℕ
-laid_over_in_order attempts = fold (λ bytes (attempt : Attempt). laid_by bytes attempt.work) [] attempts
+unfoldable pub laid_over_in_order : List AttemptRecord → List ℕ
+laid_over_in_order attempts = fold (λ bytes (attempt : AttemptRecord). laid_by bytes attempt.work) [] attempts
 
 -- the bytes that a work has for a unit that it covers
 abbrev pub bytes_by : ℕ → ObjWork → List ℕ
-bytes_by unit (Create oid policy size offset piece) = bytes_at (kind_of oid) unit (laid_over (zeros size) offset piece)
+bytes_by unit (Create oid policy size offset piece) = unit_bytes (kind_of oid) unit (laid_over (zeros size) offset piece)
 bytes_by unit (Write oid policy offset piece) =
     piece_at piece (unit_start (kind_of oid) unit - offset) (unit_size (kind_of oid) unit)
 bytes_by unit (Read oid policy offset size) = []
 
 -- the strip or copy at an index of what an attempt has for a unit that it covers
-abbrev pub part_by : ℕ → ℕ → ObjWork → List ℕ
-part_by index unit work = part (policy_of work) (kind_of (oid_of work)) index (bytes_by unit work)
+abbrev pub unit_part_by : ℕ → ℕ → ObjWork → List ℕ
+unit_part_by index unit work = part (policy_of work) (kind_of (oid_of work)) index (bytes_by unit work)

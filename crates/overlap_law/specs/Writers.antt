@@ -7,20 +7,20 @@ use Rattle.object_id.specs.declared.entry.Entry.TheVariants.{Unlock}
 use Rattle.object_id.specs.Oid.{vid_of}
 use Rattle.epoch_log.specs.Epochs.{epoch_of}
 use Rattle.disk_lock.specs.declared.holder.Holder.{Holder}
-use Rattle.vdi_directory.specs.Decisions.{happened}
+use Rattle.vdi_directory.specs.Decisions.{log_effects}
 use Rattle.peer_proto.specs.Work.{oid_of}
 use Rattle.gateway.specs.Work.{is_making}
 use Rattle.gateway.specs.State.{Work}
 use Rattle.sheep_node.specs.State.{Node, Request}
-use Rattle.overlap_law.specs.Attempts.{Attempt, object_of}
-use Rattle.overlap_law.specs.Words.{Seats}
+use Rattle.overlap_law.specs.Attempts.{AttemptRecord, object_of}
+use Rattle.overlap_law.specs.Words.{Hosts}
 use Rattle.overlap_law.specs.Each.{EachUp, EachAttempt}
-use Rattle.overlap_law.specs.Letters.{Wire, IsQuiet}
+use Rattle.overlap_law.specs.Packets.{Wire, IsQuiet}
 use Rattle.overlap_law.specs.Grants.{granted_in, writer_of, leave_of}
 
 -- a session of a node
-abbrev pub session_of : ℕ → ℕ → Holder
-session_of n session = record { node = record { 0 = n }; session = session }
+abbrev pub session_holder : ℕ → ℕ → Holder
+session_holder n session = record { node = record { 0 = n }; session = session }
 
 -- whether an entry gives a session's id back
 abbrev pub unlocks : ℕ → ℕ → Entry → Bool
@@ -29,12 +29,12 @@ unlocks session vid _ = false
 
 -- a session may write an id: it is the writer, gives nothing back, and its node has read the grant
 pub record MayWrite (log : List Entry) (n session vid : ℕ) (node : Node) : Type 0 where
-  pub writer : writer_of (happened log) vid ≡ Some (session_of n session)
+  pub writer : writer_of (log_effects log) vid ≡ Some (session_holder n session)
   pub kept : list_any (unlocks session vid) node.outbox ≡ false
   pub read : granted_in log vid ≤ node.peer.epoch
 
 -- a work is of a request without reply, whose session may write the object, and its attempts are of the grant's epoch or later
-pub record IsTheWriters (log : List Entry) (attempts : List Attempt) (n req : ℕ) (work : Work) (node : Node) : Type 0 where
+pub record IsTheWriters (log : List Entry) (attempts : List AttemptRecord) (n req : ℕ) (work : Work) (node : Node) : Type 0 where
   pub request : Request
   pub there : tree.get node.requests req ≡ Some request
   pub may : MayWrite log n request.session (vid_of (oid_of work.work)) node
@@ -42,8 +42,8 @@ pub record IsTheWriters (log : List Entry) (attempts : List Attempt) (n req : �
       → granted_in log (vid_of (oid_of work.work)) ≤ attempt.epoch)
 
 -- only the writer of an id has creates and writes open on it
-pub record OnlyTheWriterWrites (log : List Entry) (seats : Seats) (attempts : List Attempt) : Type 0 where
-  pub each : EachUp seats (λ n node. (req : ℕ) (work : Work) → tree.get node.gateway.works req ≡ Some work → is_making work.work ≡ true
+pub record OnlyTheWriterWrites (log : List Entry) (hosts : Hosts) (attempts : List AttemptRecord) : Type 0 where
+  pub each : EachUp hosts (λ n node. (req : ℕ) (work : Work) → tree.get node.gateway.works req ≡ Some work → is_making work.work ≡ true
       → IsTheWriters log attempts n req work node)
 
 -- the epoch of a writer's grant; where there is no writer, the newest one
@@ -53,27 +53,27 @@ bound_by (Some holder) newest granted = granted
 
 -- the same of an id, by the log
 abbrev pub bound_of : List Entry → ℕ → ℕ
-bound_of log vid = bound_by (writer_of (happened log) vid) (epoch_of log) (granted_in log vid)
+bound_of log vid = bound_by (writer_of (log_effects log) vid) (epoch_of log) (granted_in log vid)
 
 -- an attempt is the writer's, under its grant
-pub record IsUnderTheGrant (log : List Entry) (attempt : Attempt) (vid : ℕ) : Type 0 where
-  pub writer : writer_of (happened log) vid ≡ Some (session_of attempt.gateway.0 attempt.session)
+pub record IsUnderTheGrant (log : List Entry) (attempt : AttemptRecord) (vid : ℕ) : Type 0 where
+  pub writer : writer_of (log_effects log) vid ≡ Some (session_holder attempt.gateway.0 attempt.session)
   pub since : granted_in log vid ≤ attempt.epoch
 
--- an attempt has ended: it has no letters, and is of no later epoch than the bound
-pub record HasEnded (wire : Wire) (attempt : Attempt) (bound : ℕ) : Type 0 where
+-- an attempt has ended: it has no packets, and is of no later epoch than the bound
+pub record HasEnded (wire : Wire) (attempt : AttemptRecord) (bound : ℕ) : Type 0 where
   pub quiet : IsQuiet wire attempt
   pub before : attempt.epoch ≤ bound
 
--- an attempt's gateway left: the attempt is of an epoch below that of the life's `Leave`, which is at most the bound
-pub record IsFencedOff (log : List Entry) (attempt : Attempt) (bound : ℕ) : Type 0 where
+-- an attempt's gateway left: the attempt is of an epoch below that of the incarnation's `Leave`, which is at most the bound
+pub record IsFencedOff (log : List Entry) (attempt : AttemptRecord) (bound : ℕ) : Type 0 where
   pub left : ℕ
-  pub leave : leave_of log attempt.gateway.0 attempt.life ≡ Some left
+  pub leave : leave_of log attempt.gateway.0 attempt.incarnation ≡ Some left
   pub before : attempt.epoch < left
   pub granted_later : left ≤ bound
 
 -- each attempt is the present writer's under its grant, or has ended before, or is of a gateway that left before
-pub record ThereIsOneWriter (log : List Entry) (wire : Wire) (attempts : List Attempt) : Type 0 where
+pub record ThereIsOneWriter (log : List Entry) (wire : Wire) (attempts : List AttemptRecord) : Type 0 where
   pub each : EachAttempt attempts (λ j attempt. IsUnderTheGrant log attempt (vid_of (object_of attempt))
       ⊎ (HasEnded wire attempt (bound_of log (vid_of (object_of attempt)))
       ⊎ IsFencedOff log attempt (bound_of log (vid_of (object_of attempt)))))

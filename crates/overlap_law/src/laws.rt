@@ -10,51 +10,51 @@ ghost use Rattle.cluster_script.specs.declared.statement.Statement.{Statement};
 ghost use Rattle.sheep_node.specs.declared.event.Event.{Event};
 ghost use Rattle.sheep_node.specs.Step.{is_due};
 ghost use Rattle.sheep_world.specs.Run.{run};
-ghost use Rattle.sheep_world.specs.World.{Seat};
-ghost use Rattle.overlap_law.specs.Attempts.{Fate, Flying, Served, Attempt, has_message, marked_in};
-ghost use Rattle.overlap_law.specs.Words.{Seats, is_beyond, is_made, is_doomed, has_served, unit_start, unit_end, covers, base_of, own_base_of};
+ghost use Rattle.sheep_world.specs.World.{Host};
+ghost use Rattle.overlap_law.specs.Attempts.{MessageFate, Flying, Served, AttemptRecord, has_message, attempt_with_fate};
+ghost use Rattle.overlap_law.specs.Words.{Hosts, is_beyond, is_made, is_doomed, has_served, unit_start, unit_end, covers_unit, base_of, own_base_of};
 ghost use Rattle.overlap_law.specs.Headline.{OtherEpochsChangeNothing};
-ghost use Rattle.overlap_law.specs.Past.{Moment, run_with_past, without_past};
+ghost use Rattle.overlap_law.specs.Past.{MomentWithPast, run_with_past, without_past};
 
 /// A made attempt isn't doomed, and whatever is told of a message leaves it made.
 pub fn what_is_made_stays_made()
-    ensures apart { (seats : Seats) (attempt : Attempt) → is_made attempt ≡ true → is_doomed seats attempt ≡ false }
-    ensures stays { (told : Fate) (sender : NodeId) (number : ℕ) (attempt : Attempt) → is_made attempt ≡ true
-        → is_made (marked_in told sender number attempt) ≡ true }
+    ensures apart { (hosts : Hosts) (attempt : AttemptRecord) → is_made attempt ≡ true → is_doomed hosts attempt ≡ false }
+    ensures stays { (told : MessageFate) (sender : NodeId) (number : ℕ) (attempt : AttemptRecord) → is_made attempt ≡ true
+        → is_made (attempt_with_fate told sender number attempt) ≡ true }
 {}
 
 /// A doomed attempt stays doomed: when nodes go on, and when a message of it is lost, is refused, or is served by a
 /// target that isn't beyond its epoch.
 pub fn what_is_doomed_stays_doomed()
-    ensures goes_on { (old new : Seats) (attempt : Attempt)
+    ensures goes_on { (old new : Hosts) (attempt : AttemptRecord)
         → ((node : NodeId) → is_beyond old attempt.epoch node ≡ true → is_beyond new attempt.epoch node ≡ true)
         → is_doomed old attempt ≡ true → is_doomed new attempt ≡ true }
-    ensures told { (seats : Seats) (told : Fate) (sender : NodeId) (number : ℕ) (attempt : Attempt) → told ≢ Flying
+    ensures told { (hosts : Hosts) (told : MessageFate) (sender : NodeId) (number : ℕ) (attempt : AttemptRecord) → told ≢ Flying
         → ((target : NodeId) → slice_get attempt.targets (number - attempt.first) ≡ Some target → told ≡ Served
-        → is_beyond seats attempt.epoch target ≡ false)
-        → is_doomed seats attempt ≡ true → is_doomed seats (marked_in told sender number attempt) ≡ true }
+        → is_beyond hosts attempt.epoch target ≡ false)
+        → is_doomed hosts attempt ≡ true → is_doomed hosts (attempt_with_fate told sender number attempt) ≡ true }
 {}
 
 /// Once all targets of an attempt are beyond its epoch it is made or doomed, and a made one was served by each of them.
 pub fn what_becomes_of_an_attempt()
-    ensures doomed { (seats : Seats) (attempt : Attempt) → length attempt.fates ≡ length attempt.targets
-        → list_all (is_beyond seats attempt.epoch) attempt.targets ≡ true → is_made attempt ≡ false
-        → is_doomed seats attempt ≡ true }
-    ensures served { (node : NodeId) (attempt : Attempt) → length attempt.fates ≡ length attempt.targets
+    ensures doomed { (hosts : Hosts) (attempt : AttemptRecord) → length attempt.fates ≡ length attempt.targets
+        → list_all (is_beyond hosts attempt.epoch) attempt.targets ≡ true → is_made attempt ≡ false
+        → is_doomed hosts attempt ≡ true }
+    ensures served { (node : NodeId) (attempt : AttemptRecord) → length attempt.fates ≡ length attempt.targets
         → is_made attempt ≡ true → has_node node attempt.targets ≡ true → has_served node attempt ≡ true }
 {}
 
 /// In every run each attempt has a fate for each of its targets.
 pub fn each_target_has_its_fate()
-    ensures { (script : List Statement) (events : List Event) (moment : Moment) → run_with_past script events ≡ Some moment
-        → AllByRecursion (λ (attempt : Attempt). length attempt.fates ≡ length attempt.targets) moment.past.attempts }
+    ensures { (script : List Statement) (events : List Event) (moment : MomentWithPast) → run_with_past script events ≡ Some moment
+        → AllByRecursion (λ (attempt : AttemptRecord). length attempt.fates ≡ length attempt.targets) moment.past.attempts }
 {}
 
 /// A base is made, and a unit's own base covers it.
 pub fn a_base_is_made()
-    ensures made { (attempts : List Attempt) (base : Attempt) → base_of attempts ≡ Some base → is_made base ≡ true }
-    ensures covers { (unit : ℕ) (attempts : List Attempt) (own : Attempt) → own_base_of unit attempts ≡ Some own
-        → covers unit own ≡ true }
+    ensures made { (attempts : List AttemptRecord) (base : AttemptRecord) → base_of attempts ≡ Some base → is_made base ≡ true }
+    ensures covers { (unit : ℕ) (attempts : List AttemptRecord) (own : AttemptRecord) → own_base_of unit attempts ≡ Some own
+        → covers_unit unit own ≡ true }
 {}
 
 /// The units of an object follow each other without a gap.
@@ -64,8 +64,8 @@ pub fn units_follow_each_other()
 
 /// What is told of a message says nothing of the attempts that it isn't of.
 pub fn other_attempts_hear_nothing()
-    ensures { (told : Fate) (sender : NodeId) (number : ℕ) (attempt : Attempt) → has_message sender number attempt ≡ false
-        → marked_in told sender number attempt ≡ attempt }
+    ensures { (told : MessageFate) (sender : NodeId) (number : ℕ) (attempt : AttemptRecord) → has_message sender number attempt ≡ false
+        → attempt_with_fate told sender number attempt ≡ attempt }
 {}
 
 /// The past stands beside a run and changes nothing of it: without it the same events lead to the same world, with the
@@ -78,14 +78,14 @@ pub fn the_past_follows_the_run()
 /// The part of the headline on peers: in every run a peer's request of another epoch is refused with the node's own, and
 /// leaves the node as it was. For between events no node has a `Recovered` due, which such a step might put.
 pub fn peers_of_another_epoch_change_nothing()
-    ensures nothing { (script : List Statement) (events : List Event) (moment : Moment)
+    ensures nothing { (script : List Statement) (events : List Event) (moment : MomentWithPast)
         → run_with_past script events ≡ Some moment → OtherEpochsChangeNothing script moment.world }
-    ensures rested { (script : List Statement) (events : List Event) (moment : Moment) (n : ℕ) (seat : Seat)
-        → run_with_past script events ≡ Some moment → get moment.world.seats n ≡ Some seat → is_due seat.node ≡ false }
+    ensures rested { (script : List Statement) (events : List Event) (moment : MomentWithPast) (n : ℕ) (host : Host)
+        → run_with_past script events ≡ Some moment → get moment.world.hosts n ≡ Some host → is_due host.node ≡ false }
 {}
 
-/// Where every object was borne at every state, no read is left out.
+/// Where every object was available at every state, no read is left out.
 pub fn no_read_of_what_was_borne_is_left_out()
-    ensures { (script : List Statement) (events : List Event) (moment : Moment) → run_with_past script events ≡ Some moment
-        → moment.past.unborne ≡ [] → moment.past.borne_history ≡ moment.past.history }
+    ensures { (script : List Statement) (events : List Event) (moment : MomentWithPast) → run_with_past script events ≡ Some moment
+        → moment.past.unavailable ≡ [] → moment.past.available_history ≡ moment.past.history }
 {}

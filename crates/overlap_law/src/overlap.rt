@@ -7,51 +7,54 @@ ghost use Rattle.peer_proto.specs.declared.ask.PeerReq.{PeerReq};
 ghost use Rattle.peer_proto.specs.Ask.{ask_in};
 ghost use Rattle.sheep_world.specs.declared.name.MessageName.{MessageName};
 ghost use Rattle.sheep_world.specs.World.{Request};
-ghost use Rattle.overlap_law.specs.Reached.{Seats};
+ghost use Rattle.overlap_law.specs.Reached.{Hosts};
 ghost use Rattle.epoch_log.specs.Epochs.{settled_of};
 ghost use Rattle.overlap_law.specs.Holders.{targets_by};
-ghost use Rattle.overlap_law.specs.Past.{Moment, counts};
+ghost use Rattle.overlap_law.specs.Past.{MomentWithPast, counts};
 ghost use Rattle.overlap_law.specs.Contents.{AttemptsStand};
 ghost use Rattle.overlap_law.specs.Facts.{CompleteLists, HoldersOfTheBase, EachGood};
-ghost use Rattle.overlap_law.specs.Headline.{IsLegalWhereBorne};
-ghost use Rattle.overlap_law.specs.Each.{EachSeat};
+ghost use Rattle.overlap_law.specs.Headline.{IsLegalWhereAvailable};
+ghost use Rattle.overlap_law.specs.Each.{EachHost};
 ghost use Rattle.overlap_law.specs.Grants.{leave_of};
-ghost use Rattle.overlap_law.specs.Letters.{Wire};
+ghost use Rattle.overlap_law.specs.Packets.{Wire};
 ghost use Rattle.overlap_law.specs.Flight.{TheGoneAreFenced};
-ghost use Rattle.overlap_law.specs.Terms.{TheSettledHaveRecovered};
+ghost use Rattle.overlap_law.specs.NodeEpochs.{TheSettledHaveRecovered};
 ghost use Rattle.overlap_law.specs.Overlap.{Overlap};
 
 /// The replies are legal in each moment of which the invariant holds.
 pub fn the_overlap_gives_legal_replies()
-    ensures { (moment : Moment) → Overlap moment → IsLegalWhereBorne moment.past }
+    ensures { (moment : MomentWithPast) → Overlap moment → IsLegalWhereAvailable moment.past }
 {}
 
 /// The lists of recoveries are complete there, for each object that is good.
 pub fn the_overlap_gives_complete_lists()
-    ensures { (moment : Moment) → Overlap moment → EachGood moment.world moment.past (CompleteLists moment.past.listed moment.world.seats) }
+    ensures { (moment : MomentWithPast) → Overlap moment
+        → EachGood moment.world moment.past (CompleteLists moment.past.listed moment.world.hosts) }
 {}
 
 /// An attempt that isn't made is doomed, or each row that reaches beyond its epoch has it, for each object that is good.
 pub fn the_overlap_makes_attempts_stand()
-    ensures { (moment : Moment) → Overlap moment → EachGood moment.world moment.past (AttemptsStand moment.world.seats) }
+    ensures { (moment : MomentWithPast) → Overlap moment → EachGood moment.world moment.past (AttemptsStand moment.world.hosts) }
 {}
 
 /// Each target of the base's epoch, or of a later settled one, that counts for it has a row that holds it, for each object
 /// that is good.
 pub fn the_overlap_gives_holders()
-    ensures { (moment : Moment) → Overlap moment → EachGood moment.world moment.past
-        (HoldersOfTheBase (targets_by moment.world.log) (counts moment.past.ended moment.world) (settled_of moment.world.log) moment.world.seats) }
+    ensures { (moment : MomentWithPast) → Overlap moment → EachGood moment.world moment.past
+        (HoldersOfTheBase (targets_by moment.world.log) (counts moment.past.ended moment.world) (settled_of moment.world.log)
+        moment.world.hosts) }
 {}
 
 /// The messages of a lost gateway are of epochs below that of its `Leave`, as the facts say it.
 pub fn the_messages_of_the_gone_are_fenced()
-    ensures { (log : List Entry) (seats : Seats) (wire : Wire) → TheGoneAreFenced log seats wire
-        → EachSeat seats (λ n seat. (epoch : ℕ) (name : MessageName) (to : NodeId) (bytes : List ℕ) (request : PeerReq)
-        → seat.is_lost ≡ true → leave_of log n seat.life ≡ Some epoch → name.sender.0 ≡ n → tree.get wire name ≡ Some (Request to bytes)
+    ensures { (log : List Entry) (hosts : Hosts) (wire : Wire) → TheGoneAreFenced log hosts wire
+        → EachHost hosts (λ n host. (epoch : ℕ) (name : MessageName) (to : NodeId) (bytes : List ℕ) (request : PeerReq)
+        → host.is_lost ≡ true → leave_of log n host.incarnation ≡ Some epoch → name.sender.0 ≡ n → tree.get wire name
+        ≡ Some (Request to bytes)
         → ask_in bytes ≡ Ok request → request.epoch.0 < epoch) }
 {}
 
 /// Each member of the settled epoch has recovered in it, by what settled means: no event has anything to show there.
 pub fn the_settled_have_recovered()
-    ensures { (log : List Entry) (seats : Seats) → TheSettledHaveRecovered log seats }
+    ensures { (log : List Entry) (hosts : Hosts) → TheSettledHaveRecovered log hosts }
 {}

@@ -18,9 +18,9 @@ use Rattle.peer_proto.specs.declared.fault.PeerFault.{PeerFault}
 use Rattle.object_id.specs.Fields.{AreBytes, Stands, u8_at, u32_bytes, u64_bytes}
 use Rattle.peer_proto.specs.Opcode.{opcode_byte}
 use Rattle.sheep_proto.specs.Headers.{common_bytes, IsCommon}
-use Rattle.peer_proto.specs.Header.{opcode_in, ◌>>=◌, when, Answers}
+use Rattle.peer_proto.specs.Header.{opcode_in, ◌>>=◌, when, AnswersBytes}
 use Rattle.peer_proto.specs.Ids.{is_oid}
-use Rattle.peer_proto.specs.Ask.{ask_body, ask_head, ask_head_bytes, ask_bytes, IsAsk, IsRequest, ask_head_at, is_ask_head, has_fields, fits_ask, ask_of, request_of, request_in, ask_in}
+use Rattle.peer_proto.specs.Ask.{ask_body, ask_head, ask_head_bytes, ask_bytes, IsPeerAsk, IsPeerReq, ask_head_at, is_ask_head, has_fields, fits_ask, peer_ask_of, peer_request_of, request_in, ask_in}
 use Rattle.object_id.proofs.FieldLemmas.{stands-then, stands-u32, stands-u64, u32-below, u64-below}
 use Rattle.peer_proto.proofs.IdLemmas.{both_pass, pass_both, oid-is, oid-passes}
 use Rattle.peer_proto.proofs.HeadLemmas.{header-in, opcode-in, common-read, bind-ok, when-ok, answered, same_common, none, byte-below, same_reading}
@@ -131,7 +131,7 @@ same_as head opcode text oid word index offset op range facts eo ew ei ef =
 
 -- what a header that fits, of this opcode, asks for
 pub spelled : (opcode : Opcode) (head : AskHead) (body : List ℕ) → opcode_byte opcode ≡ head.common.opcode → AskRange head → fits_ask opcode head body ≡ true
-    → (ask_head (request_of opcode head body) ≡ head) × (ask_body (ask_of opcode head body) ≡ body) × IsAsk (ask_of opcode head body)
+    → (ask_head (peer_request_of opcode head body) ≡ head) × (ask_body (peer_ask_of opcode head body) ≡ body) × IsPeerAsk (peer_ask_of opcode head body)
 spelled opcodes.Create head body op range h =
     let t = both_pass (is_ask_head head body) (is_oid head.oid) h in
     let facts = ask-facts head body t.0 in (
@@ -185,25 +185,25 @@ spelled opcodes.RecoverRead head body op range h =
     )
 
 -- what is read is spelled so
-pub ask-found : (bytes : List ℕ) (req : PeerReq) → AreBytes bytes → ask_in bytes ≡ Ok req → IsRequest req × (bytes ≡ ask_bytes req)
+pub ask-found : (bytes : List ℕ) (req : PeerReq) → AreBytes bytes → ask_in bytes ≡ Ok req → IsPeerReq req × (bytes ≡ ask_bytes req)
 ask-found bytes req fits h =
     let head : AskHead = ask_head_at bytes in
     let body : List ℕ = drop 48 bytes in
     let b = bind-ok (opcode_in bytes) (λ (opcode : Opcode). request_in opcode (ask_head_at bytes) (drop 48 bytes)) req h in
     let start = header-in bytes b.0 b.1 in
-    let w = when-ok (fits_ask b.0 head body) (request_of b.0 head body) req b.2 in
+    let w = when-ok (fits_ask b.0 head body) (peer_request_of b.0 head body) req b.2 in
     let range = ask-range bytes fits in
     let facts = ask-facts head body (both_pass (is_ask_head head body) (has_fields b.0 head body) w.0).0 in
     let s = spelled b.0 head body start.opcode_is range w.0 in
     let whole : bytes ≡ ask_head_bytes head ++ body = (ask-head-stands bytes fits start.long start.version).parts in
-    let text : ask_bytes (request_of b.0 head body) ≡ bytes
-    = ap (λ (k : AskHead). ask_head_bytes k ++ ask_body (ask_of b.0 head body)) s.0 ∙ ap (λ (rest : List ℕ). ask_head_bytes head ++ rest) s.1 ∙ sym whole in
-    let is : IsRequest (request_of b.0 head body)
+    let text : ask_bytes (peer_request_of b.0 head body) ≡ bytes
+    = ap (λ (k : AskHead). ask_head_bytes k ++ ask_body (peer_ask_of b.0 head body)) s.0 ∙ ap (λ (rest : List ℕ). ask_head_bytes head ++ rest) s.1 ∙ sym whole in
+    let is : IsPeerReq (peer_request_of b.0 head body)
     = record { from = facts.sender; number = range.common.id; epoch = (facts.epoch, range.common.epoch); ask = s.2 } in
-    subst (λ (r : PeerReq). IsRequest r × (bytes ≡ ask_bytes r)) w.1 (is, sym text)
+    subst (λ (r : PeerReq). IsPeerReq r × (bytes ≡ ask_bytes r)) w.1 (is, sym text)
 
-pub ask-is_found : (bytes : List ℕ) (r : Result PeerReq PeerFault) → AreBytes bytes → Answers (ask_in bytes) r
-    → IfOk r (λ req. IsRequest req × (bytes ≡ ask_bytes req))
+pub ask-is_found : (bytes : List ℕ) (r : Result PeerReq PeerFault) → AreBytes bytes → AnswersBytes (ask_in bytes) r
+    → IfOk r (λ req. IsPeerReq req × (bytes ≡ ask_bytes req))
 ask-is_found bytes (Ok req) fits h = ask-found bytes req fits (answered (ask_in bytes) req h)
 ask-is_found bytes (Err fault) fits h = tt
 
@@ -220,7 +220,7 @@ asked (asks.RecoverRead oid level) = opcodes.RecoverRead
 abbrev request : NodeId → ℕ → Epoch → PeerAsk → PeerReq
 request from number epoch ask = record { from = from; number = number; epoch = epoch; ask = ask }
 
-facts-of : (from : NodeId) (number : ℕ) (epoch : Epoch) (ask : PeerAsk) (head : AskHead) → IsRequest (request from number epoch ask)
+facts-of : (from : NodeId) (number : ℕ) (epoch : Epoch) (ask : PeerAsk) (head : AskHead) → IsPeerReq (request from number epoch ask)
     → head.common.flags ≡ 0 → head.common.epoch ≡ epoch.0 → head.common.data_length ≡ length (ask_body ask) % 2 ^ 32 → length (ask_body ask) < 2 ^ 32
     → head.sender ≡ from.0 → head.index ≤ 30 → head.offset < 2 ^ 32 → AskFacts head (ask_body ask)
 facts-of from number epoch ask head is flags same_epoch counted short same_sender index offset = record {
@@ -232,7 +232,7 @@ facts-of from number epoch ask head is flags same_epoch counted short same_sende
   offset = offset;
 }
 
-fits-of : (from : NodeId) (number : ℕ) (epoch : Epoch) (ask : PeerAsk) → IsRequest (request from number epoch ask)
+fits-of : (from : NodeId) (number : ℕ) (epoch : Epoch) (ask : PeerAsk) → IsPeerReq (request from number epoch ask)
     → fits_ask (asked ask) (ask_head (request from number epoch ask)) (ask_body ask) ≡ true
 fits-of from number epoch (asks.Create key size offset bytes) is =
     let facts = facts-of from number epoch (asks.Create key size offset bytes) (ask_head (request from number epoch (asks.Create key size offset bytes))) is refl refl refl is.ask.4 refl is.ask.1 is.ask.3 in
@@ -251,12 +251,12 @@ fits-of from number epoch (asks.RecoverRead oid level) is =
     let some : not (nat_eq level.0 0) ≡ true = grind (arith, nat_tests, is.ask.1.0) in
     pass_both _ _ (ask-passes _ [] facts) (pass_both _ _ (pass_both _ _ (pass_both _ _ (oid-passes oid is.ask.0) some) refl) refl)
 
-common-of : (from : NodeId) (number : ℕ) (epoch : Epoch) (ask : PeerAsk) (opcode : Opcode) → IsRequest (request from number epoch ask)
+common-of : (from : NodeId) (number : ℕ) (epoch : Epoch) (ask : PeerAsk) (opcode : Opcode) → IsPeerReq (request from number epoch ask)
     → IsCommon (record { opcode = opcode_byte opcode; flags = 0; epoch = epoch.0; id = number; data_length = length (ask_body ask) % 2 ^ 32 })
 common-of from number epoch ask opcode is =
     record { opcode = byte-below opcode; flags = omega arith; epoch = is.epoch.1; id = is.number; data_length = omega arith }
 
-range-of : (from : NodeId) (number : ℕ) (epoch : Epoch) (ask : PeerAsk) → IsRequest (request from number epoch ask)
+range-of : (from : NodeId) (number : ℕ) (epoch : Epoch) (ask : PeerAsk) → IsPeerReq (request from number epoch ask)
     → AskRange (ask_head (request from number epoch ask))
 range-of from number epoch (asks.Create key size offset bytes) is =
     record { common = common-of from number epoch (asks.Create key size offset bytes) opcodes.Create is; oid = is.ask.0.0; word = is.ask.2; sender = omega (arith, is.from); index = omega (arith, is.ask.1); offset = omega (arith, is.ask.3) }
@@ -277,7 +277,7 @@ opcode-of from number epoch asks.List = refl
 opcode-of from number epoch (asks.RecoverRead oid level) = refl
 
 request-of : (from : NodeId) (number : ℕ) (epoch : Epoch) (ask : PeerAsk)
-    → request_of (asked ask) (ask_head (request from number epoch ask)) (ask_body ask) ≡ request from number epoch ask
+    → peer_request_of (asked ask) (ask_head (request from number epoch ask)) (ask_body ask) ≡ request from number epoch ask
 request-of from number epoch (asks.Create key size offset bytes) = refl
 request-of from number epoch (asks.Write key offset bytes) = refl
 request-of from number epoch (asks.Read key offset size) = refl
@@ -291,7 +291,7 @@ behind head body = refl
 long : (head : AskHead) (body : List ℕ) → 48 ≤ length (ask_head_bytes head ++ body)
 long head body = omega (arith, length-append (ask_head_bytes head) body)
 
-request-again : (from : NodeId) (number : ℕ) (epoch : Epoch) (ask : PeerAsk) → IsRequest (request from number epoch ask)
+request-again : (from : NodeId) (number : ℕ) (epoch : Epoch) (ask : PeerAsk) → IsPeerReq (request from number epoch ask)
     → ask_in (ask_bytes (request from number epoch ask)) ≡ Ok (request from number epoch ask)
 request-again from number epoch ask is =
     let req : PeerReq = request from number epoch ask in
@@ -300,19 +300,19 @@ request-again from number epoch ask is =
     let start : opcode_in (ask_bytes req) ≡ Ok (asked ask)
     = opcode-in (ask_bytes req) (asked ask) (record { long = long head body; version = refl; opcode_is = opcode-of from number epoch ask }) in
     let read : ask_head_at (ask_bytes req) ≡ head = ask-head-read head body (range-of from number epoch ask is) in
-    let fits : request_in (asked ask) head body ≡ Ok (request_of (asked ask) head body)
-    = ap (λ (t : Bool). when t (request_of (asked ask) head body)) (fits-of from number epoch ask is) in
+    let fits : request_in (asked ask) head body ≡ Ok (peer_request_of (asked ask) head body)
+    = ap (λ (t : Bool). when t (peer_request_of (asked ask) head body)) (fits-of from number epoch ask is) in
     ap (λ (r : Result Opcode PeerFault). r >>= λ opcode. request_in opcode (ask_head_at (ask_bytes req)) (drop 48 (ask_bytes req))) start
     ∙ ap (λ (h : AskHead). request_in (asked ask) h (drop 48 (ask_bytes req))) read
     ∙ ap (request_in (asked ask) head) (behind head body)
     ∙ fits ∙ ap (λ (r : PeerReq). Ok r) (request-of from number epoch ask)
 
-pub ask-again : (req : PeerReq) → IsRequest req → ask_in (ask_bytes req) ≡ Ok req
+pub ask-again : (req : PeerReq) → IsPeerReq req → ask_in (ask_bytes req) ≡ Ok req
 ask-again req is = request-again req.from req.number req.epoch req.ask is
 
-pub ask-is_only : (bytes : List ℕ) (r : Result PeerReq PeerFault) (req : PeerReq) → Answers (ask_in bytes) r → IsRequest req → bytes ≡ ask_bytes req
-    → Answers (Ok req) r
-ask-is_only bytes r req h is text = subst (λ (read : Result PeerReq PeerFault). Answers read r) (ap ask_in text ∙ ask-again req is) h
+pub ask-is_only : (bytes : List ℕ) (r : Result PeerReq PeerFault) (req : PeerReq) → AnswersBytes (ask_in bytes) r → IsPeerReq req → bytes ≡ ask_bytes req
+    → AnswersBytes (Ok req) r
+ask-is_only bytes r req h is text = subst (λ (read : Result PeerReq PeerFault). AnswersBytes read r) (ap ask_in text ∙ ask-again req is) h
 
-pub ask-differ : (a b : PeerReq) → IsRequest a → IsRequest b → ask_bytes a ≡ ask_bytes b → a ≡ b
+pub ask-differ : (a b : PeerReq) → IsPeerReq a → IsPeerReq b → ask_bytes a ≡ ask_bytes b → a ≡ b
 ask-differ a b is_a is_b same = same_reading (ask_in (ask_bytes a)) a b (ask-again a is_a) (ap ask_in same ∙ ask-again b is_b)

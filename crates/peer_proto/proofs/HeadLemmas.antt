@@ -12,7 +12,7 @@ use Rattle.peer_proto.specs.declared.fault.PeerFault.TheVariants as faults
 use Rattle.object_id.specs.Fields.{AreBytes, u8_at}
 use Rattle.peer_proto.specs.Opcode.{opcode_byte, opcode_of}
 use Rattle.sheep_proto.specs.Headers.{common_bytes, common_at, IsCommon}
-use Rattle.peer_proto.specs.Header.{known_opcode, opcode_in, header_in, ◌>>=◌, when, Answers}
+use Rattle.peer_proto.specs.Header.{known_opcode, opcode_in, peer_header_in, ◌>>=◌, when, AnswersBytes}
 use Rattle.std.proofs.lemmas.Nat.{from_le_bytes-to_le_bytes_2, from_le_bytes-to_le_bytes_4}
 
 -- ---- reading in steps
@@ -34,10 +34,10 @@ when-ok false x y h = absurd cc
 
 -- what a later step answers is what both steps read
 pub answers-then : {A B : Type 0} (read : Result A PeerFault) (next : A → Result B PeerFault) (x : A) (answer : Result B PeerFault)
-    → read ≡ Ok x → Answers (next x) answer → Answers (read >>= next) answer
-answers-then read next x answer is h = subst (λ (r : Result _ PeerFault). Answers (r >>= next) answer) (sym is) h
+    → read ≡ Ok x → AnswersBytes (next x) answer → AnswersBytes (read >>= next) answer
+answers-then read next x answer is h = subst (λ (r : Result _ PeerFault). AnswersBytes (r >>= next) answer) (sym is) h
 
-pub answered : {A : Type 0} (read : Result A PeerFault) (x : A) → Answers read (Ok x) → read ≡ Ok x
+pub answered : {A : Type 0} (read : Result A PeerFault) (x : A) → AnswersBytes read (Ok x) → read ≡ Ok x
 answered (Ok y) x h = cc
 answered (Err f) x h = absurd cc
 
@@ -72,7 +72,7 @@ known-ok None opcode h = absurd cc
 -- ---- the refusals before the fields
 
 -- both parts of a header that is read
-pub header-parts : (bytes : List ℕ) (opcode : Opcode) (common : Common) → header_in bytes ≡ Ok (opcode, common)
+pub header-parts : (bytes : List ℕ) (opcode : Opcode) (common : Common) → peer_header_in bytes ≡ Ok (opcode, common)
     → (opcode_in bytes ≡ Ok opcode) × (common ≡ common_at bytes)
 header-parts bytes opcode common h =
     let b = bind-ok (opcode_in bytes) (λ (o : Opcode). Ok (o, common_at bytes)) (opcode, common) h in

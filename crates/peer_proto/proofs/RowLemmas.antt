@@ -3,7 +3,7 @@ use Rattle.std.proofs.Common.{◌≡◌, ℕ, suc, ◌-◌, ◌≤◌, Bool, tru
 use Rattle.std.specs.Prelude.{nat_eq, nat_lt}
 use Rattle.std.proofs.Math.Bool.{and-true}
 use Rattle.std.proofs.lemmas.Bool.{lt-ltb}
-use Rattle.object_store.specs.Bytes.{trimmed}
+use Rattle.object_store.specs.Bytes.{trimmed_bytes}
 use Rattle.peer_proto.specs.Say.{ends_in_zero}
 
 -- the last byte of a list with one byte in front
@@ -16,21 +16,21 @@ last-cons a b bytes =
     rw (many, some, far, near) refl
 
 -- one byte in front of what is trimmed
-trimmed-cons : (b : Bool) (byte : ℕ) (rest : List ℕ) → (nat_eq byte 0 && nat_eq (length rest) 0) ≡ b → ends_in_zero rest ≡ false
+trimmed_bytes-cons : (b : Bool) (byte : ℕ) (rest : List ℕ) → (nat_eq byte 0 && nat_eq (length rest) 0) ≡ b → ends_in_zero rest ≡ false
     → ends_in_zero (cond b [] (byte ∷ rest)) ≡ false
-trimmed-cons true byte rest test h = refl
-trimmed-cons false byte [] test h = sym (and-true (nat_eq byte 0)) ∙ test
-trimmed-cons false byte (c ∷ rest) test h = last-cons byte c rest ∙ h
+trimmed_bytes-cons true byte rest test h = refl
+trimmed_bytes-cons false byte [] test h = sym (and-true (nat_eq byte 0)) ∙ test
+trimmed_bytes-cons false byte (c ∷ rest) test h = last-cons byte c rest ∙ h
 
-pub ends-trimmed : (bytes : List ℕ) → ends_in_zero (trimmed bytes) ≡ false
-ends-trimmed [] = refl
-ends-trimmed (byte ∷ bytes) = trimmed-cons (nat_eq byte 0 && nat_eq (length (trimmed bytes)) 0) byte (trimmed bytes) refl (ends-trimmed bytes)
+pub ends-trimmed_bytes : (bytes : List ℕ) → ends_in_zero (trimmed_bytes bytes) ≡ false
+ends-trimmed_bytes [] = refl
+ends-trimmed_bytes (byte ∷ bytes) = trimmed_bytes-cons (nat_eq byte 0 && nat_eq (length (trimmed_bytes bytes)) 0) byte (trimmed_bytes bytes) refl (ends-trimmed_bytes bytes)
 
 shorter : (b : Bool) (n byte : ℕ) (rest : List ℕ) → length rest ≤ n → length (cond b [] (byte ∷ rest)) ≤ suc n
 shorter true n byte rest h = omega arith
 shorter false n byte rest h = omega (arith, h)
 
-pub length-trimmed : (bytes : List ℕ) → length (trimmed bytes) ≤ length bytes
-length-trimmed [] = omega arith
-length-trimmed (byte ∷ bytes) =
-    shorter (nat_eq byte 0 && nat_eq (length (trimmed bytes)) 0) (length bytes) byte (trimmed bytes) (length-trimmed bytes)
+pub length-trimmed_bytes : (bytes : List ℕ) → length (trimmed_bytes bytes) ≤ length bytes
+length-trimmed_bytes [] = omega arith
+length-trimmed_bytes (byte ∷ bytes) =
+    shorter (nat_eq byte 0 && nat_eq (length (trimmed_bytes bytes)) 0) (length bytes) byte (trimmed_bytes bytes) (length-trimmed_bytes bytes)

@@ -23,9 +23,9 @@ use Rattle.peer_proto.specs.declared.say_head.SayHead.{SayHead}
 use Rattle.peer_proto.specs.declared.opcode.Opcode.{Opcode}
 use Rattle.peer_proto.specs.declared.fault.PeerFault.{PeerFault}
 use Rattle.peer_proto.specs.Opcode.{opcode_byte}
-use Rattle.peer_proto.specs.Header.{opcode_in, ◌>>=◌, when, Answers}
+use Rattle.peer_proto.specs.Header.{opcode_in, ◌>>=◌, when, AnswersBytes}
 use Rattle.peer_proto.specs.Ids.{id_bytes, ids_in, are_id_bytes}
-use Rattle.peer_proto.specs.Say.{form_byte, form_opcode, form_of, refusal_result, refusal_of, to_number, to_epoch, say_form, say_result, no_row, say_row, say_body, say_head, say_head_bytes, say_bytes, ends_in_zero, IsEnd, IsRefusal, IsSay, IsReply, say_head_at, is_say_head, has_no_row, is_row_of, is_refusal_result, has_form, fits_say, say_of, reply_of, reply_in, say_in}
+use Rattle.peer_proto.specs.Say.{form_byte, form_opcode, form_of, refusal_result, refusal_of, to_number, to_epoch, say_form, say_result, no_row, say_row, say_body, say_head, say_head_bytes, say_bytes, ends_in_zero, IsEnd, IsRefusal, IsPeerSay, IsPeerRsp, say_head_at, is_say_head, has_no_row, fits_row_head, is_refusal_result, has_form, fits_say, peer_say_of, peer_reply_of, reply_in, say_in}
 use Rattle.peer_proto.proofs.IdLemmas.{both_pass, pass_both, ids-back, ids-are, ids_ascend, ids-again, ids-pass}
 use Rattle.peer_proto.proofs.HeadLemmas.{header-in, opcode-in, common-read, bind-ok, when-ok, answered, same_common, none, byte-below, drop-bytes, same_reading}
 
@@ -232,7 +232,7 @@ same_as head form text result row is range facts op same_result rows =
 -- what a header that fits, of this form, answers
 spelled : (form : Form) (head : SayHead) (body : List ℕ) → AreBytes body → form_byte form ≡ head.form → SayRange head → SayFacts head body
     → nat_eq head.common.opcode (opcode_byte (form_opcode form)) ≡ true → has_form form head body ≡ true
-    → (say_head (reply_of form head body) ≡ head) × (say_body (say_of form head body) ≡ body) × IsSay (record { 0 = head.common.epoch }) (say_of form head body)
+    → (say_head (peer_reply_of form head body) ≡ head) × (say_body (peer_say_of form head body) ≡ body) × IsPeerSay (record { 0 = head.common.epoch }) (peer_say_of form head body)
 spelled forms.Success head body bytes is range facts op h =
     let a = both_pass (nat_eq head.result 0 && has_no_row head.row) (nat_eq (length body) 0) h in
     let b = both_pass (nat_eq head.result 0) (has_no_row head.row) a.0 in
@@ -253,7 +253,7 @@ spelled forms.Objects head body bytes is range facts op h =
       (ids-are body bytes a.1, ids_ascend body a.1, omega (arith, ap length back, facts.counted, range.common.data_length)),
     )
 spelled forms.Row head body bytes is range facts op h =
-    let a = both_pass (nat_eq head.result 0) (is_row_of head.row body) h in
+    let a = both_pass (nat_eq head.result 0) (fits_row_head head.row body) h in
     let b = both_pass (nat_le head.row.index 30 && not (nat_eq head.row.from 0) && nat_le (length body) head.row.size) (not (ends_in_zero body)) a.1 in
     let c = both_pass (nat_le head.row.index 30 && not (nat_eq head.row.from 0)) (nat_le (length body) head.row.size) b.0 in
     let d = both_pass (nat_le head.row.index 30) (not (nat_eq head.row.from 0)) c.0 in
@@ -289,32 +289,32 @@ spelled forms.Refused head body bytes is range facts op h =
 
 -- what is read is spelled so
 say-found : (bytes : List ℕ) (rsp : PeerRsp) (form : Option Form) → AreBytes bytes → form_of (u8_at 21 bytes) ≡ form
-    → 48 ≤ length bytes → u8_at 0 bytes ≡ 1 → reply_in form (say_head_at bytes) (drop 48 bytes) ≡ Ok rsp → IsReply rsp × (bytes ≡ say_bytes rsp)
+    → 48 ≤ length bytes → u8_at 0 bytes ≡ 1 → reply_in form (say_head_at bytes) (drop 48 bytes) ≡ Ok rsp → IsPeerRsp rsp × (bytes ≡ say_bytes rsp)
 say-found bytes rsp None fits found long version h = absurd cc
 say-found bytes rsp (Some form) fits found long version h =
     let head : SayHead = say_head_at bytes in
     let body : List ℕ = drop 48 bytes in
-    let w = when-ok (fits_say form head body) (reply_of form head body) rsp h in
+    let w = when-ok (fits_say form head body) (peer_reply_of form head body) rsp h in
     let range = say-range bytes fits in
     let a = both_pass (nat_eq head.common.opcode (opcode_byte (form_opcode form)) && is_say_head head body) (has_form form head body) w.0 in
     let b = both_pass (nat_eq head.common.opcode (opcode_byte (form_opcode form))) (is_say_head head body) a.0 in
     let facts = say-facts head body b.1 in
     let s = spelled form head body (drop-bytes 48 bytes fits) (form_byte-of (u8_at 21 bytes) form found) range facts b.0 a.1 in
     let whole : bytes ≡ say_head_bytes head ++ body = (say-head-stands bytes fits long version).parts in
-    let text : say_bytes (reply_of form head body) ≡ bytes
-    = ap (λ (k : SayHead). say_head_bytes k ++ say_body (say_of form head body)) s.0 ∙ ap (λ (rest : List ℕ). say_head_bytes head ++ rest) s.1 ∙ sym whole in
-    let is : IsReply (reply_of form head body)
+    let text : say_bytes (peer_reply_of form head body) ≡ bytes
+    = ap (λ (k : SayHead). say_head_bytes k ++ say_body (peer_say_of form head body)) s.0 ∙ ap (λ (rest : List ℕ). say_head_bytes head ++ rest) s.1 ∙ sym whole in
+    let is : IsPeerRsp (peer_reply_of form head body)
     = record { number = range.common.id; epoch = (facts.epoch, range.common.epoch); say = s.2 } in
-    subst (λ (r : PeerRsp). IsReply r × (bytes ≡ say_bytes r)) w.1 (is, sym text)
+    subst (λ (r : PeerRsp). IsPeerRsp r × (bytes ≡ say_bytes r)) w.1 (is, sym text)
 
-pub say-read : (bytes : List ℕ) (rsp : PeerRsp) → AreBytes bytes → say_in bytes ≡ Ok rsp → IsReply rsp × (bytes ≡ say_bytes rsp)
+pub say-read : (bytes : List ℕ) (rsp : PeerRsp) → AreBytes bytes → say_in bytes ≡ Ok rsp → IsPeerRsp rsp × (bytes ≡ say_bytes rsp)
 say-read bytes rsp fits h =
     let b = bind-ok (opcode_in bytes) (λ (opcode : Opcode). reply_in (form_of (u8_at 21 bytes)) (say_head_at bytes) (drop 48 bytes)) rsp h in
     let start = header-in bytes b.0 b.1 in
     say-found bytes rsp (form_of (u8_at 21 bytes)) fits refl start.long start.version b.2
 
-pub say-is_found : (bytes : List ℕ) (r : Result PeerRsp PeerFault) → AreBytes bytes → Answers (say_in bytes) r
-    → IfOk r (λ rsp. IsReply rsp × (bytes ≡ say_bytes rsp))
+pub say-is_found : (bytes : List ℕ) (r : Result PeerRsp PeerFault) → AreBytes bytes → AnswersBytes (say_in bytes) r
+    → IfOk r (λ rsp. IsPeerRsp rsp × (bytes ≡ say_bytes rsp))
 say-is_found bytes (Ok rsp) fits h = say-read bytes rsp fits (answered (say_in bytes) rsp h)
 say-is_found bytes (Err fault) fits h = tt
 
@@ -323,7 +323,7 @@ say-is_found bytes (Err fault) fits h = tt
 abbrev reply : ℕ → Epoch → PeerSay → PeerRsp
 reply number epoch say = record { number = number; epoch = epoch; say = say }
 
-short-of : (epoch : Epoch) (say : PeerSay) → IsSay epoch say → length (say_body say) < 2 ^ 32
+short-of : (epoch : Epoch) (say : PeerSay) → IsPeerSay epoch say → length (say_body say) < 2 ^ 32
 short-of epoch says.Success is = omega arith
 short-of epoch (says.Piece bytes) is = is
 short-of epoch (says.Objects oids) is = is.2
@@ -331,7 +331,7 @@ short-of epoch (says.Row row) is = omega (arith, is.within, is.size)
 short-of epoch says.NoRow is = omega arith
 short-of epoch (says.Refused refusal) is = omega arith
 
-facts-of : (number : ℕ) (epoch : Epoch) (say : PeerSay) → IsReply (reply number epoch say) → SayFacts (say_head (reply number epoch say)) (say_body say)
+facts-of : (number : ℕ) (epoch : Epoch) (say : PeerSay) → IsPeerRsp (reply number epoch say) → SayFacts (say_head (reply number epoch say)) (say_body say)
 facts-of number epoch say is = record {
   flags = refl;
   epoch = is.epoch.0;
@@ -341,7 +341,7 @@ facts-of number epoch say is = record {
   zeros_40 = refl;
 }
 
-form-fits : (number : ℕ) (epoch : Epoch) (say : PeerSay) → IsReply (reply number epoch say)
+form-fits : (number : ℕ) (epoch : Epoch) (say : PeerSay) → IsPeerRsp (reply number epoch say)
     → has_form (say_form say) (say_head (reply number epoch say)) (say_body say) ≡ true
 form-fits number epoch says.Success is = refl
 form-fits number epoch (says.Piece bytes) is = refl
@@ -366,7 +366,7 @@ same_byte forms.Row = refl
 same_byte forms.NoRow = refl
 same_byte forms.Refused = refl
 
-fits-of : (number : ℕ) (epoch : Epoch) (say : PeerSay) → IsReply (reply number epoch say)
+fits-of : (number : ℕ) (epoch : Epoch) (say : PeerSay) → IsPeerRsp (reply number epoch say)
     → fits_say (say_form say) (say_head (reply number epoch say)) (say_body say) ≡ true
 fits-of number epoch say is =
     let head : SayHead = say_head (reply number epoch say) in
@@ -392,7 +392,7 @@ record RowRange (row : RowHead) : Type 0 where
   to : row.to < 2 ^ 32
   size : row.size < 2 ^ 32
 
-row-range : (epoch : Epoch) (say : PeerSay) → IsSay epoch say → RowRange (say_row say)
+row-range : (epoch : Epoch) (say : PeerSay) → IsPeerSay epoch say → RowRange (say_row say)
 row-range epoch says.Success is = record { from = omega arith; to = omega arith; size = omega arith }
 row-range epoch (says.Piece bytes) is = record { from = omega arith; to = omega arith; size = omega arith }
 row-range epoch (says.Objects oids) is = record { from = omega arith; to = omega arith; size = omega arith }
@@ -400,7 +400,7 @@ row-range epoch (says.Row row) is = record { from = is.from.1; to = end-below ro
 row-range epoch says.NoRow is = record { from = omega arith; to = omega arith; size = omega arith }
 row-range epoch (says.Refused refusal) is = record { from = omega arith; to = omega arith; size = omega arith }
 
-range-of : (number : ℕ) (epoch : Epoch) (say : PeerSay) → IsReply (reply number epoch say) → SayRange (say_head (reply number epoch say))
+range-of : (number : ℕ) (epoch : Epoch) (say : PeerSay) → IsPeerRsp (reply number epoch say) → SayRange (say_head (reply number epoch say))
 range-of number epoch say is =
     let row = row-range epoch say is.say in
     record {
@@ -414,7 +414,7 @@ range-of number epoch say is =
       zeros_40 = omega arith;
     }
 
-say-of : (number : ℕ) (epoch : Epoch) (say : PeerSay) → IsSay epoch say → say_of (say_form say) (say_head (reply number epoch say)) (say_body say) ≡ say
+say-of : (number : ℕ) (epoch : Epoch) (say : PeerSay) → IsPeerSay epoch say → peer_say_of (say_form say) (say_head (reply number epoch say)) (say_body say) ≡ say
 say-of number epoch says.Success is = refl
 say-of number epoch (says.Piece bytes) is = refl
 say-of number epoch (says.Objects oids) is = ap (λ (ids : List ℕ). says.Objects ids) (ids-again oids is.0)
@@ -423,7 +423,7 @@ say-of number epoch (says.Row row) is =
 say-of number epoch says.NoRow is = refl
 say-of number epoch (says.Refused refusal) is = ap (λ (r : Refusal). says.Refused r) (refusal-again refusal epoch is)
 
-reply-again : (number : ℕ) (epoch : Epoch) (say : PeerSay) → IsReply (reply number epoch say)
+reply-again : (number : ℕ) (epoch : Epoch) (say : PeerSay) → IsPeerRsp (reply number epoch say)
     → say_in (say_bytes (reply number epoch say)) ≡ Ok (reply number epoch say)
 reply-again number epoch say is =
     let rsp : PeerRsp = reply number epoch say in
@@ -435,19 +435,19 @@ reply-again number epoch say is =
     = opcode-in (say_bytes rsp) (form_opcode form) (record { long = long; version = refl; opcode_is = refl }) in
     let read : say_head_at (say_bytes rsp) ≡ head = say-head-read head body (range-of number epoch say is) in
     let found : form_of (u8_at 21 (say_bytes rsp)) ≡ Some form = form_of-byte form in
-    let fits : reply_in (Some form) head body ≡ Ok (reply_of form head body)
-    = ap (λ (t : Bool). when t (reply_of form head body)) (fits-of number epoch say is) in
+    let fits : reply_in (Some form) head body ≡ Ok (peer_reply_of form head body)
+    = ap (λ (t : Bool). when t (peer_reply_of form head body)) (fits-of number epoch say is) in
     ap (λ (r : Result Opcode PeerFault). r >>= λ opcode. reply_in (form_of (u8_at 21 (say_bytes rsp))) (say_head_at (say_bytes rsp)) (drop 48 (say_bytes rsp))) start
     ∙ ap (λ (f : Option Form). reply_in f (say_head_at (say_bytes rsp)) (drop 48 (say_bytes rsp))) found
     ∙ ap (λ (h : SayHead). reply_in (Some form) h (drop 48 (say_bytes rsp))) read
     ∙ fits ∙ ap (λ (s : PeerSay). Ok (reply number epoch s)) (say-of number epoch say is.say)
 
-pub say-again : (rsp : PeerRsp) → IsReply rsp → say_in (say_bytes rsp) ≡ Ok rsp
+pub say-again : (rsp : PeerRsp) → IsPeerRsp rsp → say_in (say_bytes rsp) ≡ Ok rsp
 say-again rsp is = reply-again rsp.number rsp.epoch rsp.say is
 
-pub say-is_only : (bytes : List ℕ) (r : Result PeerRsp PeerFault) (rsp : PeerRsp) → Answers (say_in bytes) r → IsReply rsp → bytes ≡ say_bytes rsp
-    → Answers (Ok rsp) r
-say-is_only bytes r rsp h is text = subst (λ (read : Result PeerRsp PeerFault). Answers read r) (ap say_in text ∙ say-again rsp is) h
+pub say-is_only : (bytes : List ℕ) (r : Result PeerRsp PeerFault) (rsp : PeerRsp) → AnswersBytes (say_in bytes) r → IsPeerRsp rsp → bytes ≡ say_bytes rsp
+    → AnswersBytes (Ok rsp) r
+say-is_only bytes r rsp h is text = subst (λ (read : Result PeerRsp PeerFault). AnswersBytes read r) (ap say_in text ∙ say-again rsp is) h
 
-pub say-differ : (a b : PeerRsp) → IsReply a → IsReply b → say_bytes a ≡ say_bytes b → a ≡ b
+pub say-differ : (a b : PeerRsp) → IsPeerRsp a → IsPeerRsp b → say_bytes a ≡ say_bytes b → a ≡ b
 say-differ a b is_a is_b same = same_reading (say_in (say_bytes a)) a b (say-again a is_a) (ap say_in same ∙ say-again b is_b)

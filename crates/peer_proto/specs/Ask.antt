@@ -61,19 +61,20 @@ abbrev pub ask_bytes : PeerReq → List ℕ
 ask_bytes req = ask_head_bytes (ask_head req) ++ ask_body req.ask
 
 -- what a request may ask for
-abbrev pub IsAsk : PeerAsk → Type 0
-IsAsk (asks.Create key size offset bytes) = IsOid key.oid × (key.index ≤ 30) × (size < 2 ^ 32) × (offset < 2 ^ 32) × (length bytes < 2 ^ 32)
-IsAsk (asks.Write key offset bytes) = IsOid key.oid × (key.index ≤ 30) × (offset < 2 ^ 32) × (length bytes < 2 ^ 32)
-IsAsk (asks.Read key offset size) = IsOid key.oid × (key.index ≤ 30) × (offset < 2 ^ 32) × (size < 2 ^ 32)
-IsAsk asks.List = Unit {0}
-IsAsk (asks.RecoverRead oid level) = IsOid oid × IsEpoch level
+abbrev pub IsPeerAsk : PeerAsk → Type 0
+IsPeerAsk (asks.Create key size offset bytes) = IsOid key.oid × (key.index ≤ 30) × (size < 2 ^ 32) × (offset < 2 ^ 32)
+    × (length bytes < 2 ^ 32)
+IsPeerAsk (asks.Write key offset bytes) = IsOid key.oid × (key.index ≤ 30) × (offset < 2 ^ 32) × (length bytes < 2 ^ 32)
+IsPeerAsk (asks.Read key offset size) = IsOid key.oid × (key.index ≤ 30) × (offset < 2 ^ 32) × (size < 2 ^ 32)
+IsPeerAsk asks.List = Unit {0}
+IsPeerAsk (asks.RecoverRead oid level) = IsOid oid × IsEpoch level
 
 -- the requests that have a spelling
-pub record IsRequest (req : PeerReq) : Type 0 where
+pub record IsPeerReq (req : PeerReq) : Type 0 where
   pub from : req.from.0 < 64
   pub number : req.number < 2 ^ 32
   pub epoch : IsEpoch req.epoch
-  pub ask : IsAsk req.ask
+  pub ask : IsPeerAsk req.ask
 
 -- the header of bytes, field by field
 abbrev pub ask_head_at : List ℕ → AskHead
@@ -108,23 +109,23 @@ abbrev pub fits_ask : Opcode → AskHead → List ℕ → Bool
 fits_ask opcode head body = is_ask_head head body && has_fields opcode head body
 
 -- what a header that fits asks for
-abbrev pub ask_of : Opcode → AskHead → List ℕ → PeerAsk
-ask_of opcodes.Create head body = asks.Create (record { oid = head.oid; index = head.index }) head.word head.offset body
-ask_of opcodes.Read head body = asks.Read (record { oid = head.oid; index = head.index }) head.offset head.word
-ask_of opcodes.Write head body = asks.Write (record { oid = head.oid; index = head.index }) head.offset body
-ask_of opcodes.List head body = asks.List
-ask_of opcodes.RecoverRead head body = asks.RecoverRead head.oid (record { 0 = head.word })
+abbrev pub peer_ask_of : Opcode → AskHead → List ℕ → PeerAsk
+peer_ask_of opcodes.Create head body = asks.Create (record { oid = head.oid; index = head.index }) head.word head.offset body
+peer_ask_of opcodes.Read head body = asks.Read (record { oid = head.oid; index = head.index }) head.offset head.word
+peer_ask_of opcodes.Write head body = asks.Write (record { oid = head.oid; index = head.index }) head.offset body
+peer_ask_of opcodes.List head body = asks.List
+peer_ask_of opcodes.RecoverRead head body = asks.RecoverRead head.oid (record { 0 = head.word })
 
-abbrev pub request_of : Opcode → AskHead → List ℕ → PeerReq
-request_of opcode head body = record {
+abbrev pub peer_request_of : Opcode → AskHead → List ℕ → PeerReq
+peer_request_of opcode head body = record {
   from = record { 0 = head.sender };
   number = head.common.id;
   epoch = record { 0 = head.common.epoch };
-  ask = ask_of opcode head body;
+  ask = peer_ask_of opcode head body;
 }
 
 abbrev pub request_in : Opcode → AskHead → List ℕ → Result PeerReq PeerFault
-request_in opcode head body = when (fits_ask opcode head body) (request_of opcode head body)
+request_in opcode head body = when (fits_ask opcode head body) (peer_request_of opcode head body)
 
 -- the request that bytes spell, or the first refusal
 abbrev pub ask_in : List ℕ → Result PeerReq PeerFault

@@ -34,18 +34,18 @@ abbrev pub ◌>>=◌ : {A B : Type 0} → Result A PeerFault → (A → Result B
 (Err fault) >>= next = Err fault
 
 -- the same, with the first 16 bytes
-abbrev pub header_in : List ℕ → Result (Opcode × Common) PeerFault
-header_in bytes = opcode_in bytes >>= λ opcode. Ok (opcode, common_at bytes)
+abbrev pub peer_header_in : List ℕ → Result (Opcode × Common) PeerFault
+peer_header_in bytes = opcode_in bytes >>= λ opcode. Ok (opcode, common_at bytes)
 
 -- a message whose fields fit, or the last refusal
 abbrev pub when : {A : Type 0} → Bool → A → Result A PeerFault
 when fits message = if fits then Ok message else Err BadField
 
 -- an answer is what bytes read as: the message, unless there is no memory for it, or the refusal
-abbrev pub Answers : {A : Type 0} → Result A PeerFault → Result A PeerFault → Type 0
-Answers (Ok message) (Ok given) = given ≡ message
-Answers (Ok message) (Err fault) = fault ≡ NoMemory
-Answers (Err fault) answer = answer ≡ Err fault
+abbrev pub AnswersBytes : {A : Type 0} → Result A PeerFault → Result A PeerFault → Type 0
+AnswersBytes (Ok message) (Ok given) = given ≡ message
+AnswersBytes (Ok message) (Err fault) = fault ≡ NoMemory
+AnswersBytes (Err fault) answer = answer ≡ Err fault
 
 -- epochs are counted from 1
 abbrev pub IsEpoch : Epoch → Type 0

@@ -152,19 +152,19 @@ IsRefusal epoch Recovery = Unit {0}
 IsRefusal epoch NoObj = Unit {0}
 
 -- what a node in this epoch may answer
-abbrev pub IsSay : Epoch → PeerSay → Type 0
-IsSay epoch says.Success = Unit {0}
-IsSay epoch (says.Piece bytes) = length bytes < 2 ^ 32
-IsSay epoch (says.Objects oids) = All IsOid oids × IsStrictlyIncreasing oids × (length (id_bytes oids) < 2 ^ 32)
-IsSay epoch (says.Row row) = IsRow row
-IsSay epoch says.NoRow = Unit {0}
-IsSay epoch (says.Refused refusal) = IsRefusal epoch refusal
+abbrev pub IsPeerSay : Epoch → PeerSay → Type 0
+IsPeerSay epoch says.Success = Unit {0}
+IsPeerSay epoch (says.Piece bytes) = length bytes < 2 ^ 32
+IsPeerSay epoch (says.Objects oids) = All IsOid oids × IsStrictlyIncreasing oids × (length (id_bytes oids) < 2 ^ 32)
+IsPeerSay epoch (says.Row row) = IsRow row
+IsPeerSay epoch says.NoRow = Unit {0}
+IsPeerSay epoch (says.Refused refusal) = IsRefusal epoch refusal
 
 -- the replies that have a spelling
-pub record IsReply (rsp : PeerRsp) : Type 0 where
+pub record IsPeerRsp (rsp : PeerRsp) : Type 0 where
   pub number : rsp.number < 2 ^ 32
   pub epoch : IsEpoch rsp.epoch
-  pub say : IsSay rsp.epoch rsp.say
+  pub say : IsPeerSay rsp.epoch rsp.say
 
 -- the header of bytes, field by field
 abbrev pub say_head_at : List ℕ → SayHead
@@ -187,8 +187,8 @@ is_say_head head body =
 abbrev pub has_no_row : RowHead → Bool
 has_no_row row = row.index == 0 && row.from == 0 && row.to == 0 && row.size == 0
 
-abbrev pub is_row_of : RowHead → List ℕ → Bool
-is_row_of row body = nat_le row.index 30 && not (row.from == 0) && nat_le (length body) row.size && not (ends_in_zero body)
+abbrev pub fits_row_head : RowHead → List ℕ → Bool
+fits_row_head row body = nat_le row.index 30 && not (row.from == 0) && nat_le (length body) row.size && not (ends_in_zero body)
 
 abbrev pub is_refusal_result : ℕ → Bool
 is_refusal_result result = result == 0x81 || result == 0x82 || result == 0x83 || result == 0x02
@@ -198,7 +198,7 @@ abbrev pub has_form : Form → SayHead → List ℕ → Bool
 has_form forms.Success head body = head.result == 0 && has_no_row head.row && length body == 0
 has_form forms.Piece head body = head.result == 0 && has_no_row head.row
 has_form forms.Objects head body = head.result == 0 && has_no_row head.row && are_id_bytes body
-has_form forms.Row head body = head.result == 0 && is_row_of head.row body
+has_form forms.Row head body = head.result == 0 && fits_row_head head.row body
 has_form forms.NoRow head body = head.result == 0 && has_no_row head.row && length body == 0
 has_form forms.Refused head body = is_refusal_result head.result && has_no_row head.row && length body == 0
 
@@ -206,26 +206,30 @@ abbrev pub fits_say : Form → SayHead → List ℕ → Bool
 fits_say form head body = head.common.opcode == opcode_byte (form_opcode form) && is_say_head head body && has_form form head body
 
 -- what a header that fits answers
-abbrev pub say_of : Form → SayHead → List ℕ → PeerSay
-say_of forms.Success head body = says.Success
-say_of forms.Piece head body = says.Piece body
-say_of forms.Objects head body = says.Objects (ids_in body)
-say_of forms.Row head body = says.Row (record {
+abbrev pub peer_say_of : Form → SayHead → List ℕ → PeerSay
+peer_say_of forms.Success head body = says.Success
+peer_say_of forms.Piece head body = says.Piece body
+peer_say_of forms.Objects head body = says.Objects (ids_in body)
+peer_say_of forms.Row head body = says.Row (record {
   index = head.row.index;
   from = record { 0 = head.row.from };
   to = to_epoch head.row.to;
   length = head.row.size;
   bytes = body;
 })
-say_of forms.NoRow head body = says.NoRow
-say_of forms.Refused head body = says.Refused (refusal_of head.result (record { 0 = head.common.epoch }))
+peer_say_of forms.NoRow head body = says.NoRow
+peer_say_of forms.Refused head body = says.Refused (refusal_of head.result (record { 0 = head.common.epoch }))
 
-abbrev pub reply_of : Form → SayHead → List ℕ → PeerRsp
-reply_of form head body = record { number = head.common.id; epoch = record { 0 = head.common.epoch }; say = say_of form head body }
+abbrev pub peer_reply_of : Form → SayHead → List ℕ → PeerRsp
+peer_reply_of form head body = record {
+  number = head.common.id;
+  epoch = record { 0 = head.common.epoch };
+  say = peer_say_of form head body;
+}
 
 abbrev pub reply_in : Option Form → SayHead → List ℕ → Result PeerRsp PeerFault
 reply_in None head body = Err BadField
-reply_in (Some form) head body = when (fits_say form head body) (reply_of form head body)
+reply_in (Some form) head body = when (fits_say form head body) (peer_reply_of form head body)
 
 -- the reply that bytes spell, or the first refusal
 abbrev pub say_in : List ℕ → Result PeerRsp PeerFault

@@ -1,6 +1,6 @@
 ghost use Rattle.std.specs.Prelude.{◌≡◌, ◌≤◌, true, Ok, IfOk};
-ghost use Rattle.peer_proto.specs.Header.{Answers};
-ghost use Rattle.peer_proto.specs.Ask.{ask_bytes, ask_in, ask_of, fits_ask, request_in, IsRequest};
+ghost use Rattle.peer_proto.specs.Header.{AnswersBytes};
+ghost use Rattle.peer_proto.specs.Ask.{ask_bytes, ask_in, peer_ask_of, fits_ask, request_in, IsPeerReq};
 ghost use Rattle.peer_proto.specs.Ids.{is_oid};
 
 use crate::ask::{PeerAsk, PeerReq};
@@ -40,7 +40,7 @@ fn key_of(head: &AskHead) -> Key
 /// What a header that fits asks for.
 fn ask_of(alloc: Global, opcode: Opcode, head: &AskHead, body: &[u8]) -> Result<PeerAsk, NoMemory>
     requires { fits_ask opcode head.now body.now ≡ true }
-    ensures { IfOk result (λ ask. ask ≡ ask_of opcode head.now body.now) }
+    ensures { IfOk result (λ ask. ask ≡ peer_ask_of opcode head.now body.now) }
 {
     Ok(match opcode {
         Opcode::Create => PeerAsk::Create {
@@ -74,7 +74,7 @@ fn request_in(
     head: &AskHead,
     body: &[u8],
 ) -> Result<PeerReq, PeerFault>
-    ensures { Answers (request_in opcode head.now body.now) result }
+    ensures { AnswersBytes (request_in opcode head.now body.now) result }
 {
     if !fits_ask(opcode, head, body) {
         return Err(PeerFault::BadField);
@@ -89,7 +89,7 @@ fn request_in(
 
 /// Reads the header, and then what stands behind it.
 fn read_ask(alloc: Global, bytes: &[u8]) -> Result<PeerReq, PeerFault>
-    ensures { Answers (ask_in bytes.now) result }
+    ensures { AnswersBytes (ask_in bytes.now) result }
 {
     let (opcode, common) = header_in(bytes)?;
     let head = ask_head_at(common, bytes);
@@ -99,11 +99,11 @@ fn read_ask(alloc: Global, bytes: &[u8]) -> Result<PeerReq, PeerFault>
 /// The request that bytes spell, all of the bytes. Only for bytes that spell one can memory be wanting.
 pub fn decode_ask(alloc: Global, bytes: &[u8]) -> Result<PeerReq, PeerFault>
     // What is read is spelled so.
-    ensures ok { IfOk result (λ req. IsRequest req × (bytes.now ≡ ask_bytes req)) }
+    ensures ok { IfOk result (λ req. IsPeerReq req × (bytes.now ≡ ask_bytes req)) }
     // What is spelled so is read.
-    ensures only { (req : PeerReq) → IsRequest req → bytes.now ≡ ask_bytes req → Answers (Ok req) result }
+    ensures only { (req : PeerReq) → IsPeerReq req → bytes.now ≡ ask_bytes req → AnswersBytes (Ok req) result }
     // Which refusal it is.
-    ensures refused { Answers (ask_in bytes.now) result }
+    ensures refused { AnswersBytes (ask_in bytes.now) result }
 {
     read_ask(alloc, bytes)
 }

@@ -1,5 +1,5 @@
 ghost use Rattle.std.specs.Prelude.{◌≡◌};
-ghost use Rattle.peer_proto.specs.Header.{header_in};
+ghost use Rattle.peer_proto.specs.Header.{peer_header_in};
 
 use crate::fault::PeerFault;
 use crate::opcode::Opcode;
@@ -12,7 +12,7 @@ pub const INDEX_MAX: u8 = 30;
 
 /// The opcode and the first 16 bytes of bytes that have a header of this version.
 pub fn header_in(bytes: &[u8]) -> Result<(Opcode, Common), PeerFault>
-    ensures { result ≡ header_in bytes.now }
+    ensures { result ≡ peer_header_in bytes.now }
 {
     let common = read_common(bytes)?;
     match Opcode::from_byte(common.opcode) {

@@ -1,10 +1,10 @@
 //! What nodes say to each other: requests, replies, and the bytes that they go over the wire as. Beside them stand the
 //! plain types that pass between the parts of a node.
 //!
-//! The crate stands on `object_id`, `object_store` and `epoch_log`. A message's bytes are one spelling of it, said once
-//! for both directions in `specs/Ask.antt` and `specs/Say.antt`: a header of 48 bytes, and what stands behind it. The
-//! encoders give that spelling. The decoders take exactly the bytes that spell a message, and else answer with the first
-//! refusal. Memory is taken only for what an answer keeps.
+//! The crate stands on `object_id`, `object_store` and `sheep_proto`, whose first 16 bytes of a header it shares. A
+//! message's bytes are one spelling of it, said once for both directions in `specs/Ask.antt` and `specs/Say.antt`: a
+//! header of 48 bytes, and what stands behind it. The encoders give that spelling. The decoders take exactly the
+//! bytes that spell a message, and else answer with the first refusal. Memory is taken only for what an answer keeps.
 #![tactic(auto)]
 
 mod ask;

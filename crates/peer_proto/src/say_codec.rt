@@ -1,6 +1,6 @@
 ghost use Rattle.std.specs.Prelude.{◌≡◌, ◌++◌, true, Ok, OnOk, IfOk};
-ghost use Rattle.peer_proto.specs.Header.{Answers};
-ghost use Rattle.peer_proto.specs.Say.{form_of, say_body, say_head_at, say_bytes, refusal_of, to_epoch, say_of, reply_of, reply_in, say_in, fits_say, IsReply};
+ghost use Rattle.peer_proto.specs.Header.{AnswersBytes};
+ghost use Rattle.peer_proto.specs.Say.{form_of, say_body, say_head_at, say_bytes, refusal_of, to_epoch, peer_say_of, peer_reply_of, reply_in, say_in, fits_say, IsPeerRsp};
 
 use crate::fault::PeerFault;
 use crate::header::header_in;
@@ -57,7 +57,7 @@ fn to_epoch(to: u32) -> Option<Epoch>
 /// What a header that fits answers.
 fn say_of(alloc: Global, form: Form, head: &SayHead, body: &[u8]) -> Result<PeerSay, NoMemory>
     requires { fits_say form head.now body.now ≡ true }
-    ensures { IfOk result (λ say. say ≡ say_of form head.now body.now) }
+    ensures { IfOk result (λ say. say ≡ peer_say_of form head.now body.now) }
 {
     Ok(match form {
         Form::Success => PeerSay::Success,
@@ -82,7 +82,7 @@ fn reply_in(
     head: &SayHead,
     body: &[u8],
 ) -> Result<PeerRsp, PeerFault>
-    ensures { Answers (reply_in form head.now body.now) result }
+    ensures { AnswersBytes (reply_in form head.now body.now) result }
 {
     let Some(form) = form else {
         return Err(PeerFault::BadField);
@@ -99,7 +99,7 @@ fn reply_in(
 
 /// Reads the header, and then what stands behind it.
 fn read_say(alloc: Global, bytes: &[u8]) -> Result<PeerRsp, PeerFault>
-    ensures { Answers (say_in bytes.now) result }
+    ensures { AnswersBytes (say_in bytes.now) result }
 {
     let (_, common) = header_in(bytes)?;
     let head = say_head_at(common, bytes);
@@ -114,11 +114,11 @@ fn read_say(alloc: Global, bytes: &[u8]) -> Result<PeerRsp, PeerFault>
 /// The reply that bytes spell, all of the bytes. Only for bytes that spell one can memory be wanting.
 pub fn decode_say(alloc: Global, bytes: &[u8]) -> Result<PeerRsp, PeerFault>
     // What is read is spelled so.
-    ensures ok { IfOk result (λ rsp. IsReply rsp × (bytes.now ≡ say_bytes rsp)) }
+    ensures ok { IfOk result (λ rsp. IsPeerRsp rsp × (bytes.now ≡ say_bytes rsp)) }
     // What is spelled so is read.
-    ensures only { (rsp : PeerRsp) → IsReply rsp → bytes.now ≡ say_bytes rsp → Answers (Ok rsp) result }
+    ensures only { (rsp : PeerRsp) → IsPeerRsp rsp → bytes.now ≡ say_bytes rsp → AnswersBytes (Ok rsp) result }
     // Which refusal it is.
-    ensures refused { Answers (say_in bytes.now) result }
+    ensures refused { AnswersBytes (say_in bytes.now) result }
 {
     read_say(alloc, bytes)
 }

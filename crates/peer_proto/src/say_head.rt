@@ -1,6 +1,6 @@
 ghost use Rattle.std.specs.Prelude.{◌≡◌, ◌%◌, ◌^◌, ◌≤◌, length};
 ghost use Rattle.sheep_proto.specs.Headers.{common_at};
-ghost use Rattle.peer_proto.specs.Say.{form_byte, form_opcode, form_of, refusal_result, to_number, ends_in_zero, say_form, say_result, say_row, say_body, say_head, say_head_bytes, say_head_at, is_say_head, has_no_row, is_row_of, is_refusal_result, has_form, fits_say, no_row};
+ghost use Rattle.peer_proto.specs.Say.{form_byte, form_opcode, form_of, refusal_result, to_number, ends_in_zero, say_form, say_result, say_row, say_body, say_head, say_head_bytes, say_head_at, is_say_head, has_no_row, fits_row_head, is_refusal_result, has_form, fits_say, no_row};
 
 use crate::header::INDEX_MAX;
 use crate::ids::{ID_BYTES, are_id_bytes};
@@ -255,7 +255,7 @@ fn ends_in_zero(bytes: &[u8]) -> bool
 }
 
 fn is_row_of(row: &RowHead, body: &[u8]) -> bool
-    ensures { result ≡ is_row_of row.now body.now }
+    ensures { result ≡ fits_row_head row.now body.now }
 {
     row.index <= INDEX_MAX
         && row.from != 0

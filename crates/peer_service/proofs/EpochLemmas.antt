@@ -15,7 +15,7 @@ use Rattle.epoch_log.specs.Epochs.{epoch_of, settled_of}
 use Rattle.object_store.specs.declared.fault.StoreFault.{StoreFault}
 use Rattle.object_store.specs.declared.key.Key.{Key}
 use Rattle.object_store.specs.Bytes.{zeros}
-use Rattle.object_store.specs.Rows.{is_open, is_kept, closed, closed_all, advanced_row, advanced, purged, ended_before, OpenFrom}
+use Rattle.object_store.specs.Rows.{is_open, is_kept, closed, closed_all, advanced_row, advanced, purged, has_ended_below, OpenFrom}
 use Rattle.object_store.specs.Store.{AllRows, SeenRow, rows_of, create_in, write_at, each, OpenUpTo}
 use Rattle.object_store.specs.Calls.{PurgeBelow, Has}
 use Rattle.object_store.proofs.RowLemmas.{closed-same, advanced-same}
@@ -27,10 +27,10 @@ use Rattle.peer_proto.specs.declared.ask.PeerReq.{PeerReq}
 use Rattle.peer_proto.specs.declared.say.Refusal.{Refusal}
 use Rattle.peer_service.specs.State.{Peer, is_dead_object, is_waiting, with_entry}
 use Rattle.peer_service.specs.Pending.{row_made, row_put}
-use Rattle.peer_service.specs.Fence.{refusal_at}
-use Rattle.peer_service.specs.Serve.{written, if_recovered, answered, fenced, served}
-use Rattle.peer_service.specs.Epochs.{stays_open, row_entering, rows_entering, entered, AreKept, settled_to}
-use Rattle.peer_service.specs.Reading.{dies, rows_but, without_objects, read_entry}
+use Rattle.peer_service.specs.Fence.{epoch_refusal}
+use Rattle.peer_service.specs.Serve.{peer_write_step, step_if_recovered, own_epoch_step, step_behind_fence, peer_step}
+use Rattle.peer_service.specs.Epochs.{stays_open, row_entering, rows_entering, peer_in_next_epoch, AreKept, peer_settled_to}
+use Rattle.peer_service.specs.LogReading.{kills_object, rows_but, without_objects, read_entry}
 use Rattle.peer_service.specs.Back.{closed_at_end, come_back}
 use Rattle.peer_service.proofs.RowLemmas.{none_open_left, open-kept_or_closed, open-purged, OpenFrom-map, OpenFrom-left, OpenUpTo-change, each-alike}
 use Rattle.peer_service.proofs.ServeLemmas.{read_changes_nothing}
@@ -39,12 +39,12 @@ use Rattle.peer_service.proofs.StepLemmas.{waits_no_more, waits_on}
 -- ---- the next epoch
 
 pub entered_rows : (me : NodeId) (targets : ℕ → ℕ → Policy → List NodeId) (peer : Peer) (oid : ℕ)
-    → rows_of (entered me targets peer).rows oid ≡ map (row_entering me targets peer oid) (rows_of peer.rows oid)
-unfolding entered
+    → rows_of (peer_in_next_epoch me targets peer).rows oid ≡ map (row_entering me targets peer oid) (rows_of peer.rows oid)
+unfolding peer_in_next_epoch
 entered_rows me targets peer oid = rows_of-each (rows_entering me targets peer) peer.rows oid refl
 
 pub entered_open : (me : NodeId) (targets : ℕ → ℕ → Policy → List NodeId) (peer : Peer) (oid : ℕ)
-    → filter is_open (rows_of (entered me targets peer).rows oid)
+    → filter is_open (rows_of (peer_in_next_epoch me targets peer).rows oid)
     ≡ filter (λ row. is_open row && stays_open me targets peer oid row.index) (rows_of peer.rows oid)
 entered_open me targets peer oid =
     ap (filter is_open) (entered_rows me targets peer oid) ∙ open-kept_or_closed (stays_open me targets peer oid) peer.epoch (rows_of peer.rows oid)
@@ -73,8 +73,8 @@ rows_advanced keeps oid last stays (row ∷ rows) same =
     ap₂ (λ (r : SeenRow) (rs : List SeenRow). r ∷ rs) (row_advanced keeps oid last stays row same.0) (rows_advanced keeps oid last stays rows same.1)
 
 pub entered_call : (keeps : List Key) (me : NodeId) (targets : ℕ → ℕ → Policy → List NodeId) (peer : Peer) → AreKept keeps me targets peer
-    → each (advanced keeps (peer.epoch + 1)) peer.rows ≡ (entered me targets peer).rows
-unfolding entered
+    → each (advanced keeps (peer.epoch + 1)) peer.rows ≡ (peer_in_next_epoch me targets peer).rows
+unfolding peer_in_next_epoch
 entered_call keeps me targets peer kept =
     each-alike (advanced keeps (peer.epoch + 1)) (rows_entering me targets peer) peer.rows (λ q. refl)
     (λ q. rows_advanced keeps q peer.epoch (stays_open me targets peer q) (rows_of peer.rows q) (kept q))
@@ -82,14 +82,14 @@ entered_call keeps me targets peer kept =
 -- ---- settling
 
 pub settled_open : (settled : ℕ) (peer : Peer) (oid : ℕ)
-    → filter is_open (rows_of (settled_to settled peer).rows oid) ≡ filter is_open (rows_of peer.rows oid)
-unfolding settled_to
+    → filter is_open (rows_of (peer_settled_to settled peer).rows oid) ≡ filter is_open (rows_of peer.rows oid)
+unfolding peer_settled_to
 settled_open settled peer oid =
     ap (filter is_open) (rows_of-each (λ q. purged settled) peer.rows oid refl) ∙ open-purged settled (rows_of peer.rows oid)
 
-pub settled_stays : (settled : ℕ) (peer : Peer) (oid : ℕ) (row : SeenRow) → ended_before settled row.to ≡ false
-    → Has row (rows_of peer.rows oid) → Has row (rows_of (settled_to settled peer).rows oid)
-unfolding settled_to
+pub settled_stays : (settled : ℕ) (peer : Peer) (oid : ℕ) (row : SeenRow) → has_ended_below settled row.to ≡ false
+    → Has row (rows_of peer.rows oid) → Has row (rows_of (peer_settled_to settled peer).rows oid)
+unfolding peer_settled_to
 settled_stays settled peer oid row late had = row_stays peer.rows (PurgeBelow settled) oid row late had
 
 -- ---- the dead
@@ -105,28 +105,28 @@ but_none goes oid = go (goes oid)
     go false = refl
 
 pub read_rows : (entry : Entry) (peer : Peer) (oid : ℕ)
-    → rows_of (read_entry entry peer).rows oid ≡ cond (dies entry peer oid) [] (rows_of peer.rows oid)
+    → rows_of (read_entry entry peer).rows oid ≡ cond (kills_object entry peer oid) [] (rows_of peer.rows oid)
 unfolding read_entry without_objects
-read_rows entry peer oid = rows_of-each (rows_but (dies entry peer)) peer.rows oid (but_none (dies entry peer) oid)
+read_rows entry peer oid = rows_of-each (rows_but (kills_object entry peer)) peer.rows oid (but_none (kills_object entry peer) oid)
 
-pub read_goes : (entry : Entry) (peer : Peer) (oid : ℕ) → dies entry peer oid ≡ true → rows_of (read_entry entry peer).rows oid ≡ []
+pub read_goes : (entry : Entry) (peer : Peer) (oid : ℕ) → kills_object entry peer oid ≡ true → rows_of (read_entry entry peer).rows oid ≡ []
 read_goes entry peer oid is = read_rows entry peer oid ∙ ap (λ b. cond b [] (rows_of peer.rows oid)) is
 
-pub read_stays : (entry : Entry) (peer : Peer) (oid : ℕ) → dies entry peer oid ≡ false
+pub read_stays : (entry : Entry) (peer : Peer) (oid : ℕ) → kills_object entry peer oid ≡ false
     → rows_of (read_entry entry peer).rows oid ≡ rows_of peer.rows oid
 read_stays entry peer oid is = read_rows entry peer oid ∙ ap (λ b. cond b [] (rows_of peer.rows oid)) is
 
-pub read_pending : (entry : Entry) (peer : Peer) (oid : ℕ) (oids : List ℕ) → peer.pending ≡ Some oids → dies entry peer oid ≡ true
+pub read_pending : (entry : Entry) (peer : Peer) (oid : ℕ) (oids : List ℕ) → peer.pending ≡ Some oids → kills_object entry peer oid ≡ true
     → is_waiting (read_entry entry peer) oid ≡ false
 unfolding read_entry without_objects
-read_pending entry peer oid oids pending is = waits_no_more (dies entry peer) oid peer.pending oids pending is
+read_pending entry peer oid oids pending is = waits_no_more (kills_object entry peer) oid peer.pending oids pending is
 
-pub read_still_pending : (entry : Entry) (peer : Peer) (oid : ℕ) → dies entry peer oid ≡ false
+pub read_still_pending : (entry : Entry) (peer : Peer) (oid : ℕ) → kills_object entry peer oid ≡ false
     → is_waiting (read_entry entry peer) oid ≡ is_waiting peer oid
 unfolding read_entry without_objects
-read_still_pending entry peer oid is = waits_on (dies entry peer) oid peer.pending is
+read_still_pending entry peer oid is = waits_on (kills_object entry peer) oid peer.pending is
 
-pub dead_before : (entry : Entry) (peer : Peer) (oid : ℕ) → is_dead_object peer oid ≡ true → dies entry peer oid ≡ false
+pub dead_before : (entry : Entry) (peer : Peer) (oid : ℕ) → is_dead_object peer oid ≡ true → kills_object entry peer oid ≡ false
 dead_before entry peer oid is = ap (λ b. is_dead_object (with_entry entry peer) oid && not b) is ∙ never (is_dead_object (with_entry entry peer) oid)
   where
     never : (a : Bool) → (a && false) ≡ false
@@ -143,7 +143,7 @@ dead_for_good entry peer oid is =
 
 pub back_rows : (entries : List Entry) (peer : Peer) (oid : ℕ) → rows_of (come_back entries peer).rows oid
     ≡ cond (is_dead_object (come_back entries peer) oid) [] (purged (settled_of entries) (closed_all peer.epoch (rows_of peer.rows oid)))
-unfolding come_back without_objects settled_to closed_at_end
+unfolding come_back without_objects peer_settled_to closed_at_end
 back_rows entries peer oid =
     let dead : ℕ → Bool = is_dead_object (come_back entries peer) in
     let shut : AllRows = each (λ q. closed_all peer.epoch) peer.rows in
@@ -177,12 +177,12 @@ made_up_to key size offset bytes peer had =
 abbrev IsUpTo : Peer → Type 0
 IsUpTo peer = OpenUpTo peer.epoch peer.rows
 
-answered_up_to : (ask : PeerAsk) (peer : Peer) → IsUpTo peer → IsUpTo (answered ask peer).peer
-unfolding answered
+answered_up_to : (ask : PeerAsk) (peer : Peer) → IsUpTo peer → IsUpTo (own_epoch_step ask peer).peer
+unfolding own_epoch_step
 answered_up_to (asks.Create key size offset bytes) peer had = made_up_to key size offset bytes peer had
 answered_up_to (asks.Write key offset bytes) peer had = go (is_waiting peer key.oid) (write_at peer.rows key offset bytes) refl
   where
-    go : (b : Bool) (r : Result AllRows StoreFault) → write_at peer.rows key offset bytes ≡ r → IsUpTo (if_recovered b peer (written r peer)).peer
+    go : (b : Bool) (r : Result AllRows StoreFault) → write_at peer.rows key offset bytes ≡ r → IsUpTo (step_if_recovered b peer (peer_write_step r peer)).peer
     go true r is = had
     go false (Ok all) is = OpenUpTo-write peer.epoch peer.rows all key offset bytes had is
     go false (Err fault) is = had
@@ -190,27 +190,27 @@ answered_up_to (asks.Read key offset size) peer had = subst IsUpTo (sym (read_ch
 answered_up_to asks.List peer had = had
 answered_up_to (asks.RecoverRead oid level) peer had = had
 
-pub served_up_to : (peer : Peer) (request : PeerReq) → IsUpTo peer → IsUpTo (served peer request).peer
-unfolding served
-served_up_to peer request had = go (refusal_at peer.epoch request.epoch.0)
+pub served_up_to : (peer : Peer) (request : PeerReq) → IsUpTo peer → IsUpTo (peer_step peer request).peer
+unfolding peer_step
+served_up_to peer request had = go (epoch_refusal peer.epoch request.epoch.0)
   where
-    go : (r : Option Refusal) → IsUpTo (fenced r request.ask peer).peer
+    go : (r : Option Refusal) → IsUpTo (step_behind_fence r request.ask peer).peer
     go None = answered_up_to request.ask peer had
     go (Some refusal) = had
 
 pub put_row_up_to : (key : Key) (size : ℕ) (bytes : List ℕ) (peer : Peer) → IsUpTo peer → IsUpTo (row_put key size bytes peer)
 put_row_up_to key size bytes peer had = made_up_to key size 0 bytes peer had
 
-pub entered_up_to : (me : NodeId) (targets : ℕ → ℕ → Policy → List NodeId) (peer : Peer) → IsUpTo peer → IsUpTo (entered me targets peer)
-unfolding entered
+pub entered_up_to : (me : NodeId) (targets : ℕ → ℕ → Policy → List NodeId) (peer : Peer) → IsUpTo peer → IsUpTo (peer_in_next_epoch me targets peer)
+unfolding peer_in_next_epoch
 entered_up_to me targets peer had =
     let later : peer.epoch ≤ peer.epoch + 1 = omega arith in
     OpenUpTo-change (peer.epoch + 1) (rows_entering me targets peer) (λ q. refl)
     (λ q rows. OpenFrom-map (λ from. from ≤ peer.epoch + 1) (stays_open me targets peer q) peer.epoch rows) peer.rows
     (OpenUpTo-later peer.epoch (peer.epoch + 1) peer.rows later had)
 
-pub settled_up_to : (settled : ℕ) (peer : Peer) → IsUpTo peer → IsUpTo (settled_to settled peer)
-unfolding settled_to
+pub settled_up_to : (settled : ℕ) (peer : Peer) → IsUpTo peer → IsUpTo (peer_settled_to settled peer)
+unfolding peer_settled_to
 settled_up_to settled peer had = OpenUpTo-purge peer.epoch peer.rows settled had
 
 without_up_to : (goes : ℕ → Bool) (last : ℕ) (all : AllRows) → OpenUpTo last all → OpenUpTo last (each (rows_but goes) all)
@@ -219,10 +219,10 @@ without_up_to goes last all had =
 
 pub read_up_to : (entry : Entry) (peer : Peer) → IsUpTo peer → IsUpTo (read_entry entry peer)
 unfolding read_entry without_objects
-read_up_to entry peer had = without_up_to (dies entry peer) peer.epoch peer.rows had
+read_up_to entry peer had = without_up_to (kills_object entry peer) peer.epoch peer.rows had
 
 pub back_up_to : (entries : List Entry) (peer : Peer) → IsUpTo (come_back entries peer)
-unfolding come_back without_objects settled_to closed_at_end
+unfolding come_back without_objects peer_settled_to closed_at_end
 back_up_to entries peer =
     without_up_to (is_dead_object (come_back entries peer)) (epoch_of entries) (each (λ q. purged (settled_of entries)) (each (λ q. closed_all peer.epoch) peer.rows))
     (OpenUpTo-purge (epoch_of entries) (each (λ q. closed_all peer.epoch) peer.rows) (settled_of entries)

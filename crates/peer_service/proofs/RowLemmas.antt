@@ -11,7 +11,7 @@ use Rattle.std.specs.FinMap.Entries.{find, is_sorted, below_all}
 use Rattle.object_id.specs.Piece.{laid_over}
 use Rattle.object_id.specs.declared.node.Epoch.{Epoch}
 use Rattle.object_store.specs.Bytes.{piece_at}
-use Rattle.object_store.specs.Rows.{is_open, open_at, closed, closed_all, is_replaced, ended, created, purged, ended_before, OpenFrom}
+use Rattle.object_store.specs.Rows.{is_open, open_at, closed, closed_all, is_replaced, ended, created, purged, has_ended_below, OpenFrom}
 use Rattle.object_store.specs.Store.{SeenRow, AllRows, rows_of, with_rows, each_entry, each, OpenUpTo}
 use Rattle.object_store.proofs.RowLemmas.{AllClosed, find-front, closed_all-closed}
 use Rattle.object_store.proofs.MapLemmas.{same_key, own_key}
@@ -61,7 +61,7 @@ pub none_open_left : (b : Bool) (settled last : ℕ) (rows : List SeenRow) → f
 none_open_left true settled last rows = refl
 none_open_left false settled last rows =
     none_open (purged settled (closed_all last rows))
-    (closed-filter (λ row. not (ended_before settled row.to)) (closed_all last rows) (closed_all-closed last rows))
+    (closed-filter (λ row. not (has_ended_below settled row.to)) (closed_all last rows) (closed_all-closed last rows))
 
 -- a row that stays or is closed, by its index
 abbrev pub kept_or_closed : (ℕ → Bool) → ℕ → SeenRow → SeenRow
@@ -111,13 +111,13 @@ open-purged settled (row ∷ rows) = go row.to refl (open-purged settled rows)
     either false shut = refl
 
     go : (to : Option Epoch) → row.to ≡ to → filter is_open left ≡ filter is_open rows
-        → filter is_open (cond (not (ended_before settled row.to)) (row ∷ left) left) ≡ cond (is_open row) (row ∷ filter is_open rows) (filter is_open rows)
+        → filter is_open (cond (not (has_ended_below settled row.to)) (row ∷ left) left) ≡ cond (is_open row) (row ∷ filter is_open rows) (filter is_open rows)
     go None is rest =
-        ap (λ to. filter is_open (cond (not (ended_before settled to)) (row ∷ left) left)) is
+        ap (λ to. filter is_open (cond (not (has_ended_below settled to)) (row ∷ left) left)) is
         ∙ ap (λ (rs : List SeenRow). cond (is_open row) (row ∷ rs) rs) rest
     go (Some to) is rest =
         let shut : is_open row ≡ false = ap (λ (to : Option Epoch). not (is_some to)) is in
-        either (not (ended_before settled row.to)) shut ∙ rest
+        either (not (has_ended_below settled row.to)) shut ∙ rest
         ∙ sym (ap (λ b. cond b (row ∷ filter is_open rows) (filter is_open rows)) shut)
 
 -- ---- from which epochs open rows are

@@ -5,8 +5,8 @@ use Rattle.std.specs.List.{list_any}
 use Rattle.std.specs.Option.{option_map}
 use Rattle.peer_proto.specs.declared.ask.PeerAsk.TheVariants as asks
 use Rattle.object_store.specs.declared.key.Key.{Key}
-use Rattle.peer_service.specs.State.{Peer, is_awaited, is_waiting}
-use Rattle.peer_service.specs.Serve.{answered}
+use Rattle.peer_service.specs.State.{Peer, is_object_awaited, is_waiting}
+use Rattle.peer_service.specs.Serve.{own_epoch_step}
 
 abbrev has : ℕ → List ℕ → Bool
 has oid oids = list_any (λ other. other == oid) oids
@@ -51,26 +51,26 @@ left_in goes oid in_still (first ∷ rest) = go (goes first) refl (left_in goes 
 
 -- an object that goes is waited for no more, once it is known what is pending
 pub waits_no_more : (goes : ℕ → Bool) (oid : ℕ) (pending : Option (List ℕ)) (oids : List ℕ) → pending ≡ Some oids → goes oid ≡ true
-    → is_awaited oid (option_map (without goes) pending) ≡ false
+    → is_object_awaited oid (option_map (without goes) pending) ≡ false
 waits_no_more goes oid pending oids is out =
-    ap (λ (p : Option (List ℕ)). is_awaited oid (option_map (without goes) p)) is ∙ left_out goes oid out oids
+    ap (λ (p : Option (List ℕ)). is_object_awaited oid (option_map (without goes) p)) is ∙ left_out goes oid out oids
 
 -- an object that doesn't go is waited for as before
 pub waits_on : (goes : ℕ → Bool) (oid : ℕ) (pending : Option (List ℕ)) → goes oid ≡ false
-    → is_awaited oid (option_map (without goes) pending) ≡ is_awaited oid pending
+    → is_object_awaited oid (option_map (without goes) pending) ≡ is_object_awaited oid pending
 waits_on goes oid None stays = refl
 waits_on goes oid (Some oids) stays = left_in goes oid stays oids
 
 pub create_pending : (peer : Peer) (key : Key) (size offset : ℕ) (bytes oids : List ℕ) → peer.pending ≡ Some oids
-    → is_waiting (answered (asks.Create key size offset bytes) peer).peer key.oid ≡ false
-unfolding answered
+    → is_waiting (own_epoch_step (asks.Create key size offset bytes) peer).peer key.oid ≡ false
+unfolding own_epoch_step
 create_pending peer key size offset bytes oids is =
     let same : (key.oid == key.oid) ≡ true = grind (arith, nat_tests) in
     waits_no_more (λ other. other == key.oid) key.oid peer.pending oids is same
 
 pub create_others_pending : (peer : Peer) (key : Key) (size offset : ℕ) (bytes : List ℕ) (oid : ℕ) → oid ≢ key.oid
-    → is_waiting (answered (asks.Create key size offset bytes) peer).peer oid ≡ is_waiting peer oid
-unfolding answered
+    → is_waiting (own_epoch_step (asks.Create key size offset bytes) peer).peer oid ≡ is_waiting peer oid
+unfolding own_epoch_step
 create_others_pending peer key size offset bytes oid other =
     waits_on (λ o. o == key.oid) oid peer.pending (go (oid == key.oid) refl)
   where

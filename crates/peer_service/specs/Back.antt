@@ -5,8 +5,8 @@ use Rattle.epoch_log.specs.Epochs.{epoch_of, settled_of}
 use Rattle.object_store.specs.Rows.{closed_all}
 use Rattle.object_store.specs.Store.{each}
 use Rattle.peer_service.specs.State.{Peer, is_dead_object}
-use Rattle.peer_service.specs.Epochs.{settled_to}
-use Rattle.peer_service.specs.Reading.{without_objects}
+use Rattle.peer_service.specs.Epochs.{peer_settled_to}
+use Rattle.peer_service.specs.LogReading.{without_objects}
 
 -- a node that was lost keeps its rows up to its last epoch: each open one ends with that
 unfoldable pub closed_at_end : Peer → Peer
@@ -23,4 +23,4 @@ without_dead peer = without_objects (is_dead_object peer) peer
 -- a node comes back with its rows: each open one ended with the epoch in which the node was lost, and those that ended
 -- below the settled epoch of these entries, or whose id is dead by them, go
 unfoldable pub come_back : List Entry → Peer → Peer
-come_back entries peer = without_dead (settled_to (settled_of entries) (with_log entries (closed_at_end peer)))
+come_back entries peer = without_dead (peer_settled_to (settled_of entries) (with_log entries (closed_at_end peer)))

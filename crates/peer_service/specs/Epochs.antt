@@ -8,7 +8,7 @@ use Rattle.strip_coding.specs.Part.{index_among}
 use Rattle.object_store.specs.declared.key.Key.{Key}
 use Rattle.object_store.specs.Rows.{is_open, is_kept, closed, purged}
 use Rattle.object_store.specs.Store.{SeenRow, rows_of, each}
-use Rattle.peer_service.specs.State.{Peer, policy_of}
+use Rattle.peer_service.specs.State.{Peer, object_policy}
 
 -- whether this is the index
 abbrev pub is_index : ℕ → Option ℕ → Bool
@@ -22,7 +22,7 @@ has_at me targets epoch oid index (Some policy) = is_index index (index_among me
 
 -- whether an open row of an object and an index stays open in the next epoch
 abbrev pub stays_open : NodeId → (ℕ → ℕ → Policy → List NodeId) → Peer → ℕ → ℕ → Bool
-stays_open me targets peer oid index = has_at me targets (peer.epoch + 1) oid index (policy_of peer oid)
+stays_open me targets peer oid index = has_at me targets (peer.epoch + 1) oid index (object_policy peer oid)
 
 -- a row in the next epoch: it stays open, or ends with the epoch before
 abbrev pub row_entering : NodeId → (ℕ → ℕ → Policy → List NodeId) → Peer → ℕ → SeenRow → SeenRow
@@ -33,8 +33,8 @@ abbrev pub rows_entering : NodeId → (ℕ → ℕ → Policy → List NodeId) �
 rows_entering me targets peer oid rows = map (row_entering me targets peer oid) rows
 
 -- the peer goes to the next epoch; no row is dropped
-unfoldable pub entered : NodeId → (ℕ → ℕ → Policy → List NodeId) → Peer → Peer
-entered me targets peer = record peer { epoch = peer.epoch + 1; rows = each (rows_entering me targets peer) peer.rows }
+unfoldable pub peer_in_next_epoch : NodeId → (ℕ → ℕ → Policy → List NodeId) → Peer → Peer
+peer_in_next_epoch me targets peer = record peer { epoch = peer.epoch + 1; rows = each (rows_entering me targets peer) peer.rows }
 
 -- the keys are those of the open rows that stay open
 abbrev pub AreKept : List Key → NodeId → (ℕ → ℕ → Policy → List NodeId) → Peer → Type 0
@@ -43,5 +43,5 @@ AreKept keeps me targets peer = (oid : ℕ)
     (rows_of peer.rows oid)
 
 -- an epoch is settled: the closed rows that ended below it are dropped
-unfoldable pub settled_to : ℕ → Peer → Peer
-settled_to settled peer = record peer { settled = settled; rows = each (λ oid. purged settled) peer.rows }
+unfoldable pub peer_settled_to : ℕ → Peer → Peer
+peer_settled_to settled peer = record peer { settled = settled; rows = each (λ oid. purged settled) peer.rows }

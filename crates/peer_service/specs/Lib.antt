@@ -3,6 +3,6 @@ pub mod Pending
 pub mod Fence
 pub mod Serve
 pub mod Epochs
-pub mod Reading
+pub mod LogReading
 pub mod Back
 pub mod Example

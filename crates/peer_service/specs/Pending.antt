@@ -7,22 +7,22 @@ use Rattle.object_store.specs.Store.{rows_of, create_in}
 use Rattle.peer_service.specs.State.{Peer}
 
 -- the list is unfinished
-abbrev pub list_started : Peer → Peer
-list_started peer = record peer { pending = None }
+abbrev pub with_unfinished_list : Peer → Peer
+with_unfinished_list peer = record peer { pending = None }
 
 -- the list is finished, and these objects are pending
 abbrev pub with_pending : List ℕ → Peer → Peer
 with_pending oids peer = record peer { pending = Some oids }
 
 -- an object is pending no more
-abbrev pub given_up : ℕ → Peer → Peer
-given_up oid peer = record peer { pending = option_map (filter (λ other. not (other == oid))) peer.pending }
+abbrev pub without_pending : ℕ → Peer → Peer
+without_pending oid peer = record peer { pending = option_map (filter (λ other. not (other == oid))) peer.pending }
 
 -- the object's open row of the key is made, from the node's epoch on: so many bytes, the piece at its offset and else 0.
 -- The object is pending no more
 abbrev pub row_made : Key → ℕ → ℕ → List ℕ → Peer → Peer
 row_made key size offset piece peer =
-    given_up key.oid
+    without_pending key.oid
     (record peer { rows = tree.insert peer.rows key.oid (create_in key.index peer.epoch size offset piece (rows_of peer.rows key.oid)) })
 
 -- the same of a row that was recovered, by its first bytes

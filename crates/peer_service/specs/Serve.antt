@@ -14,20 +14,20 @@ use Rattle.peer_proto.specs.declared.say.PeerSay.TheVariants as says
 use Rattle.peer_proto.specs.declared.say.PeerRsp.{PeerRsp}
 use Rattle.peer_service.specs.State.{Peer, is_waiting}
 use Rattle.peer_service.specs.Pending.{row_made}
-use Rattle.peer_service.specs.Fence.{refusal_at}
+use Rattle.peer_service.specs.Fence.{epoch_refusal}
 
 -- what a request leaves of the peer, and what the peer says to it
-pub record Served : Type 0 where
+pub record PeerStep : Type 0 where
   pub peer : Peer
   pub say : PeerSay
 
 -- a request is refused, and changes nothing
-abbrev pub refused : Refusal → Peer → Served
-refused refusal peer = record { peer = peer; say = says.Refused refusal }
+abbrev pub peer_refusal_step : Refusal → Peer → PeerStep
+peer_refusal_step refusal peer = record { peer = peer; say = says.Refused refusal }
 
 -- a request is answered from what is there, and changes nothing
-abbrev pub told : PeerSay → Peer → Served
-told say peer = record { peer = peer; say = say }
+abbrev pub peer_say_step : PeerSay → Peer → PeerStep
+peer_say_step say peer = record { peer = peer; say = say }
 
 -- what a read gives; without an open row of its index it is refused
 abbrev pub piece_or_refusal : Result (List ℕ) StoreFault → PeerSay
@@ -35,9 +35,9 @@ piece_or_refusal (Ok piece) = says.Piece piece
 piece_or_refusal (Err fault) = says.Refused refusals.NoObj
 
 -- a write leaves these rows; without an open row of its index it is refused
-abbrev pub written : Result AllRows StoreFault → Peer → Served
-written (Ok rows) peer = record { peer = record peer { rows = rows }; say = says.Success }
-written (Err fault) peer = refused refusals.NoObj peer
+abbrev pub peer_write_step : Result AllRows StoreFault → Peer → PeerStep
+peer_write_step (Ok rows) peer = record { peer = record peer { rows = rows }; say = says.Success }
+peer_write_step (Err fault) peer = peer_refusal_step refusals.NoObj peer
 
 -- a row that holds the level, or that there is none
 abbrev pub row_or_none : Option RowCopy → PeerSay
@@ -45,32 +45,32 @@ row_or_none None = says.NoRow
 row_or_none (Some row) = says.Row row
 
 -- reads and writes are refused while their object is waited for
-abbrev pub if_recovered : Bool → Peer → Served → Served
-if_recovered waiting peer answer = if waiting then refused refusals.Recovery peer else answer
+abbrev pub step_if_recovered : Bool → Peer → PeerStep → PeerStep
+step_if_recovered waiting peer answer = if waiting then peer_refusal_step refusals.Recovery peer else answer
 
 -- what a request of the node's own epoch leaves, and what is said to it
-unfoldable pub answered : PeerAsk → Peer → Served
-answered (asks.Create key size offset bytes) peer = record { peer = row_made key size offset bytes peer; say = says.Success }
-answered (asks.Write key offset bytes) peer =
-    if_recovered (is_waiting peer key.oid) peer (written (write_at peer.rows key offset bytes) peer)
-answered (asks.Read key offset size) peer =
-    if_recovered (is_waiting peer key.oid) peer (told (piece_or_refusal (read_at peer.rows key offset size)) peer)
-answered asks.List peer = told (says.Objects (tree.keys peer.rows)) peer
-answered (asks.RecoverRead oid level) peer = told (row_or_none (copy_at peer.rows oid level.0)) peer
+unfoldable pub own_epoch_step : PeerAsk → Peer → PeerStep
+own_epoch_step (asks.Create key size offset bytes) peer = record { peer = row_made key size offset bytes peer; say = says.Success }
+own_epoch_step (asks.Write key offset bytes) peer =
+    step_if_recovered (is_waiting peer key.oid) peer (peer_write_step (write_at peer.rows key offset bytes) peer)
+own_epoch_step (asks.Read key offset size) peer =
+    step_if_recovered (is_waiting peer key.oid) peer (peer_say_step (piece_or_refusal (read_at peer.rows key offset size)) peer)
+own_epoch_step asks.List peer = peer_say_step (says.Objects (tree.keys peer.rows)) peer
+own_epoch_step (asks.RecoverRead oid level) peer = peer_say_step (row_or_none (copy_at peer.rows oid level.0)) peer
 
 -- a request that the fence refuses is asked no further
-abbrev pub fenced : Option Refusal → PeerAsk → Peer → Served
-fenced None ask peer = answered ask peer
-fenced (Some refusal) ask peer = refused refusal peer
+abbrev pub step_behind_fence : Option Refusal → PeerAsk → Peer → PeerStep
+step_behind_fence None ask peer = own_epoch_step ask peer
+step_behind_fence (Some refusal) ask peer = peer_refusal_step refusal peer
 
 -- a request is served: first by its epoch, then by what it asks
-unfoldable pub served : Peer → PeerReq → Served
-served peer request = fenced (refusal_at peer.epoch request.epoch.0) request.ask peer
+unfoldable pub peer_step : Peer → PeerReq → PeerStep
+peer_step peer request = step_behind_fence (epoch_refusal peer.epoch request.epoch.0) request.ask peer
 
 -- the reply has the request's number and the node's epoch
 abbrev pub reply_to : Peer → PeerReq → PeerRsp
 reply_to peer request =
-    record { number = request.number; epoch = record { 0 = peer.epoch }; say = (served peer request).say }
+    record { number = request.number; epoch = record { 0 = peer.epoch }; say = (peer_step peer request).say }
 
 -- a piece ends inside an open row, where there is one
 abbrev pub EndsInside : ℕ → Option SeenRow → Type 0

@@ -14,7 +14,7 @@ use Rattle.inode.specs.declared.layout.TheConstants.{INODE_BYTES}
 use Rattle.vdi_directory.specs.declared.header.Header.{Header}
 use Rattle.vdi_directory.specs.declared.effect.Effect.{Effect}
 use Rattle.vdi_directory.specs.Effects.{header_of}
-use Rattle.vdi_directory.specs.Decisions.{happened}
+use Rattle.vdi_directory.specs.Decisions.{log_effects}
 use Rattle.vdi_directory.specs.Dead.{is_dead}
 
 -- a peer: what of a node its peers' requests reach
@@ -30,12 +30,12 @@ pub record Peer : Type 0 where
   pub entries : List Entry
 
 -- a peer that has read nothing: its list is finished, and nothing is pending
-abbrev pub opening : AllRows → ℕ → Peer
-opening rows epoch = record { epoch = epoch; settled = 1; rows = rows; pending = Some []; entries = [] }
+abbrev pub initial_peer : AllRows → ℕ → Peer
+initial_peer rows epoch = record { epoch = epoch; settled = 1; rows = rows; pending = Some []; entries = [] }
 
 -- what the entries that it has read did to disks
 abbrev pub effects_of : Peer → List Effect
-effects_of peer = happened peer.entries
+effects_of peer = log_effects peer.entries
 
 -- the header of an object's disk
 abbrev pub header_at : Peer → ℕ → Option Header
@@ -50,8 +50,8 @@ abbrev pub spec_of : Peer → ℕ → Option VdiSpec
 spec_of peer oid = option_map (λ (header : Header). header.spec) (header_at peer oid)
 
 -- an object's policy
-abbrev pub policy_of : Peer → ℕ → Option Policy
-policy_of peer oid = option_map (λ (spec : VdiSpec). spec.policy) (spec_of peer oid)
+abbrev pub object_policy : Peer → ℕ → Option Policy
+object_policy peer oid = option_map (λ (spec : VdiSpec). spec.policy) (spec_of peer oid)
 
 -- whether an object's id is dead
 abbrev pub is_dead_object : Peer → ℕ → Bool
@@ -71,13 +71,13 @@ abbrev pub length_of_rows : Peer → ℕ → Option ℕ
 length_of_rows peer oid = option_map (row_size (kind_of oid)) (spec_of peer oid)
 
 -- whether an object is to be waited for: until the list is finished each one, then the pending ones
-abbrev pub is_awaited : ℕ → Option (List ℕ) → Bool
-is_awaited oid None = true
-is_awaited oid (Some oids) = list_any (λ other. other == oid) oids
+abbrev pub is_object_awaited : ℕ → Option (List ℕ) → Bool
+is_object_awaited oid None = true
+is_object_awaited oid (Some oids) = list_any (λ other. other == oid) oids
 
 -- whether reads and writes of an object are refused until it is recovered
 abbrev pub is_waiting : Peer → ℕ → Bool
-is_waiting peer oid = is_awaited oid peer.pending
+is_waiting peer oid = is_object_awaited oid peer.pending
 
 -- the peer has read one entry more
 abbrev pub with_entry : Entry → Peer → Peer

@@ -14,15 +14,15 @@ use Rattle.object_store.specs.declared.row.RowCopy.{RowCopy}
 use Rattle.object_store.specs.declared.key.Key.{Key}
 use Rattle.object_store.specs.Bytes.{zeros}
 use Rattle.object_store.specs.Rows.{created}
-use Rattle.object_store.specs.Store.{rows_of, bytes_of}
+use Rattle.object_store.specs.Store.{rows_of, row_bytes}
 use Rattle.object_list.specs.Union.{with_id, union}
-use Rattle.recovery.specs.Shown.{Shown, index_in, given_up, with_row}
-use Rattle.recovery.specs.State.{Search, State}
-use Rattle.recovery.specs.Level.{put_by_index, by_index, indexes_of, part_by, own_index}
+use Rattle.recovery.specs.Shown.{NodeView, index_in, shown_without_pending, with_row}
+use Rattle.recovery.specs.State.{Search, RecoveryState}
+use Rattle.recovery.specs.Level.{put_by_index, by_index, indexes_of, part_from_rows, own_index}
 
 parts_of : (policy : Policy) (kind : Kind) (bytes : List ℕ) (rows : List RowCopy)
-    → AllByRecursion (λ (row : RowCopy). bytes_of row ≡ part policy kind row.index bytes) rows
-    → map bytes_of rows ≡ map (λ (index : ℕ). part policy kind index bytes) (indexes_of rows)
+    → AllByRecursion (λ (row : RowCopy). row_bytes row ≡ part policy kind row.index bytes) rows
+    → map row_bytes rows ≡ map (λ (index : ℕ). part policy kind index bytes) (indexes_of rows)
 parts_of policy kind bytes [] are = refl
 parts_of policy kind bytes (row ∷ rows) are =
     ap₂ (λ (x : List ℕ) (xs : List (List ℕ)). x ∷ xs) are.0 (parts_of policy kind bytes rows are.1)
@@ -30,14 +30,14 @@ parts_of policy kind bytes (row ∷ rows) are =
 pub part_of_same_bytes : (policy : Policy) (kind : Kind) (index : ℕ) (bytes : List ℕ) (rows : List RowCopy) → IsPolicy policy
     → AreBytes bytes → IsAligned policy kind (length bytes)
     → ArePoints (indexes_of rows) → length rows ≡ need_of policy kind
-    → AllByRecursion (λ (row : RowCopy). bytes_of row ≡ part policy kind row.index bytes) rows
-    → part_by policy kind index rows ≡ part policy kind index bytes
+    → AllByRecursion (λ (row : RowCopy). row_bytes row ≡ part policy kind row.index bytes) rows
+    → part_from_rows policy kind index rows ≡ part policy kind index bytes
 part_of_same_bytes policy kind index bytes rows is octets whole points count are =
     let counted : length (indexes_of rows) ≡ need_of policy kind = length-map rows (λ (row : RowCopy). row.index) ∙ count in
     ap (λ (parts : List (List ℕ)). part policy kind index (bytes_of_parts policy kind (indexes_of rows) parts)) (parts_of policy kind bytes rows are)
     ∙ ap (part policy kind index) (bytes_of_parts-part policy kind (indexes_of rows) bytes is points counted octets whole)
 
-pub index_of_recovered_epoch : (policy : Policy) (search : Search) (state : State) (index : ℕ)
+pub index_of_recovered_epoch : (policy : Policy) (search : Search) (state : RecoveryState) (index : ℕ)
     → index_in state.shown state.recovery.epoch search.oid policy state.recovery.me ≡ Some index → own_index policy search state ≡ index
 index_of_recovered_epoch policy search state index is = ap (λ (found : Option ℕ). unwrap_or found 0) is
 
@@ -53,19 +53,19 @@ over_themselves bytes =
     ∙ ap (λ (k : ℕ). bytes ++ zeros k) (let none : length bytes - length bytes ≡ 0 = omega arith in none)
     ∙ append-nil bytes
 
-length_of_all : (row : RowCopy) → length row.bytes ≤ row.length → length (bytes_of row) ≡ row.length
+length_of_all : (row : RowCopy) → length row.bytes ≤ row.length → length (row_bytes row) ≡ row.length
 length_of_all row fits =
     length-append row.bytes (zeros (row.length - length row.bytes))
     ∙ ap (λ (k : ℕ). length row.bytes + k) (length-replicate (row.length - length row.bytes) 0)
     ∙ (let sum : length row.bytes + (row.length - length row.bytes) ≡ row.length = omega (arith, fits) in sum)
 
 -- a row that is put by its first bytes is the row
-pub put_by_first_bytes : (key : Key) (row : RowCopy) (shown : Shown) → length row.bytes ≤ row.length
-    → with_row key row.length row.bytes shown ≡ with_row key (length (bytes_of row)) (bytes_of row) shown
+pub put_by_first_bytes : (key : Key) (row : RowCopy) (shown : NodeView) → length row.bytes ≤ row.length
+    → with_row key row.length row.bytes shown ≡ with_row key (length (row_bytes row)) (row_bytes row) shown
 put_by_first_bytes key row shown fits =
-    let same : laid_over (zeros row.length) 0 row.bytes ≡ laid_over (zeros (length (bytes_of row))) 0 (bytes_of row)
-    = over_zeros row.length row.bytes ∙ sym (over_themselves (bytes_of row)) in
-    ap (λ (bytes : List ℕ). given_up key.oid (record shown {
+    let same : laid_over (zeros row.length) 0 row.bytes ≡ laid_over (zeros (length (row_bytes row))) 0 (row_bytes row)
+    = over_zeros row.length row.bytes ∙ sym (over_themselves (row_bytes row)) in
+    ap (λ (bytes : List ℕ). shown_without_pending key.oid (record shown {
       rows = tree.insert shown.rows key.oid (created key.index shown.epoch bytes (rows_of shown.rows key.oid));
     })) same
 

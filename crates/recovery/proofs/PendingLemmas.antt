@@ -7,7 +7,7 @@ use Rattle.object_list.specs.Union.{union}
 use Rattle.object_list.proofs.AscendingLemmas.{contains-head, contains-cons, contains-nil, contains-cases}
 use Rattle.object_list.proofs.UnionLemmas.{union-ascending, union-has, union-only}
 use Rattle.recovery.specs.Shown.{is_to_recover}
-use Rattle.recovery.specs.State.{State}
+use Rattle.recovery.specs.State.{RecoveryState}
 use Rattle.recovery.specs.Steps.{to_recover}
 
 filter_has : (p : ℕ → Bool) (xs : List ℕ) (x : ℕ) → Contains xs x → p x ≡ true → Contains (filter p xs) x
@@ -36,17 +36,17 @@ filter_only p (y ∷ ys) x there = by_test (filter_only p ys x) (p y) refl there
     by_test rest true is there = by_case rest is (contains-cases y (filter p ys) x there)
     by_test rest false is there = (contains-cons y ys x (rest there).0, (rest there).1)
 
-abbrev test : State → ℕ → Bool
+abbrev test : RecoveryState → ℕ → Bool
 test state = is_to_recover state.recovery.me state.recovery.epoch state.shown
 
-abbrev both : State → List ℕ
+abbrev both : RecoveryState → List ℕ
 both state = union state.recovery.lists.objects (tree.keys state.shown.rows)
 
-pub pending_ascends : (state : State) → IsStrictlyIncreasing state.recovery.lists.objects → IsStrictlyIncreasing (to_recover state)
+pub pending_ascends : (state : RecoveryState) → IsStrictlyIncreasing state.recovery.lists.objects → IsStrictlyIncreasing (to_recover state)
 pending_ascends state up =
     IsStrictlyIncreasing-filter (test state) (both state) (union-ascending state.recovery.lists.objects (tree.keys state.shown.rows) up)
 
-pub pending_has : (state : State) (oid : ℕ) → Contains (to_recover state) oid
+pub pending_has : (state : RecoveryState) (oid : ℕ) → Contains (to_recover state) oid
     ↔ ((Contains state.recovery.lists.objects oid ⊎ Contains (tree.keys state.shown.rows) oid)
     × (is_to_recover state.recovery.me state.recovery.epoch state.shown oid ≡ true))
 pending_has state oid = (

@@ -20,7 +20,7 @@ use Rattle.object_id.specs.Oid.{IsOid, kind_of}
 use Rattle.object_id.specs.Policy.{IsPolicy, wanted_of}
 use Rattle.strip_coding.proofs.Widths.{by_cases}
 use Rattle.object_store.specs.Store.{create_in, rows_of}
-use Rattle.object_list.specs.Gathered.{is_node, has_node, without, answered}
+use Rattle.object_list.specs.Gathered.{is_same_node, has_node, nodes_without, gathered_with_answer}
 use Rattle.object_list.specs.Union.{union}
 use Rattle.object_list.proofs.UnionLemmas.{union-only}
 use Rattle.peer_proto.specs.declared.ask.PeerAsk.{PeerAsk}
@@ -28,13 +28,13 @@ use Rattle.peer_proto.specs.declared.ask.PeerAsk.TheVariants as asks
 use Rattle.peer_proto.specs.declared.ask.PeerReq.{PeerReq}
 use Rattle.peer_proto.specs.declared.say.PeerSay.{PeerSay}
 use Rattle.peer_proto.specs.declared.say.PeerSay.TheVariants as says
-use Rattle.peer_proto.specs.Ask.{IsAsk, IsRequest}
+use Rattle.peer_proto.specs.Ask.{IsPeerAsk, IsPeerReq}
 use Rattle.peer_proto.specs.Header.{IsEpoch}
-use Rattle.recovery.specs.Shown.{live_policy, first_in, is_among, is_to_recover, with_pending}
-use Rattle.recovery.specs.State.{Message, Search, Recovery, State, search_at, still_on, search_on, is_listed, is_finished, all_unanswered, can_tick, message_of, MayBegin, MayTick}
-use Rattle.recovery.specs.Level.{found, missed, to_ask, one_lower, not_found, own_index, own_part, rows_found, are_enough, judged_of, judged, is_of_search, searching}
-use Rattle.recovery.specs.Tick.{message_to, messages_to, lists_asked, asked_of, level_asked, or_next, next_search, level_messages, tick_messages, tick_sends, searching_on, with_messages, ticked}
-use Rattle.recovery.specs.Steps.{to_recover, when_listed, at_start, begun, without_message, named, heard, after_list, after_read, after_ask, after_message, ended}
+use Rattle.recovery.specs.Shown.{live_policy, first_in, is_pending_object, is_to_recover, shown_with_pending}
+use Rattle.recovery.specs.State.{Message, Search, Recovery, RecoveryState, search_at, still_on, search_on, is_listed, is_finished, all_unanswered, can_tick, message_of, MayBegin, MayTick}
+use Rattle.recovery.specs.Level.{with_part_found, with_object_missing, to_ask, one_lower, level_without_part, own_index, own_part, rows_found, are_enough, level_over_of, level_over, is_of_search, searching}
+use Rattle.recovery.specs.Tick.{request_message, messages_to, lists_asked, asked_of, level_asked, or_next, next_search, level_messages, tick_messages, tick_sends, searching_on, with_messages, state_after_tick}
+use Rattle.recovery.specs.Steps.{to_recover, when_listed, at_start, recovery_from_epoch, without_unanswered, with_list_of, search_after_answer, after_list, after_read, after_ask, after_message, message_end}
 use Rattle.recovery.specs.Range.{IsSearchInRange, IsInRange, NamesIds}
 use Rattle.recovery.proofs.StepLemmas.{either, numbers_of_tick}
 
@@ -44,13 +44,13 @@ use Rattle.recovery.proofs.StepLemmas.{either, numbers_of_tick}
 record IsAsking (recovery : Recovery) (message : Message) : Type 0 where
   from : message.request.from ≡ recovery.me
   epoch : message.request.epoch ≡ record { 0 = recovery.epoch }
-  ask : IsAsk message.request.ask
+  ask : IsPeerAsk message.request.ask
 
-messages_ask : (recovery : Recovery) (first wanted : ℕ) (ask : PeerAsk) (nodes : List NodeId) → IsAsk ask
+messages_ask : (recovery : Recovery) (first wanted : ℕ) (ask : PeerAsk) (nodes : List NodeId) → IsPeerAsk ask
     → All (IsAsking recovery) (messages_to recovery first wanted ask nodes)
 messages_ask recovery first wanted ask [] is = All-nil (IsAsking recovery)
 messages_ask recovery first wanted ask (node ∷ nodes) is =
-    All-cons (IsAsking recovery) (message_to recovery wanted ask (first, node)) (messages_to recovery (first + 1) wanted ask nodes)
+    All-cons (IsAsking recovery) (request_message recovery wanted ask (first, node)) (messages_to recovery (first + 1) wanted ask nodes)
     (record { from = refl; epoch = refl; ask = is }) (messages_ask recovery (first + 1) wanted ask nodes is)
 
 count_messages : (recovery : Recovery) (first wanted : ℕ) (ask : PeerAsk) (nodes : List NodeId)
@@ -86,7 +86,7 @@ IsFine search = IfSome search IsSearchInRange
 
 still_fine : (pending : Option (List ℕ)) (search : Option Search) → IsFine search → IsFine (still_on pending search)
 still_fine pending None fine = tt
-still_fine pending (Some search) fine = either IsFine (is_among search.oid pending) (Some search) None fine tt
+still_fine pending (Some search) fine = either IsFine (is_pending_object search.oid pending) (Some search) None fine tt
 
 next_fine : (epoch : ℕ) (pending : Option (List ℕ)) (search : Option Search) → 2 ≤ epoch → epoch < 2 ^ 32
     → IfSome pending (All IsOid) → IsFine search → IsFine (or_next epoch (first_in pending) search)
@@ -101,7 +101,7 @@ not_so true is = absurd (cc (is))
 not_so false is = refl
 
 -- a recovery that may tick is of a later epoch than the first
-above_1 : (state : State) → IsInRange state → can_tick state ≡ true → 2 ≤ state.recovery.epoch
+above_1 : (state : RecoveryState) → IsInRange state → can_tick state ≡ true → 2 ≤ state.recovery.epoch
 above_1 state range may =
     let unfinished : is_finished state ≡ false
     = not_so (is_finished state) (and_parts (not (is_finished state)) (length (all_unanswered state.recovery) == 0) may).0 in
@@ -110,14 +110,14 @@ above_1 state range may =
     let low : 1 ≤ state.recovery.epoch = range.epoch.0 in
     omega (arith, low, apart)
 
-next_search_fine : (state : State) → IsInRange state → can_tick state ≡ true → IsFine (next_search state)
+next_search_fine : (state : RecoveryState) → IsInRange state → can_tick state ≡ true → IsFine (next_search state)
 next_search_fine state range may =
     next_fine state.recovery.epoch state.shown.pending (search_on state) (above_1 state range may) range.epoch.1 range.pending
     (still_fine state.shown.pending state.recovery.search range.search)
 
 -- ---- the requests of a tick
 
-tick_is : (first : ℕ) (state : State) → IsInRange state → IsFine (next_search state) → IsTick state.recovery (tick_messages first state)
+tick_is : (first : ℕ) (state : RecoveryState) → IsInRange state → IsFine (next_search state) → IsTick state.recovery (tick_messages first state)
 unfolding tick_messages
 tick_is first state range fine =
     either (IsTick state.recovery) (is_listed state.recovery) (level_messages first state (next_search state)) (lists_asked first state.recovery)
@@ -138,7 +138,7 @@ tick_is first state range fine =
         let ask = asks.RecoverRead search.oid (record { 0 = search.level }) in
         let wanted = wanted_of policy (kind_of search.oid) in
         let kept : length nodes ≤ length (state.shown.targets search.level search.oid policy)
-        = kept_few (λ (node : NodeId). has_node node state.recovery.members && not (is_node state.recovery.me node)) (state.shown.targets search.level search.oid policy) in
+        = kept_few (λ (node : NodeId). has_node node state.recovery.members && not (is_same_node state.recovery.me node)) (state.shown.targets search.level search.oid policy) in
         let within : length (state.shown.targets search.level search.oid policy) ≤ wanted = range.targets search.level search.oid policy in
         let few : wanted ≤ 31 = wanted_few policy (kind_of search.oid) known in
         record {
@@ -159,7 +159,7 @@ abbrev IsIn : NodeId → Message → Type 0
 IsIn me message = message.request.from ≡ me
 
 -- what a tick asks, it asks in its node's name
-pub asked_by_own : (first : ℕ) (state : State) → All (λ (send : NodeId × PeerReq). send.1.from ≡ state.recovery.me) (tick_sends first state)
+pub asked_by_own : (first : ℕ) (state : RecoveryState) → All (λ (send : NodeId × PeerReq). send.1.from ≡ state.recovery.me) (tick_sends first state)
 unfolding tick_sends tick_messages
 asked_by_own first state =
     All-map (λ (send : NodeId × PeerReq). send.1.from ≡ state.recovery.me) (λ (message : Message). (message.to, message.request))
@@ -170,7 +170,7 @@ asked_by_own first state =
     to_each : (first wanted : ℕ) (ask : PeerAsk) (nodes : List NodeId) → All (IsIn state.recovery.me) (messages_to state.recovery first wanted ask nodes)
     to_each first wanted ask [] = All-nil (IsIn state.recovery.me)
     to_each first wanted ask (node ∷ nodes) =
-        All-cons (IsIn state.recovery.me) (message_to state.recovery wanted ask (first, node)) (messages_to state.recovery (first + 1) wanted ask nodes)
+        All-cons (IsIn state.recovery.me) (request_message state.recovery wanted ask (first, node)) (messages_to state.recovery (first + 1) wanted ask nodes)
         refl (to_each (first + 1) wanted ask nodes)
 
     of_level : (search : Search) (policy : Option Policy) → All (IsIn state.recovery.me) (level_asked first state search policy)
@@ -204,8 +204,8 @@ numbered_below first bound (message ∷ messages) numbers room =
     All-cons (λ (message : Message). message.request.number < bound) message messages here
     (numbered_below (first + 1) bound messages (ap later_numbers numbers) behind)
 
-pub asked_in_range : (first : ℕ) (state : State) → MayTick first state → IsInRange state
-    → All (λ (send : NodeId × PeerReq). IsRequest send.1) (tick_sends first state)
+pub asked_in_range : (first : ℕ) (state : RecoveryState) → MayTick first state → IsInRange state
+    → All (λ (send : NodeId × PeerReq). IsPeerReq send.1) (tick_sends first state)
 unfolding tick_sends
 asked_in_range first state may range =
     let tick = tick_is first state range (next_search_fine state range may.work) in
@@ -213,7 +213,7 @@ asked_in_range first state may range =
     let few : length (tick_messages first state) ≤ 64 = tick.few in
     let within : first + length (tick_messages first state) ≤ 2 ^ 32 = omega (arith, room, few) in
     let below = numbered_below first (2 ^ 32) (tick_messages first state) (numbers_of_tick first state) within in
-    All-map (λ (send : NodeId × PeerReq). IsRequest send.1) (λ (message : Message). (message.to, message.request)) (tick_messages first state)
+    All-map (λ (send : NodeId × PeerReq). IsPeerReq send.1) (λ (message : Message). (message.to, message.request)) (tick_messages first state)
     (λ k d there. record {
       from = subst (λ (node : NodeId). node.0 < 64) (sym (tick.asking k d there).from) range.me;
       number = below k d there;
@@ -247,7 +247,7 @@ given_up_ids None p ids = tt
 given_up_ids (Some oids) p ids = All-filter p IsOid oids ids
 
 -- a state with another search
-with_search : (search : Option Search) (state : State) → IsFine search → IsInRange state
+with_search : (search : Option Search) (state : RecoveryState) → IsFine search → IsInRange state
     → IsInRange (record state { recovery = record state.recovery { search = search } })
 with_search search state fine range = record {
   me = range.me;
@@ -262,7 +262,7 @@ with_search search state fine range = record {
   search = fine;
 }
 
-found_range : (oid index : ℕ) (bytes : List ℕ) (state : State) → IsOid oid → IsInRange state → IsInRange (found oid index bytes state)
+found_range : (oid index : ℕ) (bytes : List ℕ) (state : RecoveryState) → IsOid oid → IsInRange state → IsInRange (with_part_found oid index bytes state)
 found_range oid index bytes state is range = record {
   me = range.me;
   epoch = range.epoch;
@@ -277,7 +277,7 @@ found_range oid index bytes state is range = record {
   search = tt;
 }
 
-missed_range : (oid : ℕ) (state : State) → IsInRange state → IsInRange (missed oid state)
+missed_range : (oid : ℕ) (state : RecoveryState) → IsInRange state → IsInRange (with_object_missing oid state)
 missed_range oid state range = record {
   me = range.me;
   epoch = range.epoch;
@@ -291,11 +291,11 @@ missed_range oid state range = record {
   search = tt;
 }
 
-lower_range : (search : Search) (state : State) → IsSearchInRange search → IsInRange state → IsInRange (one_lower search state)
+lower_range : (search : Search) (state : RecoveryState) → IsSearchInRange search → IsInRange state → IsInRange (one_lower search state)
 lower_range search state fine range = by_level (nat_lt (search.level - 1) state.shown.settled) refl
   where
     by_level : (b : Bool) → nat_lt (search.level - 1) state.shown.settled ≡ b
-        → IsInRange (cond b (missed search.oid state) (to_ask search.oid (search.level - 1) state))
+        → IsInRange (cond b (with_object_missing search.oid state) (to_ask search.oid (search.level - 1) state))
     by_level true below = missed_range search.oid state range
     by_level false above =
         let settled : state.shown.settled ≤ search.level - 1 = ltb-false (search.level - 1) state.shown.settled above in
@@ -304,33 +304,33 @@ lower_range search state fine range = by_level (nat_lt (search.level - 1) state.
         with_search (Some (search_at search.oid (search.level - 1))) state
         (record { oid = fine.oid; level = (omega (arith, settled, low), omega (arith, high)) }) range
 
-judged_range : (search : Search) (state : State) → IsSearchInRange search → IsInRange state → IsInRange (judged search state)
-unfolding judged
+judged_range : (search : Search) (state : RecoveryState) → IsSearchInRange search → IsInRange state → IsInRange (level_over search state)
+unfolding level_over
 judged_range search state fine range = of_policy (live_policy state.shown search.oid)
   where
-    of_policy : (policy : Option Policy) → IsInRange (judged_of policy search state)
+    of_policy : (policy : Option Policy) → IsInRange (level_over_of policy search state)
     of_policy None = range
     of_policy (Some policy) =
         let rows = rows_found state policy search in
         either IsInRange (are_enough policy (kind_of search.oid) rows)
-        (found search.oid (own_index policy search state) (own_part policy search rows state) state)
-        (not_found search state)
+        (with_part_found search.oid (own_index policy search state) (own_part policy search rows state) state)
+        (level_without_part search state)
         (found_range search.oid (own_index policy search state) (own_part policy search rows state) state fine.oid range)
         (either IsInRange search.again (to_ask search.oid search.level state) (one_lower search state)
         (with_search (Some (search_at search.oid search.level)) state (record { oid = fine.oid; level = fine.level }) range)
         (lower_range search state fine range))
 
-searching_range : (search : Search) (state : State) → IsSearchInRange search → IsInRange state → IsInRange (searching search state)
+searching_range : (search : Search) (state : RecoveryState) → IsSearchInRange search → IsInRange state → IsInRange (searching search state)
 searching_range search state fine range =
     either IsInRange (list_any (is_of_search search.oid) state.recovery.unanswered)
-    (record state { recovery = record state.recovery { search = Some search } }) (judged search state)
+    (record state { recovery = record state.recovery { search = Some search } }) (level_over search state)
     (with_search (Some search) state fine range) (judged_range search state fine range)
 
-searching_on_range : (search : Option Search) (state : State) → IsFine search → IsInRange state → IsInRange (searching_on search state)
+searching_on_range : (search : Option Search) (state : RecoveryState) → IsFine search → IsInRange state → IsInRange (searching_on search state)
 searching_on_range None state fine range = range
 searching_on_range (Some search) state fine range = searching_range search state fine range
 
-with_messages_range : (messages : List Message) (state : State) → IsInRange state → IsInRange (with_messages messages state)
+with_messages_range : (messages : List Message) (state : RecoveryState) → IsInRange state → IsInRange (with_messages messages state)
 with_messages_range messages state range = record {
   me = range.me;
   epoch = range.epoch;
@@ -344,8 +344,8 @@ with_messages_range messages state range = record {
   search = range.search;
 }
 
-pub ticked_in_range : (first : ℕ) (state : State) → MayTick first state → IsInRange state → IsInRange (ticked first state)
-unfolding ticked
+pub ticked_in_range : (first : ℕ) (state : RecoveryState) → MayTick first state → IsInRange state → IsInRange (state_after_tick first state)
+unfolding state_after_tick
 ticked_in_range first state may range =
     let sent = with_messages_range (tick_messages first state) state range in
     either IsInRange (is_listed state.recovery)
@@ -367,9 +367,9 @@ union_all P oids others one other =
     of_either oid (inl there) = All-contains P oids oid one there
     of_either oid (inr there) = All-contains P others oid other there
 
-listed_range : (state : State) → IsInRange state → IsInRange (when_listed state)
+listed_range : (state : RecoveryState) → IsInRange state → IsInRange (when_listed state)
 listed_range state range =
-    either IsInRange (is_listed state.recovery) (record state { shown = with_pending (to_recover state) state.shown }) state
+    either IsInRange (is_listed state.recovery) (record state { shown = shown_with_pending (to_recover state) state.shown }) state
     (record {
       me = range.me;
       epoch = range.epoch;
@@ -386,12 +386,12 @@ listed_range state range =
     })
     range
 
-pub begun_in_range : (epoch : ℕ) (members : List NodeId) (state : State) → MayBegin epoch members state → epoch < 2 ^ 32
-    → IsInRange state → IsInRange (begun epoch members state)
-unfolding begun
+pub begun_in_range : (epoch : ℕ) (members : List NodeId) (state : RecoveryState) → MayBegin epoch members state → epoch < 2 ^ 32
+    → IsInRange state → IsInRange (recovery_from_epoch epoch members state)
+unfolding recovery_from_epoch
 begun_in_range epoch members state may below range =
-    let others = without state.recovery.me members in
-    let kept : length others ≤ length members = kept_few (λ (other : NodeId). not (is_node state.recovery.me other)) members in
+    let others = nodes_without state.recovery.me members in
+    let kept : length others ≤ length members = kept_few (λ (other : NodeId). not (is_same_node state.recovery.me other)) members in
     let numbers : length (map (λ (node : NodeId). node.0) members) ≤ 64
     = length-le_from_below 64 (map (λ (node : NodeId). node.0) members)
     (sorted_from_strictly_increasing (map (λ (node : NodeId). node.0) members) may.ascend)
@@ -412,7 +412,7 @@ begun_in_range epoch members state may below range =
       search = tt;
     })
 
-without_message_range : (number : ℕ) (state : State) → IsInRange state → IsInRange (without_message number state)
+without_message_range : (number : ℕ) (state : RecoveryState) → IsInRange state → IsInRange (without_unanswered number state)
 without_message_range number state range = record {
   me = range.me;
   epoch = range.epoch;
@@ -426,12 +426,12 @@ without_message_range number state range = record {
   search = range.search;
 }
 
-named_range : (from : NodeId) (oids : List ℕ) (state : State) → All IsOid oids → IsInRange state → IsInRange (named from oids state)
+named_range : (from : NodeId) (oids : List ℕ) (state : RecoveryState) → All IsOid oids → IsInRange state → IsInRange (with_list_of from oids state)
 named_range from oids state ids range =
-    let left : length (without from state.recovery.lists.waiting) ≤ length state.recovery.lists.waiting
-    = kept_few (λ (other : NodeId). not (is_node from other)) state.recovery.lists.waiting in
+    let left : length (nodes_without from state.recovery.lists.waiting) ≤ length state.recovery.lists.waiting
+    = kept_few (λ (other : NodeId). not (is_same_node from other)) state.recovery.lists.waiting in
     let before : length state.recovery.lists.waiting ≤ 64 = range.waiting in
-    listed_range (record state { recovery = record state.recovery { lists = answered from oids state.recovery.lists } })
+    listed_range (record state { recovery = record state.recovery { lists = gathered_with_answer from oids state.recovery.lists } })
     (record {
       me = range.me;
       epoch = range.epoch;
@@ -445,7 +445,7 @@ named_range from oids state ids range =
       search = range.search;
     })
 
-after_list_range : (from : NodeId) (said : Option PeerSay) (state : State) → IfSome said NamesIds → IsInRange state → IsInRange (after_list from said state)
+after_list_range : (from : NodeId) (said : Option PeerSay) (state : RecoveryState) → IfSome said NamesIds → IsInRange state → IsInRange (after_list from said state)
 after_list_range from None state ids range = range
 after_list_range from (Some says.Success) state ids range = range
 after_list_range from (Some (says.Piece bytes)) state ids range = range
@@ -454,7 +454,7 @@ after_list_range from (Some (says.Row row)) state ids range = range
 after_list_range from (Some says.NoRow) state ids range = range
 after_list_range from (Some (says.Refused refusal)) state ids range = range
 
-heard_fine : (from : NodeId) (said : Option PeerSay) (search : Search) → IsSearchInRange search → IsSearchInRange (heard from said search)
+heard_fine : (from : NodeId) (said : Option PeerSay) (search : Search) → IsSearchInRange search → IsSearchInRange (search_after_answer from said search)
 heard_fine from None search fine = record { oid = fine.oid; level = fine.level }
 heard_fine from (Some says.Success) search fine = fine
 heard_fine from (Some (says.Piece bytes)) search fine = fine
@@ -463,14 +463,14 @@ heard_fine from (Some (says.Row row)) search fine = record { oid = fine.oid; lev
 heard_fine from (Some says.NoRow) search fine = record { oid = fine.oid; level = fine.level }
 heard_fine from (Some (says.Refused refusal)) search fine = record { oid = fine.oid; level = fine.level }
 
-after_read_range : (oid : ℕ) (from : NodeId) (said : Option PeerSay) (search : Option Search) (state : State) → IsFine search → IsInRange state
+after_read_range : (oid : ℕ) (from : NodeId) (said : Option PeerSay) (search : Option Search) (state : RecoveryState) → IsFine search → IsInRange state
     → IsInRange (after_read oid from said search state)
 after_read_range oid from said None state fine range = range
 after_read_range oid from said (Some search) state fine range =
-    either IsInRange (search.oid == oid) (searching (heard from said search) state) state
-    (searching_range (heard from said search) state (heard_fine from said search fine) range) range
+    either IsInRange (search.oid == oid) (searching (search_after_answer from said search) state) state
+    (searching_range (search_after_answer from said search) state (heard_fine from said search fine) range) range
 
-after_ask_range : (ask : PeerAsk) (from : NodeId) (said : Option PeerSay) (state : State) → IfSome said NamesIds → IsInRange state
+after_ask_range : (ask : PeerAsk) (from : NodeId) (said : Option PeerSay) (state : RecoveryState) → IfSome said NamesIds → IsInRange state
     → IsInRange (after_ask ask from said state)
 after_ask_range (asks.Create key size offset bytes) from said state ids range = range
 after_ask_range (asks.Write key offset bytes) from said state ids range = range
@@ -479,11 +479,11 @@ after_ask_range asks.List from said state ids range = after_list_range from said
 after_ask_range (asks.RecoverRead oid level) from said state ids range =
     after_read_range oid from said (search_on state) state (still_fine state.shown.pending state.recovery.search range.search) range
 
-after_message_range : (message : Option Message) (said : Option PeerSay) (state : State) → IfSome said NamesIds → IsInRange state
+after_message_range : (message : Option Message) (said : Option PeerSay) (state : RecoveryState) → IfSome said NamesIds → IsInRange state
     → IsInRange (after_message message said state)
 after_message_range None said state ids range = range
 after_message_range (Some message) said state ids range = after_ask_range message.request.ask message.to said state ids range
 
-pub ended_in_range : (number : ℕ) (said : Option PeerSay) (state : State) → IfSome said NamesIds → IsInRange state → IsInRange (ended number said state)
+pub ended_in_range : (number : ℕ) (said : Option PeerSay) (state : RecoveryState) → IfSome said NamesIds → IsInRange state → IsInRange (message_end number said state)
 ended_in_range number said state ids range =
-    after_message_range (message_of number state.recovery.unanswered) said (without_message number state) ids (without_message_range number state range)
+    after_message_range (message_of number state.recovery.unanswered) said (without_unanswered number state) ids (without_message_range number state range)

@@ -7,7 +7,7 @@ use Rattle.object_id.specs.declared.node.NodeId.{NodeId}
 use Rattle.object_id.specs.declared.policy.Policy.{Policy}
 use Rattle.object_id.specs.Oid.{kind_of}
 use Rattle.object_id.specs.Policy.{wanted_of}
-use Rattle.object_list.specs.Gathered.{answered}
+use Rattle.object_list.specs.Gathered.{gathered_with_answer}
 use Rattle.object_store.specs.Store.{rows_of}
 use Rattle.object_store.proofs.StoreLaws.{rows_of-insert_other}
 use Rattle.peer_proto.specs.declared.ask.PeerAsk.{PeerAsk}
@@ -16,12 +16,12 @@ use Rattle.peer_proto.specs.declared.say.PeerSay.{PeerSay}
 use Rattle.peer_proto.specs.declared.say.PeerSay.TheVariants as says
 use Rattle.peer_proto.specs.declared.say.Refusal.{Refusal}
 use Rattle.object_store.specs.Store.{create_in}
-use Rattle.recovery.specs.Shown.{live_policy, is_among, with_pending}
-use Rattle.recovery.specs.State.{Message, Search, Recovery, State, search_at, is_missing, is_listed, all_unanswered, message_of, still_on, search_on}
-use Rattle.recovery.specs.Level.{found, missed, to_ask, one_lower, not_found, own_index, own_part, rows_found, are_enough, judged_of, judged, is_of_search, searching}
-use Rattle.recovery.specs.Tick.{messages_to, lists_asked, level_asked, level_messages, asked_of, next_search, with_messages, searching_on, tick_messages, ticked}
-use Rattle.recovery.specs.Kept.{frame}
-use Rattle.recovery.specs.Steps.{to_recover, when_listed, at_start, begun, without_message, heard, after_list, after_read, after_ask, after_message, ended}
+use Rattle.recovery.specs.Shown.{live_policy, is_pending_object, shown_with_pending}
+use Rattle.recovery.specs.State.{Message, Search, Recovery, RecoveryState, search_at, is_missing, is_listed, all_unanswered, message_of, still_on, search_on}
+use Rattle.recovery.specs.Level.{with_part_found, with_object_missing, to_ask, one_lower, level_without_part, own_index, own_part, rows_found, are_enough, level_over_of, level_over, is_of_search, searching}
+use Rattle.recovery.specs.Tick.{messages_to, lists_asked, level_asked, level_messages, asked_of, next_search, with_messages, searching_on, tick_messages, state_after_tick}
+use Rattle.recovery.specs.Frame.{frame}
+use Rattle.recovery.specs.Steps.{to_recover, when_listed, at_start, recovery_from_epoch, without_unanswered, search_after_answer, after_list, after_read, after_ask, after_message, message_end}
 
 -- what holds of both holds of the one that is chosen
 pub either : {A : Type 0} (P : A → Type 0) (b : Bool) (x y : A) → P x → P y → P (cond b x y)
@@ -29,32 +29,32 @@ either P true x y one other = one
 either P false x y one other = other
 
 -- a level comes to a found row, a missing object, or a level to ask
-pub judged_each : (P : State → Type 0) (search : Search) (state : State) → P state
-    → ((index : ℕ) (bytes : List ℕ) → P (found search.oid index bytes state)) → P (missed search.oid state)
-    → ((level : ℕ) → P (to_ask search.oid level state)) → P (judged search state)
-unfolding judged
+pub judged_each : (P : RecoveryState → Type 0) (search : Search) (state : RecoveryState) → P state
+    → ((index : ℕ) (bytes : List ℕ) → P (with_part_found search.oid index bytes state)) → P (with_object_missing search.oid state)
+    → ((level : ℕ) → P (to_ask search.oid level state)) → P (level_over search state)
+unfolding level_over
 judged_each P search state same there gone again = of_policy (live_policy state.shown search.oid)
   where
-    of_policy : (policy : Option Policy) → P (judged_of policy search state)
+    of_policy : (policy : Option Policy) → P (level_over_of policy search state)
     of_policy None = same
     of_policy (Some policy) =
         either P (are_enough policy (kind_of search.oid) (rows_found state policy search))
-        (found search.oid (own_index policy search state) (own_part policy search (rows_found state policy search) state) state)
-        (not_found search state)
+        (with_part_found search.oid (own_index policy search state) (own_part policy search (rows_found state policy search) state) state)
+        (level_without_part search state)
         (there (own_index policy search state) (own_part policy search (rows_found state policy search) state))
         (either P _ _ _ (again _) (either P _ _ _ gone (again _)))
 
-abbrev SameFrame : State → State → Type 0
+abbrev SameFrame : RecoveryState → RecoveryState → Type 0
 SameFrame old new = frame new ≡ frame old
 
-pub judged_frame : (search : Search) (state : State) → SameFrame state (judged search state)
+pub judged_frame : (search : Search) (state : RecoveryState) → SameFrame state (level_over search state)
 judged_frame search state = judged_each (SameFrame state) search state refl (λ index bytes. refl) refl (λ level. refl)
 
-pub searching_frame : (search : Search) (state : State) → SameFrame state (searching search state)
+pub searching_frame : (search : Search) (state : RecoveryState) → SameFrame state (searching search state)
 searching_frame search state =
     either (SameFrame state)
     (list_any (is_of_search search.oid) state.recovery.unanswered)
-    (record state { recovery = record state.recovery { search = Some search } }) (judged search state)
+    (record state { recovery = record state.recovery { search = Some search } }) (level_over search state)
     refl (judged_frame search state)
 
 -- numbers
@@ -70,7 +70,7 @@ abbrev AreNumbered : ℕ → List Message → Type 0
 AreNumbered first messages =
     map (λ (message : Message). message.request.number) messages ≡ range_with_len first (length messages)
 
-pub numbers_of_tick : (first : ℕ) (state : State) → AreNumbered first (tick_messages first state)
+pub numbers_of_tick : (first : ℕ) (state : RecoveryState) → AreNumbered first (tick_messages first state)
 unfolding tick_messages
 numbers_of_tick first state =
     either (AreNumbered first) (is_listed state.recovery)
@@ -88,8 +88,8 @@ numbers_of_tick first state =
     of_search None = refl
     of_search (Some search) = of_level search (live_policy state.shown search.oid)
 
-pub frame_of_tick : (first : ℕ) (state : State) → frame (ticked first state) ≡ frame (with_messages (tick_messages first state) state)
-unfolding ticked
+pub frame_of_tick : (first : ℕ) (state : RecoveryState) → frame (state_after_tick first state) ≡ frame (with_messages (tick_messages first state) state)
+unfolding state_after_tick
 frame_of_tick first state =
     either (SameFrame (with_messages (tick_messages first state) state)) (is_listed state.recovery)
     (searching_on (next_search state) (with_messages (tick_messages first state) state))
@@ -103,130 +103,130 @@ frame_of_tick first state =
 
 -- the end of a message
 
-listed_frame : (state : State) → SameFrame state (when_listed state)
+listed_frame : (state : RecoveryState) → SameFrame state (when_listed state)
 listed_frame state =
     either (SameFrame state) (is_listed state.recovery)
-    (record state { shown = with_pending (to_recover state) state.shown }) state refl refl
+    (record state { shown = shown_with_pending (to_recover state) state.shown }) state refl refl
 
-after_list_frame : (from : NodeId) (said : Option PeerSay) (state : State) → SameFrame state (after_list from said state)
+after_list_frame : (from : NodeId) (said : Option PeerSay) (state : RecoveryState) → SameFrame state (after_list from said state)
 after_list_frame from None state = refl
 after_list_frame from (Some says.Success) state = refl
 after_list_frame from (Some (says.Piece bytes)) state = refl
 after_list_frame from (Some (says.Objects oids)) state =
-    listed_frame (record state { recovery = record state.recovery { lists = answered from oids state.recovery.lists } })
+    listed_frame (record state { recovery = record state.recovery { lists = gathered_with_answer from oids state.recovery.lists } })
 after_list_frame from (Some (says.Row row)) state = refl
 after_list_frame from (Some says.NoRow) state = refl
 after_list_frame from (Some (says.Refused refusal)) state = refl
 
-after_read_frame : (oid : ℕ) (from : NodeId) (said : Option PeerSay) (search : Option Search) (state : State)
+after_read_frame : (oid : ℕ) (from : NodeId) (said : Option PeerSay) (search : Option Search) (state : RecoveryState)
     → SameFrame state (after_read oid from said search state)
 after_read_frame oid from said None state = refl
 after_read_frame oid from said (Some search) state =
-    either (SameFrame state) (search.oid == oid) (searching (heard from said search) state) state
-    (searching_frame (heard from said search) state) refl
+    either (SameFrame state) (search.oid == oid) (searching (search_after_answer from said search) state) state
+    (searching_frame (search_after_answer from said search) state) refl
 
-after_ask_frame : (ask : PeerAsk) (from : NodeId) (said : Option PeerSay) (state : State) → SameFrame state (after_ask ask from said state)
+after_ask_frame : (ask : PeerAsk) (from : NodeId) (said : Option PeerSay) (state : RecoveryState) → SameFrame state (after_ask ask from said state)
 after_ask_frame (asks.Create key size offset bytes) from said state = refl
 after_ask_frame (asks.Write key offset bytes) from said state = refl
 after_ask_frame (asks.Read key offset size) from said state = refl
 after_ask_frame asks.List from said state = after_list_frame from said state
 after_ask_frame (asks.RecoverRead oid level) from said state = after_read_frame oid from said (search_on state) state
 
-after_message_frame : (message : Option Message) (said : Option PeerSay) (state : State) → SameFrame state (after_message message said state)
+after_message_frame : (message : Option Message) (said : Option PeerSay) (state : RecoveryState) → SameFrame state (after_message message said state)
 after_message_frame None said state = refl
 after_message_frame (Some message) said state = after_ask_frame message.request.ask message.to said state
 
-pub frame_of_end : (number : ℕ) (said : Option PeerSay) (state : State) → frame (ended number said state) ≡ frame (without_message number state)
+pub frame_of_end : (number : ℕ) (said : Option PeerSay) (state : RecoveryState) → frame (message_end number said state) ≡ frame (without_unanswered number state)
 frame_of_end number said state =
-    after_message_frame (message_of number state.recovery.unanswered) said (without_message number state)
+    after_message_frame (message_of number state.recovery.unanswered) said (without_unanswered number state)
 
 -- messages of older recoveries, and of searches that have ended
 
-pub begun_hears_nothing : (epoch : ℕ) (members : List NodeId) (state : State)
-    → ((begun epoch members state).recovery.unanswered ≡ []) × ((begun epoch members state).recovery.older ≡ all_unanswered state.recovery)
-unfolding begun
+pub begun_hears_nothing : (epoch : ℕ) (members : List NodeId) (state : RecoveryState)
+    → ((recovery_from_epoch epoch members state).recovery.unanswered ≡ []) × ((recovery_from_epoch epoch members state).recovery.older ≡ all_unanswered state.recovery)
+unfolding recovery_from_epoch
 begun_hears_nothing epoch members state =
-    let start : State = at_start epoch members state in
-    either (λ (s : State). (s.recovery.unanswered ≡ []) × (s.recovery.older ≡ all_unanswered state.recovery)) (is_listed start.recovery)
-    (record start { shown = with_pending (to_recover start) start.shown }) start
+    let start : RecoveryState = at_start epoch members state in
+    either (λ (s : RecoveryState). (s.recovery.unanswered ≡ []) × (s.recovery.older ≡ all_unanswered state.recovery)) (is_listed start.recovery)
+    (record start { shown = shown_with_pending (to_recover start) start.shown }) start
     (refl, refl) (refl, refl)
 
 -- what comes of a List that nobody answers
-end_of_list : (number : ℕ) (said : Option PeerSay) (state : State) (message : Message)
+end_of_list : (number : ℕ) (said : Option PeerSay) (state : RecoveryState) (message : Message)
     → message_of number state.recovery.unanswered ≡ Some message → message.request.ask ≡ asks.List
-    → ended number said state ≡ after_list message.to said (without_message number state)
+    → message_end number said state ≡ after_list message.to said (without_unanswered number state)
 end_of_list number said state message there ask =
-    ap (λ (m : Option Message). after_message m said (without_message number state)) there
-    ∙ ap (λ (a : PeerAsk). after_ask a message.to said (without_message number state)) ask
+    ap (λ (m : Option Message). after_message m said (without_unanswered number state)) there
+    ∙ ap (λ (a : PeerAsk). after_ask a message.to said (without_unanswered number state)) ask
 
-pub refused_lists_are_not_named : (number : ℕ) (refusal : Refusal) (state : State) (message : Message)
+pub refused_lists_are_not_named : (number : ℕ) (refusal : Refusal) (state : RecoveryState) (message : Message)
     → message_of number state.recovery.unanswered ≡ Some message → message.request.ask ≡ asks.List
-    → (ended number None state ≡ without_message number state)
-    × (ended number (Some (says.Refused refusal)) state ≡ without_message number state)
+    → (message_end number None state ≡ without_unanswered number state)
+    × (message_end number (Some (says.Refused refusal)) state ≡ without_unanswered number state)
 refused_lists_are_not_named number refusal state message there ask =
     (end_of_list number None state message there ask, end_of_list number (Some (says.Refused refusal)) state message there ask)
 
-pub end_of_older : (number : ℕ) (said : Option PeerSay) (state : State) → message_of number state.recovery.unanswered ≡ None
-    → ended number said state ≡ without_message number state
-end_of_older number said state none = ap (λ (m : Option Message). after_message m said (without_message number state)) none
+pub end_of_older : (number : ℕ) (said : Option PeerSay) (state : RecoveryState) → message_of number state.recovery.unanswered ≡ None
+    → message_end number said state ≡ without_unanswered number state
+end_of_older number said state none = ap (λ (m : Option Message). after_message m said (without_unanswered number state)) none
 
 -- the search of an object that isn't pending doesn't go on
-read_of_ended : (oid : ℕ) (from : NodeId) (said : Option PeerSay) (state : State) (pending : Option (List ℕ)) (search : Option Search)
-    → is_among oid pending ≡ false → after_read oid from said (still_on pending search) state ≡ state
+read_of_ended : (oid : ℕ) (from : NodeId) (said : Option PeerSay) (state : RecoveryState) (pending : Option (List ℕ)) (search : Option Search)
+    → is_pending_object oid pending ≡ false → after_read oid from said (still_on pending search) state ≡ state
 read_of_ended oid from said state pending None gone = refl
-read_of_ended oid from said state pending (Some search) gone = by_pending (is_among search.oid pending) refl
+read_of_ended oid from said state pending (Some search) gone = by_pending (is_pending_object search.oid pending) refl
   where
-    by_object : (b : Bool) → (search.oid == oid) ≡ b → is_among search.oid pending ≡ true
-        → cond b (searching (heard from said search) state) state ≡ state
+    by_object : (b : Bool) → (search.oid == oid) ≡ b → is_pending_object search.oid pending ≡ true
+        → cond b (searching (search_after_answer from said search) state) state ≡ state
     by_object true same here =
         let is : search.oid ≡ oid = eqb-true search.oid oid same in
-        let both : true ≡ false = sym here ∙ ap (λ (o : ℕ). is_among o pending) is ∙ gone in
+        let both : true ≡ false = sym here ∙ ap (λ (o : ℕ). is_pending_object o pending) is ∙ gone in
         absurd (cc (both))
     by_object false same here = refl
 
-    by_pending : (b : Bool) → is_among search.oid pending ≡ b → after_read oid from said (cond b (Some search) None) state ≡ state
+    by_pending : (b : Bool) → is_pending_object search.oid pending ≡ b → after_read oid from said (cond b (Some search) None) state ≡ state
     by_pending true here = by_object (search.oid == oid) refl here
     by_pending false here = refl
 
-pub end_of_ended : (number : ℕ) (said : Option PeerSay) (state : State) (message : Message) (oid : ℕ) (level : Epoch)
+pub end_of_ended : (number : ℕ) (said : Option PeerSay) (state : RecoveryState) (message : Message) (oid : ℕ) (level : Epoch)
     → message_of number state.recovery.unanswered ≡ Some message → message.request.ask ≡ asks.RecoverRead oid level
-    → is_among oid state.shown.pending ≡ false
-    → ended number said state ≡ without_message number state
+    → is_pending_object oid state.shown.pending ≡ false
+    → message_end number said state ≡ without_unanswered number state
 end_of_ended number said state message oid level there ask gone =
-    ap (λ (m : Option Message). after_message m said (without_message number state)) there
-    ∙ ap (λ (a : PeerAsk). after_ask a message.to said (without_message number state)) ask
-    ∙ read_of_ended oid message.to said (without_message number state) state.shown.pending state.recovery.search gone
+    ap (λ (m : Option Message). after_message m said (without_unanswered number state)) there
+    ∙ ap (λ (a : PeerAsk). after_ask a message.to said (without_unanswered number state)) ask
+    ∙ read_of_ended oid message.to said (without_unanswered number state) state.shown.pending state.recovery.search gone
 
 -- a level that is over or isn't
 
-pub level_waits : (search : Search) (state : State)
+pub level_waits : (search : Search) (state : RecoveryState)
     → list_any (is_of_search search.oid) state.recovery.unanswered ≡ true
     → searching search state ≡ record state { recovery = record state.recovery { search = Some search } }
 level_waits search state waits =
     cond-true (list_any (is_of_search search.oid) state.recovery.unanswered)
-    (record state { recovery = record state.recovery { search = Some search } }) (judged search state) waits
+    (record state { recovery = record state.recovery { search = Some search } }) (level_over search state) waits
 
 -- the search that a level leaves
 
-abbrev GoesOn : Search → State → Search → Type 0
+abbrev GoesOn : Search → RecoveryState → Search → Type 0
 GoesOn search state next =
     ((next ≡ search_at search.oid search.level) × (search.again ≡ true))
     ⊎ ((next ≡ search_at search.oid (search.level - 1)) × (search.again ≡ false) × (state.shown.settled ≤ search.level - 1))
 
-pub search_after_level : (policy : Policy) (search : Search) (state : State) (next : Search)
-    → live_policy state.shown search.oid ≡ Some policy → (judged search state).recovery.search ≡ Some next → GoesOn search state next
-unfolding judged
+pub search_after_level : (policy : Policy) (search : Search) (state : RecoveryState) (next : Search)
+    → live_policy state.shown search.oid ≡ Some policy → (level_over search state).recovery.search ≡ Some next → GoesOn search state next
+unfolding level_over
 search_after_level policy search state next is now =
     of_rows (own_index policy search state) (own_part policy search (rows_found state policy search) state)
     (are_enough policy (kind_of search.oid) (rows_found state policy search))
-    (sym (ap (λ (p : Option Policy). (judged_of p search state).recovery.search) is) ∙ now)
+    (sym (ap (λ (p : Option Policy). (level_over_of p search state).recovery.search) is) ∙ now)
   where
     -- the search that a level asks next is this one
     this_one : (level : ℕ) → Some (search_at search.oid level) ≡ Some next → next ≡ search_at search.oid level
     this_one level same = sym (ap (λ (o : Option Search). unwrap_or o next) same)
 
     of_level : (b : Bool) → nat_lt (search.level - 1) state.shown.settled ≡ b → search.again ≡ false
-        → (cond b (missed search.oid state) (to_ask search.oid (search.level - 1) state)).recovery.search ≡ Some next
+        → (cond b (with_object_missing search.oid state) (to_ask search.oid (search.level - 1) state)).recovery.search ≡ Some next
         → GoesOn search state next
     of_level true below last same = absurd (cc (same))
     of_level false above last same =
@@ -239,19 +239,19 @@ search_after_level policy search state next is now =
     of_again false last same = of_level (nat_lt (search.level - 1) state.shown.settled) refl last same
 
     of_rows : (index : ℕ) (bytes : List ℕ) (b : Bool)
-        → (cond b (found search.oid index bytes state) (not_found search state)).recovery.search ≡ Some next
+        → (cond b (with_part_found search.oid index bytes state) (level_without_part search state)).recovery.search ≡ Some next
         → GoesOn search state next
     of_rows index bytes true same = absurd (cc (same))
     of_rows index bytes false same = of_again search.again refl same
 
-abbrev Missed : Search → State → ℕ → Type 0
+abbrev Missed : Search → RecoveryState → ℕ → Type 0
 Missed search state oid =
     (is_missing oid state.recovery ≡ true)
     ⊎ ((search.oid ≡ oid) × (search.again ≡ false) × (search.level - 1 < state.shown.settled))
 
-pub missing_of_level : (search : Search) (state : State) (oid : ℕ) → is_missing oid (judged search state).recovery ≡ true
+pub missing_of_level : (search : Search) (state : RecoveryState) (oid : ℕ) → is_missing oid (level_over search state).recovery ≡ true
     → Missed search state oid
-unfolding judged
+unfolding level_over
 missing_of_level search state oid = of_policy (live_policy state.shown search.oid)
   where
     of_object : (b : Bool) → (search.oid == oid) ≡ b → search.again ≡ false → nat_lt (search.level - 1) state.shown.settled ≡ true
@@ -261,7 +261,7 @@ missing_of_level search state oid = of_policy (live_policy state.shown search.oi
     of_object false other last below now = inl now
 
     of_level : (b : Bool) → nat_lt (search.level - 1) state.shown.settled ≡ b → search.again ≡ false
-        → is_missing oid (cond b (missed search.oid state) (to_ask search.oid (search.level - 1) state)).recovery ≡ true
+        → is_missing oid (cond b (with_object_missing search.oid state) (to_ask search.oid (search.level - 1) state)).recovery ≡ true
         → Missed search state oid
     of_level true below last now = of_object (search.oid == oid) refl last below now
     of_level false above last now = inl now
@@ -273,21 +273,21 @@ missing_of_level search state oid = of_policy (live_policy state.shown search.oi
     of_again false last now = of_level (nat_lt (search.level - 1) state.shown.settled) refl last now
 
     of_rows : (index : ℕ) (bytes : List ℕ) (b : Bool)
-        → is_missing oid (cond b (found search.oid index bytes state) (not_found search state)).recovery ≡ true
+        → is_missing oid (cond b (with_part_found search.oid index bytes state) (level_without_part search state)).recovery ≡ true
         → Missed search state oid
     of_rows index bytes true now = inl now
     of_rows index bytes false now = of_again search.again refl now
 
-    of_policy : (policy : Option Policy) → is_missing oid (judged_of policy search state).recovery ≡ true → Missed search state oid
+    of_policy : (policy : Option Policy) → is_missing oid (level_over_of policy search state).recovery ≡ true → Missed search state oid
     of_policy None now = inl now
     of_policy (Some policy) now =
         of_rows (own_index policy search state) (own_part policy search (rows_found state policy search) state)
         (are_enough policy (kind_of search.oid) (rows_found state policy search)) now
 
-pub others_of_level : (search : Search) (state : State) (oid : ℕ) → oid ≢ search.oid
-    → rows_of (judged search state).shown.rows oid ≡ rows_of state.shown.rows oid
+pub others_of_level : (search : Search) (state : RecoveryState) (oid : ℕ) → oid ≢ search.oid
+    → rows_of (level_over search state).shown.rows oid ≡ rows_of state.shown.rows oid
 others_of_level search state oid other =
-    judged_each (λ (s : State). rows_of s.shown.rows oid ≡ rows_of state.shown.rows oid) search state refl
+    judged_each (λ (s : RecoveryState). rows_of s.shown.rows oid ≡ rows_of state.shown.rows oid) search state refl
     (λ index bytes. rows_of-insert_other state.shown.rows search.oid
     (create_in index state.shown.epoch (length bytes) 0 bytes (rows_of state.shown.rows search.oid)) oid other)
     refl (λ level. refl)

@@ -12,8 +12,8 @@ use Rattle.object_id.specs.declared.policy.Policy.TheVariants.{Copies, Coded}
 use Rattle.object_id.specs.Policy.{need_of}
 use Rattle.object_store.specs.declared.row.RowCopy.{RowCopy}
 use Rattle.recovery.specs.Shown.{own_row}
-use Rattle.recovery.specs.State.{Search, State}
-use Rattle.recovery.specs.Level.{row_of, rows_found, put_by_index, in_turn, taken, are_enough}
+use Rattle.recovery.specs.State.{Search, RecoveryState}
+use Rattle.recovery.specs.Level.{row_of_target, rows_found, put_by_index, rows_in_order, rows_taken, are_enough}
 
 -- an element of a list is its first or in its rest
 
@@ -79,7 +79,7 @@ fold_only start (row ∷ rows) r there = by_start (fold_only (put_by_index start
     by_start (inl now) = by_put (put_only start row r now)
     by_start (inr now) = inr (contains_cons row rows r now)
 
-in_turn_only : (policy : Policy) (kind : Kind) (rows : List RowCopy) (r : RowCopy) → Contains (in_turn policy kind rows) r → Contains rows r
+in_turn_only : (policy : Policy) (kind : Kind) (rows : List RowCopy) (r : RowCopy) → Contains (rows_in_order policy kind rows) r → Contains rows r
 in_turn_only (Copies copies) kind rows r there = there
 in_turn_only (Coded d p) Block rows r there = not_before (fold_only [] rows r there)
   where
@@ -88,18 +88,18 @@ in_turn_only (Coded d p) Block rows r there = not_before (fold_only [] rows r th
     not_before (inr now) = now
 in_turn_only (Coded d p) Inode rows r there = there
 
-pub taken_were_found : (policy : Policy) (kind : Kind) (rows : List RowCopy) (row : RowCopy) → Contains (taken policy kind rows) row → Contains rows row
+pub taken_were_found : (policy : Policy) (kind : Kind) (rows : List RowCopy) (row : RowCopy) → Contains (rows_taken policy kind rows) row → Contains rows row
 taken_were_found policy kind rows row there =
-    let ready : List RowCopy = in_turn policy kind rows in
+    let ready : List RowCopy = rows_in_order policy kind rows in
     in_turn_only policy kind rows row
     (subst (λ (all : List RowCopy). Contains all row) (take-append-drop (need_of policy kind) ready)
     (Contains-append_left (take (need_of policy kind) ready) (drop (need_of policy kind) ready) row there))
 
 pub taken_are_as_many : (policy : Policy) (kind : Kind) (rows : List RowCopy) → are_enough policy kind rows ≡ true
-    → length (taken policy kind rows) ≡ need_of policy kind
+    → length (rows_taken policy kind rows) ≡ need_of policy kind
 taken_are_as_many policy kind rows enough =
-    length-take-le (need_of policy kind) (in_turn policy kind rows)
-    (leb-true (need_of policy kind) (length (in_turn policy kind rows)) enough)
+    length-take-le (need_of policy kind) (rows_in_order policy kind rows)
+    (leb-true (need_of policy kind) (length (rows_in_order policy kind rows)) enough)
 
 -- what is given of one of the items
 
@@ -121,9 +121,9 @@ filter_map_only {A} {B} h (x ∷ xs) y there = by_value (filter_map_only h xs y)
     by_value later None is now = further (later now)
     by_value later (Some v) is now = by_case later v is (contains_cases v (filter_map h xs) y now)
 
-pub found_at_targets : (state : State) (policy : Policy) (search : Search) (row : RowCopy) → Contains (rows_found state policy search) row
+pub found_at_targets : (state : RecoveryState) (policy : Policy) (search : Search) (row : RowCopy) → Contains (rows_found state policy search) row
     → (node : NodeId) × Contains (state.shown.targets search.level search.oid policy) node
-    × (row_of state.recovery.me (own_row state.shown search.oid search.level) search.answers node ≡ Some row)
+    × (row_of_target state.recovery.me (own_row state.shown search.oid search.level) search.answers node ≡ Some row)
 found_at_targets state policy search row there =
-    filter_map_only (row_of state.recovery.me (own_row state.shown search.oid search.level) search.answers)
+    filter_map_only (row_of_target state.recovery.me (own_row state.shown search.oid search.level) search.answers)
     (state.shown.targets search.level search.oid policy) row there

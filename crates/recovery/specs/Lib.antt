@@ -4,6 +4,6 @@ pub mod Fits
 pub mod Level
 pub mod Tick
 pub mod Steps
-pub mod Kept
+pub mod Frame
 pub mod Range
 pub mod Example

@@ -8,7 +8,7 @@ use Rattle.object_id.specs.Policy.{IsPolicy, wanted_of}
 use Rattle.peer_proto.specs.declared.say.PeerSay.{PeerSay}
 use Rattle.peer_proto.specs.declared.say.PeerSay.TheVariants as says
 use Rattle.peer_proto.specs.Header.{IsEpoch}
-use Rattle.recovery.specs.State.{Search, State}
+use Rattle.recovery.specs.State.{Search, RecoveryState}
 
 -- a search is for an object, and at an epoch
 pub record IsSearchInRange (search : Search) : Type 0 where
@@ -16,7 +16,7 @@ pub record IsSearchInRange (search : Search) : Type 0 where
   pub level : IsEpoch (record { 0 = search.level })
 
 -- the node and the epochs have numbers that can be spelled, all objects have ids, and no more are asked than there may be
-pub record IsInRange (state : State) : Type 0 where
+pub record IsInRange (state : RecoveryState) : Type 0 where
   pub me : state.recovery.me.0 < 64
   pub epoch : IsEpoch (record { 0 = state.recovery.epoch })
   pub settled : 1 ≤ state.shown.settled

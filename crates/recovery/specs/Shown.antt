@@ -14,7 +14,7 @@ use Rattle.object_store.specs.Store.{AllRows, rows_of, open_row, create_in, copy
 use Rattle.strip_coding.specs.Part.{index_among}
 
 -- a node, as its recovery sees it
-pub record Shown : Type 0 where
+pub record NodeView : Type 0 where
   -- the node's epoch, and the settled epoch that it has read
   pub epoch : ℕ
   pub settled : ℕ
@@ -29,12 +29,12 @@ pub record Shown : Type 0 where
   pub targets : ℕ → ℕ → Policy → List NodeId
 
 -- the policy of an object whose id is known and not dead
-abbrev pub live_policy : Shown → ℕ → Option Policy
+abbrev pub live_policy : NodeView → ℕ → Option Policy
 live_policy shown oid = if shown.is_dead oid then None else shown.policy_of oid
 
 -- the object's targets of a level stand at the front of `out`, as many as are answered, beside its policy; nothing is
 -- answered where there is no such policy
-abbrev pub TargetsOf : Shown → ℕ → ℕ → List NodeId → Option (ℕ × Policy) → Option Policy → Type 0
+abbrev pub TargetsOf : NodeView → ℕ → ℕ → List NodeId → Option (ℕ × Policy) → Option Policy → Type 0
 TargetsOf shown level oid out None None = Unit {0}
 TargetsOf shown level oid out (Some answer) None = ⊥
 TargetsOf shown level oid out None (Some policy) = ⊥
@@ -48,12 +48,12 @@ first_in (Some []) = None
 first_in (Some (oid ∷ rest)) = Some oid
 
 -- whether an object is pending
-abbrev pub is_among : ℕ → Option (List ℕ) → Bool
-is_among oid None = false
-is_among oid (Some oids) = list_any (λ other. other == oid) oids
+abbrev pub is_pending_object : ℕ → Option (List ℕ) → Bool
+is_pending_object oid None = false
+is_pending_object oid (Some oids) = list_any (λ other. other == oid) oids
 
 -- the index of a node's part of an object in an epoch, if it is one of the targets
-abbrev pub index_in : Shown → ℕ → ℕ → Policy → NodeId → Option ℕ
+abbrev pub index_in : NodeView → ℕ → ℕ → Policy → NodeId → Option ℕ
 index_in shown epoch oid policy node = index_among node (shown.targets epoch oid policy) policy (kind_of oid)
 
 -- whether the node has no open row of the index that is its own
@@ -62,20 +62,20 @@ lacks_part rows oid None = false
 lacks_part rows oid (Some index) = not (is_some (open_row rows (record { oid = oid; index = index })))
 
 -- whether the node is a target of an object of this policy in an epoch, and has no open row of its index
-abbrev pub lacks : NodeId → ℕ → Shown → ℕ → Option Policy → Bool
+abbrev pub lacks : NodeId → ℕ → NodeView → ℕ → Option Policy → Bool
 lacks me epoch shown oid None = false
 lacks me epoch shown oid (Some policy) = lacks_part shown.rows oid (index_in shown epoch oid policy me)
 
 -- whether a node has to recover an object in an epoch: its id is known and not dead, and the node is one of the object's
 -- targets there and has no open row of its index
-abbrev pub is_to_recover : NodeId → ℕ → Shown → ℕ → Bool
+abbrev pub is_to_recover : NodeId → ℕ → NodeView → ℕ → Bool
 is_to_recover me epoch shown oid = lacks me epoch shown oid (live_policy shown oid)
 
 -- whether a row is as the object's rows are at a level: it holds the level, its index is below the wanted number, and it
 -- has the length that they have
-abbrev pub is_row_of : ℕ → ℕ → Option ℕ → RowCopy → Bool
-is_row_of level wanted None row = false
-is_row_of level wanted (Some size) row =
+abbrev pub is_asked_row : ℕ → ℕ → Option ℕ → RowCopy → Bool
+is_asked_row level wanted None row = false
+is_asked_row level wanted (Some size) row =
     nat_le row.from.0 level && reaches level row.to && nat_lt row.index wanted && row.length == size
 
 -- a row, if it is one and is as the object's rows are
@@ -83,30 +83,30 @@ abbrev pub fitting : ℕ → Option Policy → Option ℕ → ℕ → Option Row
 fitting level None size oid row = None
 fitting level (Some policy) size oid None = None
 fitting level (Some policy) size oid (Some row) =
-    if is_row_of level (wanted_of policy (kind_of oid)) size row then Some row else None
+    if is_asked_row level (wanted_of policy (kind_of oid)) size row then Some row else None
 
 -- the node's own row of an object at a level, if it is as such a row is
-abbrev pub own_row : Shown → ℕ → ℕ → Option RowCopy
+abbrev pub own_row : NodeView → ℕ → ℕ → Option RowCopy
 own_row shown oid level = fitting level (shown.policy_of oid) (shown.size_of oid) oid (copy_at shown.rows oid level)
 
 -- the node doesn't know all of its objects
-abbrev pub started : Shown → Shown
-started shown = record shown { pending = None }
+abbrev pub shown_with_unfinished_list : NodeView → NodeView
+shown_with_unfinished_list shown = record shown { pending = None }
 
 -- it knows them, and these are still to be recovered
-abbrev pub with_pending : List ℕ → Shown → Shown
-with_pending oids shown = record shown { pending = Some oids }
+abbrev pub shown_with_pending : List ℕ → NodeView → NodeView
+shown_with_pending oids shown = record shown { pending = Some oids }
 
 -- an object is pending no more
-abbrev pub given_up : ℕ → Shown → Shown
-given_up oid shown = record shown { pending = option_map (filter (λ other. not (other == oid))) shown.pending }
+abbrev pub shown_without_pending : ℕ → NodeView → NodeView
+shown_without_pending oid shown = record shown { pending = option_map (filter (λ other. not (other == oid))) shown.pending }
 
 -- bytes of no more than a length
 abbrev pub IsUpTo : ℕ → List ℕ → Type 0
 IsUpTo size bytes = length bytes ≤ size
 
 -- the node has an object's open row of these bytes from its epoch on, and the object is pending no more
-abbrev pub with_row : Key → ℕ → List ℕ → Shown → Shown
+abbrev pub with_row : Key → ℕ → List ℕ → NodeView → NodeView
 with_row key size bytes shown =
-    given_up key.oid
+    shown_without_pending key.oid
     (record shown { rows = tree.insert shown.rows key.oid (create_in key.index shown.epoch size 0 bytes (rows_of shown.rows key.oid)) })

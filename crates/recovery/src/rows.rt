@@ -1,7 +1,7 @@
 ghost use Rattle.std.specs.Prelude.{◌≡◌, ◌≤◌, is_some, IfOk, OnOk, OnErr};
 ghost use Rattle.std.specs.FinMap as tree;
 ghost use Rattle.object_store.specs.Store.{open_row};
-ghost use Rattle.recovery.specs.Shown.{Shown, TargetsOf, live_policy, first_in, is_among, own_row, started, with_pending, given_up, with_row, IsUpTo};
+ghost use Rattle.recovery.specs.Shown.{NodeView, TargetsOf, live_policy, first_in, is_pending_object, own_row, shown_with_unfinished_list, shown_with_pending, shown_without_pending, with_row, IsUpTo};
 
 use object_id::{Epoch, NoMemory, NodeId, Oid, Policy};
 use object_store::{Key, OidList, RowCopy};
@@ -10,7 +10,7 @@ use object_store::{Key, OidList, RowCopy};
 /// lengths of objects, and to change rows and what is pending.
 pub trait Rows {
     /// What the node shows.
-    ghost shown: { Self → Shown };
+    ghost shown: { Self → NodeView };
 
     /// The ids of the objects that have rows.
     fn objects(&self) -> Result<OidList, NoMemory>
@@ -42,15 +42,15 @@ pub trait Rows {
 
     /// The node doesn't know any more what is pending. Takes no memory.
     fn start_list(&mut self)
-        ensures { shown self.new ≡ started (shown self.old) };
+        ensures { shown self.new ≡ shown_with_unfinished_list (shown self.old) };
 
     /// These objects are pending. Takes no memory.
     fn set_pending(&mut self, list: OidList)
-        ensures { shown self.new ≡ with_pending list (shown self.old) };
+        ensures { shown self.new ≡ shown_with_pending list (shown self.old) };
 
     /// Whether the object is pending.
     fn pending(&self, oid: Oid) -> bool
-        ensures { result ≡ is_among oid (shown self.now).pending };
+        ensures { result ≡ is_pending_object oid (shown self.now).pending };
 
     /// The smallest pending object; `None` exactly where nothing is pending.
     fn first_pending(&self) -> Option<Oid>
@@ -65,5 +65,5 @@ pub trait Rows {
 
     /// The object is pending no more. Takes no memory.
     fn give_up(&mut self, oid: Oid)
-        ensures { shown self.new ≡ given_up oid (shown self.old) };
+        ensures { shown self.new ≡ shown_without_pending oid (shown self.old) };
 }

@@ -6,8 +6,8 @@ use Rattle.cluster_script.specs.declared.statement.Statement.{Statement}
 use Rattle.sheep_node.specs.declared.event.Event.{Event}
 use Rattle.sheep_world.specs.World.{World}
 use Rattle.sheep_world.specs.Opening as worlds
-use Rattle.sheep_world.specs.Step.{Made, step}
-use Rattle.sheep_world.specs.Run.{Moment, opening, gone_on, run_from, IsRun}
+use Rattle.sheep_world.specs.Step.{EventOutcome, step}
+use Rattle.sheep_world.specs.Run.{Moment, initial_moment, moment_with_made, run_from, IsRun}
 use Rattle.schedule.specs.Merged.{KeptStep, is_phase_due, IsAsKept, IsClashAt, MergesOne, MergesFrom, Merges}
 use Rattle.schedule.proofs.RunLaws.{next-made, run-on}
 
@@ -25,20 +25,20 @@ module _ (statements : List Statement) where
           → IsSome (run_from statements (event ∷ events) moment)
       by_due later steps true h =
           run-on statements event events moment h.0 (ap (step statements event) same ∙ h.2)
-          (later h.0.world taken steps (gone_on moment.history h.0) refl h.3)
+          (later h.0.world taken steps (moment_with_made moment.history h.0) refl h.3)
       by_due later [] false h = absurd h
       by_due later (kept ∷ steps) false h =
           run-on statements event events moment h.0 (ap (step statements event) same ∙ h.2)
-          (later h.0.world (taken + 1) steps (gone_on moment.history h.0) refl h.4)
+          (later h.0.world (taken + 1) steps (moment_with_made moment.history h.0) refl h.4)
 
   pub merge-is-run : (steps : List KeptStep) (events : List Event) → Merges statements steps events → IsRun statements events
-  merge-is-run steps events h = merge-runs events (worlds.opening statements) 0 steps (opening statements) refl h
+  merge-is-run steps events h = merge-runs events (worlds.initial_world statements) 0 steps (initial_moment statements) refl h
 
-  abbrev MergesOn : List Event → Made → ℕ → List KeptStep → Type 0
+  abbrev MergesOn : List Event → EventOutcome → ℕ → List KeptStep → Type 0
   MergesOn events made taken steps = MergesFrom statements events made.world taken steps
 
   -- the same event makes the same, so what follows is the same too
-  cons_same : (event other : Event) (events others : List Event) (world : World) (made again : Made) (taken : ℕ) (steps : List KeptStep)
+  cons_same : (event other : Event) (events others : List Event) (world : World) (made again : EventOutcome) (taken : ℕ) (steps : List KeptStep)
       → ((world : World) (taken : ℕ) (steps : List KeptStep) → MergesFrom statements events world taken steps
       → MergesFrom statements others world taken steps → events ≡ others)
       → event ≡ other → step statements event world ≡ Some made → step statements other world ≡ Some again
@@ -47,7 +47,7 @@ module _ (statements : List Statement) where
       let one : made ≡ again = same_Some made again (sym is ∙ ap (λ (e : Event). step statements e world) same ∙ too) in
       ap (λ (e : Event). e ∷ events) same
       ∙ ap (λ (rest : List Event). other ∷ rest)
-      (later made.world taken steps h (subst (λ (m : Made). MergesOn others m taken steps) (sym one) k))
+      (later made.world taken steps h (subst (λ (m : EventOutcome). MergesOn others m taken steps) (sym one) k))
 
   no_more : (world : World) (taken : ℕ) (steps : List KeptStep) (event : Event) (events : List Event)
       → steps ≡ [] → is_phase_due statements world taken ≡ false → MergesFrom statements (event ∷ events) world taken steps → ⊥
@@ -75,21 +75,21 @@ module _ (statements : List Statement) where
 
   pub one-merge : (steps : List KeptStep) (events others : List Event) → Merges statements steps events → Merges statements steps others
       → events ≡ others
-  one-merge steps events others h k = merge-one events others (worlds.opening statements) 0 steps h k
+  one-merge steps events others h k = merge-one events others (worlds.initial_world statements) 0 steps h k
 
   not_nil : (before later : List KeptStep) (kept : KeptStep) → before ++ kept ∷ later ≡ [] → ⊥
   not_nil [] later kept e = absurd (cc (e))
   not_nil (first ∷ before) later kept e = absurd (cc (e))
 
-  run-rest : (event : Event) (events : List Event) (moment last : Moment) (made : Made) → step statements event moment.world ≡ Some made
-      → run_from statements (event ∷ events) moment ≡ Some last → run_from statements events (gone_on moment.history made) ≡ Some last
+  run-rest : (event : Event) (events : List Event) (moment last : Moment) (made : EventOutcome) → step statements event moment.world ≡ Some made
+      → run_from statements (event ∷ events) moment ≡ Some last → run_from statements events (moment_with_made moment.history made) ≡ Some last
   unfolding run_from
   run-rest event events moment last made is run =
       sym (ap (option_and_then (run_from statements events)) (next-made statements event moment made is)) ∙ run
 
   -- the step isn't made as it is kept
   abbrev Clashes : KeptStep → Moment → Type 0
-  Clashes kept last = (made : Made) → step statements kept.event last.world ≡ Some made → IsAsKept kept made → ⊥
+  Clashes kept last = (made : EventOutcome) → step statements kept.event last.world ≡ Some made → IsAsKept kept made → ⊥
 
   -- steps merge to nothing where, after those before, the next one isn't made as it is kept
   abbrev NoMerge : List Event → List Event → Type 0
@@ -113,14 +113,14 @@ module _ (statements : List Statement) where
   no_merge (event ∷ events) (other ∷ others) world taken before later kept moment last same h run clash k =
       by_due (no_merge events others) before (is_phase_due statements world taken) h k
     where
-      go_on : NoMerge events others → (made again : Made) (taken : ℕ) (before : List KeptStep) → event ≡ other
+      go_on : NoMerge events others → (made again : EventOutcome) (taken : ℕ) (before : List KeptStep) → event ≡ other
           → step statements event world ≡ Some made → step statements other world ≡ Some again
           → MergesFrom statements events made.world taken before → MergesFrom statements others again.world taken (before ++ kept ∷ later) → ⊥
       go_on rest made again taken before alike is too h k =
           let one : made ≡ again = same_Some made again (sym is ∙ ap (λ (e : Event). step statements e world) alike ∙ too) in
-          rest made.world taken before later kept (gone_on moment.history made) last refl h
+          rest made.world taken before later kept (moment_with_made moment.history made) last refl h
           (run-rest event events moment last made (ap (step statements event) same ∙ is) run) clash
-          (subst (λ (m : Made). MergesFrom statements others m.world taken (before ++ kept ∷ later)) (sym one) k)
+          (subst (λ (m : EventOutcome). MergesFrom statements others m.world taken (before ++ kept ∷ later)) (sym one) k)
 
       by_due : NoMerge events others → (before : List KeptStep) (due : Bool)
           → MergesOne statements world taken before event (MergesFrom statements events) due

@@ -3,7 +3,7 @@ use Rattle.std.proofs.Common.{◌≡◌, ℕ, ◌+◌, ◌-◌, ◌≤◌, Bool,
 use Rattle.std.proofs.lemmas.Option.{same_Some, none-some}
 use Rattle.object_id.specs.declared.node.NodeId.{NodeId}
 use Rattle.cluster_script.specs.declared.statement.Statement.{Statement}
-use Rattle.cluster_script.specs.Sessions.{Session, session_numbered}
+use Rattle.cluster_script.specs.Sessions.{ScriptSession, session_numbered}
 use Rattle.peer_proto.specs.declared.ask.PeerReq.{PeerReq}
 use Rattle.peer_proto.specs.declared.say.PeerRsp.{PeerRsp}
 use Rattle.peer_proto.specs.declared.fault.PeerFault.{PeerFault}
@@ -14,54 +14,54 @@ use Rattle.sheep_node.specs.declared.event.Event.TheVariants as events
 use Rattle.sheep_node.specs.declared.input.Input.{Input}
 use Rattle.sheep_node.specs.declared.input.Input.TheVariants as inputs
 use Rattle.sheep_world.specs.declared.name.MessageName.{MessageName}
-use Rattle.sheep_world.specs.World.{Letter, Request, Reply, Seat, World, seat_at, message_at, is_up, are_ends_up}
-use Rattle.sheep_world.specs.Stepped.{seat_stepped, node_stepped, node_stepped_if, at_rest}
-use Rattle.sheep_world.specs.Conditions.{next_request, may_guest, may_deliver, may_lose_request, may_lose_reply, may_read, may_put, may_recover, may_retry, may_lose_node, may_leave, may_join, may_reweight, may_come_back, may_end_phase}
-use Rattle.sheep_world.specs.Effects.{request_begun, begun_of, guest_begun, next_input, gateway_stepped, guest_asked, entry_read, entry_put, recovery_ticked, retry_ticked}
-use Rattle.sheep_world.specs.Messages.{without_message, with_reply, replied, request_got, request_delivered, reply_got, reply_delivered, delivered_as, delivered, loss_used, loss_told, message_lost}
-use Rattle.sheep_world.specs.Changes.{failed, revived, seat_changed, node_lost, node_left, node_joined, reweighted, rejoined, came_back, phase_ended}
-use Rattle.sheep_world.specs.Step.{Made, step}
+use Rattle.sheep_world.specs.World.{Packet, Request, Reply, Host, World, host_at, message_at, is_up, are_ends_up}
+use Rattle.sheep_world.specs.NodeSteps.{host_stepped, node_stepped, node_stepped_if, at_rest}
+use Rattle.sheep_world.specs.Conditions.{next_request, may_guest, may_deliver, may_lose_request, may_lose_reply, may_log_next, may_put, may_recover, may_retry, may_lose_node, may_leave, may_join, may_reweight, may_come_back, may_end_phase}
+use Rattle.sheep_world.specs.Effects.{request_started, requests_started, guest_begun, next_input, gateway_node_stepped, guest_effect, log_next_effect, put_effect, recover_tick_effect, retry_tick_effect}
+use Rattle.sheep_world.specs.Messages.{without_message, with_reply_packet, reply_sent, request_got, request_delivered, reply_got, reply_delivered, delivered_as, message_delivered, loss_used, loss_told, message_lost}
+use Rattle.sheep_world.specs.MembershipChanges.{lost_host, revived_host, host_changed, node_lost, node_left, node_joined, node_reweighted, node_rejoined, came_back, phase_ended}
+use Rattle.sheep_world.specs.Step.{EventOutcome, step}
 
 module _ (statements : List Statement) where
   node-phase : (node : ℕ) (input : Input) (world : World) → (node_stepped statements node input world).phase ≡ world.phase
   unfolding node_stepped
-  node-phase node input world = by_seat (seat_at node world)
+  node-phase node input world = by_host (host_at node world)
     where
-      by_seat : (seat : Option Seat) → (seat_stepped statements node input seat world).phase ≡ world.phase
-      by_seat None = refl
-      by_seat (Some seat) = refl
+      by_host : (host : Option Host) → (host_stepped statements node input host world).phase ≡ world.phase
+      by_host None = refl
+      by_host (Some host) = refl
 
   node_if-phase : (node : ℕ) (input : Option Input) (world : World) → (node_stepped_if statements node input world).phase ≡ world.phase
   node_if-phase node None world = refl
   node_if-phase node (Some input) world = node-phase node input world
 
-  begun-phase : (session : Option Session) (world : World) → (begun_of statements session world).phase ≡ world.phase
+  begun-phase : (session : Option ScriptSession) (world : World) → (requests_started statements session world).phase ≡ world.phase
   begun-phase None world = refl
   begun-phase (Some session) world = by_request (next_request statements session.number world)
     where
-      by_request : (req : Option ℕ) → (request_begun session req world).phase ≡ world.phase
+      by_request : (req : Option ℕ) → (request_started session req world).phase ≡ world.phase
       by_request None = refl
       by_request (Some req) = refl
 
-  gateway-phase : (session : Option Session) (input : Option Input) (world : World)
-      → (gateway_stepped statements session input world).phase ≡ world.phase
+  gateway-phase : (session : Option ScriptSession) (input : Option Input) (world : World)
+      → (gateway_node_stepped statements session input world).phase ≡ world.phase
   gateway-phase None input world = refl
   gateway-phase (Some session) input world = node_if-phase session.node input world
 
-  guest-phase : (session : ℕ) (world : World) → (guest_asked statements session world).phase ≡ world.phase
-  unfolding guest_asked
+  guest-phase : (session : ℕ) (world : World) → (guest_effect statements session world).phase ≡ world.phase
+  unfolding guest_effect
   guest-phase session world =
       gateway-phase (session_numbered statements session) (next_input statements session world) (guest_begun statements session (at_rest world))
       ∙ begun-phase (session_numbered statements session) (at_rest world)
 
-  replied-phase : (name : MessageName) (from : NodeId) (world : World) → (replied name from world).phase ≡ world.phase
+  replied-phase : (name : MessageName) (from : NodeId) (world : World) → (reply_sent name from world).phase ≡ world.phase
   replied-phase name from world = by_up (is_up name.sender.0 world)
     where
-      by_say : (say : Option PeerRsp) → (with_reply name from say world).phase ≡ world.phase
+      by_say : (say : Option PeerRsp) → (with_reply_packet name from say world).phase ≡ world.phase
       by_say None = refl
       by_say (Some rsp) = refl
 
-      by_up : (up : Bool) → (cond up (with_reply name from world.outputs.say world) (without_message name world)).phase ≡ world.phase
+      by_up : (up : Bool) → (cond up (with_reply_packet name from world.outputs.say world) (without_message name world)).phase ≡ world.phase
       by_up true = by_say world.outputs.say
       by_up false = refl
 
@@ -76,18 +76,18 @@ module _ (statements : List Statement) where
   reply-phase name (Ok rsp) world = node-phase name.sender.0 (inputs.Reply rsp) (without_message name world)
   reply-phase name (Err fault) world = refl
 
-  delivered-phase : (name : MessageName) (world : World) → (delivered statements name world).phase ≡ world.phase
+  delivered-phase : (name : MessageName) (world : World) → (message_delivered statements name world).phase ≡ world.phase
   unfolding request_delivered reply_delivered
-  delivered-phase name world = by_letter (message_at name world)
+  delivered-phase name world = by_packet (message_at name world)
     where
-      by_letter : (letter : Option Letter) → (delivered_as statements name letter world).phase ≡ world.phase
-      by_letter None = refl
-      by_letter (Some (Request to bytes)) = request-phase name to (ask_in bytes) (at_rest world)
-      by_letter (Some (Reply from bytes)) = reply-phase name (say_in bytes) (at_rest world)
+      by_packet : (packet : Option Packet) → (delivered_as statements name packet world).phase ≡ world.phase
+      by_packet None = refl
+      by_packet (Some (Request to bytes)) = request-phase name to (ask_in bytes) (at_rest world)
+      by_packet (Some (Reply from bytes)) = reply-phase name (say_in bytes) (at_rest world)
 
-  used-phase : (name : MessageName) (letter : Option Letter) (world : World) → (loss_used name letter world).phase ≡ world.phase
+  used-phase : (name : MessageName) (packet : Option Packet) (world : World) → (loss_used name packet world).phase ≡ world.phase
   used-phase name None world = refl
-  used-phase name (Some letter) world = by_up (are_ends_up name letter world)
+  used-phase name (Some packet) world = by_up (are_ends_up name packet world)
     where
       by_up : (up : Bool) → (cond up (record world { losses = world.losses - 1 }) world).phase ≡ world.phase
       by_up true = refl
@@ -106,59 +106,59 @@ module _ (statements : List Statement) where
       told-phase name (without_message name (loss_used name (message_at name world) (at_rest world)))
       ∙ used-phase name (message_at name world) (at_rest world)
 
-  seat-phase : (change : Seat → Seat) (node : ℕ) (seat : Option Seat) (world : World) → (seat_changed change node seat world).phase ≡ world.phase
-  seat-phase change node None world = refl
-  seat-phase change node (Some seat) world = refl
+  host-phase : (change : Host → Host) (node : ℕ) (host : Option Host) (world : World) → (host_changed change node host world).phase ≡ world.phase
+  host-phase change node None world = refl
+  host-phase change node (Some host) world = refl
 
-  read-phase : (node : ℕ) (world : World) → (entry_read statements node world).phase ≡ world.phase
-  unfolding entry_read
+  read-phase : (node : ℕ) (world : World) → (log_next_effect statements node world).phase ≡ world.phase
+  unfolding log_next_effect
   read-phase node world = node_if-phase node _ (at_rest world)
 
-  put-phase : (node : ℕ) (world : World) → (entry_put statements node world).phase ≡ world.phase
-  unfolding entry_put
+  put-phase : (node : ℕ) (world : World) → (put_effect statements node world).phase ≡ world.phase
+  unfolding put_effect
   put-phase node world = node-phase node inputs.Put (at_rest world)
 
-  recovery-phase : (node : ℕ) (world : World) → (recovery_ticked statements node world).phase ≡ world.phase
-  unfolding recovery_ticked
+  recovery-phase : (node : ℕ) (world : World) → (recover_tick_effect statements node world).phase ≡ world.phase
+  unfolding recover_tick_effect
   recovery-phase node world = node-phase node inputs.RecoverTick (at_rest world)
 
-  retry-phase : (node : ℕ) (world : World) → (retry_ticked statements node world).phase ≡ world.phase
-  unfolding retry_ticked
+  retry-phase : (node : ℕ) (world : World) → (retry_tick_effect statements node world).phase ≡ world.phase
+  unfolding retry_tick_effect
   retry-phase node world = node-phase node inputs.RetryTick (at_rest world)
 
   failed-phase : (node : ℕ) (world : World) → (node_lost node world).phase ≡ world.phase
   unfolding node_lost
-  failed-phase node world = seat-phase failed node (seat_at node world) _
+  failed-phase node world = host-phase lost_host node (host_at node world) _
 
   back-phase : (node : ℕ) (world : World) → (came_back statements node world).phase ≡ world.phase
   unfolding came_back
   back-phase node world =
-      node-phase node (inputs.Back (rejoined statements node world).log) (rejoined statements node world)
-      ∙ seat-phase revived node (seat_at node world) _
+      node-phase node (inputs.Back (node_rejoined statements node world).log) (node_rejoined statements node world)
+      ∙ host-phase revived_host node (host_at node world) _
 
   ended-phase : (world : World) → (phase_ended statements world).phase ≡ world.phase + 1
   unfolding phase_ended
   ended-phase world = refl
 
   -- what an event makes, where it may happen
-  made_if : (world : World) (may : Bool) (made one : Made) → one.world.phase ≡ world.phase
+  made_if : (world : World) (may : Bool) (made one : EventOutcome) → one.world.phase ≡ world.phase
       → cond may (Some one) None ≡ Some made → world.phase ≤ made.world.phase
   made_if world true made one same is =
-      subst (λ (m : Made). world.phase ≤ m.world.phase) (same_Some one made is) (omega (arith, same))
+      subst (λ (m : EventOutcome). world.phase ≤ m.world.phase) (same_Some one made is) (omega (arith, same))
   made_if world false made one same is = absurd (none-some made is)
 
-  phase_if : (world : World) (may : Bool) (made one : Made) → one.world.phase ≡ world.phase + 1
+  phase_if : (world : World) (may : Bool) (made one : EventOutcome) → one.world.phase ≡ world.phase + 1
       → cond may (Some one) None ≡ Some made → made.world.phase ≡ world.phase + 1
   phase_if world true made one same is =
-      subst (λ (m : Made). m.world.phase ≡ world.phase + 1) (same_Some one made is) same
+      subst (λ (m : EventOutcome). m.world.phase ≡ world.phase + 1) (same_Some one made is) same
   phase_if world false made one same is = absurd (none-some made is)
 
-  pub phase-ends : (world : World) (made : Made) → step statements events.Phase world ≡ Some made → made.world.phase ≡ world.phase + 1
+  pub phase-ends : (world : World) (made : EventOutcome) → step statements events.Phase world ≡ Some made → made.world.phase ≡ world.phase + 1
   unfolding step
   phase-ends world made is = phase_if world (may_end_phase statements world) made _ (ended-phase world) is
 
-  pub never-back : (event : Event) (world : World) (made : Made) → step statements event world ≡ Some made → world.phase ≤ made.world.phase
-  unfolding step node_left node_joined reweighted
+  pub never-back : (event : Event) (world : World) (made : EventOutcome) → step statements event world ≡ Some made → world.phase ≤ made.world.phase
+  unfolding step node_left node_joined node_reweighted
   never-back (events.Guest session) world made is = made_if world (may_guest statements session world) made _ (guest-phase session world) is
   never-back (events.Deliver node number) world made is =
       made_if world (may_deliver (record { sender = node; number = number }) world) made _
@@ -169,7 +169,7 @@ module _ (statements : List Statement) where
   never-back (events.LoseReply node number) world made is =
       made_if world (may_lose_reply (record { sender = node; number = number }) world) made _
       (lost-phase (record { sender = node; number = number }) world) is
-  never-back (events.LogNext node) world made is = made_if world (may_read node.0 world) made _ (read-phase node.0 world) is
+  never-back (events.LogNext node) world made is = made_if world (may_log_next node.0 world) made _ (read-phase node.0 world) is
   never-back (events.Put node) world made is = made_if world (may_put node.0 world) made _ (put-phase node.0 world) is
   never-back (events.RecoverTick node) world made is = made_if world (may_recover node.0 world) made _ (recovery-phase node.0 world) is
   never-back (events.RetryTick node) world made is = made_if world (may_retry node.0 world) made _ (retry-phase node.0 world) is

@@ -4,18 +4,18 @@ use Rattle.std.specs.Option.{option_map, option_and_then}
 use Rattle.std.proofs.lemmas.Option.{same_Some, none-some}
 use Rattle.cluster_script.specs.declared.statement.Statement.{Statement}
 use Rattle.sheep_node.specs.declared.event.Event.{Event}
-use Rattle.sheep_world.specs.Step.{Made, step}
-use Rattle.sheep_world.specs.Run.{Moment, opening, gone_on, next, run_from, IsRun}
+use Rattle.sheep_world.specs.Step.{EventOutcome, step}
+use Rattle.sheep_world.specs.Run.{Moment, initial_moment, moment_with_made, next, run_from, IsRun}
 use Rattle.schedule.specs.Stops.{stop_after, stop_from, stopped_at, IsStopAt}
 
 module _ (statements : List Statement) where
   -- an event that makes something goes on a run
-  pub next-made : (event : Event) (moment : Moment) (made : Made) → step statements event moment.world ≡ Some made
-      → next statements event moment ≡ Some (gone_on moment.history made)
-  next-made event moment made is = ap (option_map (gone_on moment.history)) is
+  pub next-made : (event : Event) (moment : Moment) (made : EventOutcome) → step statements event moment.world ≡ Some made
+      → next statements event moment ≡ Some (moment_with_made moment.history made)
+  next-made event moment made is = ap (option_map (moment_with_made moment.history)) is
 
-  pub run-on : (event : Event) (events : List Event) (moment : Moment) (made : Made) → step statements event moment.world ≡ Some made
-      → IsSome (run_from statements events (gone_on moment.history made)) → IsSome (run_from statements (event ∷ events) moment)
+  pub run-on : (event : Event) (events : List Event) (moment : Moment) (made : EventOutcome) → step statements event moment.world ≡ Some made
+      → IsSome (run_from statements events (moment_with_made moment.history made)) → IsSome (run_from statements (event ∷ events) moment)
   unfolding run_from
   run-on event events moment made is later =
       ap (λ (after : Option Moment). is_some (option_and_then (run_from statements events) after)) (next-made event moment made is) ∙ later
@@ -38,7 +38,7 @@ module _ (statements : List Statement) where
       by_next later (Some after) is = by_later after (later after) (stop_from statements events after) refl is
 
   pub not-stopped : (events : List Event) → stopped_at statements events ≡ None → IsRun statements events
-  not-stopped events h = none-stop events (opening statements) h
+  not-stopped events h = none-stop events (initial_moment statements) h
 
   run-none : (events : List Event) (moment : Moment) → IsSome (run_from statements events moment) → stop_from statements events moment ≡ None
   unfolding run_from stop_from
@@ -52,7 +52,7 @@ module _ (statements : List Statement) where
       by_next later (Some after) is = ap (option_map suc) (later after is)
 
   pub runs-through : (events : List Event) → IsRun statements events → stopped_at statements events ≡ None
-  runs-through events h = run-none events (opening statements) h
+  runs-through events h = run-none events (initial_moment statements) h
 
   record StopFrom (events : List Event) (moment : Moment) (place : ℕ) : Type 0 where
     before : List Event
@@ -108,7 +108,7 @@ module _ (statements : List Statement) where
 
   pub first-stop : (events : List Event) (place : ℕ) → stopped_at statements events ≡ Some place → IsStopAt statements events place
   first-stop events place h =
-      let one : StopFrom events (opening statements) place = stop events (opening statements) place h in
+      let one : StopFrom events (initial_moment statements) place = stop events (initial_moment statements) place h in
       record {
         before = one.before;
         moment = one.at;

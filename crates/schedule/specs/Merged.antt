@@ -10,10 +10,10 @@ use Rattle.sheep_node.specs.declared.event.Event.TheVariants.{Phase}
 use Rattle.sheep_node.specs.declared.input.Input.{Input}
 use Rattle.sheep_node.specs.declared.outputs.Outputs.{Outputs}
 use Rattle.sheep_world.specs.World.{World}
-use Rattle.sheep_world.specs.Opening.{opening}
+use Rattle.sheep_world.specs.Opening.{initial_world}
 use Rattle.sheep_world.specs.Conditions.{may_end_phase}
-use Rattle.sheep_world.specs.Enabled.{enabled}
-use Rattle.sheep_world.specs.Step.{Made, step}
+use Rattle.sheep_world.specs.Enabled.{enabled_events}
+use Rattle.sheep_world.specs.Step.{EventOutcome, step}
 use Rattle.sheep_world.specs.Run.{Moment, run_from}
 
 -- a step that was kept: its stamp, its event, the input of the node that stepped, none where none did, and its outputs
@@ -46,10 +46,10 @@ pub record IsByStamp (kept : Kept) (steps : List KeptStep) : Type 0 where
 abbrev pub is_phase_due : List Statement → World → ℕ → Bool
 is_phase_due statements world taken =
     may_end_phase statements world
-    && (length (enabled statements world) == 0 || nat_le (limit_of statements) taken)
+    && (length (enabled_events statements world) == 0 || nat_le (limit_of statements) taken)
 
 -- what an event made is what the step keeps
-pub record IsAsKept (kept : KeptStep) (made : Made) : Type 0 where
+pub record IsAsKept (kept : KeptStep) (made : EventOutcome) : Type 0 where
   pub input : made.world.input ≡ kept.input
   pub outputs : made.world.outputs ≡ kept.outputs
 
@@ -57,10 +57,10 @@ pub record IsAsKept (kept : KeptStep) (made : Made) : Type 0 where
 -- merge goes on is said of the world then, the count of other events and the steps that are left.
 abbrev pub MergesOne : List Statement → World → ℕ → List KeptStep → Event → (World → ℕ → List KeptStep → Type 0) → Bool → Type 0
 MergesOne statements world taken steps event Later true =
-    (made : Made) × (event ≡ Phase) × (step statements event world ≡ Some made) × Later made.world taken steps
+    (made : EventOutcome) × (event ≡ Phase) × (step statements event world ≡ Some made) × Later made.world taken steps
 MergesOne statements world taken [] event Later false = ⊥
 MergesOne statements world taken (kept ∷ steps) event Later false =
-    (made : Made) × (event ≡ kept.event) × (step statements event world ≡ Some made) × IsAsKept kept made
+    (made : EventOutcome) × (event ≡ kept.event) × (step statements event world ≡ Some made) × IsAsKept kept made
     × Later made.world (taken + 1) steps
 
 -- whether steps merge to these events, from a world on, so many events but Phase having been made
@@ -71,7 +71,7 @@ MergesFrom statements (event ∷ events) world taken steps =
 
 -- whether the steps of a script's cluster merge to these events
 abbrev pub Merges : List Statement → List KeptStep → List Event → Type 0
-Merges statements steps events = MergesFrom statements events (opening statements) 0 steps
+Merges statements steps events = MergesFrom statements events (initial_world statements) 0 steps
 
 -- whether what a script's cluster kept merges to these events
 abbrev pub IsMergeOf : List Statement → Kept → List Event → Type 0
@@ -89,4 +89,4 @@ pub record IsClashAt (statements : List Statement) (moment : Moment) (taken : �
   pub merged : MergesFrom statements events moment.world taken before
   pub last : Moment
   pub made : run_from statements events moment ≡ Some last
-  pub clashes : (made : Made) → step statements kept.event last.world ≡ Some made → IsAsKept kept made → ⊥
+  pub clashes : (made : EventOutcome) → step statements kept.event last.world ≡ Some made → IsAsKept kept made → ⊥

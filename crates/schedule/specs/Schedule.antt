@@ -7,10 +7,10 @@ use Rattle.cluster_script.specs.Phases.{phases_of}
 use Rattle.sheep_node.specs.declared.event.Event.{Event}
 use Rattle.sheep_node.specs.declared.event.Event.TheVariants.{Phase}
 use Rattle.sheep_world.specs.World.{World}
-use Rattle.sheep_world.specs.Opening.{opening}
+use Rattle.sheep_world.specs.Opening.{initial_world}
 use Rattle.sheep_world.specs.Conditions.{may_end_phase}
-use Rattle.sheep_world.specs.Enabled.{enabled}
-use Rattle.sheep_world.specs.Step.{Made, step}
+use Rattle.sheep_world.specs.Enabled.{enabled_events}
+use Rattle.sheep_world.specs.Step.{EventOutcome, step}
 
 -- a run in the making: the world so far, the state of the generator, and how many events but Phase were taken
 pub record Draft : Type 0 where
@@ -19,8 +19,8 @@ pub record Draft : Type 0 where
   pub taken : ℕ
 
 -- before the first event; the generator's state is the seed
-abbrev pub blank : List Statement → ℕ → Draft
-blank statements seed = record { world = opening statements; rng = seed; taken = 0 }
+abbrev pub empty_draft : List Statement → ℕ → Draft
+empty_draft statements seed = record { world = initial_world statements; rng = seed; taken = 0 }
 
 -- the next event, with the generator and the count after it
 pub record Choice : Type 0 where
@@ -33,25 +33,25 @@ abbrev pub phase_chosen : Draft → Choice
 phase_chosen draft = record { event = Phase; rng = draft.rng; taken = draft.taken }
 
 -- of the enabled events that of number w modulo their count, w being the generator's next word
-abbrev pub drawn : Draft → List Event → Choice
-drawn draft events = record {
+abbrev pub drawn_choice : Draft → List Event → Choice
+drawn_choice draft events = record {
   event = unwrap_or (slice_get events ((mix_u64 draft.rng).0 % length events)) Phase;
   rng = (mix_u64 draft.rng).1;
   taken = draft.taken + 1;
 }
 
 -- Phase where nothing is enabled, or as many events were taken as the limit allows; else an enabled event
-abbrev pub chosen : ℕ → Draft → List Event → Choice
-chosen limit draft [] = phase_chosen draft
-chosen limit draft (first ∷ later) =
-    if nat_le limit draft.taken then phase_chosen draft else drawn draft (first ∷ later)
+abbrev pub next_choice : ℕ → Draft → List Event → Choice
+next_choice limit draft [] = phase_chosen draft
+next_choice limit draft (first ∷ later) =
+    if nat_le limit draft.taken then phase_chosen draft else drawn_choice draft (first ∷ later)
 
 -- the next event of a draft
 unfoldable pub choice : List Statement → Draft → Choice
-choice statements draft = chosen (limit_of statements) draft (enabled statements draft.world)
+choice statements draft = next_choice (limit_of statements) draft (enabled_events statements draft.world)
 
 -- the world after an event
-abbrev pub world_after : World → Option Made → World
+abbrev pub world_after : World → Option EventOutcome → World
 world_after world None = world
 world_after world (Some made) = made.world
 
@@ -64,15 +64,15 @@ made_so statements choice draft = record {
 }
 
 -- the draft after its next event
-abbrev pub went_on : List Statement → Draft → Draft
-went_on statements draft = made_so statements (choice statements draft) draft
+abbrev pub draft_after_event : List Statement → Draft → Draft
+draft_after_event statements draft = made_so statements (choice statements draft) draft
 
 -- the events from here on while a phase isn't ended, as many as `most`
-unfoldable pub scheduled_from : List Statement → ℕ → Draft → List Event
-scheduled_from statements zero draft = []
-scheduled_from statements (suc most) draft =
+unfoldable pub schedule_from : List Statement → ℕ → Draft → List Event
+schedule_from statements zero draft = []
+schedule_from statements (suc most) draft =
     if may_end_phase statements draft.world
-    then (choice statements draft).event ∷ scheduled_from statements most (went_on statements draft)
+    then (choice statements draft).event ∷ schedule_from statements most (draft_after_event statements draft)
     else []
 
 -- each event is a Phase or counted, so no schedule has more events than this
@@ -80,5 +80,5 @@ abbrev pub event_most : List Statement → ℕ
 event_most statements = limit_of statements + length (phases_of statements)
 
 -- the schedule of a script by a seed
-abbrev pub scheduled : List Statement → ℕ → List Event
-scheduled statements seed = scheduled_from statements (event_most statements) (blank statements seed)
+abbrev pub schedule_of : List Statement → ℕ → List Event
+schedule_of statements seed = schedule_from statements (event_most statements) (empty_draft statements seed)

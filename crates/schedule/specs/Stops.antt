@@ -3,7 +3,7 @@ use Rattle.std.specs.Prelude.{◌≡◌, ℕ, suc, List, [], ◌∷◌, ◌++◌
 use Rattle.std.specs.Option.{option_map}
 use Rattle.cluster_script.specs.declared.statement.Statement.{Statement}
 use Rattle.sheep_node.specs.declared.event.Event.{Event}
-use Rattle.sheep_world.specs.Run.{Moment, opening, next, run}
+use Rattle.sheep_world.specs.Run.{Moment, initial_moment, next, run}
 
 -- an event couldn't be made; or it was, and the later ones say where they stop, one place further
 abbrev pub stop_after : Option Moment → (Moment → Option ℕ) → Option ℕ
@@ -17,7 +17,7 @@ stop_from statements (event ∷ events) moment = stop_after (next statements eve
 
 -- the same of a script's events
 abbrev pub stopped_at : List Statement → List Event → Option ℕ
-stopped_at statements events = stop_from statements events (opening statements)
+stopped_at statements events = stop_from statements events (initial_moment statements)
 
 -- the event at a place isn't enabled after those before it, which are a run
 pub record IsStopAt (statements : List Statement) (events : List Event) (place : ℕ) : Type 0 where

@@ -4,9 +4,9 @@ ghost use Rattle.rand_xoshiro.specs.SplitMix64.{mix_u64};
 ghost use Rattle.cluster_script.specs.declared.statement.Statement.{Statement};
 ghost use Rattle.cluster_script.specs.Settings.{limit_of};
 ghost use Rattle.sheep_node.specs.declared.event.Event.{Event};
-ghost use Rattle.sheep_world.specs.Enabled.{enabled};
+ghost use Rattle.sheep_world.specs.Enabled.{enabled_events};
 ghost use Rattle.sheep_world.specs.Run.{Moment, IsRun, IsWholeRun};
-ghost use Rattle.schedule.specs.Schedule.{Draft, phase_chosen, choice, scheduled};
+ghost use Rattle.schedule.specs.Schedule.{Draft, phase_chosen, choice, schedule_of};
 ghost use Rattle.schedule.specs.Generated.{generated_lines};
 ghost use Rattle.schedule.specs.Stops.{stopped_at, IsStopAt};
 ghost use Rattle.schedule.specs.Merged.{KeptStep, Kept, IsByStamp, MergesFrom, Merges, IsMergeOf, IsClashAt};
@@ -19,19 +19,19 @@ pub fn the_first_words()
 
 /// Phase stands where nothing is enabled or the limit is reached, and nowhere else; then no word is drawn.
 pub fn phase_stands_last()
-    ensures none { (statements : List Statement) (draft : Draft) → enabled statements draft.world ≡ []
+    ensures none { (statements : List Statement) (draft : Draft) → enabled_events statements draft.world ≡ []
         → choice statements draft ≡ phase_chosen draft }
     ensures limit { (statements : List Statement) (draft : Draft) → limit_of statements ≤ draft.taken
         → choice statements draft ≡ phase_chosen draft }
-    ensures drawn { (statements : List Statement) (draft : Draft) → enabled statements draft.world ≢ []
+    ensures drawn { (statements : List Statement) (draft : Draft) → enabled_events statements draft.world ≢ []
         → draft.taken < limit_of statements
-        → Contains (enabled statements draft.world) (choice statements draft).event
+        → Contains (enabled_events statements draft.world) (choice statements draft).event
         × ((choice statements draft).taken ≡ draft.taken + 1) }
 {}
 
 /// A schedule is a run of its script, in which every phase is ended.
 pub fn a_schedule_is_a_whole_run()
-    ensures { (statements : List Statement) (seed : ℕ) → IsWholeRun statements (scheduled statements seed) }
+    ensures { (statements : List Statement) (seed : ℕ) → IsWholeRun statements (schedule_of statements seed) }
 {}
 
 /// Given events are a run where they stop nowhere, and else the ones before the stop are.

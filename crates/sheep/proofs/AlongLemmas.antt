@@ -9,18 +9,18 @@ use Rattle.cluster_script.specs.declared.statement.Statement.TheVariants.{Cluste
 use Rattle.cluster_script.specs.Statements.{disk_size, size_made, requests_of, disk_name, name_made}
 use Rattle.cluster_script.specs.OneDisk.{MayFollow}
 use Rattle.sheep.specs.declared.disk.Disk.{Disk}
-use Rattle.sheep.specs.Blocks.{zeros, size_after, block_after, laid_on}
-use Rattle.sheep.specs.Report.{along}
-use Rattle.sheep.specs.Stored.{bytes_at, size_next, Holds}
+use Rattle.sheep.specs.Blocks.{zero_block, size_after, block_after, laid_on}
+use Rattle.sheep.specs.Report.{lists_along}
+use Rattle.sheep.specs.Stored.{stored_block, size_next, Holds}
 
 -- one statement more at the end
-pub along-snoc : {X : Type 0} (told : List Statement → Statement → List X) (before statements : List Statement) (s : Statement)
-    → along told before (statements ++ s ∷ []) ≡ along told before statements ++ told (before ++ statements) s
-along-snoc told before [] s = search (rules, common_steps)
-along-snoc told before (t ∷ statements) s =
-    ap (λ xs. told before t ++ xs) (along-snoc told (before ++ t ∷ []) statements s)
-    ∙ ap (λ earlier. told before t ++ (along told (before ++ t ∷ []) statements ++ told earlier s)) (append_assoc before (t ∷ []) statements)
-    ∙ sym (append_assoc (told before t) (along told (before ++ t ∷ []) statements) (told (before ++ t ∷ statements) s))
+pub lists_along-snoc : {X : Type 0} (told : List Statement → Statement → List X) (before statements : List Statement) (s : Statement)
+    → lists_along told before (statements ++ s ∷ []) ≡ lists_along told before statements ++ told (before ++ statements) s
+lists_along-snoc told before [] s = search (rules, common_steps)
+lists_along-snoc told before (t ∷ statements) s =
+    ap (λ xs. told before t ++ xs) (lists_along-snoc told (before ++ t ∷ []) statements s)
+    ∙ ap (λ earlier. told before t ++ (lists_along told (before ++ t ∷ []) statements ++ told earlier s)) (append_assoc before (t ∷ []) statements)
+    ∙ sym (append_assoc (told before t) (lists_along told (before ++ t ∷ []) statements) (told (before ++ t ∷ statements) s))
 
 -- the first of two is the one that counts
 none_behind : {X : Type 0} (first : Option X) → option_or first None ≡ first
@@ -87,12 +87,12 @@ laid-no_requests (Clone session base tag name ∷ before) size block bytes none 
 laid-no_requests (Delete session name tag ∷ before) size block bytes none = absurd (cc)
 laid-no_requests (s ∷ before) size block bytes none = laid-no_requests before size block bytes none
 
-pub block_after-no_requests : (before : List Statement) (size block : ℕ) → requests_of before ≡ [] → block_after size before block ≡ zeros
-block_after-no_requests before size block none = laid-no_requests before size block zeros none
+pub block_after-no_requests : (before : List Statement) (size block : ℕ) → requests_of before ≡ [] → block_after size before block ≡ zero_block
+block_after-no_requests before size block none = laid-no_requests before size block zero_block none
 
 pub block_after-snoc : (size : ℕ) (before : List Statement) (s : Statement) (block : ℕ)
     → block_after size (before ++ s ∷ []) block ≡ unwrap_or (laid_on size block s) (block_after size before block)
-block_after-snoc size before s block = fold-append (λ bytes s. unwrap_or (laid_on size block s) bytes) zeros before (s ∷ [])
+block_after-snoc size before s block = fold-append (λ bytes s. unwrap_or (laid_on size block s) bytes) zero_block before (s ∷ [])
 
 -- only a create changes the size
 pub size_after-snoc : (before : List Statement) (s : Statement) → MayFollow before s → size_after (before ++ s ∷ []) ≡ size_next (size_after before) s
@@ -135,12 +135,12 @@ blocks_after-snoc before s block may =
 -- the disk is the next one, where its size and its blocks are what the statement makes of them
 pub holds_next : (before : List Statement) (s : Statement) (old new : Disk) → MayFollow before s → Holds before old
     → new.size ≡ size_next old.size s
-    → ((block : ℕ) → bytes_at new.blocks block ≡ unwrap_or (laid_on old.size block s) (bytes_at old.blocks block))
+    → ((block : ℕ) → stored_block new.blocks block ≡ unwrap_or (laid_on old.size block s) (stored_block old.blocks block))
     → Holds (before ++ s ∷ []) new
 holds_next before s old new may held size blocks = record {
   size = size ∙ ap (λ size. size_next size s) held.size ∙ sym (size_after-snoc before s may);
   blocks = λ block. blocks block
-      ∙ ap (λ size. unwrap_or (laid_on size block s) (bytes_at old.blocks block)) held.size
+      ∙ ap (λ size. unwrap_or (laid_on size block s) (stored_block old.blocks block)) held.size
       ∙ ap (unwrap_or (laid_on (size_after before) block s)) (held.blocks block)
       ∙ sym (blocks_after-snoc before s block may);
 }

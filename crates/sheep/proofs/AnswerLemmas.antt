@@ -5,7 +5,7 @@ use Rattle.std.proofs.lemmas.Bool.{ltb-true, ltb-false}
 use Rattle.cluster_script.specs.declared.fault.LineCause.{LineCause}
 use Rattle.cluster_script.specs.declared.statement.Statement.{Statement}
 use Rattle.cluster_script.specs.OneDisk.{IsOneDiskScript}
-use Rattle.cluster_script.specs.OneDiskLines.{script_in}
+use Rattle.cluster_script.specs.OneDiskLines.{one_disk_script_in}
 use Rattle.sheep.specs.declared.answer.Answer.{Answer}
 use Rattle.sheep.specs.declared.answer.TheConstants.{INPUT_BYTES_MAX}
 use Rattle.sheep.specs.declared.mode.Mode.{Mode}
@@ -14,7 +14,7 @@ use Rattle.sheep.specs.Answer.{AnswersCall, Reads, ReadsAll, RunsScript, NamesBa
 use Rattle.sheep.proofs.LegalityLemmas.{history_is_legal}
 
 -- a text that was read as a script makes a legal history
-pub makes_legal_history : (input : List ℕ) (statements : List Statement) → script_in input ≡ Ok statements → IsOneDiskScript statements
+pub makes_legal_history : (input : List ℕ) (statements : List Statement) → one_disk_script_in input ≡ Ok statements → IsOneDiskScript statements
     → MakesLegalHistory input
 makes_legal_history input statements read script = λ other is.
     let same : statements ≡ other = cc in
@@ -23,15 +23,15 @@ makes_legal_history input statements read script = λ other is.
 -- the three kinds of input
 pub data InputIs (input : List ℕ) (answer : Answer) : Type 0 where
   TooLong : INPUT_BYTES_MAX < length input → answer ≡ record { status = statuses.TooLong; text = too_long_text } → InputIs input answer
-  Script : (statements : List Statement) → length input ≤ INPUT_BYTES_MAX → script_in input ≡ Ok statements
+  Script : (statements : List Statement) → length input ≤ INPUT_BYTES_MAX → one_disk_script_in input ≡ Ok statements
       → answer ≡ script_answer (Ok statements) → InputIs input answer
-  BadLine : (bad : ℕ × LineCause) → length input ≤ INPUT_BYTES_MAX → script_in input ≡ Err bad
+  BadLine : (bad : ℕ × LineCause) → length input ≤ INPUT_BYTES_MAX → one_disk_script_in input ≡ Err bad
       → answer ≡ script_answer (Err bad) → InputIs input answer
 
 pub input_is : (input : List ℕ) (answer : Answer) → answer ≡ answer_to input → InputIs input answer
-input_is input answer is = go (nat_lt INPUT_BYTES_MAX (length input)) refl (script_in input) refl
+input_is input answer is = go (nat_lt INPUT_BYTES_MAX (length input)) refl (one_disk_script_in input) refl
   where
-    go : (long : Bool) → nat_lt INPUT_BYTES_MAX (length input) ≡ long → (read : Result (List Statement) (ℕ × LineCause)) → script_in input ≡ read → InputIs input answer
+    go : (long : Bool) → nat_lt INPUT_BYTES_MAX (length input) ≡ long → (read : Result (List Statement) (ℕ × LineCause)) → one_disk_script_in input ≡ read → InputIs input answer
     go true h read r = TooLong (ltb-true INPUT_BYTES_MAX (length input) h) (is ∙ rw h refl)
     go false h (Ok statements) r = Script statements (ltb-false INPUT_BYTES_MAX (length input) h) r (is ∙ rw (h, r) refl)
     go false h (Err bad) r = BadLine bad (ltb-false INPUT_BYTES_MAX (length input) h) r (is ∙ rw (h, r) refl)

@@ -7,7 +7,7 @@ use Rattle.std.specs.BTreeMap.{is_at}
 use Rattle.std.proofs.lemmas.Bool.{eqb-true}
 use Rattle.std.proofs.lemmas.Grind.{common_steps, flat_map-append}
 use Rattle.cluster_script.specs.declared.statement.Pattern.{Pattern}
-use Rattle.cluster_script.specs.Asked.{byte_of}
+use Rattle.cluster_script.specs.NumberedRequests.{byte_of}
 use Rattle.sheep.specs.Blocks.{block_of}
 
 -- one number more at the end of a range

@@ -12,12 +12,12 @@ use Rattle.std.proofs.lemmas.List.Elements.{filter-append}
 use Rattle.std.proofs.lemmas.Bool.{ltb-false}
 use Rattle.disk_history.specs.declared.event.HistEvent.{HistEvent}
 use Rattle.disk_history.specs.declared.event.HistEvent.TheVariants as events
-use Rattle.disk_history.specs.Ledger.{Mark, Open, Acknowledged, Item, Disk, Request, Ledger, changed_at, with_item, has_block, is_of, marked, after}
-use Rattle.disk_history.specs.Legal.{is_acknowledged, standing, may_read, is_started, has_place, may_follow, ledger_from}
+use Rattle.disk_history.specs.Ledger.{Mark, Open, Acknowledged, Item, Disk, WriteRequest, Ledger, changed_at, with_item, has_block, is_item_of, item_with_mark, ledger_after}
+use Rattle.disk_history.specs.Legal.{is_acknowledged, standing, may_read, has_begun_to_write, has_place, may_follow, ledger_from}
 
 -- an event that may come next is made
 pub first_ok : (ledger : Ledger) (event : HistEvent) (later : List HistEvent) → may_follow ledger event ≡ true
-    → ledger_from ledger (event ∷ later) ≡ ledger_from (after ledger event) later
+    → ledger_from ledger (event ∷ later) ≡ ledger_from (ledger_after ledger event) later
 first_ok ledger event later may = rw may refl
 
 pub changed_at-same : {X : Type 0} (place : ℕ) (new : X) (old : ℕ → X) → changed_at place new old place ≡ new
@@ -33,17 +33,17 @@ changed_at-other place k new old apart = go (k == place) refl
 -- no item is this request's
 abbrev pub NoneOf : ℕ → List Item → Type 0
 NoneOf req [] = Unit {0}
-NoneOf req (item ∷ items) = (is_of req item ≡ false) × NoneOf req items
+NoneOf req (item ∷ items) = (is_item_of req item ≡ false) × NoneOf req items
 
 pub NoneOf-append : (req : ℕ) (xs ys : List Item) → NoneOf req xs → NoneOf req ys → NoneOf req (xs ++ ys)
 NoneOf-append req [] ys none others = others
 NoneOf-append req (x ∷ xs) ys none others = (none.0, NoneOf-append req xs ys none.1 others)
 
-pub marked-NoneOf : (mark : Mark) (req : ℕ) (items : List Item) → NoneOf req items → map (marked mark req) items ≡ items
-marked-NoneOf mark req [] none = refl
-marked-NoneOf mark req (item ∷ items) none = rw none.0 (ap (λ rest. item ∷ rest) (marked-NoneOf mark req items none.1))
+pub item_with_mark-NoneOf : (mark : Mark) (req : ℕ) (items : List Item) → NoneOf req items → map (item_with_mark mark req) items ≡ items
+item_with_mark-NoneOf mark req [] none = refl
+item_with_mark-NoneOf mark req (item ∷ items) none = rw none.0 (ap (λ rest. item ∷ rest) (item_with_mark-NoneOf mark req items none.1))
 
-pub filter-NoneOf : (req : ℕ) (items : List Item) → NoneOf req items → filter (λ item. not (is_of req item)) items ≡ items
+pub filter-NoneOf : (req : ℕ) (items : List Item) → NoneOf req items → filter (λ item. not (is_item_of req item)) items ≡ items
 filter-NoneOf req [] none = refl
 filter-NoneOf req (item ∷ items) none = rw none.0 (ap (λ rest. item ∷ rest) (filter-NoneOf req items none.1))
 
@@ -55,18 +55,18 @@ abbrev pub settled_item : Option ℕ → List ℕ → Item
 settled_item req bytes = record { request = req; bytes = bytes; coded = false; mark = Acknowledged }
 
 -- the end of a request marks its item, and a refusal takes it out
-pub marked-open : (req : ℕ) (items : List Item) (bytes : List ℕ) → NoneOf req items
-    → map (marked Acknowledged req) (items ++ open_item req bytes ∷ []) ≡ items ++ settled_item (Some req) bytes ∷ []
-marked-open req items bytes none =
-    map-append (marked Acknowledged req) items (open_item req bytes ∷ [])
-    ∙ ap (λ xs. xs ++ map (marked Acknowledged req) (open_item req bytes ∷ [])) (marked-NoneOf Acknowledged req items none)
+pub item_with_mark-open : (req : ℕ) (items : List Item) (bytes : List ℕ) → NoneOf req items
+    → map (item_with_mark Acknowledged req) (items ++ open_item req bytes ∷ []) ≡ items ++ settled_item (Some req) bytes ∷ []
+item_with_mark-open req items bytes none =
+    map-append (item_with_mark Acknowledged req) items (open_item req bytes ∷ [])
+    ∙ ap (λ xs. xs ++ map (item_with_mark Acknowledged req) (open_item req bytes ∷ [])) (item_with_mark-NoneOf Acknowledged req items none)
     ∙ rw (eq-eqb req req refl) refl
 
 pub filter-open : (req : ℕ) (items : List Item) (bytes : List ℕ) → NoneOf req items
-    → filter (λ item. not (is_of req item)) (items ++ open_item req bytes ∷ []) ≡ items
+    → filter (λ item. not (is_item_of req item)) (items ++ open_item req bytes ∷ []) ≡ items
 filter-open req items bytes none =
-    filter-append (λ item. not (is_of req item)) items (open_item req bytes ∷ [])
-    ∙ ap (λ xs. xs ++ filter (λ item. not (is_of req item)) (open_item req bytes ∷ [])) (filter-NoneOf req items none)
+    filter-append (λ item. not (is_item_of req item)) items (open_item req bytes ∷ [])
+    ∙ ap (λ xs. xs ++ filter (λ item. not (is_item_of req item)) (open_item req bytes ∷ [])) (filter-NoneOf req items none)
     ∙ rw (eq-eqb req req refl) (append-nil items)
 
 -- a block whose last item was acknowledged may be read with its bytes
@@ -86,16 +86,16 @@ record Began (req vid : ℕ) (bytes : List ℕ) (a : ℕ) (old : Ledger) (disk :
   here : a < disk.blocks → left.items a ≡ disk.items a ++ open_item req bytes ∷ []
   others : (block : ℕ) → block ≢ a → left.items block ≡ disk.items block
   ended : (new.requests req).ended ≡ false
-  started : is_started (new.requests req) ≡ true
+  started : has_begun_to_write (new.requests req) ≡ true
   stray : a < disk.blocks → (old.requests req).stray ≡ false → (new.requests req).stray ≡ false
   places : (block : ℕ) → block ≢ a → has_place (old.requests req) vid block ≡ false → has_place (new.requests req) vid block ≡ false
   requests : (other : ℕ) → other ≢ req → new.requests other ≡ old.requests other
 
 -- a place at the end is started, and is none of the other blocks
-is_started-snoc : (places : List (ℕ × ℕ)) (place : ℕ × ℕ) (stray ended : Bool)
-    → is_started (record { places = places ++ place ∷ []; stray = stray; ended = ended }) ≡ true
-is_started-snoc [] place stray ended = refl
-is_started-snoc (first ∷ places) place stray ended = refl
+has_begun_to_write-snoc : (places : List (ℕ × ℕ)) (place : ℕ × ℕ) (stray ended : Bool)
+    → has_begun_to_write (record { places = places ++ place ∷ []; stray = stray; ended = ended }) ≡ true
+has_begun_to_write-snoc [] place stray ended = refl
+has_begun_to_write-snoc (first ∷ places) place stray ended = refl
 
 has_place-snoc : (places : List (ℕ × ℕ)) (vid a block : ℕ) → block ≢ a
     → list_any (λ (place : ℕ × ℕ). place.0 == vid && place.1 == block) places ≡ false
@@ -117,19 +117,19 @@ has_place-snoc (place ∷ places) vid a block apart none = go (place.0 == vid &&
 begin_one : (req vid : ℕ) (bytes : List ℕ) (a : ℕ) (old : Ledger) (disk : Disk) → length bytes ≡ 512 → old.disks vid ≡ Some disk
     → (old.requests req).ended ≡ false → has_place (old.requests req) vid a ≡ false
     → (may_follow old (events.WriteStart req vid a false bytes) ≡ true)
-    × ((left : Disk) × Began req vid bytes a old disk (after old (events.WriteStart req vid a false bytes)) left)
+    × ((left : Disk) × Began req vid bytes a old disk (ledger_after old (events.WriteStart req vid a false bytes)) left)
 begin_one req vid bytes a old disk long there unended fresh = (may, go (nat_lt a disk.blocks) refl)
   where
     may : may_follow old (events.WriteStart req vid a false bytes) ≡ true
     may = rw (long, unended, fresh) refl
 
-    begun : Request
+    begun : WriteRequest
     begun = record { places = (old.requests req).places ++ (vid, a) ∷ []; stray = (old.requests req).stray || not (has_block (old.disks vid) a); ended = (old.requests req).ended }
 
     itself : (req == req) ≡ true
     itself = eq-eqb req req refl
 
-    go : (inside : Bool) → nat_lt a disk.blocks ≡ inside → (left : Disk) × Began req vid bytes a old disk (after old (events.WriteStart req vid a false bytes)) left
+    go : (inside : Bool) → nat_lt a disk.blocks ≡ inside → (left : Disk) × Began req vid bytes a old disk (ledger_after old (events.WriteStart req vid a false bytes)) left
     go true h = (
       with_item a (open_item req bytes) disk,
       record {
@@ -139,7 +139,7 @@ begin_one req vid bytes a old disk long there unended fresh = (may, go (nat_lt a
         here = λ _. changed_at-same a (disk.items a ++ open_item req bytes ∷ []) disk.items;
         others = λ block apart. changed_at-other a block (disk.items a ++ open_item req bytes ∷ []) disk.items apart;
         ended = rw itself unended;
-        started = rw itself (is_started-snoc (old.requests req).places (vid, a) ((old.requests req).stray || not (has_block (old.disks vid) a)) (old.requests req).ended);
+        started = rw itself (has_begun_to_write-snoc (old.requests req).places (vid, a) ((old.requests req).stray || not (has_block (old.disks vid) a)) (old.requests req).ended);
         stray = λ _ none. rw (itself, none, there, h) refl;
         places = λ block apart none. rw itself (has_place-snoc (old.requests req).places vid a block apart none);
         requests = λ other apart. changed_at-other req other begun old.requests apart;
@@ -154,7 +154,7 @@ begin_one req vid bytes a old disk long there unended fresh = (may, go (nat_lt a
         here = λ inside. let out : disk.blocks ≤ a = ltb-false a disk.blocks h in absurd (omega arith);
         others = λ block apart. refl;
         ended = rw itself unended;
-        started = rw itself (is_started-snoc (old.requests req).places (vid, a) ((old.requests req).stray || not (has_block (old.disks vid) a)) (old.requests req).ended);
+        started = rw itself (has_begun_to_write-snoc (old.requests req).places (vid, a) ((old.requests req).stray || not (has_block (old.disks vid) a)) (old.requests req).ended);
         stray = λ inside none. let out : disk.blocks ≤ a = ltb-false a disk.blocks h in absurd (omega arith);
         places = λ block apart none. rw itself (has_place-snoc (old.requests req).places vid a block apart none);
         requests = λ other apart. changed_at-other req other begun old.requests apart;
@@ -169,7 +169,7 @@ pub record Begins (req vid : ℕ) (bytes : ℕ → List ℕ) (a n : ℕ) (old : 
   pub here : (block : ℕ) → a ≤ block → block < a + n → block < disk.blocks → left.items block ≡ disk.items block ++ open_item req (bytes block) ∷ []
   pub others : (block : ℕ) → (block < a) ⊎ (a + n ≤ block) → left.items block ≡ disk.items block
   pub ended : (new.requests req).ended ≡ false
-  pub started : (is_started (old.requests req) ≡ true) ⊎ (0 < n) → is_started (new.requests req) ≡ true
+  pub started : (has_begun_to_write (old.requests req) ≡ true) ⊎ (0 < n) → has_begun_to_write (new.requests req) ≡ true
   pub stray : a + n ≤ disk.blocks → (old.requests req).stray ≡ false → (new.requests req).stray ≡ false
   pub requests : (other : ℕ) → other ≢ req → new.requests other ≡ old.requests other
 
@@ -222,7 +222,7 @@ begins_ok req vid bytes zero a old disk long there unended fresh = (
 )
 begins_ok req vid bytes (suc n) a old disk long there unended fresh =
     let one = begin_one req vid (bytes a) a old disk (long a) there unended (fresh a (omega arith)) in
-    let mid : Ledger = after old (events.WriteStart req vid a false (bytes a)) in
+    let mid : Ledger = ledger_after old (events.WriteStart req vid a false (bytes a)) in
     let rest = begins_ok req vid bytes n (a + 1) mid one.1.0 long one.1.1.there one.1.1.ended
     (λ block from. one.1.1.places block (λ same. omega arith) (fresh block (omega arith))) in (
       rest.0,

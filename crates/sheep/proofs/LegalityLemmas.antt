@@ -11,21 +11,21 @@ use Rattle.object_id.specs.declared.policy.Policy.{Policy}
 use Rattle.cluster_script.specs.declared.statement.Pattern.{Pattern}
 use Rattle.cluster_script.specs.declared.statement.Statement.{Statement}
 use Rattle.cluster_script.specs.declared.statement.Statement.TheVariants.{Cluster, Session, Create, OpenDisk, Close, Read, Write}
-use Rattle.cluster_script.specs.Asked.{byte_of}
+use Rattle.cluster_script.specs.NumberedRequests.{byte_of}
 use Rattle.cluster_script.specs.Statements.{disk_size, size_made, disk_name, name_made, requests_of, is_request}
 use Rattle.cluster_script.specs.OneDisk.{MayFollow, EachMayFollow, IsOneDiskScript}
 use Rattle.disk_history.specs.declared.event.HistEvent.{HistEvent}
 use Rattle.disk_history.specs.declared.event.HistEvent.TheVariants as events
-use Rattle.disk_history.specs.Ledger.{Acknowledged, Item, Disk, Request, Ledger, empty_ledger, changed_at, with_disk, is_of, marked, after}
+use Rattle.disk_history.specs.Ledger.{Acknowledged, Item, Disk, WriteRequest, Ledger, empty_ledger, changed_at, with_changed_disk, is_item_of, item_with_mark, ledger_after}
 use Rattle.disk_history.specs.Legal.{IsLegal, ledger_from, may_follow}
 use Rattle.disk_history.proofs.LegalLemmas.{ledger_from-append}
-use Rattle.sheep.specs.Blocks.{zeros, size_after, block_after, block_of, blocks_of, laid_on, fits, covers}
-use Rattle.sheep.specs.Report.{along, number_after}
-use Rattle.sheep.specs.History.{vid_after, events_after, history_of}
+use Rattle.sheep.specs.Blocks.{zero_block, size_after, block_after, block_of, piece_blocks, laid_on, ends_inside_disk, covers_block}
+use Rattle.sheep.specs.Report.{lists_along, number_after}
+use Rattle.sheep.specs.History.{vid_after, events_after, script_history_of}
 use Rattle.sheep.proofs.AlongLemmas.{disk_size-snoc, disk_size-kept, disk_size-no_requests, disk_name-snoc, disk_name-kept, disk_name-no_requests, block_after-snoc, block_after-no_requests}
 use Rattle.sheep.proofs.ReportLemmas.{count_by-snoc}
 use Rattle.sheep.proofs.BlockLemmas.{block_filled}
-use Rattle.sheep.proofs.LedgerLemmas.{first_ok, changed_at-same, changed_at-other, NoneOf, NoneOf-append, marked-NoneOf, filter-NoneOf, settled_item, marked-open, filter-open, may_read-settled, Begins, begins_ok}
+use Rattle.sheep.proofs.LedgerLemmas.{first_ok, changed_at-same, changed_at-other, NoneOf, NoneOf-append, item_with_mark-NoneOf, filter-NoneOf, settled_item, item_with_mark-open, filter-open, may_read-settled, Begins, begins_ok}
 
 -- the items are of requests before number n
 abbrev AllBefore : ℕ → List Item → Type 0
@@ -46,7 +46,7 @@ record DiskIs (n blocks : ℕ) (held : ℕ → List ℕ) (ledger : Ledger) (vid 
   live : disk.deleted ≡ false
   each : (block : ℕ) → block < blocks → BlockIs n (held block) (disk.items block)
 
-abbrev fresh_request : Request
+abbrev fresh_request : WriteRequest
 fresh_request = record { places = []; stray = false; ended = false }
 
 -- what the statements leave: the disk where one was made, and no later request has begun
@@ -92,7 +92,7 @@ length-block_of : (pattern : Pattern) (offset block : ℕ) → length (block_of 
 length-block_of pattern offset block = ap length (sym (block_filled pattern offset block)) ∙ length-replicate {A = ℕ} 512 (byte_of pattern (block - offset / 512))
 
 length-block_after : (size : ℕ) (before : List Statement) (block : ℕ) → length (block_after size before block) ≡ 512
-length-block_after size before block = go before zeros (length-replicate {A = ℕ} 512 0)
+length-block_after size before block = go before zero_block (length-replicate {A = ℕ} 512 0)
   where
     laid : (s : Statement) (bytes : List ℕ) → length bytes ≡ 512 → length (unwrap_or (laid_on size block s) bytes) ≡ 512
     laid (Cluster nodes) bytes long = long
@@ -101,7 +101,7 @@ length-block_after size before block = go before zeros (length-replicate {A = �
     laid (OpenDisk session name tag) bytes long = long
     laid (Close session) bytes long = long
     laid (Read session offset span) bytes long = long
-    laid (Write session offset length' pattern) bytes long = either (fits size offset length' && covers offset length' block)
+    laid (Write session offset length' pattern) bytes long = either (ends_inside_disk size offset length' && covers_block offset length' block)
       where
         either : (lays : Bool) → length (unwrap_or (if lays then Some (block_of pattern offset block) else None) bytes) ≡ 512
         either true = length-block_of pattern offset block
@@ -134,15 +134,15 @@ some_of (Some x) there = (x, refl)
 settled_more : (n : ℕ) (bytes : List ℕ) (items : List Item) → AllBefore n items → AllBefore (n + 1) (items ++ settled_item (Some n) bytes ∷ [])
 settled_more n bytes items before = λ req from. NoneOf-append req items (settled_item (Some n) bytes ∷ []) (before req (omega arith)) (other req from, tt)
   where
-    other : (req : ℕ) → n + 1 ≤ req → is_of req (settled_item (Some n) bytes) ≡ false
+    other : (req : ℕ) → n + 1 ≤ req → is_item_of req (settled_item (Some n) bytes) ≡ false
     other req from = elim (eqb_tells n req) [ inl same ↦ absurd (omega (arith, same.1)) | inr apart ↦ apart.0 ]
 
 -- where a block lies to a piece of n blocks from a on
-covers_inside : (offset count block : ℕ) → offset / 512 ≤ block → block < offset / 512 + count / 512 → covers offset count block ≡ true
+covers_inside : (offset count block : ℕ) → offset / 512 ≤ block → block < offset / 512 + count / 512 → covers_block offset count block ≡ true
 covers_inside offset count block from to = rw (le-leb (offset / 512) block from, lt-ltb block (offset / 512 + count / 512) to) refl
 
-covers_cases : (offset count block : ℕ) → ((covers offset count block ≡ true) × (offset / 512 ≤ block) × (block < offset / 512 + count / 512))
-    ⊎ ((covers offset count block ≡ false) × ((block < offset / 512) ⊎ (offset / 512 + count / 512 ≤ block)))
+covers_cases : (offset count block : ℕ) → ((covers_block offset count block ≡ true) × (offset / 512 ≤ block) × (block < offset / 512 + count / 512))
+    ⊎ ((covers_block offset count block ≡ false) × ((block < offset / 512) ⊎ (offset / 512 + count / 512 ≤ block)))
 covers_cases offset count block = elim (leb_tells (offset / 512) block) [
   | inl from ↦ elim (leb_tells (suc block) (offset / 512 + count / 512)) [
     | inl to ↦ inl (rw (from.0, to.0) refl, from.1, omega (arith, to.1))
@@ -152,13 +152,13 @@ covers_cases offset count block = elim (leb_tells (offset / 512) block) [
 ]
 
 -- what a write that ends inside the disk leaves of a block, and one that doesn't
-block_written : (size : ℕ) (before : List Statement) (session offset count : ℕ) (pattern : Pattern) (block : ℕ) → fits size offset count ≡ true
-    → covers offset count block ≡ true → block_after size (before ++ Write session offset count pattern ∷ []) block ≡ block_of pattern offset block
+block_written : (size : ℕ) (before : List Statement) (session offset count : ℕ) (pattern : Pattern) (block : ℕ) → ends_inside_disk size offset count ≡ true
+    → covers_block offset count block ≡ true → block_after size (before ++ Write session offset count pattern ∷ []) block ≡ block_of pattern offset block
 block_written size before session offset count pattern block inside covered =
     block_after-snoc size before (Write session offset count pattern) block ∙ rw (inside, covered) refl
 
 block_passed : (size : ℕ) (before : List Statement) (session offset count : ℕ) (pattern : Pattern) (block : ℕ)
-    → (fits size offset count && covers offset count block) ≡ false
+    → (ends_inside_disk size offset count && covers_block offset count block) ≡ false
     → block_after size (before ++ Write session offset count pattern ∷ []) block ≡ block_after size before block
 block_passed size before session offset count pattern block passed =
     block_after-snoc size before (Write session offset count pattern) block ∙ rw passed refl
@@ -166,39 +166,39 @@ block_passed size before session offset count pattern block passed =
 -- what a write's end leaves of each block: an acknowledged one
 block_acknowledged : (n a k : ℕ) (bytes : ℕ → List ℕ) (old new : Ledger) (disk left : Disk) (vid block : ℕ) (held : List ℕ)
     → Begins n vid bytes a k old disk new left → BlockIs n held (disk.items block) → block < disk.blocks
-    → (a ≤ block) × (block < a + k) → BlockIs (n + 1) (bytes block) (map (marked Acknowledged n) (left.items block))
+    → (a ≤ block) × (block < a + k) → BlockIs (n + 1) (bytes block) (map (item_with_mark Acknowledged n) (left.items block))
 block_acknowledged n a k bytes old new disk left vid block held begins is inside covered = record {
   front = disk.items block;
   writer = Some n;
-  ends = ap (map (marked Acknowledged n)) (begins.here block covered.0 covered.1 inside) ∙ marked-open n (disk.items block) (bytes block) (is.before n (omega arith));
+  ends = ap (map (item_with_mark Acknowledged n)) (begins.here block covered.0 covered.1 inside) ∙ item_with_mark-open n (disk.items block) (bytes block) (is.before n (omega arith));
   before = subst (λ (items : List Item). AllBefore (n + 1) items)
-      (sym (ap (map (marked Acknowledged n)) (begins.here block covered.0 covered.1 inside) ∙ marked-open n (disk.items block) (bytes block) (is.before n (omega arith))))
+      (sym (ap (map (item_with_mark Acknowledged n)) (begins.here block covered.0 covered.1 inside) ∙ item_with_mark-open n (disk.items block) (bytes block) (is.before n (omega arith))))
       (settled_more n (bytes block) (disk.items block) is.before);
 }
 
 -- one that isn't covered
 block_untouched : (n a k : ℕ) (bytes : ℕ → List ℕ) (old new : Ledger) (disk left : Disk) (vid block : ℕ) (held now : List ℕ)
     → Begins n vid bytes a k old disk new left → BlockIs n held (disk.items block)
-    → (block < a) ⊎ (a + k ≤ block) → held ≡ now → BlockIs (n + 1) now (map (marked Acknowledged n) (left.items block))
+    → (block < a) ⊎ (a + k ≤ block) → held ≡ now → BlockIs (n + 1) now (map (item_with_mark Acknowledged n) (left.items block))
 block_untouched n a k bytes old new disk left vid block held now begins is out same =
     subst (λ (items : List Item). BlockIs (n + 1) now items)
-    (sym (ap (map (marked Acknowledged n)) (begins.others block out) ∙ marked-NoneOf Acknowledged n (disk.items block) (is.before n (omega arith))))
+    (sym (ap (map (item_with_mark Acknowledged n)) (begins.others block out) ∙ item_with_mark-NoneOf Acknowledged n (disk.items block) (is.before n (omega arith))))
     (block_later n (n + 1) held now (disk.items block) (omega arith) same is)
 
 -- and what a refusal leaves: what was there
 items_refused : (n a k : ℕ) (bytes : ℕ → List ℕ) (old new : Ledger) (disk left : Disk) (vid block : ℕ) (held : List ℕ)
     → Begins n vid bytes a k old disk new left → BlockIs n held (disk.items block) → block < disk.blocks
-    → filter (λ item. not (is_of n item)) (left.items block) ≡ disk.items block
+    → filter (λ item. not (is_item_of n item)) (left.items block) ≡ disk.items block
 items_refused n a k bytes old new disk left vid block held begins is inside = elim (leb_tells a block) [
   | inl from ↦ elim (leb_tells (suc block) (a + k)) [
-    | inl to ↦ ap (filter (λ item. not (is_of n item))) (begins.here block from.1 (omega (arith, to.1)) inside) ∙ filter-open n (disk.items block) (bytes block) (is.before n (omega arith))
-    | inr behind ↦ ap (filter (λ item. not (is_of n item))) (begins.others block (inr (omega (arith, behind.1)))) ∙ filter-NoneOf n (disk.items block) (is.before n (omega arith))
+    | inl to ↦ ap (filter (λ item. not (is_item_of n item))) (begins.here block from.1 (omega (arith, to.1)) inside) ∙ filter-open n (disk.items block) (bytes block) (is.before n (omega arith))
+    | inr behind ↦ ap (filter (λ item. not (is_item_of n item))) (begins.others block (inr (omega (arith, behind.1)))) ∙ filter-NoneOf n (disk.items block) (is.before n (omega arith))
   ]
-  | inr out ↦ ap (filter (λ item. not (is_of n item))) (begins.others block (inl (omega (arith, out.1)))) ∙ filter-NoneOf n (disk.items block) (is.before n (omega arith))
+  | inr out ↦ ap (filter (λ item. not (is_item_of n item))) (begins.others block (inl (omega (arith, out.1)))) ∙ filter-NoneOf n (disk.items block) (is.before n (omega arith))
 ]
 
 -- the end of request n changes no later one
-later_kept : (n : ℕ) (request : Request) (old new : Ledger) → ((other : ℕ) → other ≢ n → new.requests other ≡ old.requests other)
+later_kept : (n : ℕ) (request : WriteRequest) (old new : Ledger) → ((other : ℕ) → other ≢ n → new.requests other ≡ old.requests other)
     → ((req : ℕ) → n ≤ req → old.requests req ≡ fresh_request)
     → (req : ℕ) → n + 1 ≤ req → changed_at n request new.requests req ≡ fresh_request
 later_kept n request old new others later req from =
@@ -221,16 +221,16 @@ number_after-request before s request = ap (λ n. n + 1) (count_by-snoc before s
 -- a write that ends inside the disk, begun and acknowledged
 disk_acknowledged : (before : List Statement) (session offset count n vid size : ℕ) (pattern : Pattern) (ledger new : Ledger) (left : Disk)
     → (was : DiskIs n (size / 512) (block_after size before) ledger vid)
-    → Begins n vid (block_of pattern offset) (offset / 512) (count / 512) ledger was.disk new left → fits size offset count ≡ true
-    → DiskIs (n + 1) (size / 512) (block_after size (before ++ Write session offset count pattern ∷ [])) (after new (events.WriteDone n)) vid
+    → Begins n vid (block_of pattern offset) (offset / 512) (count / 512) ledger was.disk new left → ends_inside_disk size offset count ≡ true
+    → DiskIs (n + 1) (size / 512) (block_after size (before ++ Write session offset count pattern ∷ [])) (ledger_after new (events.WriteDone n)) vid
 disk_acknowledged before session offset count n vid size pattern ledger new left was begins inside = record {
-  disk = record left { items = λ block. map (marked Acknowledged n) (left.items block) };
-  there = ap (with_disk (λ disk. record disk { items = λ block. map (marked Acknowledged n) (disk.items block) })) begins.there;
+  disk = record left { items = λ block. map (item_with_mark Acknowledged n) (left.items block) };
+  there = ap (with_changed_disk (λ disk. record disk { items = λ block. map (item_with_mark Acknowledged n) (disk.items block) })) begins.there;
   count = begins.blocks ∙ was.count;
   live = begins.live ∙ was.live;
   each = λ block within. elim (covers_cases offset count block) [
     | inl covered ↦ block_later (n + 1) (n + 1) (block_of pattern offset block) (block_after size (before ++ Write session offset count pattern ∷ []) block)
-        (map (marked Acknowledged n) (left.items block)) (omega arith) (sym (block_written size before session offset count pattern block inside covered.0))
+        (map (item_with_mark Acknowledged n) (left.items block)) (omega arith) (sym (block_written size before session offset count pattern block inside covered.0))
         (block_acknowledged n (offset / 512) (count / 512) (block_of pattern offset) ledger new was.disk left vid block (block_after size before block) begins
         (was.each block within) (rw was.count within) (covered.1, covered.2))
     | inr out ↦ block_untouched n (offset / 512) (count / 512) (block_of pattern offset) ledger new was.disk left vid block (block_after size before block)
@@ -242,11 +242,11 @@ disk_acknowledged before session offset count n vid size pattern ledger new left
 -- one that doesn't, begun and refused
 disk_refused : (before : List Statement) (session offset count n vid size : ℕ) (pattern : Pattern) (ledger new : Ledger) (left : Disk)
     → (was : DiskIs n (size / 512) (block_after size before) ledger vid)
-    → Begins n vid (block_of pattern offset) (offset / 512) (count / 512) ledger was.disk new left → fits size offset count ≡ false
-    → DiskIs (n + 1) (size / 512) (block_after size (before ++ Write session offset count pattern ∷ [])) (after new (events.WriteRefused n)) vid
+    → Begins n vid (block_of pattern offset) (offset / 512) (count / 512) ledger was.disk new left → ends_inside_disk size offset count ≡ false
+    → DiskIs (n + 1) (size / 512) (block_after size (before ++ Write session offset count pattern ∷ [])) (ledger_after new (events.WriteRefused n)) vid
 disk_refused before session offset count n vid size pattern ledger new left was begins outside = record {
-  disk = record left { items = λ block. filter (λ item. not (is_of n item)) (left.items block) };
-  there = ap (with_disk (λ disk. record disk { items = λ block. filter (λ item. not (is_of n item)) (disk.items block) })) begins.there;
+  disk = record left { items = λ block. filter (λ item. not (is_item_of n item)) (left.items block) };
+  there = ap (with_changed_disk (λ disk. record disk { items = λ block. filter (λ item. not (is_item_of n item)) (disk.items block) })) begins.there;
   count = begins.blocks ∙ was.count;
   live = begins.live ∙ was.live;
   each = λ block within. subst (λ (items : List Item). BlockIs (n + 1) (block_after size (before ++ Write session offset count pattern ∷ []) block) items)
@@ -275,7 +275,7 @@ settled_next before s size next request no_size no_name is now later = record {
 
 write_continues : (before : List Statement) (session offset count : ℕ) (pattern : Pattern) (ledger : Ledger) (size : ℕ)
     → 512 ≤ count → disk_size before ≡ Some size → Settled before ledger → Continues before (Write session offset count pattern) ledger
-write_continues before session offset count pattern ledger size least is settled = go (fits size offset count) refl
+write_continues before session offset count pattern ledger size least is settled = go (ends_inside_disk size offset count) refl
   where
     s : Statement
     s = Write session offset count pattern
@@ -300,38 +300,38 @@ write_continues before session offset count pattern ledger size least is settled
 
     begun : (new : Ledger) × (left : Disk) × (ledger_from ledger starts ≡ Some new) × Begins n vid (block_of pattern offset) (offset / 512) (count / 512) ledger was.disk new left
     begun = begins_ok n vid (block_of pattern offset) (count / 512) (offset / 512) ledger was.disk (length-block_of pattern offset) was.there
-        (ap (λ (r : Request). r.ended) unbegun) (λ block from. rw unbegun refl)
+        (ap (λ (r : WriteRequest). r.ended) unbegun) (λ block from. rw unbegun refl)
 
-    go : (inside : Bool) → fits size offset count ≡ inside → Continues before s ledger
+    go : (inside : Bool) → ends_inside_disk size offset count ≡ inside → Continues before s ledger
     go true h =
         let new : Ledger = begun.0 in
         let ends_inside : offset + count ≤ size = leb-true (offset + count) size h in
         let within : offset / 512 + count / 512 ≤ begun.1.blocks = rw (begun.3.blocks, was.count) (omega arith) in
         let may : may_follow new (events.WriteDone n) ≡ true
-        = rw (begun.3.started (inr (omega arith)), begun.3.ended, begun.3.stray (rw was.count (omega arith)) (ap (λ (r : Request). r.stray) unbegun)) refl in
-        let end_is : (if fits (size_after before) offset count then events.WriteDone n else events.WriteRefused n) ≡ events.WriteDone n = rw (size_is, h) refl in (
-          after new (events.WriteDone n),
+        = rw (begun.3.started (inr (omega arith)), begun.3.ended, begun.3.stray (rw was.count (omega arith)) (ap (λ (r : WriteRequest). r.stray) unbegun)) refl in
+        let end_is : (if ends_inside_disk (size_after before) offset count then events.WriteDone n else events.WriteRefused n) ≡ events.WriteDone n = rw (size_is, h) refl in (
+          ledger_after new (events.WriteDone n),
           ap (λ (end : HistEvent). ledger_from ledger (starts ++ end ∷ [])) end_is ∙ ledger_through ledger new starts (events.WriteDone n ∷ []) begun.2
               ∙ first_ok new (events.WriteDone n) [] may,
-          settled_next before s size (after new (events.WriteDone n)) refl refl refl is
+          settled_next before s size (ledger_after new (events.WriteDone n)) refl refl refl is
               (disk_acknowledged before session offset count n vid size pattern ledger new begun.1 was begun.3 h)
               (later_kept n (record (new.requests n) { ended = true }) ledger new begun.3.requests settled.later),
         )
     go false h =
         let new : Ledger = begun.0 in
         let may : may_follow new (events.WriteRefused n) ≡ true = rw (begun.3.started (inr (omega arith)), begun.3.ended) refl in
-        let end_is : (if fits (size_after before) offset count then events.WriteDone n else events.WriteRefused n) ≡ events.WriteRefused n = rw (size_is, h) refl in (
-          after new (events.WriteRefused n),
+        let end_is : (if ends_inside_disk (size_after before) offset count then events.WriteDone n else events.WriteRefused n) ≡ events.WriteRefused n = rw (size_is, h) refl in (
+          ledger_after new (events.WriteRefused n),
           ap (λ (end : HistEvent). ledger_from ledger (starts ++ end ∷ [])) end_is ∙ ledger_through ledger new starts (events.WriteRefused n ∷ []) begun.2
               ∙ first_ok new (events.WriteRefused n) [] may,
-          settled_next before s size (after new (events.WriteRefused n)) refl refl refl is
+          settled_next before s size (ledger_after new (events.WriteRefused n)) refl refl refl is
               (disk_refused before session offset count n vid size pattern ledger new begun.1 was begun.3 h)
               (later_kept n (record (new.requests n) { ended = true }) ledger new begun.3.requests settled.later),
         )
 
 read_continues : (before : List Statement) (session offset count : ℕ) (ledger : Ledger) (size : ℕ)
     → disk_size before ≡ Some size → Settled before ledger → Continues before (Read session offset count) ledger
-read_continues before session offset count ledger size is settled = go (fits size offset count) refl
+read_continues before session offset count ledger size is settled = go (ends_inside_disk size offset count) refl
   where
     s : Statement
     s = Read session offset count
@@ -343,22 +343,22 @@ read_continues before session offset count ledger size is settled = go (fits siz
     size_is = ap (λ o. unwrap_or o 0) is
 
     reads : ℕ → List HistEvent
-    reads size = map (λ block. events.Read (vid_after before) block (block_after size before block)) (blocks_of offset count)
+    reads size = map (λ block. events.Read (vid_after before) block (block_after size before block)) (piece_blocks offset count)
 
     told : Bool → ℕ → List HistEvent
     told inside size = if inside then reads size else []
 
-    go : (inside : Bool) → fits size offset count ≡ inside → Continues before s ledger
+    go : (inside : Bool) → ends_inside_disk size offset count ≡ inside → Continues before s ledger
     go true h =
         let ends_inside : offset + count ≤ size = leb-true (offset + count) size h in
-        let all : events_after before s ≡ reads size = ap (λ size. told (fits size offset count) size) size_is ∙ ap (λ inside. told inside size) h in (
+        let all : events_after before s ≡ reads size = ap (λ size. told (ends_inside_disk size offset count) size) size_is ∙ ap (λ inside. told inside size) h in (
           ledger,
           ap (ledger_from ledger) all ∙ reads_ok (number_after before) (size / 512) (vid_after before) (block_after size before) ledger (count / 512) (offset / 512) was
               (length-block_after size before) (omega arith),
           settled_kept before s ledger refl refl (λ size block. refl) settled,
         )
     go false h =
-        let none : events_after before s ≡ [] = ap (λ size. told (fits size offset count) size) size_is ∙ ap (λ inside. told inside size) h in
+        let none : events_after before s ≡ [] = ap (λ size. told (ends_inside_disk size offset count) size) size_is ∙ ap (λ inside. told inside size) h in
         (ledger, ap (ledger_from ledger) none, settled_kept before s ledger refl refl (λ size block. refl) settled)
 
 create_continues : (before : List Statement) (session : ℕ) (policy : Policy) (shift : ℕ) (name : List ℕ) (size : ℕ) (ledger : Ledger)
@@ -366,12 +366,12 @@ create_continues : (before : List Statement) (session : ℕ) (policy : Policy) (
 create_continues before session policy shift name size ledger first settled =
     let vid : ℕ = own_vid name in
     let s : Statement = Create session policy shift name size in
-    let next : Ledger = after ledger (events.Create vid (size / 512)) in
+    let next : Ledger = ledger_after ledger (events.Create vid (size / 512)) in
     let may : may_follow ledger (events.Create vid (size / 512)) ≡ true = rw (settled.none (disk_size-no_requests before first) vid) refl in
     let size_is : disk_size (before ++ s ∷ []) ≡ Some size = disk_size-snoc before s ∙ rw (disk_size-no_requests before first) refl in
     let name_is : disk_name (before ++ s ∷ []) ≡ Some name = disk_name-snoc before s ∙ rw (disk_name-no_requests before first) refl in
     let vid_is : vid_after (before ++ s ∷ []) ≡ vid = ap (λ name. own_vid (unwrap_or name [])) name_is in
-    let new_disk : Disk = record { blocks = size / 512; items = λ block. settled_item None zeros ∷ []; deleted = false } in
+    let new_disk : Disk = record { blocks = size / 512; items = λ block. settled_item None zero_block ∷ []; deleted = false } in
     let more = number_after-le before s in (
       next,
       first_ok ledger (events.Create vid (size / 512)) [] may,
@@ -412,15 +412,15 @@ continues before (Write session offset count pattern) ledger may settled =
 continues before s ledger may settled = absurd may
 
 history_continues : (before statements : List Statement) (ledger : Ledger) → EachMayFollow before statements → Settled before ledger
-    → IsSome (ledger_from ledger (along events_after before statements))
+    → IsSome (ledger_from ledger (lists_along events_after before statements))
 history_continues before [] ledger each settled = search rules
 history_continues before (s ∷ rest) ledger each settled =
     let now = continues before s ledger each.0 settled in
-    subst (λ (reached : Option Ledger). IsSome reached) (sym (ledger_through ledger now.0 (events_after before s) (along events_after (before ++ s ∷ []) rest) now.1))
+    subst (λ (reached : Option Ledger). IsSome reached) (sym (ledger_through ledger now.0 (events_after before s) (lists_along events_after (before ++ s ∷ []) rest) now.1))
     (history_continues (before ++ s ∷ []) rest now.0 each.1 now.2)
 
 -- the history of each script of one disk is legal
-pub history_is_legal : (statements : List Statement) → IsOneDiskScript statements → IsLegal (history_of statements)
+pub history_is_legal : (statements : List Statement) → IsOneDiskScript statements → IsLegal (script_history_of statements)
 history_is_legal statements script = history_continues [] statements empty_ledger script (record {
   none = λ _ disk. refl;
   made = λ size there. absurd (cc);

@@ -9,10 +9,10 @@ use Rattle.cluster_script.specs.Statements.{is_request}
 use Rattle.cluster_script.specs.OneDisk.{MayFollow, EachMayFollow, IsOneDiskScript}
 use Rattle.sheep.specs.declared.disk.Disk.{Disk}
 use Rattle.sheep.specs.declared.report.Lines.{Lines}
-use Rattle.sheep.specs.Blocks.{size_after, block_after, blocks_of, laid_on, fits}
-use Rattle.sheep.specs.Report.{along, reply_on, reply_after, line_after, number_after, runs_text, refused_text}
-use Rattle.sheep.specs.Stored.{bytes_at, size_next, Holds}
-use Rattle.sheep.proofs.AlongLemmas.{along-snoc, holds_next}
+use Rattle.sheep.specs.Blocks.{size_after, block_after, piece_blocks, laid_on, ends_inside_disk}
+use Rattle.sheep.specs.Report.{lists_along, reply_on, reply_after, line_after, number_after, runs_text, refused_text}
+use Rattle.sheep.specs.Stored.{stored_block, size_next, Holds}
+use Rattle.sheep.proofs.AlongLemmas.{lists_along-snoc, holds_next}
 
 -- a statement of a script may follow those before it
 each_may_follow : (earlier statements : List Statement) (k : ℕ) (d : Statement) → EachMayFollow earlier statements → k < length statements
@@ -33,18 +33,18 @@ flat_map-same f g [] same = refl
 flat_map-same f g (x ∷ xs) same = ap (λ ys. f x ++ ys) (flat_map-same f g xs same) ∙ ap (λ y. y ++ flat_map g xs) (same x)
 
 -- what the disk says is what the statements before it make it say
-reply_is : (before : List Statement) (disk : Disk) (s : Statement) → Holds before disk → reply_on disk.size (bytes_at disk.blocks) s ≡ reply_after before s
-reply_is before disk s held = ap (λ size. reply_on size (bytes_at disk.blocks) s) held.size ∙ by_kind (size_after before) s
+reply_is : (before : List Statement) (disk : Disk) (s : Statement) → Holds before disk → reply_on disk.size (stored_block disk.blocks) s ≡ reply_after before s
+reply_is before disk s held = ap (λ size. reply_on size (stored_block disk.blocks) s) held.size ∙ by_kind (size_after before) s
   where
-    by_kind : (size : ℕ) (s : Statement) → reply_on size (bytes_at disk.blocks) s ≡ reply_on size (block_after (size_after before) before) s
+    by_kind : (size : ℕ) (s : Statement) → reply_on size (stored_block disk.blocks) s ≡ reply_on size (block_after (size_after before) before) s
     by_kind size (Cluster nodes) = refl
     by_kind size (Session session node) = refl
     by_kind size (Create session policy shift name bytes) = refl
     by_kind size (OpenDisk session name tag) = refl
     by_kind size (Close session) = refl
     by_kind size (Read session offset length) =
-        ap (λ bytes. if fits size offset length then codes " ok" ++ runs_text bytes else refused_text)
-        (flat_map-same (bytes_at disk.blocks) (block_after (size_after before) before) (blocks_of offset length) held.blocks)
+        ap (λ bytes. if ends_inside_disk size offset length then codes " ok" ++ runs_text bytes else refused_text)
+        (flat_map-same (stored_block disk.blocks) (block_after (size_after before) before) (piece_blocks offset length) held.blocks)
     by_kind size (Write session offset length pattern) = refl
     by_kind size s = refl
 
@@ -52,7 +52,7 @@ reply_is before disk s held = ap (λ size. reply_on size (bytes_at disk.blocks) 
 pub record Told (before : List Statement) (disk : Disk) (lines : Lines) : Type 0 where
   pub held : Holds before disk
   pub count : lines.count ≡ count_by is_request before
-  pub text : lines.text.items ≡ along line_after [] before
+  pub text : lines.text.items ≡ lists_along line_after [] before
 
 pub count_by-snoc : (before : List Statement) (s : Statement) → count_by is_request (before ++ s ∷ []) ≡ count_by is_request before + (if is_request s then 1 else 0)
 count_by-snoc [] s = go (is_request s) refl
@@ -65,27 +65,27 @@ count_by-snoc (t ∷ before) s = grind (arith, common_steps, count_by-snoc befor
 -- one statement more is told and made
 pub told_next : (before : List Statement) (s : Statement) (old new : Disk) (lines more : Lines) → MayFollow before s → Told before old lines
     → more.count ≡ lines.count + (if is_request s then 1 else 0)
-    → more.text.items ≡ lines.text.items ++ (if is_request s then decimal (lines.count + 1) ++ reply_on old.size (bytes_at old.blocks) s ++ codes "\n" else [])
+    → more.text.items ≡ lines.text.items ++ (if is_request s then decimal (lines.count + 1) ++ reply_on old.size (stored_block old.blocks) s ++ codes "\n" else [])
     → new.size ≡ size_next old.size s
-    → ((block : ℕ) → bytes_at new.blocks block ≡ unwrap_or (laid_on old.size block s) (bytes_at old.blocks block))
+    → ((block : ℕ) → stored_block new.blocks block ≡ unwrap_or (laid_on old.size block s) (stored_block old.blocks block))
     → Told (before ++ s ∷ []) new more
 told_next before s old new lines more may told count text size blocks = record {
   held = holds_next before s old new may told.held size blocks;
   count = count ∙ ap (λ n. n + (if is_request s then 1 else 0)) told.count ∙ sym (count_by-snoc before s);
   text = text
-      ∙ ap (λ xs. xs ++ (if is_request s then decimal (lines.count + 1) ++ reply_on old.size (bytes_at old.blocks) s ++ codes "\n" else [])) told.text
-      ∙ ap (λ n. along line_after [] before ++ (if is_request s then decimal (n + 1) ++ reply_on old.size (bytes_at old.blocks) s ++ codes "\n" else [])) told.count
-      ∙ ap (λ reply. along line_after [] before ++ (if is_request s then decimal (number_after before) ++ reply ++ codes "\n" else [])) (reply_is before old s told.held)
-      ∙ sym (along-snoc line_after [] before s);
+      ∙ ap (λ xs. xs ++ (if is_request s then decimal (lines.count + 1) ++ reply_on old.size (stored_block old.blocks) s ++ codes "\n" else [])) told.text
+      ∙ ap (λ n. lists_along line_after [] before ++ (if is_request s then decimal (n + 1) ++ reply_on old.size (stored_block old.blocks) s ++ codes "\n" else [])) told.count
+      ∙ ap (λ reply. lists_along line_after [] before ++ (if is_request s then decimal (number_after before) ++ reply ++ codes "\n" else [])) (reply_is before old s told.held)
+      ∙ sym (lists_along-snoc line_after [] before s);
 }
 
 -- the same for place k of a script
 pub told_more : (statements : List Statement) (k : ℕ) (s : Statement) (old new : Disk) (lines more : Lines) → IsOneDiskScript statements
     → k < length statements → s ≡ get_or statements k s → Told (take k statements) old lines
     → more.count ≡ lines.count + (if is_request s then 1 else 0)
-    → more.text.items ≡ lines.text.items ++ (if is_request s then decimal (lines.count + 1) ++ reply_on old.size (bytes_at old.blocks) s ++ codes "\n" else [])
+    → more.text.items ≡ lines.text.items ++ (if is_request s then decimal (lines.count + 1) ++ reply_on old.size (stored_block old.blocks) s ++ codes "\n" else [])
     → new.size ≡ size_next old.size s
-    → ((block : ℕ) → bytes_at new.blocks block ≡ unwrap_or (laid_on old.size block s) (bytes_at old.blocks block))
+    → ((block : ℕ) → stored_block new.blocks block ≡ unwrap_or (laid_on old.size block s) (stored_block old.blocks block))
     → Told (take (k + 1) statements) new more
 told_more statements k s old new lines more script within is_it told count text size blocks =
     let next : k + 1 ≡ suc k = omega arith in

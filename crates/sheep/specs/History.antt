@@ -8,8 +8,8 @@ use Rattle.cluster_script.specs.Statements.{disk_name}
 use Rattle.disk_history.specs.declared.event.HistEvent.{HistEvent}
 use Rattle.disk_history.specs.declared.event.HistEvent.TheVariants as events
 use Rattle.std.specs.Prelude.{unwrap_or}
-use Rattle.sheep.specs.Blocks.{size_after, fits, blocks_of, block_of, block_after}
-use Rattle.sheep.specs.Report.{along, number_after}
+use Rattle.sheep.specs.Blocks.{size_after, ends_inside_disk, piece_blocks, block_of, block_after}
+use Rattle.sheep.specs.Report.{lists_along, number_after}
 
 -- the id of the script's disk, the first one of its name
 abbrev pub vid_after : List Statement → ℕ
@@ -19,14 +19,16 @@ vid_after before = own_vid (unwrap_or (disk_name before) [])
 abbrev pub events_after : List Statement → Statement → List HistEvent
 events_after before (Create session policy shift name size) = events.Create (own_vid name) (size / BLOCK) ∷ []
 events_after before (Read session offset length) =
-    if fits (size_after before) offset length
-    then map (λ block. events.Read (vid_after before) block (block_after (size_after before) before block)) (blocks_of offset length)
+    if ends_inside_disk (size_after before) offset length
+    then map (λ block. events.Read (vid_after before) block (block_after (size_after before) before block)) (piece_blocks offset length)
     else []
 events_after before (Write session offset length pattern) =
-    map (λ block. events.WriteStart (number_after before) (vid_after before) block false (block_of pattern offset block)) (blocks_of offset length)
-    ++ (if fits (size_after before) offset length then events.WriteDone (number_after before) else events.WriteRefused (number_after before)) ∷ []
+    map (λ block. events.WriteStart (number_after before) (vid_after before) block false (block_of pattern offset block))
+    (piece_blocks offset length)
+    ++ (if ends_inside_disk (size_after before) offset length then events.WriteDone (number_after before)
+    else events.WriteRefused (number_after before)) ∷ []
 events_after before s = []
 
 -- the history of a script's run
-abbrev pub history_of : List Statement → List HistEvent
-history_of statements = along events_after [] statements
+abbrev pub script_history_of : List Statement → List HistEvent
+script_history_of statements = lists_along events_after [] statements

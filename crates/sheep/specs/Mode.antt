@@ -13,5 +13,5 @@ mode_meant (word ∷ []) = if bytes_eq word (codes "run") then Some (Run 0 false
 mode_meant (word ∷ next ∷ words) = None
 
 -- the mode that a list of texts asks for
-abbrev pub asked : {A : Type 0} → List (String A) → Option Mode
-asked words = mode_meant (map (λ word. string_bytes word) words)
+abbrev pub mode_asked_for : {A : Type 0} → List (String A) → Option Mode
+mode_asked_for words = mode_meant (map (λ word. string_bytes word) words)

@@ -4,12 +4,12 @@ use Rattle.object_id.specs.Runs.{runs_of}
 use Rattle.cluster_script.specs.declared.statement.Statement.{Statement}
 use Rattle.cluster_script.specs.declared.statement.Statement.TheVariants.{Create, OpenDisk, Close, Read, Write}
 use Rattle.cluster_script.specs.Statements.{is_request}
-use Rattle.sheep.specs.Blocks.{size_after, fits, blocks_of, block_after}
+use Rattle.sheep.specs.Blocks.{size_after, ends_inside_disk, piece_blocks, block_after}
 
 -- the lists that each statement gives, told with those before it, in a row
-abbrev pub along : {X : Type 0} → (List Statement → Statement → List X) → List Statement → List Statement → List X
-along told before [] = []
-along told before (s ∷ rest) = told before s ++ along told (before ++ s ∷ []) rest
+abbrev pub lists_along : {X : Type 0} → (List Statement → Statement → List X) → List Statement → List Statement → List X
+lists_along told before [] = []
+lists_along told before (s ∷ rest) = told before s ++ lists_along told (before ++ s ∷ []) rest
 
 -- two lower hexadecimal digits
 abbrev pub hex_of : ℕ → List ℕ
@@ -35,8 +35,8 @@ reply_on size held (Create session policy shift name bytes) = codes " ok"
 reply_on size held (OpenDisk session name tag) = codes " ok"
 reply_on size held (Close session) = codes " ok"
 reply_on size held (Read session offset length) =
-    if fits size offset length then codes " ok" ++ runs_text (flat_map held (blocks_of offset length)) else refused_text
-reply_on size held (Write session offset length pattern) = if fits size offset length then codes " ok" else refused_text
+    if ends_inside_disk size offset length then codes " ok" ++ runs_text (flat_map held (piece_blocks offset length)) else refused_text
+reply_on size held (Write session offset length pattern) = if ends_inside_disk size offset length then codes " ok" else refused_text
 reply_on size held s = []
 
 -- what it says after the statements before it
@@ -48,5 +48,5 @@ abbrev pub line_after : List Statement → Statement → List ℕ
 line_after before s = if is_request s then decimal (number_after before) ++ reply_after before s ++ codes "\n" else []
 
 -- what the program prints for a script
-abbrev pub text_of : List Statement → List ℕ
-text_of statements = along line_after [] statements
+abbrev pub printed_text : List Statement → List ℕ
+printed_text statements = lists_along line_after [] statements

@@ -1,7 +1,7 @@
 ghost use Rattle.std.specs.Prelude.{◌≡◌, ◌+◌, ◌≤◌, [], length, IsSome, IfOk, IsErrOf};
-ghost use Rattle.cluster_script.specs.OneDiskLines.{script_in};
+ghost use Rattle.cluster_script.specs.OneDiskLines.{one_disk_script_in};
 ghost use Rattle.sheep_base.specs.Fault.{Rose};
-ghost use Rattle.sheep.specs.Mode.{asked};
+ghost use Rattle.sheep.specs.Mode.{mode_asked_for};
 ghost use Rattle.sheep.specs.Answer.{AnswersCall, MakesLegalHistory, TakesAtMost, bad_line_text, script_answer};
 
 use crate::mode::{Mode, mode_of};
@@ -68,7 +68,7 @@ fn bad_line(alloc: Global, line: u32, cause: LineCause) -> Result<Answer, NoMemo
 /// Runs a script, or names the line for which a text isn't one.
 fn run_script(alloc: Global, input: &[u8]) -> Result<Answer, NoMemory>
     requires { length input.now ≤ INPUT_BYTES_MAX }
-    ensures answer { IfOk result (λ answer. answer ≡ script_answer (script_in input.now)) }
+    ensures answer { IfOk result (λ answer. answer ≡ script_answer (one_disk_script_in input.now)) }
     ensures legal { IfOk result (λ _. MakesLegalHistory input.now) }
 {
     match parse(alloc, input) {
@@ -87,8 +87,8 @@ pub fn answer_call<S: Source>(
     words: &[String],
     source: &mut S,
 ) -> Result<Answer, Stop>
-    ensures answered { IfOk result (λ answer. AnswersCall (asked words.now) (S.left source.old) (S.left source.new) answer) }
-    ensures accepted { IsErrOf result Stop.ReadFault → IsSome (asked words.now) }
+    ensures answered { IfOk result (λ answer. AnswersCall (mode_asked_for words.now) (S.left source.old) (S.left source.new) answer) }
+    ensures accepted { IsErrOf result Stop.ReadFault → IsSome (mode_asked_for words.now) }
     ensures failed { IsErrOf result Stop.ReadFault → Rose (S.faults source.old) (S.faults source.new) }
 
     ensures takes { TakesAtMost (INPUT_BYTES_MAX + 1) (S.left source.old) (S.left source.new) }

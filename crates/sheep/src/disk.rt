@@ -1,8 +1,8 @@
 ghost use Rattle.std.specs.Prelude.{◌≡◌, ℕ, ◌+◌, ◌^◌, ◌<◌, [], ◌++◌, ◌&&◌, codes, flat_map, unwrap_or, IfOk, OnOk, if◌then◌else◌};
-ghost use Rattle.cluster_script.specs.Asked.{byte_of};
-ghost use Rattle.sheep.specs.Blocks.{fits, covers, blocks_of, block_of, laid_on};
+ghost use Rattle.cluster_script.specs.NumberedRequests.{byte_of};
+ghost use Rattle.sheep.specs.Blocks.{ends_inside_disk, covers_block, piece_blocks, block_of, laid_on};
 ghost use Rattle.sheep.specs.Report.{reply_on, refused_text, runs_text};
-ghost use Rattle.sheep.specs.Stored.{bytes_at, size_next, Holds};
+ghost use Rattle.sheep.specs.Stored.{stored_block, size_next, Holds};
 
 use crate::runs::push_runs;
 use cluster_script::{Pattern, Statement};
@@ -30,7 +30,7 @@ pub struct Disk {
 
 /// Whether a piece ends inside a disk of this size.
 fn ends_inside(size: u64, offset: u64, length: u32) -> bool
-    ensures { result ≡ fits size offset length }
+    ensures { result ≡ ends_inside_disk size offset length }
 {
     offset <= size && u64::from(length) <= size - offset
 }
@@ -55,8 +55,8 @@ fn fill(
     pattern: Pattern,
 ) -> Result<(), NoMemory>
     requires { offset + length < 2 ^ 64 }
-    ensures { OnOk result ((block : ℕ) → bytes_at blocks.new block
-        ≡ (if covers offset length block then block_of pattern offset block else bytes_at blocks.old block)) }
+    ensures { OnOk result ((block : ℕ) → stored_block blocks.new block
+        ≡ (if covers_block offset length block then block_of pattern offset block else stored_block blocks.old block)) }
 {
     let first = offset / BLOCK_BYTES;
     for block in first..first + u64::from(length) / BLOCK_BYTES {
@@ -68,7 +68,7 @@ fn fill(
 
 /// Adds the bytes of a block.
 fn push_block(bytes: &mut Vec<u8>, blocks: &Blocks, block: u64) -> Result<(), NoMemory>
-    ensures { OnOk result (bytes.new.items ≡ bytes.old.items ++ bytes_at blocks.now block) }
+    ensures { OnOk result (bytes.new.items ≡ bytes.old.items ++ stored_block blocks.now block) }
 {
     match blocks.get(&block) {
         Some(stored) => bytes.extend_from_slice(stored.as_slice())?,
@@ -80,7 +80,7 @@ fn push_block(bytes: &mut Vec<u8>, blocks: &Blocks, block: u64) -> Result<(), No
 /// The bytes of a piece of whole blocks.
 fn piece(alloc: Global, blocks: &Blocks, offset: u64, length: u32) -> Result<Vec<u8>, NoMemory>
     requires { offset + length < 2 ^ 64 }
-    ensures { IfOk result (λ bytes. bytes.items ≡ flat_map (bytes_at blocks.now) (blocks_of offset length)) }
+    ensures { IfOk result (λ bytes. bytes.items ≡ flat_map (stored_block blocks.now) (piece_blocks offset length)) }
 {
     let first = offset / BLOCK_BYTES;
     let mut bytes = Vec::new(alloc);
@@ -103,8 +103,8 @@ impl Disk {
 
     /// What a read of this piece says: the runs of its bytes, or that it ends past the disk.
     fn read(&self, alloc: Global, offset: u64, length: u32) -> Result<Vec<u8>, NoMemory>
-        ensures { IfOk result (λ reply. reply.items ≡ (if fits self.now.size offset length
-            then codes " ok" ++ runs_text (flat_map (bytes_at self.now.blocks) (blocks_of offset length)) else refused_text)) }
+        ensures { IfOk result (λ reply. reply.items ≡ (if ends_inside_disk self.now.size offset length
+            then codes " ok" ++ runs_text (flat_map (stored_block self.now.blocks) (piece_blocks offset length)) else refused_text)) }
     {
         if !ends_inside(self.size, offset, length) {
             return Ok(Vec::from_slice(alloc, REFUSED)?);
@@ -117,7 +117,7 @@ impl Disk {
 
     /// What the line of a request says, behind its number.
     pub fn reply(&self, alloc: Global, statement: &Statement) -> Result<Vec<u8>, NoMemory>
-        ensures { IfOk result (λ reply. reply.items ≡ reply_on self.now.size (bytes_at self.now.blocks) statement.now) }
+        ensures { IfOk result (λ reply. reply.items ≡ reply_on self.now.size (stored_block self.now.blocks) statement.now) }
     {
         match statement {
             Statement::Create {
@@ -164,8 +164,9 @@ impl Disk {
         pattern: Pattern,
     ) -> Result<(), NoMemory>
         ensures size { OnOk result (self.new.size ≡ self.old.size) }
-        ensures blocks { OnOk result ((block : ℕ) → bytes_at self.new.blocks block
-            ≡ (if fits self.old.size offset length && covers offset length block then block_of pattern offset block else bytes_at self.old.blocks block)) }
+        ensures blocks { OnOk result ((block : ℕ) → stored_block self.new.blocks block
+            ≡ (if ends_inside_disk self.old.size offset length && covers_block offset length block then block_of pattern offset block
+            else stored_block self.old.blocks block)) }
     {
         if !ends_inside(self.size, offset, length) {
             return Ok(());
@@ -176,8 +177,8 @@ impl Disk {
     /// Makes what a statement asks for.
     pub fn make(&mut self, alloc: Global, statement: &Statement) -> Result<(), NoMemory>
         ensures size { OnOk result (self.new.size ≡ size_next self.old.size statement.now) }
-        ensures blocks { OnOk result ((block : ℕ) → bytes_at self.new.blocks block
-            ≡ unwrap_or (laid_on self.old.size block statement.now) (bytes_at self.old.blocks block)) }
+        ensures blocks { OnOk result ((block : ℕ) → stored_block self.new.blocks block
+            ≡ unwrap_or (laid_on self.old.size block statement.now) (stored_block self.old.blocks block)) }
     {
         match statement {
             Statement::Create {

@@ -1,5 +1,5 @@
 ghost use Rattle.std.specs.Prelude.{◌≡◌, IfOk};
-ghost use Rattle.sheep.specs.Mode.{asked};
+ghost use Rattle.sheep.specs.Mode.{mode_asked_for};
 
 use object_id::NoMemory;
 use std::alloc::Global;
@@ -14,7 +14,7 @@ pub enum Mode {
 /// The mode that the words of the command line ask for, without the program's name; `None` exactly where they
 /// aren't accepted. Accepted is the one word `run`.
 pub fn mode_of(_alloc: Global, words: &[String]) -> Result<Option<Mode>, NoMemory>
-    ensures { IfOk result (λ mode. mode ≡ asked words.now) }
+    ensures { IfOk result (λ mode. mode ≡ mode_asked_for words.now) }
 {
     Ok(match words {
         [word] if word.as_bytes() == b"run".as_slice() => Some(Mode::Run {

@@ -1,7 +1,7 @@
 ghost use Rattle.std.specs.Prelude.{◌≡◌, ◌+◌, ◌++◌, ◌<◌, ◌^◌, [], codes, decimal, IfOk, OnOk, if◌then◌else◌};
 ghost use Rattle.cluster_script.specs.Statements.{is_request};
-ghost use Rattle.sheep.specs.Report.{reply_on, text_of};
-ghost use Rattle.sheep.specs.Stored.{bytes_at};
+ghost use Rattle.sheep.specs.Report.{reply_on, printed_text};
+ghost use Rattle.sheep.specs.Stored.{stored_block};
 
 use crate::disk::Disk;
 use crate::runs::push_decimal;
@@ -43,7 +43,7 @@ fn tell(
     requires { lines.old.count + 1 < 2 ^ 64 }
     ensures count { OnOk result (lines.new.count ≡ lines.old.count + (if is_request statement.now then 1 else 0)) }
     ensures text { OnOk result (lines.new.text.items ≡ lines.old.text.items ++ (if is_request statement.now
-        then decimal (lines.old.count + 1) ++ reply_on disk.now.size (bytes_at disk.now.blocks) statement.now ++ codes "\n" else [])) }
+        then decimal (lines.old.count + 1) ++ reply_on disk.now.size (stored_block disk.now.blocks) statement.now ++ codes "\n" else [])) }
 {
     if !is_request(statement) {
         return Ok(());
@@ -58,7 +58,7 @@ fn tell(
 
 /// What the program prints for a script: a line for each request.
 pub fn report(alloc: Global, script: &Script) -> Result<Bytes, NoMemory>
-    ensures { IfOk result (λ text. text ≡ text_of script.now) }
+    ensures { IfOk result (λ text. text ≡ printed_text script.now) }
 {
     let mut disk = Disk::new(alloc);
     let mut lines = Lines {

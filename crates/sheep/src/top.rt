@@ -1,10 +1,10 @@
 ghost use Rattle.std.specs.Prelude.{◌≡◌, ◌⊎◌, ℕ, ◌+◌, ◌<◌, ◌≤◌, List, [], length, take, Some, None, IsSome, IsOk};
-ghost use Rattle.cluster_script.specs.OneDiskLines.{script_in};
+ghost use Rattle.cluster_script.specs.OneDiskLines.{one_disk_script_in};
 ghost use Rattle.sheep_base.specs.Fault.{Rose};
 ghost use Rattle.sheep_base.specs.Sink.{Gains};
 ghost use Rattle.sheep.specs.declared.answer.Answer.{Answer as Ended};
 ghost use Rattle.sheep.specs.declared.answer.TheConstants.{INPUT_BYTES_MAX};
-ghost use Rattle.sheep.specs.Mode.{asked};
+ghost use Rattle.sheep.specs.Mode.{mode_asked_for};
 ghost use Rattle.sheep.specs.Answer.{AnswersCall, RunsScript, NamesBadLine, ReadsTooMuch, TakesAtMost, bad_words_text, too_long_text};
 
 use crate::answer::{Answer, Stop, answer_call};
@@ -23,22 +23,22 @@ pub fn sheep<S: Source, K: Sink>(
 ) -> Status
     // The input is a script, and the sink was given its text. The replies are one legal history: each block read
     // is its last acknowledged write or a later unacknowledged one, and refused requests change nothing.
-    ensures done { result ≡ Status.Done → IsSome (asked words.now)
+    ensures done { result ≡ Status.Done → IsSome (mode_asked_for words.now)
         × RunsScript (Gains K.stops (K.given sink.old) (K.given sink.new)) (S.left source.old) (S.left source.new) }
 
-    ensures bad_words { result ≡ Status.BadWords → (asked words.now ≡ None) × (S.left source.new ≡ S.left source.old)
+    ensures bad_words { result ≡ Status.BadWords → (mode_asked_for words.now ≡ None) × (S.left source.new ≡ S.left source.old)
         × Gains K.stops (K.given sink.old) (K.given sink.new) bad_words_text }
-    ensures bad_script { result ≡ Status.BadScript → IsSome (asked words.now)
+    ensures bad_script { result ≡ Status.BadScript → IsSome (mode_asked_for words.now)
         × NamesBadLine (Gains K.stops (K.given sink.old) (K.given sink.new)) (S.left source.old) (S.left source.new) }
-    ensures too_long { result ≡ Status.TooLong → IsSome (asked words.now)
+    ensures too_long { result ≡ Status.TooLong → IsSome (mode_asked_for words.now)
         × ReadsTooMuch (S.left source.old) (S.left source.new)
         × Gains K.stops (K.given sink.old) (K.given sink.new) too_long_text }
 
-    ensures read_fault { result ≡ Status.ReadFault → IsSome (asked words.now)
+    ensures read_fault { result ≡ Status.ReadFault → IsSome (mode_asked_for words.now)
         × Rose (S.faults source.old) (S.faults source.new) × (sink.new ≡ sink.old) }
     // The sink was given a part of what the answer is without this fault.
     ensures write_fault { result ≡ Status.WriteFault → Rose (K.faults sink.old) (K.faults sink.new)
-        × ((answer : Ended) × (n : ℕ) × AnswersCall (asked words.now) (S.left source.old) (S.left source.new) answer
+        × ((answer : Ended) × (n : ℕ) × AnswersCall (mode_asked_for words.now) (S.left source.old) (S.left source.new) answer
         × (n < length answer.text) × Gains K.stops (K.given sink.old) (K.given sink.new) (take n answer.text)) }
     ensures no_memory { result ≡ Status.NoMemory → sink.new ≡ sink.old }
 
@@ -48,8 +48,8 @@ pub fn sheep<S: Source, K: Sink>(
     ensures sink_count { K.faults sink.old ≤ K.faults sink.new }
 
     // A script within the limit is run, unless memory runs out or a count rises.
-    ensures complete { IsSome (asked words.now) → (input : List ℕ) → S.left source.old ≡ Some input
-        → length input ≤ INPUT_BYTES_MAX → IsOk (script_in input)
+    ensures complete { IsSome (mode_asked_for words.now) → (input : List ℕ) → S.left source.old ≡ Some input
+        → length input ≤ INPUT_BYTES_MAX → IsOk (one_disk_script_in input)
         → ¬ Rose (S.faults source.old) (S.faults source.new) → ¬ Rose (K.faults sink.old) (K.faults sink.new)
         → (result ≡ Status.Done) ⊎ (result ≡ Status.NoMemory) }
 {

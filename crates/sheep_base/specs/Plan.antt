@@ -17,9 +17,9 @@ abbrev pub IsDue : Plan → Type 0
 IsDue plan = Contains plan.fails plan.calls
 
 -- after a call
-abbrev pub called : Plan → Plan
-called plan = record plan { calls = next_count plan.calls }
+abbrev pub plan_after_call : Plan → Plan
+plan_after_call plan = record plan { calls = next_count plan.calls }
 
 -- after a fault
-abbrev pub faulted : Plan → Plan
-faulted plan = record plan { faults = next_count plan.faults }
+abbrev pub plan_after_fault : Plan → Plan
+plan_after_fault plan = record plan { faults = next_count plan.faults }

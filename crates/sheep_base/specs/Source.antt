@@ -5,8 +5,8 @@ use Rattle.sheep_base.specs.declared.transfer.ReadStop.{ReadStop}
 use Rattle.sheep_base.specs.declared.transfer.ReadStop.TheVariants.{Failed, TooLong, NoMemory}
 
 -- n bytes were taken: where they are told, they were the first ones
-abbrev pub Loses : Option (List ℕ) → Option (List ℕ) → ℕ → Type 0
-Loses old new n = (bs : List ℕ) × Consumes old new bs × (length bs ≡ n)
+abbrev pub LosesBytes : Option (List ℕ) → Option (List ℕ) → ℕ → Type 0
+LosesBytes old new n = (bs : List ℕ) × Consumes old new bs × (length bs ≡ n)
 
 -- how many bytes may have been taken where a reading stopped: one more than the limit, or no more than it
 abbrev pub StopsAfter : ℕ → ReadStop → ℕ → Type 0

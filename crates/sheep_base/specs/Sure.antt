@@ -8,5 +8,5 @@ pub record Keeping : Type 0 where
   pub more : ℕ
 
 -- what it was given, told as long as it kept all
-abbrev pub told : Keeping → Option (List ℕ)
-told sink = if sink.more == 0 then Some sink.kept else None
+abbrev pub told_bytes : Keeping → Option (List ℕ)
+told_bytes sink = if sink.more == 0 then Some sink.kept else None

@@ -22,9 +22,9 @@ impl<R: Read> HostSource<R> {
 }
 
 impl<R: Read> Source for HostSource<R> {
-    ghost use Rattle.sheep_base.specs.Host.{reader_of, read_faults};
+    ghost use Rattle.sheep_base.specs.Host.{reader_of_source, read_faults};
 
-    ghost left = { λ s. R.remaining (reader_of s) };
+    ghost left = { λ s. R.remaining (reader_of_source s) };
 
     ghost faults = { λ s. read_faults s };
 
@@ -55,9 +55,9 @@ impl<W: Write> HostSink<W> {
 
 impl<W: Write> Sink for HostSink<W> {
     ghost use Rattle.std.specs.Prelude.{false};
-    ghost use Rattle.sheep_base.specs.Host.{writer_of, write_faults};
+    ghost use Rattle.sheep_base.specs.Host.{writer_of_sink, write_faults};
 
-    ghost given = { λ s. W.contents (writer_of s) };
+    ghost given = { λ s. W.contents (writer_of_sink s) };
 
     ghost stops = { false };
 

@@ -3,7 +3,7 @@ ghost use Rattle.std.specs.Io.{WritesAtMost};
 ghost use Rattle.sheep_base.specs.Fault.{Rose};
 ghost use Rattle.sheep_base.specs.Sink.{PutGains};
 ghost use Rattle.sheep_base.specs.Memory.{Intake};
-ghost use Rattle.sheep_base.specs.Plan.{IsDue, called, faulted, opening_plan};
+ghost use Rattle.sheep_base.specs.Plan.{IsDue, plan_after_call, plan_after_fault, opening_plan};
 
 use crate::fault::Fault;
 use crate::plan::FaultPlan;
@@ -83,9 +83,11 @@ impl Sink for MemSink {
 
         // It fails at the calls that are listed, and where what it would take is more than it has room for:
         // none of that is taken then.
-        ensures fails { IsErr result ↔ (IsDue self.old.plan ⊎ (self.old.room < length self.old.given + min self.old.piece (length piece.now))) }
+        ensures fails { IsErr result ↔ (IsDue self.old.plan
+            ⊎ (self.old.room < length self.old.given + min self.old.piece (length piece.now))) }
         ensures taken { IfOk result (λ n. n ≡ min self.old.piece (length piece.now)) }
-        ensures plan { MatchResult result (λ _. self.new.plan ≡ called self.old.plan) (λ _. self.new.plan ≡ faulted (called self.old.plan)) }
+        ensures plan { MatchResult result (λ _. self.new.plan ≡ plan_after_call self.old.plan) (λ _. self.new.plan
+            ≡ plan_after_fault (plan_after_call self.old.plan)) }
         ensures settings { (self.new.room ≡ self.old.room) × (self.new.piece ≡ self.old.piece) }
     {
         self.plan.call()?;

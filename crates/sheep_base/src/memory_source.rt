@@ -3,7 +3,7 @@ ghost use Rattle.std.specs.Io.{ReadsAtMost};
 ghost use Rattle.std.specs.Io.KnownBytes.{ReadConsumes};
 ghost use Rattle.sheep_base.specs.Fault.{Rose};
 ghost use Rattle.sheep_base.specs.Memory.{Supply};
-ghost use Rattle.sheep_base.specs.Plan.{IsDue, called, faulted, opening_plan};
+ghost use Rattle.sheep_base.specs.Plan.{IsDue, plan_after_call, plan_after_fault, opening_plan};
 
 use crate::copying::fill;
 use crate::fault::Fault;
@@ -62,7 +62,8 @@ impl Source for MemSource {
         // It fails at the calls that are listed, and else gives as much as it may.
         ensures fails { IsErr result ↔ IsDue self.old.plan }
         ensures taken { IfOk result (λ n. n ≡ min self.old.piece (min (length buf.old) (length self.old.left))) }
-        ensures plan { MatchResult result (λ _. self.new.plan ≡ called self.old.plan) (λ _. self.new.plan ≡ faulted (called self.old.plan)) }
+        ensures plan { MatchResult result (λ _. self.new.plan ≡ plan_after_call self.old.plan) (λ _. self.new.plan
+            ≡ plan_after_fault (plan_after_call self.old.plan)) }
         ensures piece { self.new.piece ≡ self.old.piece }
     {
         self.plan.call()?;

@@ -1,5 +1,5 @@
 ghost use Rattle.std.specs.Prelude.{◌≡◌, ◌↔◌, ℕ, ◌≤◌, IsTrue, IsErr, MatchResult, Contains};
-ghost use Rattle.sheep_base.specs.Plan.{Plan, opening_plan, IsDue, called, faulted};
+ghost use Rattle.sheep_base.specs.Plan.{Plan, opening_plan, IsDue, plan_after_call, plan_after_fault};
 
 use crate::fault::{Fault, raised};
 use std::marker::Model;
@@ -32,7 +32,8 @@ impl FaultPlan {
     /// Counts a call, and its fault where one is planned.
     pub(crate) fn call(&mut self) -> Result<(), Fault>
         ensures due { IsErr result ↔ IsDue self.old }
-        ensures after { MatchResult result (λ _. self.new ≡ called self.old) (λ _. self.new ≡ faulted (called self.old)) }
+        ensures after { MatchResult result (λ _. self.new ≡ plan_after_call self.old) (λ _. self.new
+            ≡ plan_after_fault (plan_after_call self.old)) }
         ensures count { self.old.faults ≤ self.new.faults }
     {
         let due = is_listed(self.fails.as_slice(), self.calls);
@@ -42,7 +43,7 @@ impl FaultPlan {
 
     /// Counts a fault that was not planned.
     pub(crate) fn fail(&mut self) -> Fault
-        ensures after { self.new ≡ faulted self.old }
+        ensures after { self.new ≡ plan_after_fault self.old }
         ensures count { self.old.faults ≤ self.new.faults }
     {
         raised(&mut self.faults)

@@ -2,7 +2,7 @@ ghost use Rattle.std.specs.Prelude.{◌≡◌, ℕ, ◌+◌, ◌-◌, ◌^◌, �
 ghost use Rattle.std.specs.Io.{WritesAtMost};
 ghost use Rattle.sheep_base.specs.Fault.{Rose};
 ghost use Rattle.sheep_base.specs.Sink.{PutGains};
-ghost use Rattle.sheep_base.specs.Sure.{Keeping, told};
+ghost use Rattle.sheep_base.specs.Sure.{Keeping, told_bytes};
 
 use crate::copying::fill;
 use crate::fault::Fault;
@@ -95,7 +95,7 @@ impl SureSink {
 }
 
 impl Sink for SureSink {
-    ghost given = { told };
+    ghost given = { told_bytes };
 
     ghost stops = { true };
 
@@ -105,7 +105,7 @@ impl Sink for SureSink {
         // As any sink.
         ensures bound { WritesAtMost result piece.now }
         ensures some { IfOk result (λ n. 0 < length piece.now → 0 < n) }
-        ensures bytes { PutGains true (told self.old) (told self.new) result piece.now }
+        ensures bytes { PutGains true (told_bytes self.old) (told_bytes self.new) result piece.now }
         ensures fault { OnErr result (Rose 0 0) }
 
         // It takes all, keeps what it has room for, and counts the rest.

@@ -2,7 +2,7 @@ ghost use Rattle.std.specs.Prelude.{◌≡◌, ℕ, ◌<◌, ◌≤◌, List, []
 ghost use Rattle.std.specs.Io.KnownBytes.{Consumes, IsAtEnd};
 ghost use Rattle.sheep_base.specs.Fault.{Rose};
 ghost use Rattle.sheep_base.specs.Sink.{Gains};
-ghost use Rattle.sheep_base.specs.Source.{Loses, StopsAfter};
+ghost use Rattle.sheep_base.specs.Source.{LosesBytes, StopsAfter};
 
 use crate::fault::Fault;
 use crate::sink::Sink;
@@ -50,7 +50,7 @@ pub fn read_all<S: Source>(alloc: Global, source: &mut S, limit: usize) -> Resul
     ensures within { IfOk result (λ text. length text ≤ limit) }
 
     // More than the limit is taken exactly at `TooLong`, and then one byte more.
-    ensures stopped { IfErr result (λ stop. (n : ℕ) × Loses (S.left source.old) (S.left source.new) n × StopsAfter limit stop n) }
+    ensures stopped { IfErr result (λ stop. (n : ℕ) × LosesBytes (S.left source.old) (S.left source.new) n × StopsAfter limit stop n) }
     ensures too_long { IsErrOf result ReadStop.TooLong → IfSome (S.left source.old) (λ xs. limit < length xs) }
 
     // It doesn't fail by itself.

@@ -4,21 +4,21 @@ use Rattle.std.proofs.lemmas.Bool.{ltb-false}
 use Rattle.object_id.specs.declared.node.NodeId.{NodeId}
 use Rattle.object_id.specs.declared.entry.Entry.{Entry}
 use Rattle.object_id.specs.declared.entry.Entry.TheVariants.{Format, Join, Leave, Reweight, Recovered, Reserve, Publish, Clone, Snapshot, Delete, Lock, Unlock}
-use Rattle.epoch_log.specs.Epochs.{begins, epoch_of, settled_of}
+use Rattle.epoch_log.specs.Epochs.{begins_epoch, epoch_of, settled_of}
 use Rattle.epoch_log.specs.Appending.{is_format}
 use Rattle.epoch_log.proofs.EpochLemmas.{epoch_of-append, members_in-append, settled_of-begun, settled_of-append}
-use Rattle.vnode_table.specs.Epochs.{Entered}
+use Rattle.vnode_table.specs.Epochs.{EpochMembers}
 use Rattle.peer_service.specs.Epochs as peers
-use Rattle.peer_service.specs.Epochs.{settled_to}
-use Rattle.peer_service.specs.Reading.{without_objects, read_entry}
+use Rattle.peer_service.specs.Epochs.{peer_settled_to}
+use Rattle.peer_service.specs.LogReading.{without_objects, read_entry}
 use Rattle.peer_service.specs.Back.{closed_at_end, come_back}
 use Rattle.sheep_node.specs.declared.input.Input.{Input}
 use Rattle.sheep_node.specs.declared.input.Input.TheVariants as inputs
-use Rattle.sheep_node.specs.State.{Node, opening}
-use Rattle.sheep_node.specs.Reading.{is_member, entered_in, with_peer, placed, peer_entered, recovery_begun_if, epoch_entered, entered_by, entry_read, epochs_up_to, back}
-use Rattle.sheep_node.specs.Step.{stepped}
+use Rattle.sheep_node.specs.State.{Node, initial_node}
+use Rattle.sheep_node.specs.LogReading.{is_epoch_member, entered_in, with_peer, with_epoch_members, peer_entered, recovery_begun_if, epoch_entered, entered_by, entry_read, epochs_up_to, on_back}
+use Rattle.sheep_node.specs.Step.{node_step}
 use Rattle.sheep_node.specs.May.{MayRead, Meets, May}
-use Rattle.sheep_node.specs.Told.{epochs_of, FollowsLog, IsByTheLog}
+use Rattle.sheep_node.specs.StepFacts.{epochs_of, FollowsLog, IsByTheLog}
 use Rattle.sheep_node.proofs.Sound.{Place}
 use Rattle.sheep_node.proofs.SoundSteps.{after, stepped_place}
 
@@ -34,16 +34,16 @@ epochs_same entries entry (suc most) some begun =
     (members_in-append entries (entry ∷ []) (suc most) some begun)
     ∙ ap (λ epochs. entered_in entries (suc most) ∷ epochs) (epochs_same entries entry most some below)
 
-epoch_more : (entries : List Entry) (entry : Entry) → begins entry ≡ true → epoch_of (entries ++ entry ∷ []) ≡ suc (epoch_of entries)
+epoch_more : (entries : List Entry) (entry : Entry) → begins_epoch entry ≡ true → epoch_of (entries ++ entry ∷ []) ≡ suc (epoch_of entries)
 epoch_more entries entry e =
-    let one : length (filter begins (entry ∷ [])) ≡ 1 = ap (λ b. length (cond b (entry ∷ []) [])) e in
-    let all : epoch_of (entries ++ entry ∷ []) ≡ epoch_of entries + length (filter begins (entry ∷ [])) = epoch_of-append entries (entry ∷ []) in
+    let one : length (filter begins_epoch (entry ∷ [])) ≡ 1 = ap (λ b. length (cond b (entry ∷ []) [])) e in
+    let all : epoch_of (entries ++ entry ∷ []) ≡ epoch_of entries + length (filter begins_epoch (entry ∷ [])) = epoch_of-append entries (entry ∷ []) in
     omega arith
 
-epoch_kept : (entries : List Entry) (entry : Entry) → begins entry ≡ false → epoch_of (entries ++ entry ∷ []) ≡ epoch_of entries
+epoch_kept : (entries : List Entry) (entry : Entry) → begins_epoch entry ≡ false → epoch_of (entries ++ entry ∷ []) ≡ epoch_of entries
 epoch_kept entries entry e =
-    let none : length (filter begins (entry ∷ [])) ≡ 0 = ap (λ b. length (cond b (entry ∷ []) [])) e in
-    let all : epoch_of (entries ++ entry ∷ []) ≡ epoch_of entries + length (filter begins (entry ∷ [])) = epoch_of-append entries (entry ∷ []) in
+    let none : length (filter begins_epoch (entry ∷ [])) ≡ 0 = ap (λ b. length (cond b (entry ∷ []) [])) e in
+    let all : epoch_of (entries ++ entry ∷ []) ≡ epoch_of entries + length (filter begins_epoch (entry ∷ [])) = epoch_of-append entries (entry ∷ []) in
     omega arith
 
 -- the epochs of a log that isn't empty
@@ -55,7 +55,7 @@ some_more : (entries : List Entry) (entry : Entry) → 1 ≤ length (entries ++ 
 some_more [] entry = omega arith
 some_more (first ∷ later) entry = omega arith
 
-epochs_more : (entries : List Entry) (entry : Entry) → 1 ≤ length entries → begins entry ≡ true
+epochs_more : (entries : List Entry) (entry : Entry) → 1 ≤ length entries → begins_epoch entry ≡ true
     → epochs_of (entries ++ entry ∷ []) ≡ entered_in (entries ++ entry ∷ []) (epoch_of (entries ++ entry ∷ [])) ∷ epochs_of entries
 unfolding epochs_up_to
 epochs_more entries entry some e =
@@ -68,7 +68,7 @@ epochs_more entries entry some e =
     ∙ ap (λ (epoch : ℕ). entered_in all epoch ∷ epochs_up_to entries (epoch_of entries)) (sym more)
     ∙ ap (λ epochs. entered_in all (epoch_of all) ∷ epochs) (sym (epochs_there entries some))
 
-epochs_kept : (entries : List Entry) (entry : Entry) → 1 ≤ length entries → begins entry ≡ false
+epochs_kept : (entries : List Entry) (entry : Entry) → 1 ≤ length entries → begins_epoch entry ≡ false
     → epochs_of (entries ++ entry ∷ []) ≡ epochs_of entries
 epochs_kept entries entry some e =
     let all : List Entry = entries ++ entry ∷ [] in
@@ -81,7 +81,7 @@ epochs_kept entries entry some e =
 -- an entry is read
 
 -- epoch and members, once an entry was read
-record Entering (entries : List Entry) (epoch : ℕ) (epochs : List Entered) (read : List Entry) (settled before : ℕ) : Type 0 where
+record Entering (entries : List Entry) (epoch : ℕ) (epochs : List EpochMembers) (read : List Entry) (settled before : ℕ) : Type 0 where
   epoch_so : epoch ≡ epoch_of entries
   epochs_so : epochs ≡ epochs_of entries
   read_so : read ≡ entries
@@ -99,15 +99,15 @@ recovery_enters entries before false node h = h
 abbrev reading : Entry → Node → Node
 reading entry node = with_peer (read_entry entry node.peer) node
 
-epoch_enters : (entry : Entry) (node : Node) → 1 ≤ length node.peer.entries → begins entry ≡ true → IsByTheLog node
+epoch_enters : (entry : Entry) (node : Node) → 1 ≤ length node.peer.entries → begins_epoch entry ≡ true → IsByTheLog node
     → Enters (node.peer.entries ++ entry ∷ []) node.peer.settled (epoch_entered (reading entry node))
-unfolding read_entry without_objects peers.entered
+unfolding read_entry without_objects peers.peer_in_next_epoch
 epoch_enters entry node some e h =
     let all : List Entry = node.peer.entries ++ entry ∷ [] in
-    let entered : Node = peer_entered (placed (epoch_of all) (reading entry node)) in
+    let entered : Node = peer_entered (with_epoch_members (epoch_of all) (reading entry node)) in
     let more : epoch_of all ≡ suc (epoch_of node.peer.entries) = epoch_more node.peer.entries entry e in
     let before : node.peer.epoch ≡ epoch_of node.peer.entries = h.epoch_so in
-    recovery_enters all node.peer.settled (is_member entered) entered (record {
+    recovery_enters all node.peer.settled (is_epoch_member entered) entered (record {
       epoch_so = omega arith;
       epochs_so = ap (λ epochs. entered_in all (epoch_of all) ∷ epochs) h.epochs_so ∙ sym (epochs_more node.peer.entries entry some e);
       read_so = refl;
@@ -119,7 +119,7 @@ later_one : (entries : List Entry) (entry : Entry) → MayRead entries entry →
 later_one [] entry may some = absurd (omega arith)
 later_one (first ∷ later) entry may some = may.later
 
-begins_later : (entries : List Entry) (entry : Entry) → MayRead entries entry → begins entry ≡ true → 1 ≤ length entries
+begins_later : (entries : List Entry) (entry : Entry) → MayRead entries entry → begins_epoch entry ≡ true → 1 ≤ length entries
 begins_later [] (Format members) may e = absurd (cc (e))
 begins_later [] (Join node zone vnodes) may e = absurd may
 begins_later [] (Leave node) may e = absurd may
@@ -154,7 +154,7 @@ some_before [] (Unlock by session vid) may e = absurd may
 some_before (first ∷ later) entry may e = omega arith
 
 -- the first entry: nothing was read before, and epoch 1 has its members
-first_epochs : (entries : List Entry) (entry : Entry) (epochs : List Entered) → entries ≡ [] → begins entry ≡ false → epochs ≡ epochs_of entries
+first_epochs : (entries : List Entry) (entry : Entry) (epochs : List EpochMembers) → entries ≡ [] → begins_epoch entry ≡ false → epochs ≡ epochs_of entries
     → entered_in (entries ++ entry ∷ []) 1 ∷ epochs ≡ epochs_of (entries ++ entry ∷ [])
 unfolding epochs_up_to
 first_epochs [] entry epochs none e h =
@@ -162,9 +162,9 @@ first_epochs [] entry epochs none e h =
     ∙ sym (ap (λ b. epochs_up_to (entry ∷ []) (length (cond b (entry ∷ []) []) + 1)) e)
 first_epochs (first ∷ later) entry epochs none e h = absurd (cc (none))
 
-other_enters : (entry : Entry) (node : Node) (b : Bool) → is_format entry ≡ b → MayRead node.peer.entries entry → begins entry ≡ false
+other_enters : (entry : Entry) (node : Node) (b : Bool) → is_format entry ≡ b → MayRead node.peer.entries entry → begins_epoch entry ≡ false
     → IsByTheLog node
-    → Enters (node.peer.entries ++ entry ∷ []) node.peer.settled (cond b (placed 1 (reading entry node)) (reading entry node))
+    → Enters (node.peer.entries ++ entry ∷ []) node.peer.settled (cond b (with_epoch_members 1 (reading entry node)) (reading entry node))
 unfolding read_entry without_objects
 other_enters entry node true format may e h = record {
   epoch_so = h.epoch_so ∙ sym (epoch_kept node.peer.entries entry e);
@@ -179,9 +179,9 @@ other_enters entry node false later may e h = record {
   settled_so = refl;
 }
 
-entered_enters : (entry : Entry) (node : Node) (b : Bool) → begins entry ≡ b → MayRead node.peer.entries entry → IsByTheLog node
+entered_enters : (entry : Entry) (node : Node) (b : Bool) → begins_epoch entry ≡ b → MayRead node.peer.entries entry → IsByTheLog node
     → Enters (node.peer.entries ++ entry ∷ []) node.peer.settled
-    (cond b (epoch_entered (reading entry node)) (cond (is_format entry) (placed 1 (reading entry node)) (reading entry node)))
+    (cond b (epoch_entered (reading entry node)) (cond (is_format entry) (with_epoch_members 1 (reading entry node)) (reading entry node)))
 entered_enters entry node true e may h =
     epoch_enters entry node (begins_later node.peer.entries entry may e) e h
 entered_enters entry node false e may h = other_enters entry node (is_format entry) refl may e h
@@ -196,8 +196,8 @@ settled_grows (first ∷ later) entry = settled_of-append (first ∷ later) (ent
 
 settled_follows : (entries : List Entry) (settled : ℕ) (node : Node) (b : Bool) → nat_lt node.peer.settled settled ≡ b
     → settled ≡ settled_of entries → node.peer.settled ≤ settled → Enters entries node.peer.settled node
-    → IsByTheLog (cond b (with_peer (settled_to settled node.peer) node) node)
-unfolding settled_to
+    → IsByTheLog (cond b (with_peer (peer_settled_to settled node.peer) node) node)
+unfolding peer_settled_to
 settled_follows entries settled node true e is_so grows h = record {
   epoch_so = h.epoch_so ∙ ap epoch_of (sym h.read_so);
   settled_so = is_so ∙ ap settled_of (sym h.read_so);
@@ -217,7 +217,7 @@ unfolding entry_read read_entry without_objects
 reads_follow entry node may h =
     let all : List Entry = node.peer.entries ++ entry ∷ [] in
     let entered : Node = entered_by entry (reading entry node) in
-    let enters : Enters all node.peer.settled entered = entered_enters entry node (begins entry) refl may h in
+    let enters : Enters all node.peer.settled entered = entered_enters entry node (begins_epoch entry) refl may h in
     let grows : entered.peer.settled ≤ settled_of all =
     subst (λ (k : ℕ). k ≤ settled_of all) (sym (enters.settled_so ∙ h.settled_so)) (settled_grows node.peer.entries entry) in
     settled_follows all (settled_of all) entered (nat_lt entered.peer.settled (settled_of all)) refl refl grows
@@ -225,8 +225,8 @@ reads_follow entry node may h =
 
 -- coming back
 
-back_follows : (entries : List Entry) (node : Node) → 1 < epoch_of entries → IsByTheLog (back entries node)
-unfolding back come_back closed_at_end settled_to without_objects
+back_follows : (entries : List Entry) (node : Node) → 1 < epoch_of entries → IsByTheLog (on_back entries node)
+unfolding on_back come_back closed_at_end peer_settled_to without_objects
 back_follows entries node above =
     record { epoch_so = refl; settled_so = refl; epochs_so = sym (epochs_there entries (some_of entries above)) }
   where
@@ -248,11 +248,11 @@ after_follows inputs.RetryTick node may h = h
 after_follows (inputs.Back entries) node may h = back_follows entries node may.above_1
 
 -- a node stays where the entries that it has read have it
-pub stepped_follows : (input : Input) (node : Node) → May input node → IsByTheLog node → IsByTheLog (stepped input node).node
+pub stepped_follows : (input : Input) (node : Node) → May input node → IsByTheLog node → IsByTheLog (node_step input node).node
 stepped_follows input node may h =
     subst (λ (place : Place). FollowsLog place.epoch place.settled place.epochs place.entries) (sym (stepped_place input node))
     (after_follows input node may.condition h)
 
 -- so it opens
-pub opening_follows : (me : NodeId) (tries : ℕ) → IsByTheLog (opening me tries)
+pub opening_follows : (me : NodeId) (tries : ℕ) → IsByTheLog (initial_node me tries)
 opening_follows me tries = record { epoch_so = refl; settled_so = refl; epochs_so = refl }

@@ -10,14 +10,14 @@ use Rattle.object_id.specs.declared.entry.Origin.TheVariants.{Fresh, SnapshotOf,
 use Rattle.object_id.specs.declared.entry.Entry.{Entry}
 use Rattle.object_id.specs.declared.entry.Entry.TheVariants.{Format, Join, Leave, Reweight, Recovered, Reserve, Publish, Clone, Snapshot, Delete, Lock, Unlock}
 use Rattle.peer_proto.specs.declared.guest.VdiAsk.{VdiAsk}
-use Rattle.vdi_directory.specs.Names.{is_same}
+use Rattle.vdi_directory.specs.Names.{is_same_bytes}
 use Rattle.vdi_ops.specs.Op.{Op, entry_wanted}
 use Rattle.sheep_node.specs.State.{Commanding}
 use Rattle.sheep_node.specs.Same.{is_same_policy, is_same_spec, is_same_tag, is_same_origin, is_same_entry, is_of_command, is_wanted, waits_for_entry}
 
 -- found the same, so the same
 
-text_is : (a b : List ℕ) → is_same a b ≡ true → a ≡ b
+text_is : (a b : List ℕ) → is_same_bytes a b ≡ true → a ≡ b
 text_is a b e = same_text a b (sym e)
 
 policy_is : (one other : Policy) → is_same_policy one other ≡ true → one ≡ other
@@ -48,15 +48,15 @@ origin_is : (one other : Origin) → is_same_origin one other ≡ true → one �
 origin_is (Fresh spec) (Fresh other) e = ap (λ (s : VdiSpec). Fresh s) (spec_is spec other e)
 origin_is (SnapshotOf tag) (SnapshotOf other) e = ap (λ (t : List ℕ). SnapshotOf t) (text_is tag other e)
 origin_is (CloneOf base tag) (CloneOf other label) e =
-    let parts = and_parts (is_same base other) (is_same tag label) e in
+    let parts = and_parts (is_same_bytes base other) (is_same_bytes tag label) e in
     λ i. CloneOf (text_is base other parts.0 i) (text_is tag label parts.1 i)
 origin_is _ _ e = absurd (cc (e))
 
 entry_is : (one other : Entry) → is_same_entry one other ≡ true → one ≡ other
 entry_is (Reserve by session name origin) (Reserve node number text source) e =
-    let first = and_parts (by.0 == node.0) (session == number && (is_same name text && is_same_origin origin source)) e in
-    let second = and_parts (session == number) (is_same name text && is_same_origin origin source) first.1 in
-    let third = and_parts (is_same name text) (is_same_origin origin source) second.1 in
+    let first = and_parts (by.0 == node.0) (session == number && (is_same_bytes name text && is_same_origin origin source)) e in
+    let second = and_parts (session == number) (is_same_bytes name text && is_same_origin origin source) first.1 in
+    let third = and_parts (is_same_bytes name text) (is_same_origin origin source) second.1 in
     λ i. Reserve
     (record { 0 = eqb-true by.0 node.0 first.0 i })
     (eqb-true session number second.0 i)
@@ -76,18 +76,18 @@ entry_is (Snapshot by old vid) (Snapshot node before id) e =
     (record { 0 = eqb-true old.0 before.0 second.0 i })
     (record { 0 = eqb-true vid.0 id.0 second.1 i })
 entry_is (Delete by session name tag) (Delete node number text label) e =
-    let first = and_parts (by.0 == node.0) (session == number && (is_same name text && is_same_tag tag label)) e in
-    let second = and_parts (session == number) (is_same name text && is_same_tag tag label) first.1 in
-    let third = and_parts (is_same name text) (is_same_tag tag label) second.1 in
+    let first = and_parts (by.0 == node.0) (session == number && (is_same_bytes name text && is_same_tag tag label)) e in
+    let second = and_parts (session == number) (is_same_bytes name text && is_same_tag tag label) first.1 in
+    let third = and_parts (is_same_bytes name text) (is_same_tag tag label) second.1 in
     λ i. Delete
     (record { 0 = eqb-true by.0 node.0 first.0 i })
     (eqb-true session number second.0 i)
     (text_is name text third.0 i)
     (tag_is tag label third.1 i)
 entry_is (Lock by session name tag) (Lock node number text label) e =
-    let first = and_parts (by.0 == node.0) (session == number && (is_same name text && is_same_tag tag label)) e in
-    let second = and_parts (session == number) (is_same name text && is_same_tag tag label) first.1 in
-    let third = and_parts (is_same name text) (is_same_tag tag label) second.1 in
+    let first = and_parts (by.0 == node.0) (session == number && (is_same_bytes name text && is_same_tag tag label)) e in
+    let second = and_parts (session == number) (is_same_bytes name text && is_same_tag tag label) first.1 in
+    let third = and_parts (is_same_bytes name text) (is_same_tag tag label) second.1 in
     λ i. Lock
     (record { 0 = eqb-true by.0 node.0 first.0 i })
     (eqb-true session number second.0 i)
@@ -117,7 +117,7 @@ both a b ea eb = ap (λ x. x && b) ea ∙ eb
 number_same : (n : ℕ) → (n == n) ≡ true
 number_same n = eq-eqb n n refl
 
-text_same : (text : List ℕ) → is_same text text ≡ true
+text_same : (text : List ℕ) → is_same_bytes text text ≡ true
 text_same [] = refl
 text_same (n ∷ text) = both (nat_eq n n) (pointwise nat_eq text text) (number_same n) (text_same text)
 
@@ -134,7 +134,7 @@ origin_same (Fresh spec) =
     both (spec.size == spec.size) (is_same_policy spec.policy spec.policy && spec.shift == spec.shift) (number_same spec.size)
     (both (is_same_policy spec.policy spec.policy) (spec.shift == spec.shift) (policy_same spec.policy) (number_same spec.shift))
 origin_same (SnapshotOf tag) = text_same tag
-origin_same (CloneOf base tag) = both (is_same base base) (is_same tag tag) (text_same base) (text_same tag)
+origin_same (CloneOf base tag) = both (is_same_bytes base base) (is_same_bytes tag tag) (text_same base) (text_same tag)
 
 entry_same : (entry : Entry) → is_of_command entry ≡ true → is_same_entry entry entry ≡ true
 entry_same (Format members) e = e
@@ -143,22 +143,22 @@ entry_same (Leave node) e = e
 entry_same (Reweight node vnodes) e = e
 entry_same (Recovered node epoch) e = e
 entry_same (Reserve by session name origin) e =
-    both (by.0 == by.0) (session == session && (is_same name name && is_same_origin origin origin)) (number_same by.0)
-    (both (session == session) (is_same name name && is_same_origin origin origin) (number_same session)
-    (both (is_same name name) (is_same_origin origin origin) (text_same name) (origin_same origin)))
+    both (by.0 == by.0) (session == session && (is_same_bytes name name && is_same_origin origin origin)) (number_same by.0)
+    (both (session == session) (is_same_bytes name name && is_same_origin origin origin) (number_same session)
+    (both (is_same_bytes name name) (is_same_origin origin origin) (text_same name) (origin_same origin)))
 entry_same (Publish by vid) e = both (by.0 == by.0) (vid.0 == vid.0) (number_same by.0) (number_same vid.0)
 entry_same (Clone by vid) e = both (by.0 == by.0) (vid.0 == vid.0) (number_same by.0) (number_same vid.0)
 entry_same (Snapshot by old vid) e =
     both (by.0 == by.0) (old.0 == old.0 && vid.0 == vid.0) (number_same by.0)
     (both (old.0 == old.0) (vid.0 == vid.0) (number_same old.0) (number_same vid.0))
 entry_same (Delete by session name tag) e =
-    both (by.0 == by.0) (session == session && (is_same name name && is_same_tag tag tag)) (number_same by.0)
-    (both (session == session) (is_same name name && is_same_tag tag tag) (number_same session)
-    (both (is_same name name) (is_same_tag tag tag) (text_same name) (tag_same tag)))
+    both (by.0 == by.0) (session == session && (is_same_bytes name name && is_same_tag tag tag)) (number_same by.0)
+    (both (session == session) (is_same_bytes name name && is_same_tag tag tag) (number_same session)
+    (both (is_same_bytes name name) (is_same_tag tag tag) (text_same name) (tag_same tag)))
 entry_same (Lock by session name tag) e =
-    both (by.0 == by.0) (session == session && (is_same name name && is_same_tag tag tag)) (number_same by.0)
-    (both (session == session) (is_same name name && is_same_tag tag tag) (number_same session)
-    (both (is_same name name) (is_same_tag tag tag) (text_same name) (tag_same tag)))
+    both (by.0 == by.0) (session == session && (is_same_bytes name name && is_same_tag tag tag)) (number_same by.0)
+    (both (session == session) (is_same_bytes name name && is_same_tag tag tag) (number_same session)
+    (both (is_same_bytes name name) (is_same_tag tag tag) (text_same name) (tag_same tag)))
 entry_same (Unlock by session vid) e =
     both (by.0 == by.0) (session == session && vid.0 == vid.0) (number_same by.0)
     (both (session == session) (vid.0 == vid.0) (number_same session) (number_same vid.0))

@@ -10,8 +10,8 @@ use Rattle.peer_proto.specs.declared.ask.PeerReq.{PeerReq}
 use Rattle.peer_proto.specs.declared.say.PeerRsp.{PeerRsp}
 use Rattle.peer_proto.specs.declared.say.Refusal.{Refusal}
 use Rattle.peer_service.specs.State.{Peer, is_waiting}
-use Rattle.peer_service.specs.Fence.{refusal_at}
-use Rattle.peer_service.specs.Serve.{refused, told, piece_or_refusal, written, if_recovered, fenced, served, reply_to}
+use Rattle.peer_service.specs.Fence.{epoch_refusal}
+use Rattle.peer_service.specs.Serve.{peer_refusal_step, peer_say_step, piece_or_refusal, peer_write_step, step_if_recovered, step_behind_fence, peer_step, reply_to}
 use Rattle.peer_service.specs.Serve as serve
 use Rattle.gateway.specs.Attempt.{status_by}
 use Rattle.gateway.specs.declared.message.Status.TheVariants as statuses
@@ -19,17 +19,17 @@ use Rattle.gateway.specs.State as gateways
 use Rattle.gateway.specs.Step as gateway_steps
 use Rattle.recovery.specs.State as recoveries
 use Rattle.recovery.specs.Steps as recovery_steps
-use Rattle.recovery.specs.Tick.{ticked, tick_sends}
+use Rattle.recovery.specs.Tick.{state_after_tick, tick_sends}
 use Rattle.sheep_node.specs.declared.input.Input.{Input}
 use Rattle.sheep_node.specs.declared.input.Input.TheVariants as inputs
 use Rattle.sheep_node.specs.State.{Node}
-use Rattle.sheep_node.specs.Shown.{state_of}
-use Rattle.sheep_node.specs.Turn.{Turn, at_first, with_node}
-use Rattle.sheep_node.specs.Waiting.{gateway_stepped}
-use Rattle.sheep_node.specs.Reading.{entry_read, back}
-use Rattle.sheep_node.specs.Step.{request_served, recovery_stepped, answered, lost, put_from, recovery_ticked, retry_ticked, taken_in, is_due, with_recovered, recovered_put, stepped}
-use Rattle.sheep_node.specs.Told.{read_after, may_begin_recovery, said_on, first_of, put_on, Ascend}
-use Rattle.gateway.specs.Told.{AreNumberedFrom}
+use Rattle.sheep_node.specs.RecoveryView.{recovery_state_of}
+use Rattle.sheep_node.specs.StepState.{StepState, at_first, with_node}
+use Rattle.sheep_node.specs.Waiting.{after_gateway_step}
+use Rattle.sheep_node.specs.LogReading.{entry_read, on_back}
+use Rattle.sheep_node.specs.Step.{on_request, recovery_stepped, on_reply, on_loss, on_put, on_recover_tick, on_retry_tick, on_input, is_due, with_recovered, recovered_put, node_step}
+use Rattle.sheep_node.specs.StepFacts.{read_after, may_begin_recovery, said_on, first_entry_of, put_on, Ascend}
+use Rattle.gateway.specs.Outcomes.{AreNumberedFrom}
 use Rattle.sheep_node.proofs.Numbers.{answered_numbers, retried_numbers, tick_numbers}
 use Rattle.sheep_node.proofs.Sound.{Place, place_of, Known, known_of, IsSound, either, sent_sound}
 use Rattle.sheep_node.proofs.SoundWaits.{gateway_stepped_sound, guest_asked_sound}
@@ -49,31 +49,31 @@ log_of peer = record { epoch = peer.epoch; settled = peer.settled; entries = pee
 abbrev SameLog : Peer → Peer → Type 0
 SameLog old new = log_of new ≡ log_of old
 
-written_same : (result : Result AllRows StoreFault) (peer : Peer) → SameLog peer (written result peer).peer
+written_same : (result : Result AllRows StoreFault) (peer : Peer) → SameLog peer (peer_write_step result peer).peer
 written_same (Ok rows) peer = refl
 written_same (Err fault) peer = refl
 
-if_recovered_same : (waiting : Bool) (peer : Peer) (answer : serve.Served) → SameLog peer answer.peer
-    → SameLog peer (if_recovered waiting peer answer).peer
+if_recovered_same : (waiting : Bool) (peer : Peer) (answer : serve.PeerStep) → SameLog peer answer.peer
+    → SameLog peer (step_if_recovered waiting peer answer).peer
 if_recovered_same true peer answer h = refl
 if_recovered_same false peer answer h = h
 
-answered_same : (ask : PeerAsk) (peer : Peer) → SameLog peer (serve.answered ask peer).peer
-unfolding serve.answered
+answered_same : (ask : PeerAsk) (peer : Peer) → SameLog peer (serve.own_epoch_step ask peer).peer
+unfolding serve.own_epoch_step
 answered_same (asks.Create key size offset bytes) peer = refl
 answered_same (asks.Write key offset bytes) peer =
-    if_recovered_same (is_waiting peer key.oid) peer (written (write_at peer.rows key offset bytes) peer)
+    if_recovered_same (is_waiting peer key.oid) peer (peer_write_step (write_at peer.rows key offset bytes) peer)
     (written_same (write_at peer.rows key offset bytes) peer)
 answered_same (asks.Read key offset size) peer =
-    if_recovered_same (is_waiting peer key.oid) peer (told (piece_or_refusal (read_at peer.rows key offset size)) peer) refl
+    if_recovered_same (is_waiting peer key.oid) peer (peer_say_step (piece_or_refusal (read_at peer.rows key offset size)) peer) refl
 answered_same asks.List peer = refl
 answered_same (asks.RecoverRead oid level) peer = refl
 
-served_same : (peer : Peer) (request : PeerReq) → SameLog peer (served peer request).peer
-unfolding served
-served_same peer request = by_fence (refusal_at peer.epoch request.epoch.0)
+served_same : (peer : Peer) (request : PeerReq) → SameLog peer (peer_step peer request).peer
+unfolding peer_step
+served_same peer request = by_fence (epoch_refusal peer.epoch request.epoch.0)
   where
-    by_fence : (refusal : Option Refusal) → SameLog peer (fenced refusal request.ask peer).peer
+    by_fence : (refusal : Option Refusal) → SameLog peer (step_behind_fence refusal request.ask peer).peer
     by_fence None = answered_same request.ask peer
     by_fence (Some refusal) = refl
 
@@ -86,77 +86,77 @@ known_at log known = record known {
   place = record known.place { epoch = log.epoch; settled = log.settled; entries = log.entries };
 }
 
-request_served_sound : (first : ℕ) (known : Known) (request : PeerReq) (turn : Turn)
-    → IsSound first known turn → IsSound first (known_saying request turn.node known) (request_served request turn)
-unfolding request_served
-request_served_sound first known request turn s = record {
+request_served_sound : (first : ℕ) (known : Known) (request : PeerReq) (so_far : StepState)
+    → IsSound first known so_far → IsSound first (known_saying request so_far.node known) (on_request request so_far)
+unfolding on_request
+request_served_sound first known request so_far s = record {
   numbers = s.numbers;
   counted = s.counted;
   ascend = s.ascend;
   same =
-      ap (λ (log : Log). known_at log (known_of turn.node (Some (reply_to turn.node.peer request)) turn.outputs.put))
-      (served_same turn.node.peer request)
-      ∙ ap (λ (k : Known). known_saying request turn.node k) s.same;
+      ap (λ (log : Log). known_at log (known_of so_far.node (Some (reply_to so_far.node.peer request)) so_far.outputs.put))
+      (served_same so_far.node.peer request)
+      ∙ ap (λ (k : Known). known_saying request so_far.node k) s.same;
 }
 
 -- the other inputs
 
-answered_sound : (first : ℕ) (known : Known) (rsp : PeerRsp) (turn : Turn)
-    → IsSound first known turn → IsSound first known (answered rsp turn)
-unfolding answered
-answered_sound first known rsp turn s =
-    either (IsSound first known) (gateways.waits_for rsp.number turn.node.gateway)
-    (gateway_stepped (gateway_steps.replied turn.node.gateway rsp) turn)
-    (recovery_stepped (recovery_steps.replied rsp (state_of turn.node)) turn)
-    (gateway_stepped_sound first known (gateway_steps.replied turn.node.gateway rsp) turn
-    (answered_numbers turn.node.sends turn.node.gateway rsp.number (status_by rsp.say)) s)
+answered_sound : (first : ℕ) (known : Known) (rsp : PeerRsp) (so_far : StepState)
+    → IsSound first known so_far → IsSound first known (on_reply rsp so_far)
+unfolding on_reply
+answered_sound first known rsp so_far s =
+    either (IsSound first known) (gateways.gateway_awaits rsp.number so_far.node.gateway)
+    (after_gateway_step (gateway_steps.gateway_on_reply so_far.node.gateway rsp) so_far)
+    (recovery_stepped (recovery_steps.recovery_on_reply rsp (recovery_state_of so_far.node)) so_far)
+    (gateway_stepped_sound first known (gateway_steps.gateway_on_reply so_far.node.gateway rsp) so_far
+    (answered_numbers so_far.node.sends so_far.node.gateway rsp.number (status_by rsp.say)) s)
     s
 
-lost_sound : (first : ℕ) (known : Known) (number : ℕ) (turn : Turn)
-    → IsSound first known turn → IsSound first known (lost number turn)
-unfolding lost
-lost_sound first known number turn s =
-    either (IsSound first known) (gateways.waits_for number turn.node.gateway)
-    (gateway_stepped (gateway_steps.lost turn.node.gateway number) turn)
-    (recovery_stepped (recovery_steps.lost number (state_of turn.node)) turn)
-    (gateway_stepped_sound first known (gateway_steps.lost turn.node.gateway number) turn
-    (answered_numbers turn.node.sends turn.node.gateway number statuses.Lost) s)
+lost_sound : (first : ℕ) (known : Known) (number : ℕ) (so_far : StepState)
+    → IsSound first known so_far → IsSound first known (on_loss number so_far)
+unfolding on_loss
+lost_sound first known number so_far s =
+    either (IsSound first known) (gateways.gateway_awaits number so_far.node.gateway)
+    (after_gateway_step (gateway_steps.gateway_on_loss so_far.node.gateway number) so_far)
+    (recovery_stepped (recovery_steps.recovery_on_loss number (recovery_state_of so_far.node)) so_far)
+    (gateway_stepped_sound first known (gateway_steps.gateway_on_loss so_far.node.gateway number) so_far
+    (answered_numbers so_far.node.sends so_far.node.gateway number statuses.Lost) s)
     s
 
 -- what is known once the first entry of an outbox was put
 abbrev known_putting : Option Entry → Known → Known
 known_putting put known = record known { put = put }
 
-put_sound : (first : ℕ) (known : Known) (outbox : List Entry) (turn : Turn) → turn.outputs.put ≡ None
-    → IsSound first known turn → IsSound first (known_putting (first_of outbox) known) (put_from outbox turn)
-put_sound first known [] turn none s = record {
+put_sound : (first : ℕ) (known : Known) (outbox : List Entry) (so_far : StepState) → so_far.outputs.put ≡ None
+    → IsSound first known so_far → IsSound first (known_putting (first_entry_of outbox) known) (on_put outbox so_far)
+put_sound first known [] so_far none s = record {
   numbers = s.numbers;
   counted = s.counted;
   ascend = s.ascend;
-  same = ap (λ (put : Option Entry). known_of turn.node turn.outputs.say put) none ∙ ap (λ (k : Known). known_putting None k) s.same;
+  same = ap (λ (put : Option Entry). known_of so_far.node so_far.outputs.say put) none ∙ ap (λ (k : Known). known_putting None k) s.same;
 }
-put_sound first known (entry ∷ later) turn none s = record {
+put_sound first known (entry ∷ later) so_far none s = record {
   numbers = s.numbers;
   counted = s.counted;
   ascend = s.ascend;
   same = ap (λ (k : Known). known_putting (Some entry) k) s.same;
 }
 
-recovery_ticked_sound : (first : ℕ) (known : Known) (turn : Turn)
-    → IsSound first known turn → IsSound first known (recovery_ticked turn)
-unfolding recovery_ticked
-recovery_ticked_sound first known turn s =
-    sent_sound first known (tick_sends turn.node.sends (state_of turn.node))
-    (recovery_stepped (ticked turn.node.sends (state_of turn.node)) turn)
-    (tick_numbers turn.node.sends (state_of turn.node)) s
+recovery_ticked_sound : (first : ℕ) (known : Known) (so_far : StepState)
+    → IsSound first known so_far → IsSound first known (on_recover_tick so_far)
+unfolding on_recover_tick
+recovery_ticked_sound first known so_far s =
+    sent_sound first known (tick_sends so_far.node.sends (recovery_state_of so_far.node))
+    (recovery_stepped (state_after_tick so_far.node.sends (recovery_state_of so_far.node)) so_far)
+    (tick_numbers so_far.node.sends (recovery_state_of so_far.node)) s
 
-retry_ticked_sound : (first : ℕ) (known : Known) (turn : Turn)
-    → IsSound first known turn → IsSound first known (retry_ticked turn)
-unfolding retry_ticked
-retry_ticked_sound first known turn s =
+retry_ticked_sound : (first : ℕ) (known : Known) (so_far : StepState)
+    → IsSound first known so_far → IsSound first known (on_retry_tick so_far)
+unfolding on_retry_tick
+retry_ticked_sound first known so_far s =
     gateway_stepped_sound first known
-    (gateway_steps.retried turn.node.epochs turn.node.gateway turn.node.sends (record { 0 = turn.node.peer.epoch })) turn
-    (retried_numbers turn.node.epochs turn.node.gateway turn.node.sends (record { 0 = turn.node.peer.epoch })) s
+    (gateway_steps.retry_step so_far.node.epochs so_far.node.gateway so_far.node.sends (record { 0 = so_far.node.peer.epoch })) so_far
+    (retried_numbers so_far.node.epochs so_far.node.gateway so_far.node.sends (record { 0 = so_far.node.peer.epoch })) s
 
 -- the node after an input, as far as the log goes
 abbrev pub after : Input → Node → Node
@@ -168,7 +168,7 @@ after (inputs.LogEntry entry) node = entry_read entry node
 after inputs.Put node = node
 after inputs.RecoverTick node = node
 after inputs.RetryTick node = node
-after (inputs.Back entries) node = back entries node
+after (inputs.Back entries) node = on_back entries node
 
 -- what is known at first, and before the end of a step
 abbrev known_first : Node → Known
@@ -180,12 +180,12 @@ known_after input node = record (known_of (after input node) (said_on input node
 at_first_sound : (node : Node) → IsSound node.sends (known_first node) (at_first node)
 at_first_sound node = record { numbers = refl; counted = omega arith; ascend = tt; same = refl }
 
-back_recovers : (entries : List Entry) (node : Node) → (back entries node).recovered ≡ false
-unfolding back
+back_recovers : (entries : List Entry) (node : Node) → (on_back entries node).recovered ≡ false
+unfolding on_back
 back_recovers entries node = refl
 
-taken_in_sound : (input : Input) (node : Node) → IsSound node.sends (known_after input node) (taken_in input (at_first node))
-unfolding taken_in
+taken_in_sound : (input : Input) (node : Node) → IsSound node.sends (known_after input node) (on_input input (at_first node))
+unfolding on_input
 taken_in_sound (inputs.Guest req session ask) node =
     guest_asked_sound node.sends (known_first node) req session ask (at_first node) (at_first_sound node)
 taken_in_sound (inputs.Request request) node =
@@ -203,23 +203,23 @@ taken_in_sound inputs.RecoverTick node =
 taken_in_sound inputs.RetryTick node =
     retry_ticked_sound node.sends (known_first node) (at_first node) (at_first_sound node)
 taken_in_sound (inputs.Back entries) node =
-    subst (λ (b : Bool). IsSound node.sends (record (known_after (inputs.Back entries) node) { recovered = b }) (with_node (back entries node) (at_first node)))
+    subst (λ (b : Bool). IsSound node.sends (record (known_after (inputs.Back entries) node) { recovered = b }) (with_node (on_back entries node) (at_first node)))
     (sym (back_recovers entries node)) (back_sound node.sends (known_first node) entries (at_first node) (at_first_sound node))
 
 -- the end of a step
 
 -- what the end of a step leaves alone
-record Ends (first : ℕ) (known : Known) (turn : Turn) : Type 0 where
-  numbers : AreNumberedFrom first turn.outputs.sends
-  counted : turn.node.sends ≡ first + length turn.outputs.sends
-  ascend : Ascend turn.outputs.replies
-  own : turn.node.me ≡ known.me
-  place : place_of turn.node ≡ known.place
-  said : turn.outputs.say ≡ known.said
-  put : turn.outputs.put ≡ known.put
+record Ends (first : ℕ) (known : Known) (so_far : StepState) : Type 0 where
+  numbers : AreNumberedFrom first so_far.outputs.sends
+  counted : so_far.node.sends ≡ first + length so_far.outputs.sends
+  ascend : Ascend so_far.outputs.replies
+  own : so_far.node.me ≡ known.me
+  place : place_of so_far.node ≡ known.place
+  said : so_far.outputs.say ≡ known.said
+  put : so_far.outputs.put ≡ known.put
 
-sound_ends : (first : ℕ) (known : Known) (turn : Turn) → IsSound first known turn → Ends first known turn
-sound_ends first known turn s = record {
+sound_ends : (first : ℕ) (known : Known) (so_far : StepState) → IsSound first known so_far → Ends first known so_far
+sound_ends first known so_far s = record {
   numbers = s.numbers;
   counted = s.counted;
   ascend = s.ascend;
@@ -229,8 +229,8 @@ sound_ends first known turn s = record {
   put = ap (λ (k : Known). k.put) s.same;
 }
 
-with_recovered_ends : (first : ℕ) (known : Known) (turn : Turn) → Ends first known turn → Ends first known (with_recovered turn)
-with_recovered_ends first known turn e = record {
+with_recovered_ends : (first : ℕ) (known : Known) (so_far : StepState) → Ends first known so_far → Ends first known (with_recovered so_far)
+with_recovered_ends first known so_far e = record {
   numbers = e.numbers;
   counted = e.counted;
   ascend = e.ascend;
@@ -240,36 +240,36 @@ with_recovered_ends first known turn e = record {
   put = e.put;
 }
 
-recovered_put_ends : (first : ℕ) (known : Known) (turn : Turn) → IsSound first known turn → Ends first known (recovered_put turn)
+recovered_put_ends : (first : ℕ) (known : Known) (so_far : StepState) → IsSound first known so_far → Ends first known (recovered_put so_far)
 unfolding recovered_put
-recovered_put_ends first known turn s =
-    either (Ends first known) (is_due turn.node) (with_recovered turn) turn
-    (with_recovered_ends first known turn (sound_ends first known turn s)) (sound_ends first known turn s)
+recovered_put_ends first known so_far s =
+    either (Ends first known) (is_due so_far.node) (with_recovered so_far) so_far
+    (with_recovered_ends first known so_far (sound_ends first known so_far s)) (sound_ends first known so_far s)
 
-stepped_ends : (input : Input) (node : Node) → Ends node.sends (known_after input node) (stepped input node)
-unfolding stepped
+stepped_ends : (input : Input) (node : Node) → Ends node.sends (known_after input node) (node_step input node)
+unfolding node_step
 stepped_ends input node =
-    recovered_put_ends node.sends (known_after input node) (taken_in input (at_first node)) (taken_in_sound input node)
+    recovered_put_ends node.sends (known_after input node) (on_input input (at_first node)) (taken_in_sound input node)
 
 -- the sends of a step are numbered upwards from the node's count
-pub stepped_numbers : (input : Input) (node : Node) → AreNumberedFrom node.sends (stepped input node).outputs.sends
+pub stepped_numbers : (input : Input) (node : Node) → AreNumberedFrom node.sends (node_step input node).outputs.sends
 stepped_numbers input node = (stepped_ends input node).numbers
 
 -- the count grows by how many they are
 pub stepped_counts : (input : Input) (node : Node)
-    → (stepped input node).node.sends ≡ node.sends + length (stepped input node).outputs.sends
+    → (node_step input node).node.sends ≡ node.sends + length (node_step input node).outputs.sends
 stepped_counts input node = (stepped_ends input node).counted
 
 -- the replies ascend by request
-pub stepped_replies : (input : Input) (node : Node) → Ascend (stepped input node).outputs.replies
+pub stepped_replies : (input : Input) (node : Node) → Ascend (node_step input node).outputs.replies
 stepped_replies input node = (stepped_ends input node).ascend
 
 -- the node stays itself
-pub stepped_own : (input : Input) (node : Node) → (stepped input node).node.me ≡ node.me
+pub stepped_own : (input : Input) (node : Node) → (node_step input node).node.me ≡ node.me
 stepped_own input node = (stepped_ends input node).own
 
 -- where it is in the log
-pub stepped_place : (input : Input) (node : Node) → place_of (stepped input node).node ≡ place_of (after input node)
+pub stepped_place : (input : Input) (node : Node) → place_of (node_step input node).node ≡ place_of (after input node)
 stepped_place input node = (stepped_ends input node).place
 
 entries_after : (input : Input) (node : Node) → (after input node).peer.entries ≡ read_after input node.peer.entries
@@ -284,39 +284,39 @@ entries_after inputs.RetryTick node = refl
 entries_after (inputs.Back entries) node = entries_back entries node
 
 -- the entries that it has read
-pub stepped_reads : (input : Input) (node : Node) → (stepped input node).node.peer.entries ≡ read_after input node.peer.entries
+pub stepped_reads : (input : Input) (node : Node) → (node_step input node).node.peer.entries ≡ read_after input node.peer.entries
 stepped_reads input node = ap (λ (place : Place). place.entries) (stepped_place input node) ∙ entries_after input node
 
 -- what is said to a peer
-pub stepped_says : (input : Input) (node : Node) → (stepped input node).outputs.say ≡ said_on input node
+pub stepped_says : (input : Input) (node : Node) → (node_step input node).outputs.say ≡ said_on input node
 stepped_says input node = (stepped_ends input node).said
 
 -- what goes into the log
-pub stepped_gives : (input : Input) (node : Node) → (stepped input node).outputs.put ≡ put_on input node
+pub stepped_gives : (input : Input) (node : Node) → (node_step input node).outputs.put ≡ put_on input node
 stepped_gives input node = (stepped_ends input node).put
 
 -- `Recovered`
 
-put_at_end : (turn : Turn) (b : Bool) → is_due turn.node ≡ b → is_due (cond b (with_recovered turn) turn).node ≡ false
-put_at_end turn true due = and-false (recoveries.is_finished (state_of turn.node))
-put_at_end turn false due = due
+put_at_end : (so_far : StepState) (b : Bool) → is_due so_far.node ≡ b → is_due (cond b (with_recovered so_far) so_far).node ≡ false
+put_at_end so_far true due = and-false (recoveries.is_finished (recovery_state_of so_far.node))
+put_at_end so_far false due = due
 
 -- at the end of a step nothing is due
-pub stepped_puts : (input : Input) (node : Node) → is_due (stepped input node).node ≡ false
-unfolding stepped recovered_put
-stepped_puts input node = put_at_end (taken_in input (at_first node)) (is_due (taken_in input (at_first node)).node) refl
+pub stepped_puts : (input : Input) (node : Node) → is_due (node_step input node).node ≡ false
+unfolding node_step recovered_put
+stepped_puts input node = put_at_end (on_input input (at_first node)) (is_due (on_input input (at_first node)).node) refl
 
 -- nothing is put twice
-pub put_once : (turn : Turn) → turn.node.recovered ≡ true → recovered_put turn ≡ turn
+pub put_once : (so_far : StepState) → so_far.node.recovered ≡ true → recovered_put so_far ≡ so_far
 unfolding recovered_put
-put_once turn done =
-    ap (λ (b : Bool). cond (recoveries.is_finished (state_of turn.node) && not b) (with_recovered turn) turn) done
-    ∙ ap (λ (b : Bool). cond b (with_recovered turn) turn) (and-false (recoveries.is_finished (state_of turn.node)))
+put_once so_far done =
+    ap (λ (b : Bool). cond (recoveries.is_finished (recovery_state_of so_far.node) && not b) (with_recovered so_far) so_far) done
+    ∙ ap (λ (b : Bool). cond b (with_recovered so_far) so_far) (and-false (recoveries.is_finished (recovery_state_of so_far.node)))
 
-recovered_stays : (turn : Turn) → turn.node.recovered ≡ true → (recovered_put turn).node.recovered ≡ true
+recovered_stays : (so_far : StepState) → so_far.node.recovered ≡ true → (recovered_put so_far).node.recovered ≡ true
 unfolding recovered_put
-recovered_stays turn done =
-    either (λ (t : Turn). t.node.recovered ≡ true) (is_due turn.node) (with_recovered turn) turn refl done
+recovered_stays so_far done =
+    either (λ (t : StepState). t.node.recovered ≡ true) (is_due so_far.node) (with_recovered so_far) so_far refl done
 
 put_before : (input : Input) (node : Node) → may_begin_recovery input ≡ false → (after input node).recovered ≡ node.recovered
 put_before (inputs.Guest req session ask) node quiet = refl
@@ -331,7 +331,7 @@ put_before (inputs.Back entries) node quiet = absurd (cc (quiet))
 
 -- what was put stays so, until a recovery begins
 pub stepped_stays : (input : Input) (node : Node) → may_begin_recovery input ≡ false → node.recovered ≡ true
-    → (stepped input node).node.recovered ≡ true
-unfolding stepped
+    → (node_step input node).node.recovered ≡ true
+unfolding node_step
 stepped_stays input node quiet done =
-    recovered_stays (taken_in input (at_first node)) (ap (λ (k : Known). k.recovered) (taken_in_sound input node).same ∙ put_before input node quiet ∙ done)
+    recovered_stays (on_input input (at_first node)) (ap (λ (k : Known). k.recovered) (taken_in_sound input node).same ∙ put_before input node quiet ∙ done)

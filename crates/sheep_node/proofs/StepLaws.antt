@@ -10,61 +10,61 @@ use Rattle.peer_proto.specs.declared.guest.VdiAsk.TheVariants.{Create}
 use Rattle.peer_proto.specs.declared.say.PeerSay.TheVariants.{Refused}
 use Rattle.peer_proto.specs.declared.say.Refusal.{Refusal}
 use Rattle.peer_proto.specs.declared.say.Refusal.TheVariants.{OldEpoch, NewEpoch}
-use Rattle.peer_service.specs.Fence.{refusal_at}
-use Rattle.peer_service.specs.Serve.{fenced, served}
-use Rattle.vdi_ops.specs.Steps.{begin}
+use Rattle.peer_service.specs.Fence.{epoch_refusal}
+use Rattle.peer_service.specs.Serve.{step_behind_fence, peer_step}
+use Rattle.vdi_ops.specs.Steps.{begin_command}
 use Rattle.sheep_node.specs.declared.ask.Ask.TheVariants.{Vdi}
 use Rattle.sheep_node.specs.declared.input.Input.TheVariants as inputs
 use Rattle.sheep_node.specs.State.{Node}
-use Rattle.sheep_node.specs.Turn.{Turn, at_first}
+use Rattle.sheep_node.specs.StepState.{StepState, at_first}
 use Rattle.sheep_node.specs.Courses.{command_stepped}
-use Rattle.sheep_node.specs.Guests.{guest_asked}
-use Rattle.sheep_node.specs.Reading.{with_peer}
-use Rattle.sheep_node.specs.Step.{request_served, put_from, taken_in, is_due, with_recovered, recovered_put, stepped}
-use Rattle.sheep_node.specs.Told.{only_said}
+use Rattle.sheep_node.specs.Guests.{on_guest}
+use Rattle.sheep_node.specs.LogReading.{with_peer}
+use Rattle.sheep_node.specs.Step.{on_request, on_put, on_input, is_due, with_recovered, recovered_put, node_step}
+use Rattle.sheep_node.specs.StepFacts.{only_reply}
 
 -- a step at whose end nothing is due
-not_due : (turn : Turn) → is_due turn.node ≡ false → recovered_put turn ≡ turn
+not_due : (so_far : StepState) → is_due so_far.node ≡ false → recovered_put so_far ≡ so_far
 unfolding recovered_put
-not_due turn none = ap (λ (b : Bool). cond b (with_recovered turn) turn) none
+not_due so_far none = ap (λ (b : Bool). cond b (with_recovered so_far) so_far) none
 
 -- a request that the fence refuses
-fenced_step : (request : PeerReq) (node : Node) (refusal : Refusal) → refusal_at node.peer.epoch request.epoch.0 ≡ Some refusal
-    → request_served request (at_first node) ≡ record {
+fenced_step : (request : PeerReq) (node : Node) (refusal : Refusal) → epoch_refusal node.peer.epoch request.epoch.0 ≡ Some refusal
+    → on_request request (at_first node) ≡ record {
       node = node;
-      outputs = only_said (record { number = request.number; epoch = record { 0 = node.peer.epoch }; say = Refused refusal });
+      outputs = only_reply (record { number = request.number; epoch = record { 0 = node.peer.epoch }; say = Refused refusal });
     }
-unfolding request_served served
+unfolding on_request peer_step
 fenced_step request node refusal e =
     ap (λ (why : Option Refusal). record {
-      node = with_peer (fenced why request.ask node.peer).peer node;
-      outputs = only_said (record {
+      node = with_peer (step_behind_fence why request.ask node.peer).peer node;
+      outputs = only_reply (record {
         number = request.number;
         epoch = record { 0 = node.peer.epoch };
-        say = (fenced why request.ask node.peer).say;
+        say = (step_behind_fence why request.ask node.peer).say;
       });
     }) e
 
-refused_step : (request : PeerReq) (node : Node) (refusal : Refusal) → refusal_at node.peer.epoch request.epoch.0 ≡ Some refusal
+refused_step : (request : PeerReq) (node : Node) (refusal : Refusal) → epoch_refusal node.peer.epoch request.epoch.0 ≡ Some refusal
     → is_due node ≡ false
-    → stepped (inputs.Request request) node ≡ record {
+    → node_step (inputs.Request request) node ≡ record {
       node = node;
-      outputs = only_said (record { number = request.number; epoch = record { 0 = node.peer.epoch }; say = Refused refusal });
+      outputs = only_reply (record { number = request.number; epoch = record { 0 = node.peer.epoch }; say = Refused refusal });
     }
-unfolding stepped taken_in
+unfolding node_step on_input
 refused_step request node refusal e none =
     ap recovered_put (fenced_step request node refusal e)
     ∙ not_due (record {
       node = node;
-      outputs = only_said (record { number = request.number; epoch = record { 0 = node.peer.epoch }; say = Refused refusal });
+      outputs = only_reply (record { number = request.number; epoch = record { 0 = node.peer.epoch }; say = Refused refusal });
     }) none
 
-older_refusal : (own requested : ℕ) → requested < own → refusal_at own requested ≡ Some (OldEpoch (record { 0 = own }))
+older_refusal : (own requested : ℕ) → requested < own → epoch_refusal own requested ≡ Some (OldEpoch (record { 0 = own }))
 older_refusal own requested below =
     ap (λ (b : Bool). cond b (Some (OldEpoch (record { 0 = own }))) (cond (nat_lt own requested) (Some (NewEpoch (record { 0 = own }))) None))
     (lt-ltb requested own below)
 
-newer_refusal : (own requested : ℕ) → own < requested → refusal_at own requested ≡ Some (NewEpoch (record { 0 = own }))
+newer_refusal : (own requested : ℕ) → own < requested → epoch_refusal own requested ≡ Some (NewEpoch (record { 0 = own }))
 newer_refusal own requested above =
     let below : own ≤ requested = omega arith in
     let not_below : nat_lt requested own ≡ false = le-ltb requested own below in
@@ -72,9 +72,9 @@ newer_refusal own requested above =
     ∙ ap (λ (b : Bool). cond b (Some (NewEpoch (record { 0 = own }))) None) (lt-ltb own requested above)
 
 pub older_step : (request : PeerReq) (node : Node) → request.epoch.0 < node.peer.epoch → is_due node ≡ false
-    → stepped (inputs.Request request) node ≡ record {
+    → node_step (inputs.Request request) node ≡ record {
       node = node;
-      outputs = only_said (record {
+      outputs = only_reply (record {
         number = request.number;
         epoch = record { 0 = node.peer.epoch };
         say = Refused (OldEpoch (record { 0 = node.peer.epoch }));
@@ -84,9 +84,9 @@ older_step request node below none =
     refused_step request node (OldEpoch (record { 0 = node.peer.epoch })) (older_refusal node.peer.epoch request.epoch.0 below) none
 
 pub newer_step : (request : PeerReq) (node : Node) → node.peer.epoch < request.epoch.0 → is_due node ≡ false
-    → stepped (inputs.Request request) node ≡ record {
+    → node_step (inputs.Request request) node ≡ record {
       node = node;
-      outputs = only_said (record {
+      outputs = only_reply (record {
         number = request.number;
         epoch = record { 0 = node.peer.epoch };
         say = Refused (NewEpoch (record { 0 = node.peer.epoch }));
@@ -98,17 +98,17 @@ newer_step request node above none =
 -- the entry that is put
 
 pub left_step : (node : Node) (entry : Entry) (later : List Entry) → node.outbox ≡ entry ∷ later → is_due node ≡ false
-    → (stepped inputs.Put node).node ≡ record node { outbox = later }
-unfolding stepped taken_in
+    → (node_step inputs.Put node).node ≡ record node { outbox = later }
+unfolding node_step on_input
 left_step node entry later e none =
-    ap (λ (outbox : List Entry). (recovered_put (put_from outbox (at_first node))).node) e
-    ∙ ap (λ (turn : Turn). turn.node) (not_due (put_from (entry ∷ later) (at_first node)) none)
+    ap (λ (outbox : List Entry). (recovered_put (on_put outbox (at_first node))).node) e
+    ∙ ap (λ (so_far : StepState). so_far.node) (not_due (on_put (entry ∷ later) (at_first node)) none)
 
 -- a guest's create
 
 pub create_step : (req session : ℕ) (name : List ℕ) (spec : VdiSpec) (node : Node) → is_due node ≡ false
-    → (stepped (inputs.Guest req session (Vdi (Create name spec))) node).node.outbox
+    → (node_step (inputs.Guest req session (Vdi (Create name spec))) node).node.outbox
     ≡ node.outbox ++ entries.Reserve node.me session name (Fresh spec) ∷ []
-unfolding stepped taken_in guest_asked command_stepped begin
+unfolding node_step on_input on_guest command_stepped begin_command
 create_step req session name spec node none =
-    ap (λ (turn : Turn). turn.node.outbox) (not_due (guest_asked req session (Vdi (Create name spec)) (at_first node)) none)
+    ap (λ (so_far : StepState). so_far.node.outbox) (not_due (on_guest req session (Vdi (Create name spec)) (at_first node)) none)

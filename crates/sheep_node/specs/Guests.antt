@@ -13,18 +13,18 @@ use Rattle.guest_driver.specs.declared.disk.Disk.{Disk}
 use Rattle.guest_driver.specs.Pieces.{offset_of, size_of, first_index, last_index}
 use Rattle.guest_driver.specs.Refusals as disk_refusals
 use Rattle.vdi_ops.specs.Entries as entries
-use Rattle.vdi_ops.specs.Steps.{begin}
+use Rattle.vdi_ops.specs.Steps.{begin_command}
 use Rattle.sheep_node.specs.declared.ask.Ask.{Ask}
 use Rattle.sheep_node.specs.declared.ask.Ask.TheVariants as asks
 use Rattle.sheep_node.specs.State.{Waiting}
-use Rattle.sheep_node.specs.Turn.{Turn, replied, session_in, with_session, with_course}
+use Rattle.sheep_node.specs.StepState.{StepState, with_guest_reply, session_in, with_session, with_course}
 use Rattle.sheep_node.specs.Courses.{command_went_on}
 use Rattle.sheep_node.specs.Waiting.{course_begun}
 
 -- whether a session's disk is deleted, by the entries that the node has read
-abbrev pub is_deleted : Peer → Option Disk → Bool
-is_deleted peer None = false
-is_deleted peer (Some disk) = is_gone (state_of (effects_of peer) disk.inode.vid)
+abbrev pub is_open_disk_deleted : Peer → Option Disk → Bool
+is_open_disk_deleted peer None = false
+is_open_disk_deleted peer (Some disk) = is_gone (state_of (effects_of peer) disk.inode.vid)
 
 -- whether what a session has open is a snapshot, if it has a disk open
 abbrev pub snapshot_open : Option Disk → Option Bool
@@ -35,9 +35,9 @@ abbrev pub inode_open : Option Disk → Option Content
 inode_open disk = option_map (λ (disk : Disk). disk.inode) disk
 
 -- why a request is refused on the spot
-abbrev pub refusal : Peer → Option Disk → Ask → Option Cause
-refusal peer disk (asks.Disk ask) = disk_refusals.refusal disk (is_deleted peer disk) ask
-refusal peer disk (asks.Vdi ask) = entries.refusal (snapshot_open disk) ask
+abbrev pub request_refusal : Peer → Option Disk → Ask → Option Cause
+request_refusal peer disk (asks.Disk ask) = disk_refusals.disk_refusal disk (is_open_disk_deleted peer disk) ask
+request_refusal peer disk (asks.Vdi ask) = entries.command_refusal (snapshot_open disk) ask
 
 -- a read or write among the session's: the first and the last object that it touches; objects have 2^shift bytes
 abbrev pub queued_as : ℕ → ℕ → DiskAsk → Queued
@@ -48,27 +48,27 @@ queued_as shift req ask = record {
 }
 
 -- a read or write stands behind the session's others
-abbrev pub pushed : ℕ → ℕ → DiskAsk → Option Disk → Turn → Turn
-pushed number req ask None turn = turn
-pushed number req ask (Some disk) turn = with_session
+abbrev pub with_queued_request : ℕ → ℕ → DiskAsk → Option Disk → StepState → StepState
+with_queued_request number req ask None so_far = so_far
+with_queued_request number req ask (Some disk) so_far = with_session
     number
-    (record (session_in number turn) { queue = (session_in number turn).queue ++ queued_as disk.inode.spec.shift req ask ∷ [] })
-    turn
+    (record (session_in number so_far) { queue = (session_in number so_far).queue ++ queued_as disk.inode.spec.shift req ask ∷ [] })
+    so_far
 
 -- a request that isn't refused: a read or write begins, if it may run; a command begins with its entry in the outbox
-abbrev pub taken : ℕ → ℕ → Ask → Turn → Turn
-taken number req (asks.Disk ask) turn =
+abbrev pub request_taken : ℕ → ℕ → Ask → StepState → StepState
+request_taken number req (asks.Disk ask) so_far =
     course_begun number req (Waiting ask)
-    (pushed number req ask (session_in number turn).disk (with_course number req (Waiting ask) turn))
-taken number req (asks.Vdi ask) turn =
-    command_went_on number req ask (begin turn.node.me number ask (inode_open (session_in number turn).disk)) turn
+    (with_queued_request number req ask (session_in number so_far).disk (with_course number req (Waiting ask) so_far))
+request_taken number req (asks.Vdi ask) so_far =
+    command_went_on number req ask (begin_command so_far.node.me number ask (inode_open (session_in number so_far).disk)) so_far
 
 -- a request is refused for a cause, if there is one
-abbrev pub taken_unless : Option Cause → ℕ → ℕ → Ask → Turn → Turn
-taken_unless None number req ask turn = taken number req ask turn
-taken_unless (Some cause) number req ask turn = replied req (Refused cause) turn
+abbrev pub request_taken_unless : Option Cause → ℕ → ℕ → Ask → StepState → StepState
+request_taken_unless None number req ask so_far = request_taken number req ask so_far
+request_taken_unless (Some cause) number req ask so_far = with_guest_reply req (Refused cause) so_far
 
 -- a guest's request comes
-unfoldable pub guest_asked : ℕ → ℕ → Ask → Turn → Turn
-guest_asked req number ask turn =
-    taken_unless (refusal turn.node.peer (session_in number turn).disk ask) number req ask turn
+unfoldable pub on_guest : ℕ → ℕ → Ask → StepState → StepState
+on_guest req number ask so_far =
+    request_taken_unless (request_refusal so_far.node.peer (session_in number so_far).disk ask) number req ask so_far

@@ -1,12 +1,12 @@
 pub mod State
-pub mod Shown
-pub mod Turn
+pub mod RecoveryView
+pub mod StepState
 pub mod Same
-pub mod Works
+pub mod RequestWorks
 pub mod Courses
 pub mod Waiting
 pub mod Guests
-pub mod Reading
+pub mod LogReading
 pub mod Step
 pub mod May
-pub mod Told
+pub mod StepFacts

@@ -12,7 +12,7 @@ use Rattle.gateway.specs.State as gateways
 use Rattle.recovery.specs.State as recoveries
 use Rattle.recovery.specs.Fits as recovery_fits
 use Rattle.guest_driver.specs.Pieces.{is_ask}
-use Rattle.vdi_ops.specs.Entries.{IsAsk}
+use Rattle.vdi_ops.specs.Entries.{IsVdiAsk}
 use Rattle.sheep_node.specs.declared.ask.Ask.{Ask}
 use Rattle.sheep_node.specs.declared.ask.Ask.TheVariants as asks
 use Rattle.sheep_node.specs.declared.input.Input.{Input}
@@ -20,47 +20,47 @@ use Rattle.sheep_node.specs.declared.limits.TheConstants.{REQUESTS_AT_ONCE, SEND
 use Rattle.sheep_node.specs.declared.input.Input.TheVariants as inputs
 use Rattle.peer_proto.specs.declared.say.PeerRsp.{PeerRsp}
 use Rattle.sheep_node.specs.State.{Course, Waiting, Driving, Commanding, Request, Node}
-use Rattle.sheep_node.specs.Shown.{state_of}
-use Rattle.sheep_node.specs.Reading.{is_member}
+use Rattle.sheep_node.specs.RecoveryView.{recovery_state_of}
+use Rattle.sheep_node.specs.LogReading.{is_epoch_member}
 
 -- whether the node has numbers left for the sends of a step
 abbrev pub has_numbers : Node → Bool
 has_numbers node = nat_le node.sends SENDS_MAX
 
 -- whether it has an entry to put
-abbrev pub may_put : Node → Bool
-may_put node = not (length node.outbox == 0)
+abbrev pub has_entry_to_put : Node → Bool
+has_entry_to_put node = not (length node.outbox == 0)
 
 -- whether its recovery has work for a tick
 abbrev pub may_tick : Node → Bool
-may_tick node = recoveries.can_tick (state_of node)
+may_tick node = recoveries.can_tick (recovery_state_of node)
 
 -- whether a work of its gateway may be tried again
-abbrev pub may_retry : Node → Bool
-may_retry node = gateways.can_retry (record { 0 = node.peer.epoch }) node.gateway
+abbrev pub has_work_to_retry : Node → Bool
+has_work_to_retry node = gateways.can_retry (record { 0 = node.peer.epoch }) node.gateway
 
 -- whether it has read so many entries of the log
 abbrev pub has_read : ℕ → Node → Bool
 has_read count node = nat_le count (length node.peer.entries)
 
 -- whether a message of this number was sent, and is unanswered
-abbrev pub waits_for : ℕ → Node → Bool
-waits_for number node = gateways.waits_for number node.gateway || recoveries.waits_for number node.recovery
+abbrev pub node_awaits : ℕ → Node → Bool
+node_awaits number node = gateways.gateway_awaits number node.gateway || recoveries.recovery_awaits number node.recovery
 
 -- whether a reply answers such a message, and fits what that asked
-abbrev pub fits : PeerRsp → Node → Bool
-fits rsp node = gateways.fits rsp node.gateway || recovery_fits.fits rsp (state_of node)
+abbrev pub fits_node : PeerRsp → Node → Bool
+fits_node rsp node = gateways.fits_gateway rsp node.gateway || recovery_fits.fits_recovery rsp (recovery_state_of node)
 
 -- a session's requests without reply
-abbrev pub requests_of : ℕ → Node → List Request
-requests_of session node =
+abbrev pub session_requests : ℕ → Node → List Request
+session_requests session node =
     filter (λ (request : Request). request.session == session) (tree.values node.requests)
 
 -- whether a request is a read or write
-abbrev pub is_on_disk : Course → Bool
-is_on_disk (Waiting ask) = true
-is_on_disk (Driving driver) = true
-is_on_disk (Commanding ask op) = false
+abbrev pub is_disk_course : Course → Bool
+is_disk_course (Waiting ask) = true
+is_disk_course (Driving driver) = true
+is_disk_course (Commanding ask op) = false
 
 -- whether what is asked is a read or write
 abbrev pub asks_disk : Ask → Bool
@@ -69,7 +69,7 @@ asks_disk (asks.Vdi ask) = false
 
 -- whether these and the next one are all reads and writes
 abbrev pub are_on_disk : List Request → Ask → Bool
-are_on_disk requests ask = asks_disk ask && list_all (λ (request : Request). is_on_disk request.course) requests
+are_on_disk requests ask = asks_disk ask && list_all (λ (request : Request). is_disk_course request.course) requests
 
 -- whether there is room for one more beside these: there are fewer than may be at once, and all are reads and writes with it,
 -- or there are none
@@ -77,19 +77,19 @@ abbrev pub is_room : List Request → Ask → Bool
 is_room requests ask = nat_lt (length requests) REQUESTS_AT_ONCE && (length requests == 0 || are_on_disk requests ask)
 
 -- whether the session has room for a request
-abbrev pub may_ask : ℕ → Ask → Node → Bool
-may_ask session ask node = is_room (requests_of session node) ask
+abbrev pub has_room_for : ℕ → Ask → Node → Bool
+has_room_for session ask node = is_room (session_requests session node) ask
 
 -- what is asked is as it may be: whole blocks and one at least, and names, tags and specs that may be such
 abbrev pub IsGuestAsk : Ask → Type 0
 IsGuestAsk (asks.Disk ask) = IsTrue (is_ask ask)
-IsGuestAsk (asks.Vdi ask) = IsAsk ask
+IsGuestAsk (asks.Vdi ask) = IsVdiAsk ask
 
 -- what a guest's request must meet
 pub record MayGuest (req session : ℕ) (ask : Ask) (node : Node) : Type 0 where
-  pub room : IsTrue (may_ask session ask node)
+  pub room : IsTrue (has_room_for session ask node)
   pub number : IsTrue (not (tree.contains_key node.requests req))
-  pub member : IsTrue (is_member node)
+  pub member : IsTrue (is_epoch_member node)
   pub asked : IsGuestAsk ask
 
 -- which entry may be the first
@@ -121,12 +121,12 @@ pub record MayComeBack (entries : List Entry) (node : Node) : Type 0 where
 abbrev pub Meets : Input → Node → Type 0
 Meets (inputs.Guest req session ask) node = MayGuest req session ask node
 Meets (inputs.Request request) node = MayServe node.peer request.ask
-Meets (inputs.Reply rsp) node = IsTrue (fits rsp node)
-Meets (inputs.Lost number) node = IsTrue (waits_for number node)
+Meets (inputs.Reply rsp) node = IsTrue (fits_node rsp node)
+Meets (inputs.Lost number) node = IsTrue (node_awaits number node)
 Meets (inputs.LogEntry entry) node = MayRead node.peer.entries entry
-Meets inputs.Put node = IsTrue (may_put node)
+Meets inputs.Put node = IsTrue (has_entry_to_put node)
 Meets inputs.RecoverTick node = IsTrue (may_tick node)
-Meets inputs.RetryTick node = IsTrue (may_retry node)
+Meets inputs.RetryTick node = IsTrue (has_work_to_retry node)
 Meets (inputs.Back entries) node = MayComeBack entries node
 
 -- a node may step where it has numbers left, and the input meets its condition

@@ -7,7 +7,7 @@ use Rattle.object_id.specs.declared.entry.Origin.{Origin}
 use Rattle.object_id.specs.declared.entry.Origin.TheVariants.{Fresh, SnapshotOf, CloneOf}
 use Rattle.object_id.specs.declared.entry.Entry.{Entry}
 use Rattle.object_id.specs.declared.entry.Entry.TheVariants.{Format, Join, Leave, Reweight, Recovered, Reserve, Publish, Clone, Snapshot, Delete, Lock, Unlock}
-use Rattle.vdi_directory.specs.Names.{is_same}
+use Rattle.vdi_directory.specs.Names.{is_same_bytes}
 use Rattle.vdi_ops.specs.Op.{entry_wanted}
 use Rattle.sheep_node.specs.State.{Course, Waiting, Driving, Commanding}
 
@@ -27,26 +27,26 @@ abbrev pub is_same_tag : Option (List ℕ) → Option (List ℕ) → Bool
 is_same_tag None None = true
 is_same_tag None (Some tag) = false
 is_same_tag (Some tag) None = false
-is_same_tag (Some tag) (Some other) = is_same tag other
+is_same_tag (Some tag) (Some other) = is_same_bytes tag other
 
 -- two origins of one kind with the same in them
 abbrev pub is_same_origin : Origin → Origin → Bool
 is_same_origin (Fresh spec) (Fresh other) = is_same_spec spec other
-is_same_origin (SnapshotOf tag) (SnapshotOf other) = is_same tag other
-is_same_origin (CloneOf base tag) (CloneOf other label) = is_same base other && is_same tag label
+is_same_origin (SnapshotOf tag) (SnapshotOf other) = is_same_bytes tag other
+is_same_origin (CloneOf base tag) (CloneOf other label) = is_same_bytes base other && is_same_bytes tag label
 is_same_origin _ _ = false
 
 -- two entries of one kind that commands put, with the same in them
 abbrev pub is_same_entry : Entry → Entry → Bool
 is_same_entry (Reserve by session name origin) (Reserve node number text source) =
-    by.0 == node.0 && (session == number && (is_same name text && is_same_origin origin source))
+    by.0 == node.0 && (session == number && (is_same_bytes name text && is_same_origin origin source))
 is_same_entry (Publish by vid) (Publish node id) = by.0 == node.0 && vid.0 == id.0
 is_same_entry (Clone by vid) (Clone node id) = by.0 == node.0 && vid.0 == id.0
 is_same_entry (Snapshot by old vid) (Snapshot node before id) = by.0 == node.0 && (old.0 == before.0 && vid.0 == id.0)
 is_same_entry (Delete by session name tag) (Delete node number text label) =
-    by.0 == node.0 && (session == number && (is_same name text && is_same_tag tag label))
+    by.0 == node.0 && (session == number && (is_same_bytes name text && is_same_tag tag label))
 is_same_entry (Lock by session name tag) (Lock node number text label) =
-    by.0 == node.0 && (session == number && (is_same name text && is_same_tag tag label))
+    by.0 == node.0 && (session == number && (is_same_bytes name text && is_same_tag tag label))
 is_same_entry (Unlock by session vid) (Unlock node number id) = by.0 == node.0 && (session == number && vid.0 == id.0)
 is_same_entry _ _ = false
 

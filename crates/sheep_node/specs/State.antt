@@ -4,7 +4,7 @@ use Rattle.std.specs.Ordering.{nat_cmp}
 use Rattle.std.specs.FinMap as tree
 use Rattle.object_id.specs.declared.node.NodeId.{NodeId}
 use Rattle.object_id.specs.declared.entry.Entry.{Entry}
-use Rattle.vnode_table.specs.Epochs.{Entered}
+use Rattle.vnode_table.specs.Epochs.{EpochMembers}
 use Rattle.peer_proto.specs.declared.guest.DiskAsk.{DiskAsk}
 use Rattle.peer_proto.specs.declared.guest.VdiAsk.{VdiAsk}
 use Rattle.peer_service.specs.State as peers
@@ -16,7 +16,7 @@ use Rattle.recovery.specs.State.{Recovery}
 use Rattle.gateway_queue.specs.declared.queue.Queued.{Queued}
 use Rattle.guest_driver.specs.declared.disk.Disk.{Disk}
 use Rattle.guest_driver.specs.Driver.{Driver}
-use Rattle.guest_driver.specs.InodeLine.{Line, free_line}
+use Rattle.guest_driver.specs.InodeQueue.{InodeQueue, empty_inode_queue}
 use Rattle.vdi_ops.specs.Op.{Op}
 
 -- where a request is that has no reply
@@ -37,7 +37,7 @@ pub record Request : Type 0 where
 pub record Session : Type 0 where
   pub disk : Option Disk
   pub queue : List Queued
-  pub line : Line
+  pub inode_queue : InodeQueue
 
 -- a node: the peer that others ask, the epochs that it entered with their members, its works, its recovery, and whether
 -- `Recovered` of that was put; its sessions and their requests without reply, by number; the entries that it has still to
@@ -45,7 +45,7 @@ pub record Session : Type 0 where
 pub record Node : Type 0 where
   pub me : NodeId
   pub peer : Peer
-  pub epochs : List Entered
+  pub epochs : List EpochMembers
   pub gateway : Gateway
   pub recovery : Recovery
   pub recovered : Bool
@@ -56,20 +56,20 @@ pub record Node : Type 0 where
 
 -- a session that has asked nothing
 abbrev pub new_session : Session
-new_session = record { disk = None; queue = []; line = free_line }
+new_session = record { disk = None; queue = []; inode_queue = empty_inode_queue }
 
 -- the session of a number
 abbrev pub session_at : ℕ → Node → Session
 session_at number node = unwrap_or (tree.get node.sessions number) new_session
 
 -- a node that has read nothing; the first epoch needs no recovery
-abbrev pub opening : NodeId → ℕ → Node
-opening me tries = record {
+abbrev pub initial_node : NodeId → ℕ → Node
+initial_node me tries = record {
   me = me;
-  peer = peers.opening tree.empty 1;
+  peer = peers.initial_peer tree.empty 1;
   epochs = [];
-  gateway = gateways.opening me tries;
-  recovery = recoveries.opening me;
+  gateway = gateways.initial_gateway me tries;
+  recovery = recoveries.initial_recovery me;
   recovered = true;
   sessions = tree.empty;
   requests = tree.empty;

@@ -24,7 +24,7 @@ pub enum Event {
     Join { node: NodeId },
     /// The member gets another weight.
     Reweight { node: NodeId },
-    /// The lost node comes back with its store, in its next life.
+    /// The lost node comes back with its store, in its next incarnation.
     Back { node: NodeId },
     /// The script's phase ends, and the next one begins.
     Phase,

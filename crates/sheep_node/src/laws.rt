@@ -12,63 +12,63 @@ ghost use Rattle.peer_proto.specs.declared.say.PeerSay.TheVariants.{Refused};
 ghost use Rattle.peer_proto.specs.declared.say.Refusal.TheVariants.{OldEpoch, NewEpoch};
 ghost use Rattle.peer_proto.specs.declared.work.ObjWork.{ObjWork};
 ghost use Rattle.gateway.specs.State.{is_touched};
-ghost use Rattle.gateway.specs.Told.{AreNumberedFrom};
+ghost use Rattle.gateway.specs.Outcomes.{AreNumberedFrom};
 ghost use Rattle.vdi_ops.specs.Op.{Op, entry_wanted};
 ghost use Rattle.sheep_node.specs.declared.ask.Ask.TheVariants.{Vdi};
 ghost use Rattle.sheep_node.specs.declared.input.Input.{Input};
 ghost use Rattle.sheep_node.specs.declared.input.Input.TheVariants as inputs;
-ghost use Rattle.sheep_node.specs.State.{Node, Commanding, opening};
-ghost use Rattle.sheep_node.specs.Turn.{Turn};
+ghost use Rattle.sheep_node.specs.State.{Node, Commanding, initial_node};
+ghost use Rattle.sheep_node.specs.StepState.{StepState};
 ghost use Rattle.sheep_node.specs.Same.{is_of_command, waits_for_entry};
-ghost use Rattle.sheep_node.specs.Works.{work_begun};
+ghost use Rattle.sheep_node.specs.RequestWorks.{work_begun};
 ghost use Rattle.sheep_node.specs.May.{May};
-ghost use Rattle.sheep_node.specs.Step.{is_due, recovered_put, stepped};
-ghost use Rattle.sheep_node.specs.Told.{read_after, may_begin_recovery, only_said, said_on, put_on, Ascend, IsByTheLog};
+ghost use Rattle.sheep_node.specs.Step.{is_due, recovered_put, node_step};
+ghost use Rattle.sheep_node.specs.StepFacts.{read_after, may_begin_recovery, only_reply, said_on, put_on, Ascend, IsByTheLog};
 
 /// The sends of a step are numbered upwards from the node's count, and the count grows by how many they are. So no two
 /// sends of a node have one number.
 pub fn sends_are_numbered()
-    ensures numbers { (input : Input) (node : Node) → AreNumberedFrom node.sends (stepped input node).outputs.sends }
+    ensures numbers { (input : Input) (node : Node) → AreNumberedFrom node.sends (node_step input node).outputs.sends }
     ensures count { (input : Input) (node : Node)
-        → (stepped input node).node.sends ≡ node.sends + length (stepped input node).outputs.sends }
+        → (node_step input node).node.sends ≡ node.sends + length (node_step input node).outputs.sends }
 {}
 
 /// Only an entry of the log, and coming back, change what a node has read; and it stays itself.
 pub fn only_the_log_is_read()
-    ensures read { (input : Input) (node : Node) → (stepped input node).node.peer.entries ≡ read_after input node.peer.entries }
-    ensures own { (input : Input) (node : Node) → (stepped input node).node.me ≡ node.me }
+    ensures read { (input : Input) (node : Node) → (node_step input node).node.peer.entries ≡ read_after input node.peer.entries }
+    ensures own { (input : Input) (node : Node) → (node_step input node).node.me ≡ node.me }
 {}
 
 /// A node's epoch, its settled epoch and the members of its epochs are those of the entries that it has read: so it opens,
 /// and so it stays at each step.
 pub fn a_node_is_where_its_entries_have_it()
-    ensures opens { (me : NodeId) (tries : ℕ) → IsByTheLog (opening me tries) }
-    ensures stays { (input : Input) (node : Node) → May input node → IsByTheLog node → IsByTheLog (stepped input node).node }
+    ensures opens { (me : NodeId) (tries : ℕ) → IsByTheLog (initial_node me tries) }
+    ensures stays { (input : Input) (node : Node) → May input node → IsByTheLog node → IsByTheLog (node_step input node).node }
 {}
 
 /// Something is said to a peer only on a request, and put into the log only on Put: the outbox's first entry. Guests are
 /// replied to by ascending request.
 pub fn outputs_are_as_the_input()
-    ensures say { (input : Input) (node : Node) → (stepped input node).outputs.say ≡ said_on input node }
-    ensures put { (input : Input) (node : Node) → (stepped input node).outputs.put ≡ put_on input node }
-    ensures replies { (input : Input) (node : Node) → Ascend (stepped input node).outputs.replies }
+    ensures say { (input : Input) (node : Node) → (node_step input node).outputs.say ≡ said_on input node }
+    ensures put { (input : Input) (node : Node) → (node_step input node).outputs.put ≡ put_on input node }
+    ensures replies { (input : Input) (node : Node) → Ascend (node_step input node).outputs.replies }
 {}
 
 /// A request of another epoch is answered with the node's own, and changes nothing.
 pub fn other_epochs_are_refused()
     ensures older { (request : PeerReq) (node : Node) → request.epoch.0 < node.peer.epoch → is_due node ≡ false
-        → stepped (inputs.Request request) node ≡ record {
+        → node_step (inputs.Request request) node ≡ record {
           node = node;
-          outputs = only_said (record {
+          outputs = only_reply (record {
             number = request.number;
             epoch = record { 0 = node.peer.epoch };
             say = Refused (OldEpoch (record { 0 = node.peer.epoch }));
           });
         } }
     ensures newer { (request : PeerReq) (node : Node) → node.peer.epoch < request.epoch.0 → is_due node ≡ false
-        → stepped (inputs.Request request) node ≡ record {
+        → node_step (inputs.Request request) node ≡ record {
           node = node;
-          outputs = only_said (record {
+          outputs = only_reply (record {
             number = request.number;
             epoch = record { 0 = node.peer.epoch };
             say = Refused (NewEpoch (record { 0 = node.peer.epoch }));
@@ -79,15 +79,15 @@ pub fn other_epochs_are_refused()
 /// The entry that was put leaves the outbox, and nothing else changes.
 pub fn what_is_put_leaves_the_outbox()
     ensures { (node : Node) (entry : Entry) (later : List Entry) → node.outbox ≡ entry ∷ later → is_due node ≡ false
-        → (stepped inputs.Put node).node ≡ record node { outbox = later } }
+        → (node_step inputs.Put node).node ≡ record node { outbox = later } }
 {}
 
 /// At the end of a step no `Recovered` is due, and none is put twice: once put it stays so, until a recovery begins.
 pub fn recovered_is_put_once()
-    ensures due { (input : Input) (node : Node) → is_due (stepped input node).node ≡ false }
-    ensures once { (turn : Turn) → turn.node.recovered ≡ true → recovered_put turn ≡ turn }
+    ensures due { (input : Input) (node : Node) → is_due (node_step input node).node ≡ false }
+    ensures once { (so_far : StepState) → so_far.node.recovered ≡ true → recovered_put so_far ≡ so_far }
     ensures stays { (input : Input) (node : Node) → may_begin_recovery input ≡ false → node.recovered ≡ true
-        → (stepped input node).node.recovered ≡ true }
+        → (node_step input node).node.recovered ≡ true }
 {}
 
 /// A decision goes to a command that waits for exactly the entry that was read.
@@ -100,13 +100,13 @@ pub fn a_decision_is_on_the_entry_wanted()
 
 /// A touched request's work begins or waits, and no guest is replied to: it is never refused at its start.
 pub fn a_touched_work_is_not_refused()
-    ensures { (number req : ℕ) (work : ObjWork) (turn : Turn) → is_touched req turn.node.gateway ≡ true
-        → (work_begun number req work turn).outputs.replies ≡ turn.outputs.replies }
+    ensures { (number req : ℕ) (work : ObjWork) (so_far : StepState) → is_touched req so_far.node.gateway ≡ true
+        → (work_begun number req work so_far).outputs.replies ≡ so_far.outputs.replies }
 {}
 
 /// A guest's command begins with its entry in the outbox: a new disk with its reservation.
 pub fn a_create_begins_with_its_reservation()
     ensures { (req session : ℕ) (name : List ℕ) (spec : VdiSpec) (node : Node) → is_due node ≡ false
-        → (stepped (inputs.Guest req session (Vdi (Create name spec))) node).node.outbox
+        → (node_step (inputs.Guest req session (Vdi (Create name spec))) node).node.outbox
         ≡ node.outbox ++ entries.Reserve node.me session name (Fresh spec) ∷ [] }
 {}

@@ -11,12 +11,12 @@ use Rattle.sheep_proto.specs.declared.fault.HeaderFault.{HeaderFault}
 use Rattle.sheep_proto.specs.declared.fault.HeaderFault.TheVariants.{ShortHeader, VerMismatch, UnknownOpcode}
 use Rattle.sheep_proto.specs.declared.reply.VdiRsp.{VdiRsp}
 use Rattle.sheep_proto.specs.Headers.{common_bytes, common_at, is_object_opcode, is_vdi_opcode}
-use Rattle.sheep_proto.specs.Replies.{rsp_common, reply_bytes, rsp_at, reply_of, SpellsReply, IsReply}
+use Rattle.sheep_proto.specs.Replies.{rsp_common, reply_bytes, rsp_at, reply_in_bytes, SpellsReply, IsVdiRsp}
 use Rattle.sheep_proto.proofs.HeaderLemmas.{passed, not-false, common-fits, common-stands}
 
 -- ---- what is read is spelled
 
-rsp-fits : (bytes : List ℕ) → AreBytes bytes → (is_object_opcode (u8_at 1 bytes) || is_vdi_opcode (u8_at 1 bytes)) ≡ true → IsReply (rsp_at bytes)
+rsp-fits : (bytes : List ℕ) → AreBytes bytes → (is_object_opcode (u8_at 1 bytes) || is_vdi_opcode (u8_at 1 bytes)) ≡ true → IsVdiRsp (rsp_at bytes)
 rsp-fits bytes fits opcode = record {
   opcode = opcode;
   common = common-fits bytes fits;
@@ -42,13 +42,13 @@ rsp-spelled bytes fits long version =
 
 by-opcode : (bytes : List ℕ) (rsp : VdiRsp) (known : Bool) → AreBytes bytes → HEADER_BYTES ≤ length bytes → u8_at 0 bytes ≡ VERSION
     → (is_object_opcode (u8_at 1 bytes) || is_vdi_opcode (u8_at 1 bytes)) ≡ known
-    → cond known (Ok (rsp_at bytes)) (Err UnknownOpcode) ≡ Ok rsp → IsReply rsp × SpellsReply bytes rsp
+    → cond known (Ok (rsp_at bytes)) (Err UnknownOpcode) ≡ Ok rsp → IsVdiRsp rsp × SpellsReply bytes rsp
 by-opcode bytes rsp true fits long version known_is e =
     let same : rsp_at bytes ≡ rsp = cc in
-    subst (λ (r : VdiRsp). IsReply r × SpellsReply bytes r) same (rsp-fits bytes fits known_is, rsp-spelled bytes fits long version)
+    subst (λ (r : VdiRsp). IsVdiRsp r × SpellsReply bytes r) same (rsp-fits bytes fits known_is, rsp-spelled bytes fits long version)
 by-opcode bytes rsp false fits long version known_is e = absurd cc
 
-pub reply-spelled : (bytes : List ℕ) (rsp : VdiRsp) → AreBytes bytes → reply_of bytes ≡ Ok rsp → IsReply rsp × SpellsReply bytes rsp
+pub reply-spelled : (bytes : List ℕ) (rsp : VdiRsp) → AreBytes bytes → reply_in_bytes bytes ≡ Ok rsp → IsVdiRsp rsp × SpellsReply bytes rsp
 reply-spelled bytes rsp fits e =
     let short = passed (ltb (length bytes) HEADER_BYTES) _ _ rsp e in
     let other = passed (not (eqb (u8_at 0 bytes) VERSION)) _ _ rsp short.1 in
@@ -56,7 +56,7 @@ reply-spelled bytes rsp fits e =
     let version : u8_at 0 bytes ≡ VERSION = eqb-true (u8_at 0 bytes) VERSION (not-false _ other.0) in
     by-opcode bytes rsp (is_object_opcode (u8_at 1 bytes) || is_vdi_opcode (u8_at 1 bytes)) fits long version refl other.1
 
-pub reply-is_spelled : (bytes : List ℕ) (r : Result VdiRsp HeaderFault) → AreBytes bytes → r ≡ reply_of bytes → IfOk r (λ rsp. IsReply rsp × SpellsReply bytes rsp)
+pub reply-is_spelled : (bytes : List ℕ) (r : Result VdiRsp HeaderFault) → AreBytes bytes → r ≡ reply_in_bytes bytes → IfOk r (λ rsp. IsVdiRsp rsp × SpellsReply bytes rsp)
 reply-is_spelled bytes (Ok rsp) fits e = reply-spelled bytes rsp fits (sym e)
 reply-is_spelled bytes (Err fault) fits e = tt
 
@@ -88,7 +88,7 @@ rsp-stands bytes rsp spells =
       omega (arith, ap length spells.whole, length-append (reply_bytes rsp spells.between spells.last) spells.rest, at_48),
     )
 
-rsp-read : (bytes : List ℕ) (rsp : VdiRsp) → IsReply rsp → (spells : SpellsReply bytes rsp) → rsp_at bytes ≡ rsp
+rsp-read : (bytes : List ℕ) (rsp : VdiRsp) → IsVdiRsp rsp → (spells : SpellsReply bytes rsp) → rsp_at bytes ≡ rsp
 rsp-read bytes rsp fits spells =
     let whole = spells.whole in
     same-rsp (u8_at 1 bytes) (u16_at 2 bytes) (u32_at 4 bytes) (u32_at 8 bytes) (u32_at 12 bytes) (u32_at 16 bytes) (u32_at 24 bytes) rsp
@@ -104,7 +104,7 @@ reply-case : (short version known : Bool) (rsp : VdiRsp) → short ≡ false →
     → cond short (Err ShortHeader) (cond (not version) (Err VerMismatch) (cond known (Ok rsp) (Err UnknownOpcode))) ≡ Ok rsp
 reply-case short version known rsp s v k = rw (s, v, k) refl
 
-pub reply-again : (bytes : List ℕ) (rsp : VdiRsp) → IsReply rsp → SpellsReply bytes rsp → reply_of bytes ≡ Ok rsp
+pub reply-again : (bytes : List ℕ) (rsp : VdiRsp) → IsVdiRsp rsp → SpellsReply bytes rsp → reply_in_bytes bytes ≡ Ok rsp
 reply-again bytes rsp fits spells =
     let same : rsp_at bytes ≡ rsp = rsp-read bytes rsp fits spells in
     let long : HEADER_BYTES ≤ length bytes = (rsp-stands bytes rsp spells).1 in
@@ -114,7 +114,7 @@ reply-again bytes rsp fits spells =
     (le-ltb (length bytes) HEADER_BYTES long) (ap (λ (b : List ℕ). eqb (u8_at 0 b) VERSION) spells.whole) opcode
     ∙ ap (λ (r : VdiRsp). Ok r) same
 
-pub one-reply : (bytes : List ℕ) (a b : VdiRsp) → IsReply a → IsReply b → SpellsReply bytes a → SpellsReply bytes b → a ≡ b
+pub one-reply : (bytes : List ℕ) (a b : VdiRsp) → IsVdiRsp a → IsVdiRsp b → SpellsReply bytes a → SpellsReply bytes b → a ≡ b
 one-reply bytes a b fits_a fits_b spells_a spells_b =
     let same : Ok a ≡ Ok b = sym (reply-again bytes a fits_a spells_a) ∙ reply-again bytes b fits_b spells_b in cc
 

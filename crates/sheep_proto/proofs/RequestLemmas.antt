@@ -15,7 +15,7 @@ use Rattle.sheep_proto.specs.declared.request.VdiReq.{VdiReq}
 use Rattle.sheep_proto.specs.declared.request.Request.{Request}
 use Rattle.sheep_proto.specs.declared.request.Request.TheVariants.{Obj, Vdi}
 use Rattle.sheep_proto.specs.Headers.{common_bytes, common_at, is_object_opcode, is_vdi_opcode}
-use Rattle.sheep_proto.specs.Requests.{obj_common, obj_bytes, vdi_bytes, request_bytes, reserved_of, obj_at, vdi_at, request_of, SpellsRequest, IsObjReq, IsVdiReq, IsRequest}
+use Rattle.sheep_proto.specs.Requests.{obj_common, obj_bytes, vdi_bytes, request_bytes, reserved_of, obj_at, vdi_at, request_in_bytes, SpellsRequest, IsObjReq, IsVdiReq, IsRequest}
 use Rattle.sheep_proto.proofs.HeaderLemmas.{passed, not-false, common-fits, common-stands}
 
 -- ---- what is read is spelled
@@ -93,7 +93,7 @@ by-opcode bytes req false true fits long version object_is vdi_is e =
     subst (λ (r : Request). IsRequest r × SpellsRequest bytes r) same (vdi-fits bytes fits vdi_is, vdi-spelled bytes fits long version)
 by-opcode bytes req false false fits long version object_is vdi_is e = absurd cc
 
-pub request-spelled : (bytes : List ℕ) (req : Request) → AreBytes bytes → request_of bytes ≡ Ok req → IsRequest req × SpellsRequest bytes req
+pub request-spelled : (bytes : List ℕ) (req : Request) → AreBytes bytes → request_in_bytes bytes ≡ Ok req → IsRequest req × SpellsRequest bytes req
 request-spelled bytes req fits e =
     let short = passed (ltb (length bytes) HEADER_BYTES) _ _ req e in
     let other = passed (not (eqb (u8_at 0 bytes) VERSION)) _ _ req short.1 in
@@ -101,7 +101,7 @@ request-spelled bytes req fits e =
     let version : u8_at 0 bytes ≡ VERSION = eqb-true (u8_at 0 bytes) VERSION (not-false _ other.0) in
     by-opcode bytes req (is_object_opcode (u8_at 1 bytes)) (is_vdi_opcode (u8_at 1 bytes)) fits long version refl refl other.1
 
-pub request-is_spelled : (bytes : List ℕ) (r : Result Request HeaderFault) → AreBytes bytes → r ≡ request_of bytes → IfOk r (λ req. IsRequest req × SpellsRequest bytes req)
+pub request-is_spelled : (bytes : List ℕ) (r : Result Request HeaderFault) → AreBytes bytes → r ≡ request_in_bytes bytes → IfOk r (λ req. IsRequest req × SpellsRequest bytes req)
 request-is_spelled bytes (Ok req) fits e = request-spelled bytes req fits (sym e)
 request-is_spelled bytes (Err fault) fits e = tt
 
@@ -190,7 +190,7 @@ vdi-case : (short version object vdi : Bool) (first req : Request) → short ≡
     → cond short (Err ShortHeader) (cond (not version) (Err VerMismatch) (cond object (Ok first) (cond vdi (Ok req) (Err UnknownOpcode)))) ≡ Ok req
 vdi-case short version object vdi first req s v o d = rw (s, v, o, d) refl
 
-pub request-again : (bytes : List ℕ) (req : Request) → IsRequest req → SpellsRequest bytes req → request_of bytes ≡ Ok req
+pub request-again : (bytes : List ℕ) (req : Request) → IsRequest req → SpellsRequest bytes req → request_in_bytes bytes ≡ Ok req
 unfolding obj-front
 request-again bytes (Obj req) fits spells =
     let same : obj_at bytes ≡ req = obj-read bytes req fits spells.reserved spells.rest spells.count spells.whole in

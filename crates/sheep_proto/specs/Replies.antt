@@ -27,7 +27,7 @@ pub record SpellsReply (bytes : List ℕ) (rsp : VdiRsp) : Type 0 where
   pub whole : bytes ≡ reply_bytes rsp between last ++ rest
 
 -- the opcode is one of a request, and the numbers fit their fields
-pub record IsReply (rsp : VdiRsp) : Type 0 where
+pub record IsVdiRsp (rsp : VdiRsp) : Type 0 where
   pub opcode : IsTrue (is_object_opcode rsp.opcode || is_vdi_opcode rsp.opcode)
   pub common : IsCommon (rsp_common rsp)
   pub code : rsp.result < 2 ^ 32
@@ -46,8 +46,8 @@ rsp_at bytes = record {
 }
 
 -- what bytes are read as: the first refusal, or the fields
-abbrev pub reply_of : List ℕ → Result VdiRsp HeaderFault
-reply_of bytes =
+abbrev pub reply_in_bytes : List ℕ → Result VdiRsp HeaderFault
+reply_in_bytes bytes =
     if nat_lt (length bytes) HEADER_BYTES then Err ShortHeader else
     if not (u8_at 0 bytes == VERSION) then Err VerMismatch else
     if is_object_opcode (u8_at 1 bytes) || is_vdi_opcode (u8_at 1 bytes) then Ok (rsp_at bytes) else Err UnknownOpcode

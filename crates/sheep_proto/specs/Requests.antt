@@ -106,8 +106,8 @@ vdi_at bytes = record {
 }
 
 -- what bytes are read as: the first refusal, or the fields by the kind of the opcode
-abbrev pub request_of : List ℕ → Result Request HeaderFault
-request_of bytes =
+abbrev pub request_in_bytes : List ℕ → Result Request HeaderFault
+request_in_bytes bytes =
     if nat_lt (length bytes) HEADER_BYTES then Err ShortHeader else
     if not (u8_at 0 bytes == VERSION) then Err VerMismatch else
     if is_object_opcode (u8_at 1 bytes) then Ok (Obj (obj_at bytes)) else

@@ -1,6 +1,6 @@
 ghost use Rattle.std.specs.Prelude.{◌≡◌, IfOk};
 ghost use Rattle.object_id.specs.Fields.{zeros};
-ghost use Rattle.sheep_proto.specs.Replies.{reply_bytes, reply_of, SpellsReply, IsReply};
+ghost use Rattle.sheep_proto.specs.Replies.{reply_bytes, reply_in_bytes, SpellsReply, IsVdiRsp};
 
 use crate::common::{Common, put_common, read_common};
 use crate::fault::HeaderFault;
@@ -38,7 +38,7 @@ pub fn encode_reply(rsp: &VdiRsp) -> [u8; 48]
 }
 
 fn read_reply(bytes: &[u8]) -> Result<VdiRsp, HeaderFault>
-    ensures { result ≡ reply_of bytes.now }
+    ensures { result ≡ reply_in_bytes bytes.now }
 {
     let common = read_common(bytes)?;
     if !is_object_opcode(common.opcode) && !is_vdi_opcode(common.opcode) {
@@ -58,11 +58,11 @@ fn read_reply(bytes: &[u8]) -> Result<VdiRsp, HeaderFault>
 /// The reply that the bytes begin with, whatever its reserved bytes are.
 pub fn decode_reply(bytes: &[u8]) -> Result<VdiRsp, HeaderFault>
     // The first refusal, or the fields by their offsets.
-    ensures exact { result ≡ reply_of bytes.now }
+    ensures exact { result ≡ reply_in_bytes bytes.now }
     // What is read is a reply, and the bytes begin with its spelling.
-    ensures spelled { IfOk result (λ rsp. IsReply rsp × SpellsReply bytes.now rsp) }
+    ensures spelled { IfOk result (λ rsp. IsVdiRsp rsp × SpellsReply bytes.now rsp) }
     // Each reply whose spelling they begin with is the one that is read.
-    ensures only { (rsp : VdiRsp) → IsReply rsp → SpellsReply bytes.now rsp → result ≡ Ok rsp }
+    ensures only { (rsp : VdiRsp) → IsVdiRsp rsp → SpellsReply bytes.now rsp → result ≡ Ok rsp }
 {
     read_reply(bytes)
 }

@@ -1,7 +1,7 @@
 ghost use Rattle.std.specs.Prelude.{◌≡◌, ◌<◌, ◌≤◌, ◌^◌, IfOk, IsTrue, length};
 ghost use Rattle.object_id.specs.Fields.{zeros};
 ghost use Rattle.sheep_proto.specs.Headers.{common_at, is_object_opcode, is_vdi_opcode};
-ghost use Rattle.sheep_proto.specs.Requests.{obj_bytes, vdi_bytes, request_bytes, reserved_of, obj_at, vdi_at, request_of, SpellsRequest, IsRequest};
+ghost use Rattle.sheep_proto.specs.Requests.{obj_bytes, vdi_bytes, request_bytes, reserved_of, obj_at, vdi_at, request_in_bytes, SpellsRequest, IsRequest};
 
 use crate::codes::{
     CREATE_AND_WRITE_OBJ, DEL_VDI, FLUSH_VDI, GET_VDI_INFO, LOCK_VDI, NEW_VDI, READ_OBJ,
@@ -161,7 +161,7 @@ fn read_vdi(common: &Common, bytes: &[u8]) -> VdiReq
 }
 
 fn read_request(bytes: &[u8]) -> Result<Request, HeaderFault>
-    ensures { result ≡ request_of bytes.now }
+    ensures { result ≡ request_in_bytes bytes.now }
 {
     let common = read_common(bytes)?;
     if is_object_opcode(common.opcode) {
@@ -176,7 +176,7 @@ fn read_request(bytes: &[u8]) -> Result<Request, HeaderFault>
 /// The request that the bytes begin with, whatever its reserved bytes are.
 pub fn decode_request(bytes: &[u8]) -> Result<Request, HeaderFault>
     // The first refusal, or the fields by their offsets.
-    ensures exact { result ≡ request_of bytes.now }
+    ensures exact { result ≡ request_in_bytes bytes.now }
     // What is read is a request, and the bytes begin with its spelling.
     ensures spelled { IfOk result (λ req. IsRequest req × SpellsRequest bytes.now req) }
     // Each request whose spelling they begin with is the one that is read.

@@ -6,7 +6,7 @@ use Rattle.std.specs.Option.{option_map_or}
 use Rattle.std.proofs.lemmas.Bool.{eqb-true}
 use Rattle.std.proofs.lemmas.Option.{same_Some}
 use Rattle.cluster_script.specs.declared.statement.Statement.{Statement}
-use Rattle.cluster_script.specs.Asked.{session_of, is_of_session}
+use Rattle.cluster_script.specs.NumberedRequests.{session_of, is_of_session}
 
 -- the numbers of a session's requests among some, counted from `first`
 abbrev pub those_of : ℕ → List Statement → ℕ → List (ℕ × Statement)

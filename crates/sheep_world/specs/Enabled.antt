@@ -4,12 +4,12 @@ use Rattle.std.specs.Option.{option_map_or}
 use Rattle.std.specs.FinMap as tree
 use Rattle.cluster_script.specs.declared.statement.Statement.{Statement}
 use Rattle.cluster_script.specs.declared.statement.Statement.TheVariants as lines
-use Rattle.cluster_script.specs.Sessions.{Session, sessions_of}
+use Rattle.cluster_script.specs.Sessions.{ScriptSession, sessions_of}
 use Rattle.sheep_node.specs.declared.event.Event.{Event}
 use Rattle.sheep_node.specs.declared.event.Event.TheVariants as events
 use Rattle.sheep_world.specs.declared.name.MessageName.{MessageName}
-use Rattle.sheep_world.specs.World.{Letter, Request, Reply, World, next_control}
-use Rattle.sheep_world.specs.Conditions.{may_guest, may_deliver, may_lose_request, may_lose_reply, may_read, may_put, may_recover, may_retry, may_lose_node, may_leave, may_join, may_reweight, may_come_back, may_end_phase}
+use Rattle.sheep_world.specs.World.{Packet, Request, Reply, World, next_control}
+use Rattle.sheep_world.specs.Conditions.{may_guest, may_deliver, may_lose_request, may_lose_reply, may_log_next, may_put, may_recover, may_retry, may_lose_node, may_leave, may_join, may_reweight, may_come_back, may_end_phase}
 
 -- whether an event may happen
 unfoldable pub is_enabled : List Statement → World → Event → Bool
@@ -17,7 +17,7 @@ is_enabled statements world (events.Guest session) = may_guest statements sessio
 is_enabled statements world (events.Deliver node number) = may_deliver (record { sender = node; number = number }) world
 is_enabled statements world (events.LoseRequest node number) = may_lose_request (record { sender = node; number = number }) world
 is_enabled statements world (events.LoseReply node number) = may_lose_reply (record { sender = node; number = number }) world
-is_enabled statements world (events.LogNext node) = may_read node.0 world
+is_enabled statements world (events.LogNext node) = may_log_next node.0 world
 is_enabled statements world (events.Put node) = may_put node.0 world
 is_enabled statements world (events.RecoverTick node) = may_recover node.0 world
 is_enabled statements world (events.RetryTick node) = may_retry node.0 world
@@ -30,15 +30,15 @@ is_enabled statements world events.Phase = may_end_phase statements world
 
 -- each session's request, by session
 abbrev pub guest_events : List Statement → List Event
-guest_events statements = map (λ (session : Session). events.Guest session.number) (sessions_of statements)
+guest_events statements = map (λ (session : ScriptSession). events.Guest session.number) (sessions_of statements)
 
 -- the loss of a message, by what it is
-abbrev pub loss_of : MessageName → Letter → Event
+abbrev pub loss_of : MessageName → Packet → Event
 loss_of name (Request to bytes) = events.LoseRequest name.sender name.number
 loss_of name (Reply from bytes) = events.LoseReply name.sender name.number
 
 -- a message is delivered, or lost
-abbrev pub message_events : MessageName × Letter → List Event
+abbrev pub message_events : MessageName × Packet → List Event
 message_events found = events.Deliver found.0.sender found.0.number ∷ loss_of found.0 found.1 ∷ []
 
 -- what a node may do, and that it leaves
@@ -60,8 +60,8 @@ control_event s = []
 abbrev pub looked_at : List Statement → World → List Event
 looked_at statements world =
     guest_events statements ++ flat_map message_events (tree.entries world.wire)
-    ++ flat_map node_events (tree.keys world.seats) ++ option_map_or control_event (next_control world) []
+    ++ flat_map node_events (tree.keys world.hosts) ++ option_map_or control_event (next_control world) []
 
 -- those of them that may happen, in this order
-unfoldable pub enabled : List Statement → World → List Event
-enabled statements world = filter (is_enabled statements world) (looked_at statements world)
+unfoldable pub enabled_events : List Statement → World → List Event
+enabled_events statements world = filter (is_enabled statements world) (looked_at statements world)

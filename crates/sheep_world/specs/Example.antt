@@ -11,11 +11,11 @@ abbrev pub member : ℕ → Member
 member node = record { node = record { 0 = node }; zone = node; vnodes = 64 }
 
 -- nodes 0 and 1 open the log; node 1 gets weight 32, leaves, and comes back
-abbrev pub lived : List Entry
-lived =
+abbrev pub lived_log : List Entry
+lived_log =
     Format (member 0 ∷ member 1 ∷ []) ∷ Reweight (record { 0 = 1 }) 32 ∷ Leave (record { 0 = 1 })
     ∷ Join (record { 0 = 1 }) 1 32 ∷ []
 
 -- one node, and one session on it that asks once
-abbrev pub small : List Statement
-small = lines.Cluster 1 ∷ lines.Session 1 0 ∷ lines.Close 1 ∷ []
+abbrev pub small_script : List Statement
+small_script = lines.Cluster 1 ∷ lines.Session 1 0 ∷ lines.Close 1 ∷ []

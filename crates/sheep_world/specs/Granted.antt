@@ -1,7 +1,7 @@
 -- What an entry adds to the history, where the log first holds it: the disks that it makes, copies and deletes.
 use Rattle.std.specs.Prelude.{◌/◌, List, [], ◌∷◌, Option}
 use Rattle.std.specs.Option.{option_map_or}
-use Rattle.object_id.specs.declared.piece.TheConstants.{BLOCK_BYTES}
+use Rattle.object_id.specs.declared.limits.TheConstants.{BLOCK_BYTES}
 use Rattle.object_id.specs.declared.oid.Vid.{Vid}
 use Rattle.object_id.specs.declared.entry.Entry.{Entry}
 use Rattle.object_id.specs.declared.entry.Entry.TheVariants as entries
@@ -10,12 +10,12 @@ use Rattle.disk_history.specs.declared.event.HistEvent.TheVariants.{Create, Copy
 use Rattle.vdi_directory.specs.declared.header.Header.{Header}
 use Rattle.vdi_directory.specs.declared.decision.Decision.{Decision}
 use Rattle.vdi_directory.specs.declared.decision.Decision.TheVariants as decisions
-use Rattle.vdi_directory.specs.Decisions.{happened, decision_after}
+use Rattle.vdi_directory.specs.Decisions.{log_effects, decision_after}
 use Rattle.vdi_directory.specs.Effects.{header_of}
 
 -- the header of an id, by entries
-abbrev pub header_in : List Entry → Vid → Option Header
-header_in log vid = header_of (happened log) vid.0
+abbrev pub granted_header : List Entry → Vid → Option Header
+granted_header log vid = header_of (log_effects log) vid.0
 
 -- a new disk, of as many blocks as its size has
 abbrev pub disk_made : Vid → Header → List HistEvent
@@ -33,8 +33,8 @@ granted_adds log vid (entries.Leave node) = []
 granted_adds log vid (entries.Reweight node vnodes) = []
 granted_adds log vid (entries.Recovered node epoch) = []
 granted_adds log vid (entries.Reserve by session name origin) = []
-granted_adds log vid (entries.Publish by of) = option_map_or (disk_made vid) (header_in log vid) []
-granted_adds log vid (entries.Clone by of) = option_map_or (disk_cloned vid) (header_in log vid) []
+granted_adds log vid (entries.Publish by of) = option_map_or (disk_made vid) (granted_header log vid) []
+granted_adds log vid (entries.Clone by of) = option_map_or (disk_cloned vid) (granted_header log vid) []
 granted_adds log vid (entries.Snapshot by old of) = Copy old.0 vid.0 ∷ []
 granted_adds log vid (entries.Delete by session name tag) = Delete vid.0 ∷ []
 granted_adds log vid (entries.Lock by session name tag) = []

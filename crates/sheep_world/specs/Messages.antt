@@ -10,27 +10,27 @@ use Rattle.peer_proto.specs.Ask.{ask_in}
 use Rattle.peer_proto.specs.Say.{say_bytes, say_in}
 use Rattle.sheep_node.specs.declared.input.Input.TheVariants as inputs
 use Rattle.sheep_world.specs.declared.name.MessageName.{MessageName}
-use Rattle.sheep_world.specs.World.{Letter, Request, Reply, World, is_up, message_at, are_ends_up}
-use Rattle.sheep_world.specs.Stepped.{node_stepped, at_rest}
+use Rattle.sheep_world.specs.World.{Packet, Request, Reply, World, is_up, message_at, are_ends_up}
+use Rattle.sheep_world.specs.NodeSteps.{node_stepped, at_rest}
 
 -- a message isn't in the wire
 abbrev pub without_message : MessageName → World → World
 without_message name world = record world { wire = tree.remove world.wire name }
 
 -- a reply enters the wire in the place of its request, on its way back
-abbrev pub with_reply : MessageName → NodeId → Option PeerRsp → World → World
-with_reply name from None world = world
-with_reply name from (Some rsp) world = record world { wire = tree.insert world.wire name (Reply from (say_bytes rsp)) }
+abbrev pub with_reply_packet : MessageName → NodeId → Option PeerRsp → World → World
+with_reply_packet name from None world = world
+with_reply_packet name from (Some rsp) world = record world { wire = tree.insert world.wire name (Reply from (say_bytes rsp)) }
 
 -- a request was served: the reply enters the wire where the sender is up, and else is dropped
-abbrev pub replied : MessageName → NodeId → World → World
-replied name from world =
-    if is_up name.sender.0 world then with_reply name from world.outputs.say world else without_message name world
+abbrev pub reply_sent : MessageName → NodeId → World → World
+reply_sent name from world =
+    if is_up name.sender.0 world then with_reply_packet name from world.outputs.say world else without_message name world
 
 -- a node gets a request; bytes that are none change nothing
 abbrev pub request_got : List Statement → MessageName → NodeId → Result PeerReq PeerFault → World → World
 request_got statements name to (Ok request) world =
-    replied name to (node_stepped statements to.0 (inputs.Request request) world)
+    reply_sent name to (node_stepped statements to.0 (inputs.Request request) world)
 request_got statements name to (Err fault) world = world
 
 -- Deliver: a request comes to the node that it asks
@@ -48,20 +48,20 @@ unfoldable pub reply_delivered : List Statement → MessageName → List ℕ →
 reply_delivered statements name bytes world = reply_got statements name (say_in bytes) (at_rest world)
 
 -- Deliver, by what the message is
-abbrev pub delivered_as : List Statement → MessageName → Option Letter → World → World
+abbrev pub delivered_as : List Statement → MessageName → Option Packet → World → World
 delivered_as statements name None world = world
 delivered_as statements name (Some (Request to bytes)) world = request_delivered statements name to bytes world
 delivered_as statements name (Some (Reply from bytes)) world = reply_delivered statements name bytes world
 
 -- Deliver, by the message's name
-abbrev pub delivered : List Statement → MessageName → World → World
-delivered statements name world = delivered_as statements name (message_at name world) world
+abbrev pub message_delivered : List Statement → MessageName → World → World
+message_delivered statements name world = delivered_as statements name (message_at name world) world
 
 -- a message is lost: one of the losses left is used where both ends are up
-abbrev pub loss_used : MessageName → Option Letter → World → World
+abbrev pub loss_used : MessageName → Option Packet → World → World
 loss_used name None world = world
-loss_used name (Some letter) world =
-    if are_ends_up name letter world then record world { losses = world.losses - 1 } else world
+loss_used name (Some packet) world =
+    if are_ends_up name packet world then record world { losses = world.losses - 1 } else world
 
 -- the sender of the request is told, where it is up
 abbrev pub loss_told : List Statement → MessageName → World → World

@@ -12,8 +12,8 @@ use Rattle.sheep_node.specs.declared.input.Input.TheVariants as inputs
 use Rattle.sheep_node.specs.declared.outputs.Outputs.{Outputs}
 use Rattle.sheep_node.specs.State as nodes
 use Rattle.sheep_node.specs.State.{Node}
-use Rattle.sheep_node.specs.Step.{stepped}
-use Rattle.sheep_world.specs.World.{Seat, World}
+use Rattle.sheep_node.specs.Step.{node_step}
+use Rattle.sheep_world.specs.World.{Host, World}
 
 -- the outputs of no step
 abbrev pub no_outputs : Outputs
@@ -40,27 +40,27 @@ with_phase statements place world = record world {
 }
 
 -- the log's first entry
-abbrev pub first_entry : List Statement → Entry
-first_entry statements = Format (opening_members statements)
+abbrev pub format_entry : List Statement → Entry
+format_entry statements = Format (opening_members statements)
 
 -- an opening member, which has read the first entry by its step
-abbrev pub opening_node : List Statement → Member → Node
-opening_node statements member =
-    (stepped (inputs.LogEntry (first_entry statements)) (nodes.opening member.node (tries_of statements))).node
+abbrev pub initial_member_node : List Statement → Member → Node
+initial_member_node statements member =
+    (node_step (inputs.LogEntry (format_entry statements)) (nodes.initial_node member.node (tries_of statements))).node
 
--- a node in its first life
-abbrev pub first_seat : Node → Seat
-first_seat node = record { node = node; is_lost = false; life = 1 }
+-- a node in its first incarnation
+abbrev pub initial_host : Node → Host
+initial_host node = record { node = node; is_lost = false; incarnation = 1 }
 
--- an opening member's seat, by its number
-abbrev pub opening_seat : List Statement → Member → ℕ × Seat
-opening_seat statements member = (member.node.0, first_seat (opening_node statements member))
+-- an opening member's host, by its number
+abbrev pub initial_member_host : List Statement → Member → ℕ × Host
+initial_member_host statements member = (member.node.0, initial_host (initial_member_node statements member))
 
 -- before the first phase: the log is its first entry, each opening member has read it, and all else is empty
 abbrev pub before_phases : List Statement → World
 before_phases statements = record {
-  seats = tree.from_entries (map (opening_seat statements) (opening_members statements));
-  log = first_entry statements ∷ [];
+  hosts = tree.from_entries (map (initial_member_host statements) (opening_members statements));
+  log = format_entry statements ∷ [];
   wire = tree.empty;
   guests = tree.empty;
   phase = 0;
@@ -71,5 +71,5 @@ before_phases statements = record {
 }
 
 -- the opening world of a script: its first phase, if it has one, is present
-unfoldable pub opening : List Statement → World
-opening statements = with_phase statements 0 (before_phases statements)
+unfoldable pub initial_world : List Statement → World
+initial_world statements = with_phase statements 0 (before_phases statements)

@@ -7,7 +7,7 @@ use Rattle.sheep_node.specs.declared.event.Event.{Event}
 use Rattle.sheep_world.specs.World.{World}
 use Rattle.sheep_world.specs.Opening as worlds
 use Rattle.sheep_world.specs.Conditions.{may_end_phase}
-use Rattle.sheep_world.specs.Step.{Made, step}
+use Rattle.sheep_world.specs.Step.{EventOutcome, step}
 
 -- where a run is: the world, and the history so far
 pub record Moment : Type 0 where
@@ -15,16 +15,16 @@ pub record Moment : Type 0 where
   pub history : List HistEvent
 
 -- where every run of a script begins
-abbrev pub opening : List Statement → Moment
-opening statements = record { world = worlds.opening statements; history = [] }
+abbrev pub initial_moment : List Statement → Moment
+initial_moment statements = record { world = worlds.initial_world statements; history = [] }
 
 -- a history goes on with what an event made
-abbrev pub gone_on : List HistEvent → Made → Moment
-gone_on history made = record { world = made.world; history = history ++ made.grown }
+abbrev pub moment_with_made : List HistEvent → EventOutcome → Moment
+moment_with_made history made = record { world = made.world; history = history ++ made.grown }
 
 -- one event
 abbrev pub next : List Statement → Event → Moment → Option Moment
-next statements event moment = option_map (gone_on moment.history) (step statements event moment.world)
+next statements event moment = option_map (moment_with_made moment.history) (step statements event moment.world)
 
 -- one event after another; none where one isn't enabled in its turn
 unfoldable pub run_from : List Statement → List Event → Moment → Option Moment
@@ -33,7 +33,7 @@ run_from statements (event ∷ events) moment = option_and_then (run_from statem
 
 -- the run of these events
 abbrev pub run : List Statement → List Event → Option Moment
-run statements events = run_from statements events (opening statements)
+run statements events = run_from statements events (initial_moment statements)
 
 -- the events are a run of the script
 abbrev pub IsRun : List Statement → List Event → Type 0

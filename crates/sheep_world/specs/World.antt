@@ -21,62 +21,62 @@ abbrev pub name_cmp : MessageName → MessageName → Ordering
 name_cmp one other = ordering_then (nat_cmp one.sender.0 other.sender.0) (nat_cmp one.number other.number)
 
 -- a message in the wire, as its bytes: a request on its way to a node, or that node's reply on its way back
-pub data Letter : Type 0 where
-  Request : NodeId → List ℕ → Letter
-  Reply : NodeId → List ℕ → Letter
+pub data Packet : Type 0 where
+  Request : NodeId → List ℕ → Packet
+  Reply : NodeId → List ℕ → Packet
 
--- a node of the cluster: the node, whether it is lost, and which of its lives it is in, from 1 on
-pub record Seat : Type 0 where
+-- a node of the cluster: the node, whether it is lost, and which of its incarnations it is in, from 1 on
+pub record Host : Type 0 where
   pub node : Node
   pub is_lost : Bool
-  pub life : ℕ
+  pub incarnation : ℕ
 
 -- a request that was started and has no reply: its number, and the disk that its session had open then
-pub record Started : Type 0 where
+pub record StartedRequest : Type 0 where
   pub req : ℕ
   pub disk : Option ℕ
 
 -- a session, as the world sees it: how many of its requests were started, and which of them have no reply
-pub record Guest : Type 0 where
+pub record SessionProgress : Type 0 where
   pub begun : ℕ
-  pub unanswered : List Started
+  pub unanswered : List StartedRequest
 
 -- the cluster: its nodes by number, the log, the messages in the wire, the sessions by number, the place of the present
 -- phase, its controls that aren't taken, how many messages may still be lost; and the input and outputs of the last step
 pub record World : Type 0 where
-  pub seats : tree.FinMap nat_cmp Seat
+  pub hosts : tree.FinMap nat_cmp Host
   pub log : List Entry
-  pub wire : tree.FinMap name_cmp Letter
-  pub guests : tree.FinMap nat_cmp Guest
+  pub wire : tree.FinMap name_cmp Packet
+  pub guests : tree.FinMap nat_cmp SessionProgress
   pub phase : ℕ
   pub controls : List Statement
   pub losses : ℕ
   pub input : Option Input
   pub outputs : Outputs
 
--- the seat of a node; a number that was never used has none
-abbrev pub seat_at : ℕ → World → Option Seat
-seat_at node world = tree.get world.seats node
+-- the host of a node; a number that was never used has none
+abbrev pub host_at : ℕ → World → Option Host
+host_at node world = tree.get world.hosts node
 
 -- the node of a number
 abbrev pub node_at : ℕ → World → Option Node
-node_at node world = option_map (λ (seat : Seat). seat.node) (seat_at node world)
+node_at node world = option_map (λ (host : Host). host.node) (host_at node world)
 
--- whether a seat's node is up: it isn't lost, and has numbers left for the sends of a step
-abbrev pub is_seat_up : Seat → Bool
-is_seat_up seat = not seat.is_lost && has_numbers seat.node
+-- whether a host's node is up: it isn't lost, and has numbers left for the sends of a step
+abbrev pub is_host_up : Host → Bool
+is_host_up host = not host.is_lost && has_numbers host.node
 
 -- whether a node is up
 abbrev pub is_up : ℕ → World → Bool
-is_up node world = option_map_or is_seat_up (seat_at node world) false
+is_up node world = option_map_or is_host_up (host_at node world) false
 
 -- whether a node is up and passes a test
 abbrev pub is_up_with : (Node → Bool) → ℕ → World → Bool
-is_up_with passes node world = option_map_or (λ (seat : Seat). is_seat_up seat && passes seat.node) (seat_at node world) false
+is_up_with passes node world = option_map_or (λ (host : Host). is_host_up host && passes host.node) (host_at node world) false
 
 -- whether a node is lost
 abbrev pub is_lost : ℕ → World → Bool
-is_lost node world = option_map_or (λ (seat : Seat). seat.is_lost) (seat_at node world) false
+is_lost node world = option_map_or (λ (host : Host). host.is_lost) (host_at node world) false
 
 -- the newest epoch, by the whole log
 abbrev pub newest_epoch : World → ℕ
@@ -87,46 +87,46 @@ abbrev pub settled_epoch : World → ℕ
 settled_epoch world = settled_of world.log
 
 -- whether a node is a member, by the whole log
-abbrev pub is_member : ℕ → World → Bool
-is_member node world = members.is_member node (members_in world.log (newest_epoch world))
+abbrev pub is_newest_member : ℕ → World → Bool
+is_newest_member node world = members.is_member node (members_in world.log (newest_epoch world))
 
 -- the message of a name, where it is in the wire
-abbrev pub message_at : MessageName → World → Option Letter
+abbrev pub message_at : MessageName → World → Option Packet
 message_at name world = tree.get world.wire name
 
 -- the node that a request goes to, and that a reply comes from
-abbrev pub asked_node : Letter → NodeId
+abbrev pub asked_node : Packet → NodeId
 asked_node (Request to bytes) = to
 asked_node (Reply from bytes) = from
 
 -- the ends of a message: the sender of the request, and the node that it asks
-abbrev pub ends : MessageName → Letter → List NodeId
-ends name letter = name.sender ∷ asked_node letter ∷ []
+abbrev pub packet_ends : MessageName → Packet → List NodeId
+packet_ends name packet = name.sender ∷ asked_node packet ∷ []
 
 -- who gets a message
-abbrev pub receiver_of : MessageName → Letter → NodeId
+abbrev pub receiver_of : MessageName → Packet → NodeId
 receiver_of name (Request to bytes) = to
 receiver_of name (Reply from bytes) = name.sender
 
 -- whether an end of a message is lost
-abbrev pub has_lost_end : MessageName → Letter → World → Bool
-has_lost_end name letter world = list_any (λ (node : NodeId). is_lost node.0 world) (ends name letter)
+abbrev pub has_lost_end : MessageName → Packet → World → Bool
+has_lost_end name packet world = list_any (λ (node : NodeId). is_lost node.0 world) (packet_ends name packet)
 
 -- whether both ends of a message are up
-abbrev pub are_ends_up : MessageName → Letter → World → Bool
-are_ends_up name letter world = list_all (λ (node : NodeId). is_up node.0 world) (ends name letter)
+abbrev pub are_ends_up : MessageName → Packet → World → Bool
+are_ends_up name packet world = list_all (λ (node : NodeId). is_up node.0 world) (packet_ends name packet)
 
 -- whether a node is an end of a message
-abbrev pub has_end : ℕ → MessageName → Letter → Bool
-has_end node name letter = list_any (λ (other : NodeId). other.0 == node) (ends name letter)
+abbrev pub has_end : ℕ → MessageName → Packet → Bool
+has_end node name packet = list_any (λ (other : NodeId). other.0 == node) (packet_ends name packet)
 
 -- a session that has asked nothing
-abbrev pub new_guest : Guest
-new_guest = record { begun = 0; unanswered = [] }
+abbrev pub no_progress : SessionProgress
+no_progress = record { begun = 0; unanswered = [] }
 
 -- the session of a number
-abbrev pub guest_at : ℕ → World → Guest
-guest_at session world = unwrap_or (tree.get world.guests session) new_guest
+abbrev pub progress_at : ℕ → World → SessionProgress
+progress_at session world = unwrap_or (tree.get world.guests session) no_progress
 
 -- the control that is next: the first that isn't taken
 abbrev pub next_control : World → Option Statement

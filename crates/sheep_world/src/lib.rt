@@ -6,7 +6,7 @@
 //! (`specs/Conditions.antt`); what it makes of the world (`specs/Stepped.antt`, `specs/Effects.antt`,
 //! `specs/Messages.antt`, `specs/Changes.antt`) and adds to the history (`specs/Grown.antt`, `specs/Granted.antt`); both
 //! together, one clause an event (`specs/Step.antt`); runs (`specs/Run.antt`), the list of what may happen
-//! (`specs/Enabled.antt`), and the lives of nodes (`specs/Lives.antt`).
+//! (`specs/Enabled.antt`), and the incarnations of nodes (`specs/Lives.antt`).
 //! The laws of `laws.rt` say what these mean: what may happen is what is made, and the enabled list has it all but Phase;
 //! runs are cut anywhere and histories only grow; and for the events that are proved so far, what is in the wire
 //! (`specs/Wired.antt`) can be read and is what up nodes wait for, as long as what they ask is in range (`specs/Ranges.antt`)

@@ -13,7 +13,7 @@ use Rattle.sheep_node.specs.declared.event.Event.{Event}
 use Rattle.sheep_node.specs.declared.event.Event.TheVariants.{Guest, Deliver, LoseRequest, LoseReply, LogNext, Put, RecoverTick, RetryTick, Lost, Leave, Join, Reweight, Back, Phase}
 use Rattle.cluster_script.specs.Words.{lines_of}
 use Rattle.trace_text.specs.Spelling.{name_text, event_text, trace_text_of}
-use Rattle.trace_text.specs.Reading.{IsNamed}
+use Rattle.trace_text.specs.EventReading.{IsNamed}
 use Rattle.trace_text.specs.Lines.{whole_lines, lines_in}
 
 abbrev IsLine : List ℕ → Type 0

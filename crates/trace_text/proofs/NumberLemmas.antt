@@ -10,7 +10,7 @@ use Rattle.std.proofs.lemmas.Fmt.{decimal_is_IsNumeral}
 use Rattle.std.proofs.lemmas.List.Splits.{slice_split_none, slice_split_at, slice_split-cons_yes}
 use Rattle.std.proofs.lemmas.List.{append_assoc}
 use Rattle.std.proofs.lemmas.List.Elements.{All-from_get_or, filter_passes}
-use Rattle.trace_text.specs.Reading.{numbers_in}
+use Rattle.trace_text.specs.EventReading.{numbers_in}
 
 abbrev pub is_stop : ℕ → Bool
 is_stop byte = not (is_ascii_digit byte)

@@ -7,7 +7,7 @@ use Rattle.std.proofs.lemmas.List.Elements.{All-head, All-tail}
 use Rattle.sheep_node.specs.declared.event.Event.{Event}
 use Rattle.sheep_node.specs.declared.event.Event.TheVariants.{Guest, Deliver, LoseRequest, LoseReply, LogNext, Put, RecoverTick, RetryTick, Lost, Leave, Join, Reweight, Back, Phase}
 use Rattle.trace_text.specs.Spelling.{name_text, event_text}
-use Rattle.trace_text.specs.Reading.{numbers_of, events_of, numbers_in, event_in, IsNamed}
+use Rattle.trace_text.specs.EventReading.{numbers_of, events_of, numbers_in, event_in, IsNamed}
 use Rattle.trace_text.proofs.NumberLemmas.{number_after, numbers_after, numbers-small}
 
 first : (n : ℕ) (rest : List ℕ) → All (λ number. number < 2 ^ 32) (n ∷ rest) → n < 2 ^ 32

@@ -5,9 +5,9 @@ use Rattle.std.specs.Option.{option_map, option_and_then}
 use Rattle.std.proofs.lemmas.Option.{same_Some, none-some}
 use Rattle.cluster_script.specs.declared.statement.Statement.{Statement}
 use Rattle.sheep_node.specs.declared.event.Event.{Event}
-use Rattle.sheep_world.specs.Run.{Moment, opening, next, run_from, run, is_whole, IsWholeRun}
+use Rattle.sheep_world.specs.Run.{Moment, initial_moment, next, run_from, run, is_whole, IsWholeRun}
 use Rattle.trace_text.specs.Spelling.{event_text}
-use Rattle.trace_text.specs.Reading.{event_in, IsNamed}
+use Rattle.trace_text.specs.EventReading.{event_in, IsNamed}
 use Rattle.trace_text.specs.Replay.{events_in, line_made, bad_after, bad_from, bad_place, Stops, IsBadAt}
 use Rattle.trace_text.proofs.ReadingLaws.{read-text, text-read}
 
@@ -91,7 +91,7 @@ module _ (statements : List Statement) where
 
   pub bad-at : (lines : List (List ℕ)) (place : ℕ) → bad_place statements lines ≡ Some place → IsBadAt statements lines place
   bad-at lines place h =
-      let one : BadFrom lines (opening statements) place = bad lines (opening statements) place h in
+      let one : BadFrom lines (initial_moment statements) place = bad lines (initial_moment statements) place h in
       record {
         before = one.before;
         moment = one.at;
@@ -149,7 +149,7 @@ module _ (statements : List Statement) where
   pub whole-run : (lines : List (List ℕ)) → bad_place statements lines ≡ None
       → IsWholeRun statements (events_in lines) × (lines ≡ map event_text (events_in lines))
   whole-run lines h =
-      let one : WholeFrom lines (opening statements) = good lines (opening statements) h in
+      let one : WholeFrom lines (initial_moment statements) = good lines (initial_moment statements) h in
       ((one.at, one.made, one.whole), one.spelled)
 
   -- and where events are one, their texts are taken
@@ -173,4 +173,4 @@ module _ (statements : List Statement) where
   pub takes-runs : (events : List Event) → AllByRecursion IsNamed events → IsWholeRun statements events
       → bad_place statements (map event_text events) ≡ None
   takes-runs events named run =
-      takes events (opening statements) run.0 named run.1 run.2
+      takes events (initial_moment statements) run.0 named run.1 run.2

@@ -1,4 +1,4 @@
 pub mod Spelling
-pub mod Reading
+pub mod EventReading
 pub mod Lines
 pub mod Replay

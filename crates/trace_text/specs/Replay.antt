@@ -4,9 +4,9 @@ use Rattle.std.specs.List.{filter_map}
 use Rattle.std.specs.Option.{option_map, option_and_then}
 use Rattle.cluster_script.specs.declared.statement.Statement.{Statement}
 use Rattle.sheep_node.specs.declared.event.Event.{Event}
-use Rattle.sheep_world.specs.Run.{Moment, opening, next, run, is_whole}
+use Rattle.sheep_world.specs.Run.{Moment, initial_moment, next, run, is_whole}
 use Rattle.trace_text.specs.Spelling.{event_text}
-use Rattle.trace_text.specs.Reading.{event_in}
+use Rattle.trace_text.specs.EventReading.{event_in}
 
 -- the events of lines
 abbrev pub events_in : List (List ℕ) → List Event
@@ -29,7 +29,7 @@ bad_from statements (line ∷ lines) moment = bad_after (line_made statements li
 
 -- the same of a script's trace
 abbrev pub bad_place : List Statement → List (List ℕ) → Option ℕ
-bad_place statements lines = bad_from statements lines (opening statements)
+bad_place statements lines = bad_from statements lines (initial_moment statements)
 
 -- where lines can't go on: the next one spells no event that is enabled, or there is none and a phase isn't ended
 abbrev pub Stops : List Statement → List (List ℕ) → Moment → Type 0

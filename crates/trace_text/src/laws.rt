@@ -6,7 +6,7 @@ ghost use Rattle.sheep_node.specs.declared.event.Event.{Event};
 ghost use Rattle.sheep_node.specs.declared.event.Event.TheVariants as events;
 ghost use Rattle.sheep_world.specs.Run.{IsWholeRun};
 ghost use Rattle.trace_text.specs.Spelling.{event_text, trace_text_of};
-ghost use Rattle.trace_text.specs.Reading.{IsNamed, event_in};
+ghost use Rattle.trace_text.specs.EventReading.{IsNamed, event_in};
 ghost use Rattle.trace_text.specs.Replay.{events_in, bad_place, IsBadAt};
 ghost use Rattle.trace_text.specs.Lines.{lines_in, script_lines, trace_lines};
 

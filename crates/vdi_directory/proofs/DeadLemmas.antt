@@ -8,13 +8,13 @@ use Rattle.vdi_directory.specs.declared.effect.Grant.{Grant}
 use Rattle.vdi_directory.specs.declared.effect.Effect.{Effect}
 use Rattle.vdi_directory.specs.declared.effect.Effect.TheVariants as effects
 use Rattle.vdi_directory.specs.Effects.{grants, is_used}
-use Rattle.vdi_directory.specs.Decisions.{outcome, happened}
-use Rattle.vdi_directory.specs.States.{State, Unused, Claimed, Working, Shot, Deleted, Freed, state_after, state_of, rank, is_live_state}
+use Rattle.vdi_directory.specs.Decisions.{outcome, log_effects}
+use Rattle.vdi_directory.specs.States.{VdiState, Unused, Reserved, Working, Snapshot, Deleted, Freed, state_after, state_of, rank, is_live_state}
 use Rattle.vdi_directory.specs.Sound.{IsParent, IsSound, IsLawful}
 use Rattle.vdi_directory.specs.Dead.{is_parent_or_above, above_after, is_above, is_gone, IsDead}
-use Rattle.vdi_directory.proofs.BookLemmas.{happened-none, is_used-push}
+use Rattle.vdi_directory.proofs.StateLemmas.{log_effects-none, is_used-push}
 use Rattle.vdi_directory.proofs.SoundLemmas.{state_of-push}
-use Rattle.vdi_directory.proofs.LawfulLemmas.{lawful-outcome, sound-happened}
+use Rattle.vdi_directory.proofs.LawfulLemmas.{lawful-outcome, sound-log_effects}
 use Rattle.vdi_directory.proofs.LawLemmas.{kept-later, rank-grows}
 
 pub is_above-push : (before : List Effect) (effect : Effect) (elder vid : ℕ)
@@ -22,27 +22,27 @@ pub is_above-push : (before : List Effect) (effect : Effect) (elder vid : ℕ)
 unfolding is_above
 is_above-push before effect elder vid = ap (λ above. above elder vid) (fold-append above_after (λ e v. false) before (effect ∷ []))
 
-gone-rank : (state : State) → is_gone state ≡ true → rank state ≡ 4
+gone-rank : (state : VdiState) → is_gone state ≡ true → rank state ≡ 4
 gone-rank Unused is = cc
-gone-rank (Claimed by) is = cc
+gone-rank (Reserved by) is = cc
 gone-rank Working is = cc
-gone-rank (Shot tag) is = cc
+gone-rank (Snapshot tag) is = cc
 gone-rank Deleted is = refl
 gone-rank Freed is = refl
 
-rank-gone : (state : State) → 4 ≤ rank state → is_gone state ≡ true
+rank-gone : (state : VdiState) → 4 ≤ rank state → is_gone state ≡ true
 rank-gone Unused above = absurd (omega arith)
-rank-gone (Claimed by) above = absurd (omega arith)
+rank-gone (Reserved by) above = absurd (omega arith)
 rank-gone Working above = absurd (omega arith)
-rank-gone (Shot tag) above = absurd (omega arith)
+rank-gone (Snapshot tag) above = absurd (omega arith)
 rank-gone Deleted above = refl
 rank-gone Freed above = refl
 
-pub live-not-gone : (state : State) → is_live_state state ≡ true → is_gone state ≡ true → ⊥
+pub live-not-gone : (state : VdiState) → is_live_state state ≡ true → is_gone state ≡ true → ⊥
 live-not-gone Unused live gone = cc
-live-not-gone (Claimed by) live gone = cc
+live-not-gone (Reserved by) live gone = cc
 live-not-gone Working live gone = cc
-live-not-gone (Shot tag) live gone = cc
+live-not-gone (Snapshot tag) live gone = cc
 live-not-gone Deleted live gone = cc
 live-not-gone Freed live gone = cc
 
@@ -53,13 +53,13 @@ or-cases false b is = inr is
 -- what an id that is above another came from: an earlier effect, or the grant of the other
 pub above-cases : (before : List Effect) (effect : Effect) (elder vid : ℕ) → above_after (is_above before) effect elder vid ≡ true
     → (is_above before elder vid ≡ true)
-    ⊎ ((grant : Grant) × (effect ≡ effects.Reserved grant) × ((grant.claim.vid.0 == vid) ≡ true) × (is_parent_or_above (is_above before) elder grant.header.parent ≡ true))
+    ⊎ ((grant : Grant) × (effect ≡ effects.Reserved grant) × ((grant.reservation.vid.0 == vid) ≡ true) × (is_parent_or_above (is_above before) elder grant.header.parent ≡ true))
 above-cases before effects.Nothing elder vid is = inl is
-above-cases before (effects.Reserved grant) elder vid is = by_test (grant.claim.vid.0 == vid) refl is
+above-cases before (effects.Reserved grant) elder vid is = by_test (grant.reservation.vid.0 == vid) refl is
   where
-    by_test : (b : Bool) → (grant.claim.vid.0 == vid) ≡ b → cond b (is_parent_or_above (is_above before) elder grant.header.parent) (is_above before elder vid) ≡ true
+    by_test : (b : Bool) → (grant.reservation.vid.0 == vid) ≡ b → cond b (is_parent_or_above (is_above before) elder grant.header.parent) (is_above before elder vid) ≡ true
         → (is_above before elder vid ≡ true)
-        ⊎ ((g : Grant) × (effects.Reserved grant ≡ effects.Reserved g) × ((g.claim.vid.0 == vid) ≡ true) × (is_parent_or_above (is_above before) elder g.header.parent ≡ true))
+        ⊎ ((g : Grant) × (effects.Reserved grant ≡ effects.Reserved g) × ((g.reservation.vid.0 == vid) ≡ true) × (is_parent_or_above (is_above before) elder g.header.parent ≡ true))
     by_test true here is = inr (grant, refl, here, is)
     by_test false there is = inl is
 above-cases before (effects.Published of name) elder vid is = inl is
@@ -100,7 +100,7 @@ module _ (before : List Effect) (sound : IsSound before) (effect : Effect) (lawf
   }
     where
       by_case : (other : ℕ) → (is_above before vid other ≡ true)
-          ⊎ ((grant : Grant) × (effect ≡ effects.Reserved grant) × ((grant.claim.vid.0 == other) ≡ true) × (is_parent_or_above (is_above before) vid grant.header.parent ≡ true))
+          ⊎ ((grant : Grant) × (effect ≡ effects.Reserved grant) × ((grant.reservation.vid.0 == other) ≡ true) × (is_parent_or_above (is_above before) vid grant.header.parent ≡ true))
           → is_gone (state_of (before ++ effect ∷ []) other) ≡ true
       by_case other (inl old) = gone-stays other (dead.heirs other old)
       by_case other (inr new) =
@@ -112,10 +112,10 @@ module _ (before : List Effect) (sound : IsSound before) (effect : Effect) (lawf
           by_parent p (inl same) = ap (λ v. is_gone (state_of before v)) same ∙ dead.gone
           by_parent p (inr far) = dead.heirs p.0 far
 
-pub dead-stays : (entries later : List Entry) (vid : ℕ) → IsDead (happened entries) vid → IsDead (happened (entries ++ later)) vid
+pub dead-stays : (entries later : List Entry) (vid : ℕ) → IsDead (log_effects entries) vid → IsDead (log_effects (entries ++ later)) vid
 dead-stays entries later vid dead =
     kept-later (λ before. IsDead before vid)
-    (λ es entry is. dead-push (happened es) (sound-happened es) (outcome (happened es) entry).effect (lawful-outcome (happened es) (sound-happened es) entry) vid is)
+    (λ es entry is. dead-push (log_effects es) (sound-log_effects es) (outcome (log_effects es) entry).effect (lawful-outcome (log_effects es) (sound-log_effects es) entry) vid is)
     later entries dead
 
 -- both ids of a chain are used
@@ -143,10 +143,10 @@ module _ (before : List Effect) (sound : IsSound before) (effect : Effect) (lawf
   used-after : (vid : ℕ) → is_used before vid ≡ true → is_used (before ++ effect ∷ []) vid ≡ true
   used-after vid is = is_used-push before effect vid ∙ or-left (is_used before vid) (grants vid effect) is
 
-  new-unused : (grant : Grant) (vid : ℕ) → effect ≡ effects.Reserved grant → is_used before vid ≡ true → (grant.claim.vid.0 == vid) ≡ true → ⊥
+  new-unused : (grant : Grant) (vid : ℕ) → effect ≡ effects.Reserved grant → is_used before vid ≡ true → (grant.reservation.vid.0 == vid) ≡ true → ⊥
   new-unused grant vid is there same =
       let granted : IsLawful before (effects.Reserved grant) = subst (IsLawful before) is lawful in
-      both_ways (is_used before grant.claim.vid.0) granted.1 (ap (is_used before) (eqb-true grant.claim.vid.0 vid same) ∙ there)
+      both_ways (is_used before grant.reservation.vid.0) granted.1 (ap (is_used before) (eqb-true grant.reservation.vid.0 vid same) ∙ there)
 
   parent-used : (grant : Grant) (p : Vid) → effect ≡ effects.Reserved grant → grant.header.parent ≡ Some p → is_used before p.0 ≡ true
   parent-used grant p is parent = live-used before sound p.0 (parent-live before effect grant p lawful is parent)
@@ -156,7 +156,7 @@ module _ (before : List Effect) (sound : IsSound before) (effect : Effect) (lawf
   used-push elder vid is = by_case (above-cases before effect elder vid (sym (is_above-push before effect elder vid) ∙ is))
     where
       by_case : (is_above before elder vid ≡ true)
-          ⊎ ((grant : Grant) × (effect ≡ effects.Reserved grant) × ((grant.claim.vid.0 == vid) ≡ true) × (is_parent_or_above (is_above before) elder grant.header.parent ≡ true))
+          ⊎ ((grant : Grant) × (effect ≡ effects.Reserved grant) × ((grant.reservation.vid.0 == vid) ≡ true) × (is_parent_or_above (is_above before) elder grant.header.parent ≡ true))
           → (is_used (before ++ effect ∷ []) elder ≡ true) × (is_used (before ++ effect ∷ []) vid ≡ true)
       by_case (inl old) = (used-after elder ((used elder vid old).0), used-after vid ((used elder vid old).1))
       by_case (inr new) =
@@ -175,9 +175,9 @@ module _ (before : List Effect) (sound : IsSound before) (effect : Effect) (lawf
     where
       by_effect : (e : Effect) → effect ≡ e → above_after (is_above before) e elder vid ≡ true
       by_effect effects.Nothing e = is
-      by_effect (effects.Reserved grant) e = by_test (grant.claim.vid.0 == vid) refl
+      by_effect (effects.Reserved grant) e = by_test (grant.reservation.vid.0 == vid) refl
         where
-          by_test : (b : Bool) → (grant.claim.vid.0 == vid) ≡ b → cond b (is_parent_or_above (is_above before) elder grant.header.parent) (is_above before elder vid) ≡ true
+          by_test : (b : Bool) → (grant.reservation.vid.0 == vid) ≡ b → cond b (is_parent_or_above (is_above before) elder grant.header.parent) (is_above before elder vid) ≡ true
           by_test true same = absurd (new-unused grant vid e ((used elder vid is).1) same)
           by_test false apart = is
       by_effect (effects.Published of name) e = is
@@ -193,7 +193,7 @@ module _ (before : List Effect) (sound : IsSound before) (effect : Effect) (lawf
   above-before elder vid there is = by_case (above-cases before effect elder vid (sym (is_above-push before effect elder vid) ∙ is))
     where
       by_case : (is_above before elder vid ≡ true)
-          ⊎ ((grant : Grant) × (effect ≡ effects.Reserved grant) × ((grant.claim.vid.0 == vid) ≡ true) × (is_parent_or_above (is_above before) elder grant.header.parent ≡ true))
+          ⊎ ((grant : Grant) × (effect ≡ effects.Reserved grant) × ((grant.reservation.vid.0 == vid) ≡ true) × (is_parent_or_above (is_above before) elder grant.header.parent ≡ true))
           → is_above before elder vid ≡ true
       by_case (inl old) = old
       by_case (inr new) = absurd (new-unused new.0 vid new.1 there new.2)
@@ -203,7 +203,7 @@ module _ (before : List Effect) (sound : IsSound before) (effect : Effect) (lawf
   go-on-push go a b c first second = by_case (above-cases before effect b c (sym (is_above-push before effect b c) ∙ second))
     where
       by_case : (is_above before b c ≡ true)
-          ⊎ ((grant : Grant) × (effect ≡ effects.Reserved grant) × ((grant.claim.vid.0 == c) ≡ true) × (is_parent_or_above (is_above before) b grant.header.parent ≡ true))
+          ⊎ ((grant : Grant) × (effect ≡ effects.Reserved grant) × ((grant.reservation.vid.0 == c) ≡ true) × (is_parent_or_above (is_above before) b grant.header.parent ≡ true))
           → is_above (before ++ effect ∷ []) a c ≡ true
       by_case (inl old) = above-after-known a c (go a b c (above-before a b ((used b c old).0) first) old)
       by_case (inr new) =
@@ -227,14 +227,14 @@ chained-none : IsChained []
 unfolding ChainsAreUsed ChainsGoOn is_above
 chained-none = record { used = λ elder vid is. cc; goes = λ a b c first second. cc }
 
-pub chained : (entries : List Entry) → IsChained (happened entries)
+pub chained : (entries : List Entry) → IsChained (log_effects entries)
 chained entries =
     kept-later IsChained
     (λ es entry is. record {
-      used = used-push (happened es) (sound-happened es) (outcome (happened es) entry).effect (lawful-outcome (happened es) (sound-happened es) entry) is.used;
-      goes = go-on-push (happened es) (sound-happened es) (outcome (happened es) entry).effect (lawful-outcome (happened es) (sound-happened es) entry) is.used is.goes;
+      used = used-push (log_effects es) (sound-log_effects es) (outcome (log_effects es) entry).effect (lawful-outcome (log_effects es) (sound-log_effects es) entry) is.used;
+      goes = go-on-push (log_effects es) (sound-log_effects es) (outcome (log_effects es) entry).effect (lawful-outcome (log_effects es) (sound-log_effects es) entry) is.used is.goes;
     })
-    entries [] (subst IsChained (sym happened-none) chained-none)
+    entries [] (subst IsChained (sym log_effects-none) chained-none)
 
 pub chain-used : (before : List Effect) → IsChained before → (elder vid : ℕ) → is_above before elder vid ≡ true
     → (is_used before elder ≡ true) × (is_used before vid ≡ true)
@@ -248,5 +248,5 @@ heir-dead before chained vid heir dead above = record {
   heirs = λ last is. dead.heirs last (chained.goes vid heir last above is);
 }
 
-pub dead-heirs : (entries : List Entry) (vid other : ℕ) → IsDead (happened entries) vid → is_above (happened entries) vid other ≡ true → IsDead (happened entries) other
-dead-heirs entries = heir-dead (happened entries) (chained entries)
+pub dead-heirs : (entries : List Entry) (vid other : ℕ) → IsDead (log_effects entries) vid → is_above (log_effects entries) vid other ≡ true → IsDead (log_effects entries) other
+dead-heirs entries = heir-dead (log_effects entries) (chained entries)

@@ -5,7 +5,7 @@ use Rattle.object_id.specs.Hash.{own_vid}
 use Rattle.vdi_directory.specs.declared.vid_range.TheConstants.{VID_MAX}
 use Rattle.vdi_directory.specs.Vids.{next_vid, first_unused, VID_COUNT, free_id}
 use Rattle.vdi_directory.proofs.VidLemmas.{VID_COUNT-is, next-within, wrapped}
-use Rattle.vdi_directory.proofs.BookLemmas.{own_vid-is, free_id-is}
+use Rattle.vdi_directory.proofs.StateLemmas.{own_vid-is, free_id-is}
 
 module _ (used : ℕ → Bool) where
   none-run : (count vid : ℕ) → first_unused used vid count ≡ None → (k : ℕ) → k < count → vid + k ≤ VID_MAX → used (vid + k) ≡ true

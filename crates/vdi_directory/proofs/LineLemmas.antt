@@ -10,14 +10,14 @@ use Rattle.vdi_directory.specs.declared.effect.Effect.{Effect}
 use Rattle.vdi_directory.specs.declared.effect.Effect.TheVariants as effects
 use Rattle.vdi_directory.specs.declared.vid_range.TheConstants.{VID_MAX}
 use Rattle.vdi_directory.specs.Effects.{grants, is_used, header_after, header_of}
-use Rattle.vdi_directory.specs.Decisions.{outcome, happened}
-use Rattle.vdi_directory.specs.States.{Claimed, rank, state_after, state_of}
+use Rattle.vdi_directory.specs.Decisions.{outcome, log_effects}
+use Rattle.vdi_directory.specs.States.{Reserved, rank, state_after, state_of}
 use Rattle.vdi_directory.specs.Sound.{IsParent, IsSound, IsLawful}
 use Rattle.vdi_directory.specs.Dead.{is_parent_or_above, above_after, is_above}
-use Rattle.vdi_directory.specs.Bearers.{header_parent, parent_of}
-use Rattle.vdi_directory.proofs.BookLemmas.{or-false, happened-none, is_used-push, header_of-push}
+use Rattle.vdi_directory.specs.References.{header_parent, parent_of}
+use Rattle.vdi_directory.proofs.StateLemmas.{or-false, log_effects-none, is_used-push, header_of-push}
 use Rattle.vdi_directory.proofs.SoundLemmas.{state_of-push}
-use Rattle.vdi_directory.proofs.LawfulLemmas.{lawful-outcome, sound-happened}
+use Rattle.vdi_directory.proofs.LawfulLemmas.{lawful-outcome, sound-log_effects}
 use Rattle.vdi_directory.proofs.LawLemmas.{kept-later, rank-grows}
 use Rattle.vdi_directory.proofs.DeadLemmas.{is_above-push, live-used, or-left, or-right}
 
@@ -48,7 +48,7 @@ line-none = record {
 -- an id has a header from its grant on
 some-after : (vid : ℕ) (header : Option Header) (effect : Effect) → is_some (header_after vid header effect) ≡ (is_some header || grants vid effect)
 some-after vid header effects.Nothing = sym (or-false (is_some header))
-some-after vid header (effects.Reserved grant) = by_test (grant.claim.vid.0 == vid)
+some-after vid header (effects.Reserved grant) = by_test (grant.reservation.vid.0 == vid)
   where
     by_test : (b : Bool) → is_some (cond b (Some grant.header) header) ≡ (is_some header || b)
     by_test true = sym (or-right (is_some header) true refl)
@@ -138,7 +138,7 @@ module _ (before : List Effect) (sound : IsSound before) (line : IsLine before) 
     effect = effects.Reserved grant
 
     abbrev new : ℕ
-    new = grant.claim.vid.0
+    new = grant.reservation.vid.0
 
     not-new : (vid : ℕ) → is_used before vid ≡ true → new ≢ vid
     not-new vid used same = both_ways (is_used before new) lawful.1 (ap (is_used before) same ∙ used)
@@ -223,7 +223,7 @@ module _ (before : List Effect) (sound : IsSound before) (line : IsLine before) 
         by_test true h was here some = granted-later effect lawful vid was
         by_test false true was here some =
             let is : rank (state_of (before ++ effect ∷ []) vid) ≡ 1
-            = ap rank (state_of-push before effect vid ∙ ap (λ b. cond b (Claimed grant.claim.by) (state_of before vid)) here) in
+            = ap rank (state_of-push before effect vid ∙ ap (λ b. cond b (Reserved grant.reservation.by) (state_of before vid)) here) in
             omega (arith, is)
         by_test false false was here some = cc
 
@@ -249,8 +249,8 @@ module _ (before : List Effect) (sound : IsSound before) (line : IsLine before) 
   line-push (effects.Withdrawn of) lawful = line-same (effects.Withdrawn of) lawful (λ vid. refl) (λ vid. refl) (λ elder vid. refl)
   line-push (effects.Left node) lawful = line-same (effects.Left node) lawful (λ vid. refl) (λ vid. refl) (λ elder vid. refl)
 
-pub line-happened : (entries : List Entry) → IsLine (happened entries)
-line-happened entries =
+pub line-log_effects : (entries : List Entry) → IsLine (log_effects entries)
+line-log_effects entries =
     kept-later IsLine
-    (λ es entry is. line-push (happened es) (sound-happened es) is (outcome (happened es) entry).effect (lawful-outcome (happened es) (sound-happened es) entry))
-    entries [] (subst IsLine (sym happened-none) line-none)
+    (λ es entry is. line-push (log_effects es) (sound-log_effects es) is (outcome (log_effects es) entry).effect (lawful-outcome (log_effects es) (sound-log_effects es) entry))
+    entries [] (subst IsLine (sym log_effects-none) line-none)

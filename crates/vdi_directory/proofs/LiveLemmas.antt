@@ -4,18 +4,18 @@ use Rattle.std.specs.List.Sorted.{IsNonDecreasing}
 use Rattle.std.proofs.lemmas.Bool.{le-ltb, lt-ltb, cases_lt}
 use Rattle.vdi_directory.specs.declared.effect.Effect.{Effect}
 use Rattle.vdi_directory.specs.declared.effect.Effect.TheVariants.{Nothing, Reserved, Published, Snapped, Deleted, Held, Freed, Withdrawn, Left}
-use Rattle.vdi_directory.specs.Effects.{inserted, live_after, live_of}
+use Rattle.vdi_directory.specs.Effects.{ids_with, live_after, live_of}
 
-pub inserted-at : (vid place : ℕ) (live : List ℕ) → place ≤ length live
+pub ids_with-at : (vid place : ℕ) (live : List ℕ) → place ≤ length live
     → ((k d : ℕ) → k < place → get_or live k d ≤ vid) → ((k d : ℕ) → place ≤ k → k < length live → vid < get_or live k d)
-    → inserted vid live ≡ take place live ++ vid ∷ drop place live
-inserted-at vid zero [] within before behind = refl
-inserted-at vid (suc place) [] within before behind = absurd (omega arith)
-inserted-at vid zero (first ∷ rest) within before behind =
-    ap (λ b. cond b (vid ∷ first ∷ rest) (first ∷ inserted vid rest)) (lt-ltb vid first (behind 0 0 (omega arith) (omega arith)))
-inserted-at vid (suc place) (first ∷ rest) within before behind =
-    ap (λ b. cond b (vid ∷ first ∷ rest) (first ∷ inserted vid rest)) (le-ltb vid first (before 0 0 (omega arith)))
-    ∙ ap (λ more. first ∷ more) (inserted-at vid place rest (omega arith)
+    → ids_with vid live ≡ take place live ++ vid ∷ drop place live
+ids_with-at vid zero [] within before behind = refl
+ids_with-at vid (suc place) [] within before behind = absurd (omega arith)
+ids_with-at vid zero (first ∷ rest) within before behind =
+    ap (λ b. cond b (vid ∷ first ∷ rest) (first ∷ ids_with vid rest)) (lt-ltb vid first (behind 0 0 (omega arith) (omega arith)))
+ids_with-at vid (suc place) (first ∷ rest) within before behind =
+    ap (λ b. cond b (vid ∷ first ∷ rest) (first ∷ ids_with vid rest)) (le-ltb vid first (before 0 0 (omega arith)))
+    ∙ ap (λ more. first ∷ more) (ids_with-at vid place rest (omega arith)
     (λ k d below. before (suc k) d (omega arith)) (λ k d from within. behind (suc k) d (omega arith) (omega arith)))
 
 -- ascending from a number on
@@ -45,16 +45,16 @@ unfolding AscendFrom
 ascend-less low high [] less up = tt
 ascend-less low high (first ∷ rest) less up = let from : low ≤ first = up.0 in (omega arith, up.1)
 
-ascend-inserted : (low vid : ℕ) (live : List ℕ) → low ≤ vid → AscendFrom low live → AscendFrom low (inserted vid live)
+ascend-ids_with : (low vid : ℕ) (live : List ℕ) → low ≤ vid → AscendFrom low live → AscendFrom low (ids_with vid live)
 unfolding AscendFrom
-ascend-inserted low vid [] from up = (from, tt)
-ascend-inserted low vid (first ∷ rest) from up = by_place (cases_lt vid first) (λ before. ascend-inserted first vid rest before up.1)
+ascend-ids_with low vid [] from up = (from, tt)
+ascend-ids_with low vid (first ∷ rest) from up = by_place (cases_lt vid first) (λ before. ascend-ids_with first vid rest before up.1)
   where
-    by_place : (vid < first) ⊎ (first ≤ vid) → (first ≤ vid → AscendFrom first (inserted vid rest)) → AscendFrom low (inserted vid (first ∷ rest))
+    by_place : (vid < first) ⊎ (first ≤ vid) → (first ≤ vid → AscendFrom first (ids_with vid rest)) → AscendFrom low (ids_with vid (first ∷ rest))
     by_place (inl below) later =
-        subst (λ b. AscendFrom low (cond b (vid ∷ first ∷ rest) (first ∷ inserted vid rest))) (sym (lt-ltb vid first below)) (from, (omega arith, up.1))
+        subst (λ b. AscendFrom low (cond b (vid ∷ first ∷ rest) (first ∷ ids_with vid rest))) (sym (lt-ltb vid first below)) (from, (omega arith, up.1))
     by_place (inr above) later =
-        subst (λ b. AscendFrom low (cond b (vid ∷ first ∷ rest) (first ∷ inserted vid rest))) (sym (le-ltb vid first above)) (up.0, later above)
+        subst (λ b. AscendFrom low (cond b (vid ∷ first ∷ rest) (first ∷ ids_with vid rest))) (sym (le-ltb vid first above)) (up.0, later above)
 
 ascend-filter : (keep : ℕ → Bool) (low : ℕ) (live : List ℕ) → AscendFrom low live → AscendFrom low (filter keep live)
 unfolding AscendFrom
@@ -68,8 +68,8 @@ ascend-filter keep low (first ∷ rest) up = by_test (keep first) (ascend-filter
 ascend-after : (live : List ℕ) (effect : Effect) → AscendFrom 0 live → AscendFrom 0 (live_after live effect)
 ascend-after live Nothing up = up
 ascend-after live (Reserved grant) up = up
-ascend-after live (Published vid name) up = ascend-inserted 0 vid.0 live (omega arith) up
-ascend-after live (Snapped snap) up = ascend-inserted 0 snap.vid.0 live (omega arith) up
+ascend-after live (Published vid name) up = ascend-ids_with 0 vid.0 live (omega arith) up
+ascend-after live (Snapped snap) up = ascend-ids_with 0 snap.vid.0 live (omega arith) up
 ascend-after live (Deleted vid name) up = ascend-filter (λ other. not (other == vid.0)) 0 live up
 ascend-after live (Held vid holder) up = up
 ascend-after live (Freed vid) up = up

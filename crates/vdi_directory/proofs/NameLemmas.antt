@@ -12,7 +12,7 @@ use Rattle.std.specs.BTreeMap.{is_at, insert_entry}
 use Rattle.std.proofs.lemmas.Bool.{both_ways}
 use Rattle.std.proofs.lemmas.Bool.Decides.{nat_tests}
 use Rattle.std.proofs.lemmas.Cmp.{nat_list_cmp_total, same_from_slice_cmp}
-use Rattle.vdi_directory.specs.Names.{Name, no_disk, is_same}
+use Rattle.vdi_directory.specs.Names.{Name, no_disk, is_same_bytes}
 
 abbrev pub Key : Type 0
 Key = Vec ℕ Global
@@ -34,32 +34,32 @@ key-is name key e = tree.slice_cmp-IsAntisymmetric tree.nat_cmp-IsAntisymmetric 
 is-key : (name : List ℕ) (key : Key) → name ≡ key.items → is_key name key ≡ true
 is-key name key e = ap (λ bytes. is_eq (slice_cmp nat_cmp name bytes)) (sym e) ∙ ap is_eq (tied_itself nat_list_cmp_total name)
 
-same-cmp : (a b : List ℕ) → is_eq (slice_cmp nat_cmp a b) ≡ is_same a b
+same-cmp : (a b : List ℕ) → is_eq (slice_cmp nat_cmp a b) ≡ is_same_bytes a b
 same-cmp a b = same_from_slice_cmp nat_cmp is_eq (pointwise nat_eq) refl (λ _ _. refl) (λ _ _. refl) (λ x y xs ys o h. grind (arith, nat_tests)) a b _ refl
 
-pub same-is : (a b : List ℕ) → is_same a b ≡ true → a ≡ b
+pub same-is : (a b : List ℕ) → is_same_bytes a b ≡ true → a ≡ b
 same-is a b e = tree.slice_cmp-IsAntisymmetric tree.nat_cmp-IsAntisymmetric a b (equal_from _ (same-cmp a b ∙ e))
 
-pub is-same : (a b : List ℕ) → a ≡ b → is_same a b ≡ true
-is-same a b e = ap (is_same a) (sym e) ∙ sym (same-cmp a a) ∙ ap is_eq (tied_itself nat_list_cmp_total a)
+pub is-same : (a b : List ℕ) → a ≡ b → is_same_bytes a b ≡ true
+is-same a b e = ap (is_same_bytes a) (sym e) ∙ sym (same-cmp a a) ∙ ap is_eq (tied_itself nat_list_cmp_total a)
 
 -- what one name has, once another's value was written
 pub set-row : (es : List (Key × Name)) (name other : List ℕ) (old new : Name) → lookup (is_key name) es ≡ Some old
     → unwrap_or (lookup (is_key other) (set_value (is_key name) es new)) no_disk
-    ≡ cond (is_same name other) new (unwrap_or (lookup (is_key other) es) no_disk)
+    ≡ cond (is_same_bytes name other) new (unwrap_or (lookup (is_key other) es) no_disk)
 set-row [] name other old new there = cc
 set-row (e ∷ es) name other old new there =
-    by_test (is_key name e.0) (is_key other e.0) (is_same name other) refl refl refl there (set-row es name other old new)
+    by_test (is_key name e.0) (is_key other e.0) (is_same_bytes name other) refl refl refl there (set-row es name other old new)
   where
-    by_test : (b c d : Bool) → is_key name e.0 ≡ b → is_key other e.0 ≡ c → is_same name other ≡ d
+    by_test : (b c d : Bool) → is_key name e.0 ≡ b → is_key other e.0 ≡ c → is_same_bytes name other ≡ d
         → cond b (Some e.1) (lookup (is_key name) es) ≡ Some old
         → (lookup (is_key name) es ≡ Some old → unwrap_or (lookup (is_key other) (set_value (is_key name) es new)) no_disk
-        ≡ cond (is_same name other) new (unwrap_or (lookup (is_key other) es) no_disk))
+        ≡ cond (is_same_bytes name other) new (unwrap_or (lookup (is_key other) es) no_disk))
         → unwrap_or (lookup (is_key other) (cond b ((e.0, new) ∷ es) (e ∷ set_value (is_key name) es new))) no_disk
         ≡ cond d new (unwrap_or (cond c (Some e.1) (lookup (is_key other) es)) no_disk)
     by_test true true true here too same is later = ap (λ t. unwrap_or (cond t (Some new) (lookup (is_key other) es)) no_disk) too
     by_test true true false here too apart is later =
-        absurd (both_ways (is_same name other) apart (is-same name other (key-is name e.0 here ∙ sym (key-is other e.0 too))))
+        absurd (both_ways (is_same_bytes name other) apart (is-same name other (key-is name e.0 here ∙ sym (key-is other e.0 too))))
     by_test true false true here not same is later =
         absurd (both_ways (is_key other e.0) not (is-key other e.0 (sym (same-is name other same) ∙ key-is name e.0 here)))
     by_test true false false here not apart is later = ap (λ t. unwrap_or (cond t (Some new) (lookup (is_key other) es)) no_disk) not
@@ -78,12 +78,12 @@ set-row (e ∷ es) name other old new there =
 pub change-row : (es new : List (Key × Name)) (name other : List ℕ) (old value : Name) (change : Name → Name)
     → lookup (is_key name) es ≡ Some old → value ≡ change old → new ≡ set_value (is_key name) es value
     → unwrap_or (lookup (is_key other) new) no_disk
-    ≡ cond (is_same name other) (change (unwrap_or (lookup (is_key other) es) no_disk)) (unwrap_or (lookup (is_key other) es) no_disk)
+    ≡ cond (is_same_bytes name other) (change (unwrap_or (lookup (is_key other) es) no_disk)) (unwrap_or (lookup (is_key other) es) no_disk)
 change-row es new name other old value change there is put =
     ap (λ rows. unwrap_or (lookup (is_key other) rows) no_disk) put ∙ set-row es name other old value there
-    ∙ by_test (is_same name other) refl
+    ∙ by_test (is_same_bytes name other) refl
   where
-    by_test : (b : Bool) → is_same name other ≡ b
+    by_test : (b : Bool) → is_same_bytes name other ≡ b
         → cond b value (unwrap_or (lookup (is_key other) es) no_disk)
         ≡ cond b (change (unwrap_or (lookup (is_key other) es) no_disk)) (unwrap_or (lookup (is_key other) es) no_disk)
     by_test true same =

@@ -4,238 +4,238 @@ use Rattle.std.proofs.lemmas.Bool.{cases_eq, eqb-true, eq-eqb, ne_eqb, both_ways
 use Rattle.object_id.specs.declared.oid.Vid.{Vid}
 use Rattle.object_id.specs.declared.node.NodeId.{NodeId}
 use Rattle.object_id.specs.declared.entry.Entry.{Entry}
-use Rattle.vdi_directory.specs.declared.effect.Claim.{Claim}
+use Rattle.vdi_directory.specs.declared.effect.Reservation.{Reservation}
 use Rattle.vdi_directory.specs.declared.effect.Grant.{Grant}
 use Rattle.vdi_directory.specs.declared.effect.Snap.{Snap}
 use Rattle.vdi_directory.specs.declared.effect.Effect.{Effect}
 use Rattle.vdi_directory.specs.declared.effect.Effect.TheVariants as effects
-use Rattle.vdi_directory.specs.declared.books.Books.{Books}
-use Rattle.vdi_directory.specs.Effects.{is_used, header_of, claims_but, claims_after, claims_of}
-use Rattle.vdi_directory.specs.Decisions.{outcome, happened}
-use Rattle.vdi_directory.specs.States.{State, Unused, Claimed, Working, Shot, Deleted, Freed, freed, left, state_after, state_of, is_live_state}
+use Rattle.vdi_directory.specs.declared.directory_state.DirectoryState.{DirectoryState}
+use Rattle.vdi_directory.specs.Effects.{is_used, header_of, reservations_but, reservations_after, reservations_of}
+use Rattle.vdi_directory.specs.Decisions.{outcome, log_effects}
+use Rattle.vdi_directory.specs.States.{VdiState, Unused, Reserved, Working, Snapshot, Deleted, Freed, freed_state, state_after_leave, state_after, state_of, is_live_state}
 use Rattle.vdi_directory.specs.Sound.{IsParent, IsSound, IsLawful}
-use Rattle.vdi_directory.specs.Bearers.{one_if, one, one_parent, borne_by, KEY_COUNT, borne_children, AreBearers, stands, header_parent, parent_of, own_of, parent_in, count_in, claimed_once, claimed_by, Loses, IsBorne}
-use Rattle.vdi_directory.specs.Books.{IsBooks, AreBearersMade, CanMake}
-use Rattle.vdi_directory.proofs.BookLemmas.{happened-none, claims_of-push}
+use Rattle.vdi_directory.specs.References.{one_if, one, one_parent_reference, references_by, KEY_COUNT, child_references, AreReferenceCounts, stands, header_parent, parent_of, own_of, parent_in, count_in, reserved_once, reserved_by, LosesReferences, IsReferenced}
+use Rattle.vdi_directory.specs.DirectoryState.{IsDirectoryState, AreReferencesMade, CanMake}
+use Rattle.vdi_directory.proofs.StateLemmas.{log_effects-none, reservations_of-push}
 use Rattle.vdi_directory.proofs.SoundLemmas.{state_of-push}
-use Rattle.vdi_directory.proofs.LawfulLemmas.{lawful-outcome, sound-happened}
+use Rattle.vdi_directory.proofs.LawfulLemmas.{lawful-outcome, sound-log_effects}
 use Rattle.vdi_directory.proofs.LawLemmas.{kept-later}
-use Rattle.vdi_directory.proofs.BearerLemmas.{one-other, total-zero, total-most, borne_by-most, key-below, key-most, child-more}
+use Rattle.vdi_directory.proofs.ReferenceLemmas.{one-other, total-zero, total-most, references_by-most, key-below, key-most, child-more}
 use Rattle.vdi_directory.proofs.LineLemmas.{IsLine, parent-tagged, parent_of-push}
 
--- each claimed id has its claim, once
-abbrev claim_of : NodeId → State → ℕ
-claim_of node Unused = 0
-claim_of node (Claimed by) = one_if (by.0 == node.0)
-claim_of node Working = 0
-claim_of node (Shot tag) = 0
-claim_of node Deleted = 0
-claim_of node Freed = 0
+-- each reserved id has its reservation, once
+abbrev reservation_of : NodeId → VdiState → ℕ
+reservation_of node Unused = 0
+reservation_of node (Reserved by) = one_if (by.0 == node.0)
+reservation_of node Working = 0
+reservation_of node (Snapshot tag) = 0
+reservation_of node Deleted = 0
+reservation_of node Freed = 0
 
 no-number : (b : Bool) → ◌≡◌ {A = ℕ} 0 (cond b 0 0)
 no-number true = refl
 no-number false = refl
 
-claimed-push : (node : NodeId) (claims : List Claim) (claim : Claim) (vid : ℕ)
-    → claimed_by node (claims ++ claim ∷ []) vid ≡ claimed_by node claims vid + claimed_once node claim vid
-claimed-push node [] claim vid = omega arith
-claimed-push node (first ∷ claims) claim vid =
-    let rest : claimed_by node (claims ++ claim ∷ []) vid ≡ claimed_by node claims vid + claimed_once node claim vid = claimed-push node claims claim vid in
+reserved-push : (node : NodeId) (reservations : List Reservation) (reservation : Reservation) (vid : ℕ)
+    → reserved_by node (reservations ++ reservation ∷ []) vid ≡ reserved_by node reservations vid + reserved_once node reservation vid
+reserved-push node [] reservation vid = omega arith
+reserved-push node (first ∷ reservations) reservation vid =
+    let rest : reserved_by node (reservations ++ reservation ∷ []) vid ≡ reserved_by node reservations vid + reserved_once node reservation vid = reserved-push node reservations reservation vid in
     omega (arith, rest)
 
 -- a claim's part where its id is told apart
-claimed-other : (node : NodeId) (claim : Claim) (vid : ℕ) → (claim.vid.0 == vid) ≡ false → claimed_once node claim vid ≡ 0
-claimed-other node claim vid apart = ap (λ b. cond (claim.by.0 == node.0) (one_if b) 0) apart ∙ by_test (claim.by.0 == node.0)
+reserved-other : (node : NodeId) (reservation : Reservation) (vid : ℕ) → (reservation.vid.0 == vid) ≡ false → reserved_once node reservation vid ≡ 0
+reserved-other node reservation vid apart = ap (λ b. cond (reservation.by.0 == node.0) (one_if b) 0) apart ∙ by_test (reservation.by.0 == node.0)
   where
     by_test : (b : Bool) → cond b (one_if false) 0 ≡ 0
     by_test true = refl
     by_test false = refl
 
-filter-first : (b : Bool) (node : NodeId) (first : Claim) (claims : List Claim) (vid : ℕ)
-    → claimed_by node (cond b (first ∷ claims) claims) vid ≡ cond b (claimed_once node first vid) 0 + claimed_by node claims vid
-filter-first true node first claims vid = refl
-filter-first false node first claims vid = omega arith
+filter-first : (b : Bool) (node : NodeId) (first : Reservation) (reservations : List Reservation) (vid : ℕ)
+    → reserved_by node (cond b (first ∷ reservations) reservations) vid ≡ cond b (reserved_once node first vid) 0 + reserved_by node reservations vid
+filter-first true node first reservations vid = refl
+filter-first false node first reservations vid = omega arith
 
-claimed-but : (node : NodeId) (gone : Vid) (claims : List Claim) (vid : ℕ)
-    → claimed_by node (claims_but gone claims) vid ≡ cond (gone.0 == vid) 0 (claimed_by node claims vid)
-claimed-but node gone [] vid = no-number (gone.0 == vid)
-claimed-but node gone (first ∷ claims) vid =
-    let rest : claimed_by node (claims_but gone claims) vid ≡ cond (gone.0 == vid) 0 (claimed_by node claims vid) = claimed-but node gone claims vid in
-    filter-first (not (first.vid.0 == gone.0)) node first (claims_but gone claims) vid ∙ ap (λ n. cond (not (first.vid.0 == gone.0)) (claimed_once node first vid) 0 + n) rest
+reserved-but : (node : NodeId) (gone : Vid) (reservations : List Reservation) (vid : ℕ)
+    → reserved_by node (reservations_but gone reservations) vid ≡ cond (gone.0 == vid) 0 (reserved_by node reservations vid)
+reserved-but node gone [] vid = no-number (gone.0 == vid)
+reserved-but node gone (first ∷ reservations) vid =
+    let rest : reserved_by node (reservations_but gone reservations) vid ≡ cond (gone.0 == vid) 0 (reserved_by node reservations vid) = reserved-but node gone reservations vid in
+    filter-first (not (first.vid.0 == gone.0)) node first (reservations_but gone reservations) vid ∙ ap (λ n. cond (not (first.vid.0 == gone.0)) (reserved_once node first vid) 0 + n) rest
     ∙ by_test (first.vid.0 == gone.0) (gone.0 == vid) refl refl
   where
     by_test : (a b : Bool) → (first.vid.0 == gone.0) ≡ a → (gone.0 == vid) ≡ b
-        → cond (not a) (claimed_once node first vid) 0 + cond b 0 (claimed_by node claims vid) ≡ cond b 0 (claimed_once node first vid + claimed_by node claims vid)
+        → cond (not a) (reserved_once node first vid) 0 + cond b 0 (reserved_by node reservations vid) ≡ cond b 0 (reserved_once node first vid + reserved_by node reservations vid)
     by_test true true same here = refl
     by_test true false same apart =
-        let none : claimed_once node first vid ≡ 0 = claimed-other node first vid (ap (λ v. v == vid) (eqb-true first.vid.0 gone.0 same) ∙ apart) in
+        let none : reserved_once node first vid ≡ 0 = reserved-other node first vid (ap (λ v. v == vid) (eqb-true first.vid.0 gone.0 same) ∙ apart) in
         omega (arith, none)
     by_test false true other here =
-        let none : claimed_once node first vid ≡ 0
-        = claimed-other node first vid (ap (λ v. first.vid.0 == v) (sym (eqb-true gone.0 vid here)) ∙ other) in
+        let none : reserved_once node first vid ≡ 0
+        = reserved-other node first vid (ap (λ v. first.vid.0 == v) (sym (eqb-true gone.0 vid here)) ∙ other) in
         omega (arith, none)
     by_test false false other apart = refl
 
-claimed-left : (node gone : NodeId) (claims : List Claim) (vid : ℕ)
-    → claimed_by node (filter (λ (claim : Claim). not (claim.by.0 == gone.0)) claims) vid ≡ cond (gone.0 == node.0) 0 (claimed_by node claims vid)
-claimed-left node gone [] vid = no-number (gone.0 == node.0)
-claimed-left node gone (first ∷ claims) vid =
-    let rest : claimed_by node (filter (λ (claim : Claim). not (claim.by.0 == gone.0)) claims) vid ≡ cond (gone.0 == node.0) 0 (claimed_by node claims vid)
-    = claimed-left node gone claims vid in
-    filter-first (not (first.by.0 == gone.0)) node first (filter (λ (claim : Claim). not (claim.by.0 == gone.0)) claims) vid
-    ∙ ap (λ n. cond (not (first.by.0 == gone.0)) (claimed_once node first vid) 0 + n) rest
+reserved-state_after_leave : (node gone : NodeId) (reservations : List Reservation) (vid : ℕ)
+    → reserved_by node (filter (λ (reservation : Reservation). not (reservation.by.0 == gone.0)) reservations) vid ≡ cond (gone.0 == node.0) 0 (reserved_by node reservations vid)
+reserved-state_after_leave node gone [] vid = no-number (gone.0 == node.0)
+reserved-state_after_leave node gone (first ∷ reservations) vid =
+    let rest : reserved_by node (filter (λ (reservation : Reservation). not (reservation.by.0 == gone.0)) reservations) vid ≡ cond (gone.0 == node.0) 0 (reserved_by node reservations vid)
+    = reserved-state_after_leave node gone reservations vid in
+    filter-first (not (first.by.0 == gone.0)) node first (filter (λ (reservation : Reservation). not (reservation.by.0 == gone.0)) reservations) vid
+    ∙ ap (λ n. cond (not (first.by.0 == gone.0)) (reserved_once node first vid) 0 + n) rest
     ∙ by_test (first.by.0 == gone.0) (gone.0 == node.0) refl refl
   where
     by_test : (a b : Bool) → (first.by.0 == gone.0) ≡ a → (gone.0 == node.0) ≡ b
-        → cond (not a) (claimed_once node first vid) 0 + cond b 0 (claimed_by node claims vid) ≡ cond b 0 (claimed_once node first vid + claimed_by node claims vid)
+        → cond (not a) (reserved_once node first vid) 0 + cond b 0 (reserved_by node reservations vid) ≡ cond b 0 (reserved_once node first vid + reserved_by node reservations vid)
     by_test true true same here = refl
     by_test true false same apart =
-        let none : claimed_once node first vid ≡ 0
+        let none : reserved_once node first vid ≡ 0
         = ap (λ b. cond b (one first.vid.0 vid) 0) (ap (λ n. n == node.0) (eqb-true first.by.0 gone.0 same) ∙ apart) in
         omega (arith, none)
     by_test false true other here =
-        let none : claimed_once node first vid ≡ 0
+        let none : reserved_once node first vid ≡ 0
         = ap (λ b. cond b (one first.vid.0 vid) 0) (ap (λ n. first.by.0 == n) (sym (eqb-true gone.0 node.0 here)) ∙ other) in
         omega (arith, none)
     by_test false false other apart = refl
 
-pub AreClaimed : List Effect → Type 0
-AreClaimed before = (node : NodeId) (vid : ℕ) → claimed_by node (claims_of before) vid ≡ claim_of node (state_of before vid)
+pub AreReserved : List Effect → Type 0
+AreReserved before = (node : NodeId) (vid : ℕ) → reserved_by node (reservations_of before) vid ≡ reservation_of node (state_of before vid)
 
-claimed-none : AreClaimed []
-unfolding AreClaimed claims_of state_of
-claimed-none = λ node vid. refl
+reserved-none : AreReserved []
+unfolding AreReserved reservations_of state_of
+reserved-none = λ node vid. refl
 
-module _ (before : List Effect) (sound : IsSound before) (is : AreClaimed before) (node : NodeId) (vid : ℕ) where
-  -- an id in a state without claims
-  at-state : (other : ℕ) (s : State) → (other == vid) ≡ true → state_of before other ≡ s → claim_of node s ≡ 0 → claimed_by node (claims_of before) vid ≡ 0
-  unfolding AreClaimed
+module _ (before : List Effect) (sound : IsSound before) (is : AreReserved before) (node : NodeId) (vid : ℕ) where
+  -- an id in a state without reservations
+  at-state : (other : ℕ) (s : VdiState) → (other == vid) ≡ true → state_of before other ≡ s → reservation_of node s ≡ 0 → reserved_by node (reservations_of before) vid ≡ 0
+  unfolding AreReserved
   at-state other s same state none =
-      is node vid ∙ ap (λ v. claim_of node (state_of before v)) (sym (eqb-true other vid same)) ∙ ap (claim_of node) state ∙ none
+      is node vid ∙ ap (λ v. reservation_of node (state_of before v)) (sym (eqb-true other vid same)) ∙ ap (reservation_of node) state ∙ none
 
-  claim-freed : (s : State) → claim_of node (freed s) ≡ 0
-  claim-freed Unused = refl
-  claim-freed (Claimed by) = refl
-  claim-freed Working = refl
-  claim-freed (Shot tag) = refl
-  claim-freed Deleted = refl
-  claim-freed Freed = refl
+  reservation-freed : (s : VdiState) → reservation_of node (freed_state s) ≡ 0
+  reservation-freed Unused = refl
+  reservation-freed (Reserved by) = refl
+  reservation-freed Working = refl
+  reservation-freed (Snapshot tag) = refl
+  reservation-freed Deleted = refl
+  reservation-freed Freed = refl
 
-  claim-left : (gone : NodeId) (s : State) → claim_of node (left gone.0 s) ≡ cond (gone.0 == node.0) 0 (claim_of node s)
-  claim-left gone Unused = no-number (gone.0 == node.0)
-  claim-left gone (Claimed by) = by_test (by.0 == gone.0) (gone.0 == node.0) refl refl
+  reservation-left : (gone : NodeId) (s : VdiState) → reservation_of node (state_after_leave gone.0 s) ≡ cond (gone.0 == node.0) 0 (reservation_of node s)
+  reservation-left gone Unused = no-number (gone.0 == node.0)
+  reservation-left gone (Reserved by) = by_test (by.0 == gone.0) (gone.0 == node.0) refl refl
     where
-      by_test : (a b : Bool) → (by.0 == gone.0) ≡ a → (gone.0 == node.0) ≡ b → claim_of node (cond a Freed (Claimed by)) ≡ cond b 0 (one_if (by.0 == node.0))
+      by_test : (a b : Bool) → (by.0 == gone.0) ≡ a → (gone.0 == node.0) ≡ b → reservation_of node (cond a Freed (Reserved by)) ≡ cond b 0 (one_if (by.0 == node.0))
       by_test true true same here = refl
       by_test true false same apart = sym (ap one_if (ap (λ n. n == node.0) (eqb-true by.0 gone.0 same) ∙ apart))
       by_test false true other here = ap one_if (ap (λ n. by.0 == n) (sym (eqb-true gone.0 node.0 here)) ∙ other)
       by_test false false other apart = refl
-  claim-left gone Working = no-number (gone.0 == node.0)
-  claim-left gone (Shot tag) = no-number (gone.0 == node.0)
-  claim-left gone Deleted = no-number (gone.0 == node.0)
-  claim-left gone Freed = no-number (gone.0 == node.0)
+  reservation-left gone Working = no-number (gone.0 == node.0)
+  reservation-left gone (Snapshot tag) = no-number (gone.0 == node.0)
+  reservation-left gone Deleted = no-number (gone.0 == node.0)
+  reservation-left gone Freed = no-number (gone.0 == node.0)
 
-  claimed-step : (effect : Effect) → IsLawful before effect
-      → claimed_by node (claims_after (claims_of before) effect) vid ≡ claim_of node (state_after vid (state_of before vid) effect)
-  unfolding AreClaimed
-  claimed-step effects.Nothing lawful = is node vid
-  claimed-step (effects.Reserved grant) lawful = claimed-push node (claims_of before) grant.claim vid ∙ by_test (grant.claim.vid.0 == vid) refl
+  reserved-step : (effect : Effect) → IsLawful before effect
+      → reserved_by node (reservations_after (reservations_of before) effect) vid ≡ reservation_of node (state_after vid (state_of before vid) effect)
+  unfolding AreReserved
+  reserved-step effects.Nothing lawful = is node vid
+  reserved-step (effects.Reserved grant) lawful = reserved-push node (reservations_of before) grant.reservation vid ∙ by_test (grant.reservation.vid.0 == vid) refl
     where
-      by_test : (b : Bool) → (grant.claim.vid.0 == vid) ≡ b
-          → claimed_by node (claims_of before) vid + claimed_once node grant.claim vid ≡ claim_of node (cond b (Claimed grant.claim.by) (state_of before vid))
+      by_test : (b : Bool) → (grant.reservation.vid.0 == vid) ≡ b
+          → reserved_by node (reservations_of before) vid + reserved_once node grant.reservation vid ≡ reservation_of node (cond b (Reserved grant.reservation.by) (state_of before vid))
       by_test true same =
-          let none : claimed_by node (claims_of before) vid ≡ 0
-          = at-state grant.claim.vid.0 Unused same (sound.unused grant.claim.vid.0 lawful.1) refl in
-          let once : claimed_once node grant.claim vid ≡ one_if (grant.claim.by.0 == node.0)
-          = ap (λ b. cond (grant.claim.by.0 == node.0) (one_if b) 0) same in
+          let none : reserved_by node (reservations_of before) vid ≡ 0
+          = at-state grant.reservation.vid.0 Unused same (sound.unused grant.reservation.vid.0 lawful.1) refl in
+          let once : reserved_once node grant.reservation vid ≡ one_if (grant.reservation.by.0 == node.0)
+          = ap (λ b. cond (grant.reservation.by.0 == node.0) (one_if b) 0) same in
           omega (arith, none, once)
       by_test false apart =
-          let none : claimed_once node grant.claim vid ≡ 0 = claimed-other node grant.claim vid apart in
-          let was : claimed_by node (claims_of before) vid ≡ claim_of node (state_of before vid) = is node vid in
+          let none : reserved_once node grant.reservation vid ≡ 0 = reserved-other node grant.reservation vid apart in
+          let was : reserved_by node (reservations_of before) vid ≡ reservation_of node (state_of before vid) = is node vid in
           omega (arith, none, was)
-  claimed-step (effects.Published of name) lawful = claimed-but node of (claims_of before) vid ∙ by_test (of.0 == vid)
+  reserved-step (effects.Published of name) lawful = reserved-but node of (reservations_of before) vid ∙ by_test (of.0 == vid)
     where
-      by_test : (b : Bool) → cond b 0 (claimed_by node (claims_of before) vid) ≡ claim_of node (cond b Working (state_of before vid))
+      by_test : (b : Bool) → cond b 0 (reserved_by node (reservations_of before) vid) ≡ reservation_of node (cond b Working (state_of before vid))
       by_test true = refl
       by_test false = is node vid
-  claimed-step (effects.Snapped snap) lawful = claimed-but node snap.vid (claims_of before) vid ∙ by_test (snap.old.0 == vid) (snap.vid.0 == vid) refl
+  reserved-step (effects.Snapped snap) lawful = reserved-but node snap.vid (reservations_of before) vid ∙ by_test (snap.old.0 == vid) (snap.vid.0 == vid) refl
     where
-      by_test : (a b : Bool) → (snap.old.0 == vid) ≡ a → cond b 0 (claimed_by node (claims_of before) vid)
-          ≡ claim_of node (cond a (Shot snap.tag) (cond b Working (state_of before vid)))
+      by_test : (a b : Bool) → (snap.old.0 == vid) ≡ a → cond b 0 (reserved_by node (reservations_of before) vid)
+          ≡ reservation_of node (cond a (Snapshot snap.tag) (cond b Working (state_of before vid)))
       by_test true true same = refl
       by_test true false same = at-state snap.old.0 Working same ((lawful.0).state) refl
       by_test false true other = refl
       by_test false false other = is node vid
-  claimed-step (effects.Deleted of name) lawful = by_test (of.0 == vid) refl lawful
+  reserved-step (effects.Deleted of name) lawful = by_test (of.0 == vid) refl lawful
     where
       by_test : (b : Bool) → (of.0 == vid) ≡ b → IsLawful before (effects.Deleted of name)
-          → claimed_by node (claims_of before) vid ≡ claim_of node (cond b Deleted (state_of before vid))
+          → reserved_by node (reservations_of before) vid ≡ reservation_of node (cond b Deleted (state_of before vid))
       by_test true same (inl works) = at-state of.0 Working same ((works.0).state) refl
-      by_test true same (inr taken) = at-state of.0 (Shot ((taken.state).0)) same ((taken.state).1) refl
+      by_test true same (inr taken) = at-state of.0 (Snapshot ((taken.state).0)) same ((taken.state).1) refl
       by_test false apart how = is node vid
-  claimed-step (effects.Held of holder) lawful = is node vid
-  claimed-step (effects.Freed of) lawful = is node vid
-  claimed-step (effects.Withdrawn of) lawful = claimed-but node of (claims_of before) vid ∙ by_test (of.0 == vid)
+  reserved-step (effects.Held of holder) lawful = is node vid
+  reserved-step (effects.Freed of) lawful = is node vid
+  reserved-step (effects.Withdrawn of) lawful = reserved-but node of (reservations_of before) vid ∙ by_test (of.0 == vid)
     where
-      by_test : (b : Bool) → cond b 0 (claimed_by node (claims_of before) vid) ≡ claim_of node (cond b (freed (state_of before vid)) (state_of before vid))
-      by_test true = sym (claim-freed (state_of before vid))
+      by_test : (b : Bool) → cond b 0 (reserved_by node (reservations_of before) vid) ≡ reservation_of node (cond b (freed_state (state_of before vid)) (state_of before vid))
+      by_test true = sym (reservation-freed (state_of before vid))
       by_test false = is node vid
-  claimed-step (effects.Left gone) lawful =
-      claimed-left node gone (claims_of before) vid ∙ ap (λ n. cond (gone.0 == node.0) 0 n) (is node vid) ∙ sym (claim-left gone (state_of before vid))
+  reserved-step (effects.Left gone) lawful =
+      reserved-state_after_leave node gone (reservations_of before) vid ∙ ap (λ n. cond (gone.0 == node.0) 0 n) (is node vid) ∙ sym (reservation-left gone (state_of before vid))
 
-claimed-later : (before : List Effect) → IsSound before → (effect : Effect) → IsLawful before effect → AreClaimed before → AreClaimed (before ++ effect ∷ [])
-unfolding AreClaimed
-claimed-later before sound effect lawful is node vid =
-    ap (λ claims. claimed_by node claims vid) (claims_of-push before effect) ∙ claimed-step before sound is node vid effect lawful
-    ∙ sym (ap (claim_of node) (state_of-push before effect vid))
+reserved-later : (before : List Effect) → IsSound before → (effect : Effect) → IsLawful before effect → AreReserved before → AreReserved (before ++ effect ∷ [])
+unfolding AreReserved
+reserved-later before sound effect lawful is node vid =
+    ap (λ reservations. reserved_by node reservations vid) (reservations_of-push before effect) ∙ reserved-step before sound is node vid effect lawful
+    ∙ sym (ap (reservation_of node) (state_of-push before effect vid))
 
-pub claimed-happened : (entries : List Entry) → AreClaimed (happened entries)
-claimed-happened entries =
-    kept-later AreClaimed
-    (λ es entry is. claimed-later (happened es) (sound-happened es) (outcome (happened es) entry).effect (lawful-outcome (happened es) (sound-happened es) entry) is)
-    entries [] (subst AreClaimed (sym happened-none) claimed-none)
+pub reserved-log_effects : (entries : List Entry) → AreReserved (log_effects entries)
+reserved-log_effects entries =
+    kept-later AreReserved
+    (λ es entry is. reserved-later (log_effects es) (sound-log_effects es) (outcome (log_effects es) entry).effect (lawful-outcome (log_effects es) (sound-log_effects es) entry) is)
+    entries [] (subst AreReserved (sym log_effects-none) reserved-none)
 
 -- what bears itself, effect by effect
-stands-freed : (s : State) (by : NodeId) → s ≡ Claimed by → one_if (stands s) ≡ one_if (stands (freed s)) + 1
-stands-freed s by is = ap (λ (t : State). one_if (stands t)) is ∙ sym (ap (λ (t : State). one_if (stands (freed t)) + 1) is)
+stands-freed_state : (s : VdiState) (by : NodeId) → s ≡ Reserved by → one_if (stands s) ≡ one_if (stands (freed_state s)) + 1
+stands-freed_state s by is = ap (λ (t : VdiState). one_if (stands t)) is ∙ sym (ap (λ (t : VdiState). one_if (stands (freed_state t)) + 1) is)
 
-stands-left : (node : NodeId) (s : State) → one_if (stands s) ≡ one_if (stands (left node.0 s)) + claim_of node s
-stands-left node Unused = refl
-stands-left node (Claimed by) = by_test (by.0 == node.0)
+stands-state_after_leave : (node : NodeId) (s : VdiState) → one_if (stands s) ≡ one_if (stands (state_after_leave node.0 s)) + reservation_of node s
+stands-state_after_leave node Unused = refl
+stands-state_after_leave node (Reserved by) = by_test (by.0 == node.0)
   where
-    by_test : (b : Bool) → 1 ≡ one_if (stands (cond b Freed (Claimed by))) + one_if b
+    by_test : (b : Bool) → 1 ≡ one_if (stands (cond b Freed (Reserved by))) + one_if b
     by_test true = refl
     by_test false = refl
-stands-left node Working = refl
-stands-left node (Shot tag) = refl
-stands-left node Deleted = refl
-stands-left node Freed = refl
+stands-state_after_leave node Working = refl
+stands-state_after_leave node (Snapshot tag) = refl
+stands-state_after_leave node Deleted = refl
+stands-state_after_leave node Freed = refl
 
-live-stands : (s : State) → is_live_state s ≡ true → one_if (stands s) ≡ 1
+live-stands : (s : VdiState) → is_live_state s ≡ true → one_if (stands s) ≡ 1
 live-stands Unused live = cc
-live-stands (Claimed by) live = cc
+live-stands (Reserved by) live = cc
 live-stands Working live = refl
-live-stands (Shot tag) live = refl
+live-stands (Snapshot tag) live = refl
 live-stands Deleted live = cc
 live-stands Freed live = cc
 
 plus-none : (n : ℕ) → n ≡ n + 0
 plus-none n = omega arith
 
-module _ (before : List Effect) (sound : IsSound before) (claimed : AreClaimed before) (line : IsLine before) where
+module _ (before : List Effect) (sound : IsSound before) (reserved : AreReserved before) (line : IsLine before) where
   own_of-push : (effect : Effect) (vid : ℕ) → own_of (before ++ effect ∷ []) vid ≡ one_if (stands (state_after vid (state_of before vid) effect))
-  own_of-push effect vid = ap (λ (s : State). one_if (stands s)) (state_of-push before effect vid)
+  own_of-push effect vid = ap (λ (s : VdiState). one_if (stands s)) (state_of-push before effect vid)
 
   -- at an id whose state is known
-  own-at : (other vid : ℕ) (s : State) → (other == vid) ≡ true → state_of before other ≡ s → own_of before vid ≡ one_if (stands s)
-  own-at other vid s same is = ap (λ v. own_of before v) (sym (eqb-true other vid same)) ∙ ap (λ (t : State). one_if (stands t)) is
+  own-at : (other vid : ℕ) (s : VdiState) → (other == vid) ≡ true → state_of before other ≡ s → own_of before vid ≡ one_if (stands s)
+  own-at other vid s same is = ap (λ v. own_of before v) (sym (eqb-true other vid same)) ∙ ap (λ (t : VdiState). one_if (stands t)) is
 
   own-published : (of : Vid) (name : List ℕ) → IsLawful before (effects.Published of name) → (vid : ℕ)
       → own_of (before ++ effects.Published of name ∷ []) vid ≡ own_of before vid
   own-published of name lawful vid = own_of-push (effects.Published of name) vid ∙ by_test (of.0 == vid) refl
     where
       by_test : (b : Bool) → (of.0 == vid) ≡ b → one_if (stands (cond b Working (state_of before vid))) ≡ own_of before vid
-      by_test true same = sym (own-at of.0 vid (Claimed ((lawful.0).0)) same ((lawful.0).1))
+      by_test true same = sym (own-at of.0 vid (Reserved ((lawful.0).0)) same ((lawful.0).1))
       by_test false apart = refl
 
   own-snapped : (snap : Snap) → IsLawful before (effects.Snapped snap) → (vid : ℕ)
@@ -243,18 +243,18 @@ module _ (before : List Effect) (sound : IsSound before) (claimed : AreClaimed b
   own-snapped snap lawful vid = own_of-push (effects.Snapped snap) vid ∙ by_test (snap.old.0 == vid) (snap.vid.0 == vid) refl refl
     where
       by_test : (a b : Bool) → (snap.old.0 == vid) ≡ a → (snap.vid.0 == vid) ≡ b
-          → one_if (stands (cond a (Shot snap.tag) (cond b Working (state_of before vid)))) ≡ own_of before vid
+          → one_if (stands (cond a (Snapshot snap.tag) (cond b Working (state_of before vid)))) ≡ own_of before vid
       by_test true b same here = sym (own-at snap.old.0 vid Working same ((lawful.0).state))
-      by_test false true other here = sym (own-at snap.vid.0 vid (Claimed ((lawful.1).0)) here ((lawful.1).1))
+      by_test false true other here = sym (own-at snap.vid.0 vid (Reserved ((lawful.1).0)) here ((lawful.1).1))
       by_test false false other apart = refl
 
   own-reserved : (grant : Grant) → IsLawful before (effects.Reserved grant) → (vid : ℕ)
-      → own_of (before ++ effects.Reserved grant ∷ []) vid ≡ own_of before vid + one grant.claim.vid.0 vid
-  own-reserved grant lawful vid = own_of-push (effects.Reserved grant) vid ∙ by_test (grant.claim.vid.0 == vid) refl
+      → own_of (before ++ effects.Reserved grant ∷ []) vid ≡ own_of before vid + one grant.reservation.vid.0 vid
+  own-reserved grant lawful vid = own_of-push (effects.Reserved grant) vid ∙ by_test (grant.reservation.vid.0 == vid) refl
     where
-      by_test : (b : Bool) → (grant.claim.vid.0 == vid) ≡ b → one_if (stands (cond b (Claimed grant.claim.by) (state_of before vid))) ≡ own_of before vid + one_if b
+      by_test : (b : Bool) → (grant.reservation.vid.0 == vid) ≡ b → one_if (stands (cond b (Reserved grant.reservation.by) (state_of before vid))) ≡ own_of before vid + one_if b
       by_test true same =
-          let none : own_of before vid ≡ 0 = own-at grant.claim.vid.0 vid Unused same (sound.unused grant.claim.vid.0 lawful.1) in
+          let none : own_of before vid ≡ 0 = own-at grant.reservation.vid.0 vid Unused same (sound.unused grant.reservation.vid.0 lawful.1) in
           omega (arith, none)
       by_test false apart = plus-none (own_of before vid)
 
@@ -265,73 +265,73 @@ module _ (before : List Effect) (sound : IsSound before) (claimed : AreClaimed b
       by_test : (b : Bool) → (of.0 == vid) ≡ b → IsLawful before (effects.Deleted of name)
           → own_of before vid ≡ one_if (stands (cond b Deleted (state_of before vid))) + one_if b
       by_test true same (inl works) = own-at of.0 vid Working same ((works.0).state)
-      by_test true same (inr taken) = own-at of.0 vid (Shot ((taken.state).0)) same ((taken.state).1)
+      by_test true same (inr taken) = own-at of.0 vid (Snapshot ((taken.state).0)) same ((taken.state).1)
       by_test false apart how = plus-none (own_of before vid)
 
   own-withdrawn : (of : Vid) → IsLawful before (effects.Withdrawn of) → (vid : ℕ)
       → own_of before vid ≡ own_of (before ++ effects.Withdrawn of ∷ []) vid + one of.0 vid
   own-withdrawn of lawful vid = by_test (of.0 == vid) refl ∙ ap (λ n. n + one of.0 vid) (sym (own_of-push (effects.Withdrawn of) vid))
     where
-      by_test : (b : Bool) → (of.0 == vid) ≡ b → own_of before vid ≡ one_if (stands (cond b (freed (state_of before vid)) (state_of before vid))) + one_if b
-      by_test true same = stands-freed (state_of before vid) lawful.0 (ap (state_of before) (sym (eqb-true of.0 vid same)) ∙ lawful.1)
+      by_test : (b : Bool) → (of.0 == vid) ≡ b → own_of before vid ≡ one_if (stands (cond b (freed_state (state_of before vid)) (state_of before vid))) + one_if b
+      by_test true same = stands-freed_state (state_of before vid) lawful.0 (ap (state_of before) (sym (eqb-true of.0 vid same)) ∙ lawful.1)
       by_test false apart = plus-none (own_of before vid)
 
-  own-left : (node : NodeId) (vid : ℕ) → own_of before vid ≡ own_of (before ++ effects.Left node ∷ []) vid + claimed_by node (claims_of before) vid
-  unfolding AreClaimed
+  own-left : (node : NodeId) (vid : ℕ) → own_of before vid ≡ own_of (before ++ effects.Left node ∷ []) vid + reserved_by node (reservations_of before) vid
+  unfolding AreReserved
   own-left node vid =
-      stands-left node (state_of before vid)
-      ∙ ap (λ n. n + claim_of node (state_of before vid)) (sym (own_of-push (effects.Left node) vid))
-      ∙ ap (λ n. own_of (before ++ effects.Left node ∷ []) vid + n) (sym (claimed node vid))
+      stands-state_after_leave node (state_of before vid)
+      ∙ ap (λ n. n + reservation_of node (state_of before vid)) (sym (own_of-push (effects.Left node) vid))
+      ∙ ap (λ n. own_of (before ++ effects.Left node ∷ []) vid + n) (sym (reserved node vid))
 
-  module _ (books : Books) (is : IsBooks before books) where
-    parents-are : parent_of before ≡ parent_in books.headers
+  module _ (state : DirectoryState) (is : IsDirectoryState before state) where
+    parents-are : parent_of before ≡ parent_in state.headers
     parents-are = λ i vid. header_parent (sym (is.headers vid) i)
 
     -- so many can be taken
     lost : (lost : ℕ → ℕ) (own : ℕ → ℕ) → ((vid : ℕ) → own_of before vid ≡ own vid + lost vid)
-        → AreBearers (parent_in books.headers) (λ vid. own vid + lost vid) (count_in books.bearers)
+        → AreReferenceCounts (parent_in state.headers) (λ vid. own vid + lost vid) (count_in state.references)
     lost less own each =
         let owns : own_of before ≡ (λ vid. own vid + less vid) = λ i vid. each vid i in
-        subst (λ (parent : ℕ → Option Vid). AreBearers parent (λ vid. own vid + less vid) (count_in books.bearers)) parents-are
-        (subst (λ (all : ℕ → ℕ). AreBearers (parent_of before) all (count_in books.bearers)) owns is.bearers)
+        subst (λ (parent : ℕ → Option Vid). AreReferenceCounts parent (λ vid. own vid + less vid) (count_in state.references)) parents-are
+        (subst (λ (all : ℕ → ℕ). AreReferenceCounts (parent_of before) all (count_in state.references)) owns is.references)
 
     -- a new id bears nothing yet
-    fresh-none : (vid : ℕ) → is_used before vid ≡ false → count_in books.bearers vid ≡ 0
+    fresh-none : (vid : ℕ) → is_used before vid ≡ false → count_in state.references vid ≡ 0
     fresh-none vid unused =
-        let own : own_of before vid ≡ 0 = ap (λ (s : State). one_if (stands s)) (sound.unused vid unused) in
-        let children : borne_children (parent_of before) (count_in books.bearers) vid ≡ 0
-        = total-zero (λ child. borne_by (parent_of before child) (count_in books.bearers child) vid) KEY_COUNT (λ child below. childless child (parent_of before child) refl) in
-        let all : count_in books.bearers vid ≡ own_of before vid + borne_children (parent_of before) (count_in books.bearers) vid = is.bearers vid in
+        let own : own_of before vid ≡ 0 = ap (λ (s : VdiState). one_if (stands s)) (sound.unused vid unused) in
+        let children : child_references (parent_of before) (count_in state.references) vid ≡ 0
+        = total-zero (λ child. references_by (parent_of before child) (count_in state.references child) vid) KEY_COUNT (λ child below. childless child (parent_of before child) refl) in
+        let all : count_in state.references vid ≡ own_of before vid + child_references (parent_of before) (count_in state.references) vid = is.references vid in
         omega (arith, own, children, all)
       where
         no-part : (b : Bool) (n : ℕ) → n ≡ 0 → cond b n 0 ≡ 0
         no-part true n none = none
         no-part false n none = refl
 
-        childless : (child : ℕ) (parent : Option Vid) → parent_of before child ≡ parent → borne_by parent (count_in books.bearers child) vid ≡ 0
-        childless child None there = no-part (nat_lt 0 (count_in books.bearers child)) 0 refl
+        childless : (child : ℕ) (parent : Option Vid) → parent_of before child ≡ parent → references_by parent (count_in state.references child) vid ≡ 0
+        childless child None there = no-part (nat_lt 0 (count_in state.references child)) 0 refl
         childless child (Some parent) there =
-            no-part (nat_lt 0 (count_in books.bearers child)) (one parent.0 vid)
+            no-part (nat_lt 0 (count_in state.references child)) (one parent.0 vid)
             (one-other parent.0 vid (λ same. both_ways (is_used before vid) unused (ap (is_used before) (sym same) ∙ line.parents child parent there)))
 
-    parent-borne : (parent : Option Vid) → IsParent before parent → IsBorne parent (count_in books.bearers)
-    parent-borne None live = tt
-    parent-borne (Some parent) live =
+    parent-referenced : (parent : Option Vid) → IsParent before parent → IsReferenced parent (count_in state.references)
+    parent-referenced None live = tt
+    parent-referenced (Some parent) live =
         let own : own_of before parent.0 ≡ 1 = live-stands (state_of before parent.0) live in
-        let most : borne_children (parent_of before) (count_in books.bearers) parent.0 ≤ KEY_COUNT
-        = total-most (λ child. borne_by (parent_of before child) (count_in books.bearers child) parent.0) KEY_COUNT
-        (λ child. borne_by-most (parent_of before child) (count_in books.bearers child) parent.0) in
-        let all : count_in books.bearers parent.0 ≡ own_of before parent.0 + borne_children (parent_of before) (count_in books.bearers) parent.0 = is.bearers parent.0 in
+        let most : child_references (parent_of before) (count_in state.references) parent.0 ≤ KEY_COUNT
+        = total-most (λ child. references_by (parent_of before child) (count_in state.references child) parent.0) KEY_COUNT
+        (λ child. references_by-most (parent_of before child) (count_in state.references child) parent.0) in
+        let all : count_in state.references parent.0 ≡ own_of before parent.0 + child_references (parent_of before) (count_in state.references) parent.0 = is.references parent.0 in
         let keys = key-most in
         (omega (arith, own, all), omega (arith, own, most, all, keys))
 
-    own-left-kept : (node : NodeId) (vid : ℕ) → own_of before vid ≡ own_of (before ++ effects.Left node ∷ []) vid + claimed_by node books.claims.items vid
+    own-left-kept : (node : NodeId) (vid : ℕ) → own_of before vid ≡ own_of (before ++ effects.Left node ∷ []) vid + reserved_by node state.reservations.items vid
     own-left-kept node vid =
-        own-left node vid ∙ ap (λ (claims : List Claim). own_of (before ++ effects.Left node ∷ []) vid + claimed_by node claims vid) (sym is.claims)
+        own-left node vid ∙ ap (λ (reservations : List Reservation). own_of (before ++ effects.Left node ∷ []) vid + reserved_by node reservations vid) (sym is.reservations)
 
-    pub can-make : (effect : Effect) → IsLawful before effect → CanMake effect books
+    pub can-make : (effect : Effect) → IsLawful before effect → CanMake effect state
     can-make effects.Nothing lawful = tt
-    can-make (effects.Reserved grant) lawful = (fresh-none grant.claim.vid.0 lawful.1, parent-borne grant.header.parent lawful.4)
+    can-make (effects.Reserved grant) lawful = (fresh-none grant.reservation.vid.0 lawful.1, parent-referenced grant.header.parent lawful.4)
     can-make (effects.Published of name) lawful = tt
     can-make (effects.Snapped snap) lawful = tt
     can-make (effects.Deleted of name) lawful =
@@ -341,57 +341,57 @@ module _ (before : List Effect) (sound : IsSound before) (claimed : AreClaimed b
     can-make (effects.Withdrawn of) lawful =
         (own_of (before ++ effects.Withdrawn of ∷ []), lost (one of.0) (own_of (before ++ effects.Withdrawn of ∷ [])) (own-withdrawn of lawful))
     can-make (effects.Left node) lawful =
-        (own_of (before ++ effects.Left node ∷ []), lost (claimed_by node books.claims.items) (own_of (before ++ effects.Left node ∷ [])) (own-left-kept node))
+        (own_of (before ++ effects.Left node ∷ []), lost (reserved_by node state.reservations.items) (own_of (before ++ effects.Left node ∷ [])) (own-left-kept node))
 
     -- once the effect was made
-    module _ (effect : Effect) (new : Books) where
+    module _ (effect : Effect) (new : DirectoryState) where
       abbrev Bear : Type 0
-      Bear = AreBearers (parent_of (before ++ effect ∷ [])) (own_of (before ++ effect ∷ [])) (count_in new.bearers)
+      Bear = AreReferenceCounts (parent_of (before ++ effect ∷ [])) (own_of (before ++ effect ∷ [])) (count_in new.references)
 
       bear-same : ((vid : ℕ) → parent_of (before ++ effect ∷ []) vid ≡ parent_of before vid) → ((vid : ℕ) → own_of (before ++ effect ∷ []) vid ≡ own_of before vid)
-          → ((vid : ℕ) → count_in new.bearers vid ≡ count_in books.bearers vid) → Bear
+          → ((vid : ℕ) → count_in new.references vid ≡ count_in state.references vid) → Bear
       bear-same parents owns counts =
           let to_parents : parent_of before ≡ parent_of (before ++ effect ∷ []) = λ i vid. sym (parents vid) i in
           let to_owns : own_of before ≡ own_of (before ++ effect ∷ []) = λ i vid. sym (owns vid) i in
-          let to_counts : count_in books.bearers ≡ count_in new.bearers = λ i vid. sym (counts vid) i in
-          subst (λ (parent : ℕ → Option Vid). AreBearers parent (own_of (before ++ effect ∷ [])) (count_in new.bearers)) to_parents
-          (subst (λ (own : ℕ → ℕ). AreBearers (parent_of before) own (count_in new.bearers)) to_owns
-          (subst (λ (counts : ℕ → ℕ). AreBearers (parent_of before) (own_of before) counts) to_counts is.bearers))
+          let to_counts : count_in state.references ≡ count_in new.references = λ i vid. sym (counts vid) i in
+          subst (λ (parent : ℕ → Option Vid). AreReferenceCounts parent (own_of (before ++ effect ∷ [])) (count_in new.references)) to_parents
+          (subst (λ (own : ℕ → ℕ). AreReferenceCounts (parent_of before) own (count_in new.references)) to_owns
+          (subst (λ (counts : ℕ → ℕ). AreReferenceCounts (parent_of before) (own_of before) counts) to_counts is.references))
 
       bear-less : (less : ℕ → ℕ) → ((vid : ℕ) → parent_of (before ++ effect ∷ []) vid ≡ parent_of before vid)
-          → ((vid : ℕ) → own_of before vid ≡ own_of (before ++ effect ∷ []) vid + less vid) → Loses less books.headers books.bearers new.bearers → Bear
+          → ((vid : ℕ) → own_of before vid ≡ own_of (before ++ effect ∷ []) vid + less vid) → LosesReferences less state.headers state.references new.references → Bear
       bear-less less parents owns loses =
-          let to_parents : parent_in books.headers ≡ parent_of (before ++ effect ∷ [])
+          let to_parents : parent_in state.headers ≡ parent_of (before ++ effect ∷ [])
           = λ i vid. (sym (ap (λ (parent : ℕ → Option Vid). parent vid) parents-are) ∙ sym (parents vid)) i in
-          subst (λ (parent : ℕ → Option Vid). AreBearers parent (own_of (before ++ effect ∷ [])) (count_in new.bearers)) to_parents
+          subst (λ (parent : ℕ → Option Vid). AreReferenceCounts parent (own_of (before ++ effect ∷ [])) (count_in new.references)) to_parents
           (loses (own_of (before ++ effect ∷ [])) (lost less (own_of (before ++ effect ∷ [])) owns))
 
-    bear-more : (grant : Grant) → IsLawful before (effects.Reserved grant) → (new : Books) → AreBearersMade (effects.Reserved grant) books new
-        → AreBearers (parent_of (before ++ effects.Reserved grant ∷ [])) (own_of (before ++ effects.Reserved grant ∷ [])) (count_in new.bearers)
+    bear-more : (grant : Grant) → IsLawful before (effects.Reserved grant) → (new : DirectoryState) → AreReferencesMade (effects.Reserved grant) state new
+        → AreReferenceCounts (parent_of (before ++ effects.Reserved grant ∷ [])) (own_of (before ++ effects.Reserved grant ∷ [])) (count_in new.references)
     bear-more grant lawful new made =
-        let to_owns : (λ vid. own_of before vid + one grant.claim.vid.0 vid) ≡ own_of (before ++ effects.Reserved grant ∷ [])
+        let to_owns : (λ vid. own_of before vid + one grant.reservation.vid.0 vid) ≡ own_of (before ++ effects.Reserved grant ∷ [])
         = λ i vid. sym (own-reserved grant lawful vid) i in
         let most = (lawful.0).1 in
-        subst (λ (own : ℕ → ℕ). AreBearers (parent_of (before ++ effects.Reserved grant ∷ [])) own (count_in new.bearers)) to_owns
-        (child-more (parent_of before) (parent_of (before ++ effects.Reserved grant ∷ [])) (own_of before) (count_in books.bearers) (count_in new.bearers)
-        grant.claim.vid.0 grant.header.parent (key-below grant.claim.vid.0 (omega (arith, most))) made (fresh-none grant.claim.vid.0 lawful.1)
-        (borne grant.header.parent lawful.4)
-        (parent_of-push before (effects.Reserved grant) grant.claim.vid.0
-        ∙ ap (λ b. header_parent (cond b (Some grant.header) (header_of before grant.claim.vid.0))) (eq-eqb grant.claim.vid.0 grant.claim.vid.0 refl))
+        subst (λ (own : ℕ → ℕ). AreReferenceCounts (parent_of (before ++ effects.Reserved grant ∷ [])) own (count_in new.references)) to_owns
+        (child-more (parent_of before) (parent_of (before ++ effects.Reserved grant ∷ [])) (own_of before) (count_in state.references) (count_in new.references)
+        grant.reservation.vid.0 grant.header.parent (key-below grant.reservation.vid.0 (omega (arith, most))) made (fresh-none grant.reservation.vid.0 lawful.1)
+        (referenced grant.header.parent lawful.4)
+        (parent_of-push before (effects.Reserved grant) grant.reservation.vid.0
+        ∙ ap (λ b. header_parent (cond b (Some grant.header) (header_of before grant.reservation.vid.0))) (eq-eqb grant.reservation.vid.0 grant.reservation.vid.0 refl))
         (λ vid apart. parent_of-push before (effects.Reserved grant) vid
-        ∙ ap (λ b. header_parent (cond b (Some grant.header) (header_of before vid))) (ne_eqb grant.claim.vid.0 vid (λ same. apart (sym same))))
-        is.bearers)
+        ∙ ap (λ b. header_parent (cond b (Some grant.header) (header_of before vid))) (ne_eqb grant.reservation.vid.0 vid (λ same. apart (sym same))))
+        is.references)
       where
-        borne : (parent : Option Vid) → IsParent before parent → (vid : ℕ) → (one_parent parent vid ≡ 0) ⊎ (0 < count_in books.bearers vid)
-        borne None live vid = inl refl
-        borne (Some parent) live vid = by_place (cases_eq parent.0 vid)
+        referenced : (parent : Option Vid) → IsParent before parent → (vid : ℕ) → (one_parent_reference parent vid ≡ 0) ⊎ (0 < count_in state.references vid)
+        referenced None live vid = inl refl
+        referenced (Some parent) live vid = by_place (cases_eq parent.0 vid)
           where
-            by_place : (parent.0 ≡ vid) ⊎ (parent.0 ≢ vid) → (one parent.0 vid ≡ 0) ⊎ (0 < count_in books.bearers vid)
-            by_place (inl same) = inr (subst (λ v. 0 < count_in books.bearers v) same ((parent-borne (Some parent) live).0))
+            by_place : (parent.0 ≡ vid) ⊎ (parent.0 ≢ vid) → (one parent.0 vid ≡ 0) ⊎ (0 < count_in state.references vid)
+            by_place (inl same) = inr (subst (λ v. 0 < count_in state.references v) same ((parent-referenced (Some parent) live).0))
             by_place (inr apart) = inl (one-other parent.0 vid apart)
 
-    pub bear-push : (effect : Effect) → IsLawful before effect → (new : Books) → AreBearersMade effect books new
-        → AreBearers (parent_of (before ++ effect ∷ [])) (own_of (before ++ effect ∷ [])) (count_in new.bearers)
+    pub bear-push : (effect : Effect) → IsLawful before effect → (new : DirectoryState) → AreReferencesMade effect state new
+        → AreReferenceCounts (parent_of (before ++ effect ∷ [])) (own_of (before ++ effect ∷ [])) (count_in new.references)
     bear-push effects.Nothing lawful new made =
         bear-same effects.Nothing new (parent_of-push before effects.Nothing) (own_of-push effects.Nothing) made
     bear-push (effects.Reserved grant) lawful new made = bear-more grant lawful new made
@@ -409,4 +409,4 @@ module _ (before : List Effect) (sound : IsSound before) (claimed : AreClaimed b
     bear-push (effects.Withdrawn of) lawful new made =
         bear-less (effects.Withdrawn of) new (one of.0) (parent_of-push before (effects.Withdrawn of)) (own-withdrawn of lawful) made
     bear-push (effects.Left node) lawful new made =
-        bear-less (effects.Left node) new (claimed_by node books.claims.items) (parent_of-push before (effects.Left node)) (own-left-kept node) made
+        bear-less (effects.Left node) new (reserved_by node state.reservations.items) (parent_of-push before (effects.Left node)) (own-left-kept node) made

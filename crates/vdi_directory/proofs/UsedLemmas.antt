@@ -4,13 +4,13 @@ use Rattle.std.specs.List.{remove}
 use Rattle.std.proofs.lemmas.Bool.{eq-eqb, ne_eqb}
 use Rattle.std.proofs.lemmas.List.{get_or_default}
 use Rattle.vdi_directory.specs.declared.vid_range.VidRange.{VidRange}
-use Rattle.vdi_directory.specs.Vids.{joined}
+use Rattle.vdi_directory.specs.Vids.{ranges_with}
 
 -- a range reaches to the id, and takes the next one in
 pub extend-join : (ranges : List VidRange) (place first vid : ℕ) (d : VidRange) → suc place < length ranges
     → (get_or ranges (suc place) d).first ≡ vid + 1
     → set (remove ranges (suc place)) place (record { first = first; last = (get_or ranges (suc place) d).last })
-    ≡ take place ranges ++ joined first vid (drop (suc place) ranges)
+    ≡ take place ranges ++ ranges_with first vid (drop (suc place) ranges)
 extend-join [] place first vid d within touches = absurd (omega arith)
 extend-join (range ∷ []) place first vid d within touches = absurd (omega arith)
 extend-join (range ∷ next ∷ ranges) zero first vid d within touches =
@@ -21,7 +21,7 @@ extend-join (range ∷ next ∷ ranges) (suc place) first vid d within touches =
 -- a range reaches to the id, and touches none
 pub extend-only : (ranges : List VidRange) (place first vid : ℕ) → place < length ranges
     → ((d : VidRange) → suc place < length ranges → (get_or ranges (suc place) d).first ≢ vid + 1)
-    → set ranges place (record { first = first; last = vid }) ≡ take place ranges ++ joined first vid (drop (suc place) ranges)
+    → set ranges place (record { first = first; last = vid }) ≡ take place ranges ++ ranges_with first vid (drop (suc place) ranges)
 extend-only [] place first vid within apart = absurd (omega arith)
 extend-only (range ∷ []) zero first vid within apart = refl
 extend-only (range ∷ []) (suc place) first vid within apart = absurd (omega arith)
@@ -32,7 +32,7 @@ extend-only (range ∷ next ∷ ranges) (suc place) first vid within apart =
 
 -- the range at the place begins earlier
 pub insert-join : (ranges : List VidRange) (place vid : ℕ) (d : VidRange) → place < length ranges → (get_or ranges place d).first ≡ vid + 1
-    → set ranges place (record { first = vid; last = (get_or ranges place d).last }) ≡ take place ranges ++ joined vid vid (drop place ranges)
+    → set ranges place (record { first = vid; last = (get_or ranges place d).last }) ≡ take place ranges ++ ranges_with vid vid (drop place ranges)
 insert-join [] place vid d within touches = absurd (omega arith)
 insert-join (range ∷ ranges) zero vid d within touches =
     sym (ap (λ b. cond b (record { first = vid; last = range.last } ∷ ranges) (record { first = vid; last = vid } ∷ range ∷ ranges)) (eq-eqb range.first (vid + 1) touches))
@@ -42,12 +42,12 @@ insert-join (range ∷ ranges) (suc place) vid d within touches =
 -- the same as the code has it
 abbrev Extended : List VidRange → List VidRange → ℕ → ℕ → ℕ → VidRange → VidRange → VidRange → Type 0
 Extended items new place next vid range last d =
-    set new place (record { first = range.first; last = last.last }) ≡ take place items ++ joined (get_or items place d).first vid (drop next items)
+    set new place (record { first = range.first; last = last.last }) ≡ take place items ++ ranges_with (get_or items place d).first vid (drop next items)
 
-pub extended-joined : (items new : List VidRange) (place next vid : ℕ) (range behind last d : VidRange) → next ≡ place + 1 → next < length items
+pub extended-ranges_with : (items new : List VidRange) (place next vid : ℕ) (range behind last d : VidRange) → next ≡ place + 1 → next < length items
     → range ≡ get_or items place range → behind ≡ get_or items next behind → behind.first ≡ vid + 1 → last ≡ get_or items next last
     → new ≡ remove items next → Extended items new place next vid range last d
-extended-joined items new place next vid range behind last d step within here there touches same removed =
+extended-ranges_with items new place next vid range behind last d step within here there touches same removed =
     let up : suc place ≡ next = omega arith in
     let first : range.first ≡ (get_or items place d).first = ap (λ (r : VidRange). r.first) (here ∙ get_or_default items place range d (omega arith)) in
     let end : last.last ≡ (get_or items (suc place) d).last
@@ -57,23 +57,23 @@ extended-joined items new place next vid range behind last d step within here th
     (λ i. set (removed i) place (record { first = first i; last = end i }))
     ∙ ap (λ n. set (remove items n) place (record { first = (get_or items place d).first; last = (get_or items (suc place) d).last })) (sym up)
     ∙ extend-join items place (get_or items place d).first vid d (omega arith) begin
-    ∙ ap (λ n. take place items ++ joined (get_or items place d).first vid (drop n items)) up
+    ∙ ap (λ n. take place items ++ ranges_with (get_or items place d).first vid (drop n items)) up
 
 pub extended-only : (items : List VidRange) (place next vid : ℕ) (range d : VidRange) → next ≡ place + 1 → place < length items
     → range ≡ get_or items place range → ((e : VidRange) → next < length items → (get_or items next e).first ≢ vid + 1)
-    → set items place (record { first = range.first; last = vid }) ≡ take place items ++ joined (get_or items place d).first vid (drop next items)
+    → set items place (record { first = range.first; last = vid }) ≡ take place items ++ ranges_with (get_or items place d).first vid (drop next items)
 extended-only items place next vid range d step within here apart =
     let up : suc place ≡ next = omega arith in
     let first : range.first ≡ (get_or items place d).first = ap (λ (r : VidRange). r.first) (here ∙ get_or_default items place range d within) in
     (λ i. set items place (record { first = first i; last = vid }))
     ∙ extend-only items place (get_or items place d).first vid within
     (λ e there. λ touches. apart e (omega arith) (ap (λ n. (get_or items n e).first) (sym up) ∙ touches))
-    ∙ ap (λ n. take place items ++ joined (get_or items place d).first vid (drop n items)) up
+    ∙ ap (λ n. take place items ++ ranges_with (get_or items place d).first vid (drop n items)) up
 
-pub inserted-joined : (items : List VidRange) (place vid : ℕ) (behind last : VidRange) → place < length items
+pub inserted-ranges_with : (items : List VidRange) (place vid : ℕ) (behind last : VidRange) → place < length items
     → behind ≡ get_or items place behind → behind.first ≡ vid + 1 → last ≡ get_or items place last
-    → set items place (record { first = vid; last = last.last }) ≡ take place items ++ joined vid vid (drop place items)
-inserted-joined items place vid behind last within there touches same =
+    → set items place (record { first = vid; last = last.last }) ≡ take place items ++ ranges_with vid vid (drop place items)
+inserted-ranges_with items place vid behind last within there touches same =
     let end : last.last ≡ (get_or items place behind).last = ap (λ (r : VidRange). r.last) (same ∙ get_or_default items place last behind within) in
     (λ i. set items place (record { first = vid; last = end i }))
     ∙ insert-join items place vid behind within (ap (λ (r : VidRange). r.first) (sym there) ∙ touches)

@@ -6,7 +6,7 @@ use Rattle.std.proofs.lemmas.Bool.Decides.{nat_tests}
 use Rattle.std.proofs.lemmas.List.{get_or_default}
 use Rattle.vdi_directory.specs.declared.vid_range.VidRange.{VidRange}
 use Rattle.vdi_directory.specs.declared.vid_range.TheConstants.{VID_MAX}
-use Rattle.vdi_directory.specs.Vids.{next_vid, first_unused, VID_COUNT, in_range, is_in, joined, with_vid, AreRangesFrom, AreRanges}
+use Rattle.vdi_directory.specs.Vids.{next_vid, first_unused, VID_COUNT, in_range, is_in, ranges_with, with_vid, AreRangesFrom, AreRanges}
 
 pub VID_COUNT-is : VID_COUNT ≡ VID_MAX
 unfolding VID_COUNT
@@ -155,13 +155,13 @@ or-swap true true c = refl
 or-swap true false c = refl
 or-swap false b c = refl
 
-in-joined : (first vid : ℕ) (ranges : List VidRange) (v : ℕ) → first ≤ vid → AreRangesFrom (vid + 1) ranges
-    → is_in (joined first vid ranges) v ≡ ((nat_le first v && nat_le v vid) || is_in ranges v)
-in-joined first vid [] v upto are = refl
-in-joined first vid (range ∷ ranges) v upto are = by_test (cases_eq range.first (vid + 1))
+in-ranges_with : (first vid : ℕ) (ranges : List VidRange) (v : ℕ) → first ≤ vid → AreRangesFrom (vid + 1) ranges
+    → is_in (ranges_with first vid ranges) v ≡ ((nat_le first v && nat_le v vid) || is_in ranges v)
+in-ranges_with first vid [] v upto are = refl
+in-ranges_with first vid (range ∷ ranges) v upto are = by_test (cases_eq range.first (vid + 1))
   where
     by_test : (range.first ≡ vid + 1) ⊎ (range.first ≢ vid + 1)
-        → is_in (joined first vid (range ∷ ranges)) v ≡ ((nat_le first v && nat_le v vid) || is_in (range ∷ ranges) v)
+        → is_in (ranges_with first vid (range ∷ ranges)) v ≡ ((nat_le first v && nat_le v vid) || is_in (range ∷ ranges) v)
     by_test (inl touches) =
         let both : range.first ≤ range.last = are.1 in
         ap (λ b. is_in (cond b (record { first = first; last = range.last } ∷ ranges) (record { first = first; last = vid } ∷ range ∷ ranges)) v)
@@ -173,12 +173,12 @@ in-joined first vid (range ∷ ranges) v upto are = by_test (cases_eq range.firs
         ap (λ b. is_in (cond b (record { first = first; last = range.last } ∷ ranges) (record { first = first; last = vid } ∷ range ∷ ranges)) v)
         (ne_eqb range.first (vid + 1) apart)
 
-AreRanges-joined : (low first vid : ℕ) (ranges : List VidRange) → low ≤ first → first ≤ vid → vid ≤ VID_MAX → AreRangesFrom (vid + 1) ranges
-    → AreRangesFrom low (joined first vid ranges)
-AreRanges-joined low first vid [] from upto last are = (from, upto, last, tt)
-AreRanges-joined low first vid (range ∷ ranges) from upto last are = by_test (cases_eq range.first (vid + 1))
+AreRanges-ranges_with : (low first vid : ℕ) (ranges : List VidRange) → low ≤ first → first ≤ vid → vid ≤ VID_MAX → AreRangesFrom (vid + 1) ranges
+    → AreRangesFrom low (ranges_with first vid ranges)
+AreRanges-ranges_with low first vid [] from upto last are = (from, upto, last, tt)
+AreRanges-ranges_with low first vid (range ∷ ranges) from upto last are = by_test (cases_eq range.first (vid + 1))
   where
-    by_test : (range.first ≡ vid + 1) ⊎ (range.first ≢ vid + 1) → AreRangesFrom low (joined first vid (range ∷ ranges))
+    by_test : (range.first ≡ vid + 1) ⊎ (range.first ≢ vid + 1) → AreRangesFrom low (ranges_with first vid (range ∷ ranges))
     by_test (inl touches) =
         let least : vid + 1 ≤ range.first = are.0 in
         let both : range.first ≤ range.last = are.1 in
@@ -240,11 +240,11 @@ with_vid-is low vid (range ∷ ranges) are from last out = by_place (cases_lt ra
     outside = out
 
     by_test : (b c : Bool) → nat_le vid range.last ≡ b → (vid == range.last + 1) ≡ c
-        → AreWith (cond b (joined vid vid (range ∷ ranges)) (cond c (joined range.first vid ranges) (range ∷ with_vid vid ranges)))
+        → AreWith (cond b (ranges_with vid vid (range ∷ ranges)) (cond c (ranges_with range.first vid ranges) (range ∷ with_vid vid ranges)))
         → AreWith (with_vid vid (range ∷ ranges))
     by_test b c first second all =
-        subst (λ t. AreWith (cond t (joined vid vid (range ∷ ranges)) (cond (vid == range.last + 1) (joined range.first vid ranges) (range ∷ with_vid vid ranges)))) (sym first)
-        (subst (λ t. AreWith (cond b (joined vid vid (range ∷ ranges)) (cond t (joined range.first vid ranges) (range ∷ with_vid vid ranges)))) (sym second) all)
+        subst (λ t. AreWith (cond t (ranges_with vid vid (range ∷ ranges)) (cond (vid == range.last + 1) (ranges_with range.first vid ranges) (range ∷ with_vid vid ranges)))) (sym first)
+        (subst (λ t. AreWith (cond b (ranges_with vid vid (range ∷ ranges)) (cond t (ranges_with range.first vid ranges) (range ∷ with_vid vid ranges)))) (sym second) all)
 
     by_place : (range.last < vid) ⊎ (vid ≤ range.last) → (vid ≡ range.last + 1) ⊎ (vid ≢ range.last + 1)
         → (range.last + 2 ≤ vid → AreRangesFrom (range.last + 2) (with_vid vid ranges) × ((v : ℕ) → is_in (with_vid vid ranges) v ≡ (is_in ranges v || vid == v)))
@@ -253,16 +253,16 @@ with_vid-is low vid (range ∷ ranges) are from last out = by_place (cases_lt ra
         let behind : AreRangesFrom (vid + 1) (range ∷ ranges)
         = AreRanges-behind low vid (range ∷ ranges) are out (λ r rs is. (let same : range ≡ r = cc in subst (λ (x : VidRange). vid ≤ x.last) same upto)) in
         by_test true (vid == range.last + 1) (le-leb vid range.last upto) refl (
-          AreRanges-joined low vid vid (range ∷ ranges) from (omega arith) last behind,
-          λ v. in-joined vid vid (range ∷ ranges) v (omega arith) behind
+          AreRanges-ranges_with low vid vid (range ∷ ranges) from (omega arith) last behind,
+          λ v. in-ranges_with vid vid (range ∷ ranges) v (omega arith) behind
               ∙ ap (λ b. b || is_in (range ∷ ranges) v) (single vid v) ∙ or-turn (vid == v) (is_in (range ∷ ranges) v),
         )
     by_place (inl above) (inl touches) later =
         let behind : AreRangesFrom (vid + 1) ranges = subst (λ n. AreRangesFrom n ranges) (let e : range.last + 2 ≡ vid + 1 = omega arith in e) are.3 in
         let both : range.first ≤ range.last = are.1 in
         by_test false true (lt-leb vid range.last above) (eq-eqb vid (range.last + 1) touches) (
-          AreRanges-joined low range.first vid ranges are.0 (omega arith) last behind,
-          λ v. in-joined range.first vid ranges v (omega arith) behind
+          AreRanges-ranges_with low range.first vid ranges are.0 (omega arith) last behind,
+          λ v. in-ranges_with range.first vid ranges v (omega arith) behind
               ∙ ap (λ b. b || is_in ranges v) (ap (λ n. nat_le range.first v && nat_le v n) touches ∙ in-split range.first range.last (range.last + 1) v (omega arith) (omega arith))
               ∙ ap (λ n. ((in_range v range) || (nat_le (range.last + 1) v && nat_le v (range.last + 1))) || is_in ranges v) touches
               ∙ ap (λ b. (in_range v range || b) || is_in ranges v) (single (range.last + 1) v ∙ ap (λ n. n == v) (sym touches))
@@ -282,16 +282,16 @@ pub with_vid-insert : (low vid place : ℕ) (ranges : List VidRange) → AreRang
     → ((k : ℕ) (d : VidRange) → k < place → (get_or ranges k d).last < vid)
     → ((k : ℕ) (d : VidRange) → place ≤ k → k < length ranges → vid ≤ (get_or ranges k d).last)
     → ((d : VidRange) → 0 < place → (get_or ranges (place - 1) d).last + 1 ≢ vid)
-    → with_vid vid ranges ≡ take place ranges ++ joined vid vid (drop place ranges)
+    → with_vid vid ranges ≡ take place ranges ++ ranges_with vid vid (drop place ranges)
 with_vid-insert low vid zero [] are within before behind apart = refl
 with_vid-insert low vid (suc place) [] are within before behind apart = absurd (omega arith)
 with_vid-insert low vid zero (range ∷ ranges) are within before behind apart =
-    ap (λ b. cond b (joined vid vid (range ∷ ranges)) (cond (vid == range.last + 1) (joined range.first vid ranges) (range ∷ with_vid vid ranges)))
+    ap (λ b. cond b (ranges_with vid vid (range ∷ ranges)) (cond (vid == range.last + 1) (ranges_with range.first vid ranges) (range ∷ with_vid vid ranges)))
     (le-leb vid range.last (behind 0 range (omega arith) (omega arith)))
 with_vid-insert low vid (suc place) (range ∷ ranges) are within before behind apart =
-    ap (λ b. cond b (joined vid vid (range ∷ ranges)) (cond (vid == range.last + 1) (joined range.first vid ranges) (range ∷ with_vid vid ranges)))
+    ap (λ b. cond b (ranges_with vid vid (range ∷ ranges)) (cond (vid == range.last + 1) (ranges_with range.first vid ranges) (range ∷ with_vid vid ranges)))
     (lt-leb vid range.last (before 0 range (omega arith)))
-    ∙ ap (λ b. cond b (joined range.first vid ranges) (range ∷ with_vid vid ranges)) (ne_eqb vid (range.last + 1) (not_here place refl))
+    ∙ ap (λ b. cond b (ranges_with range.first vid ranges) (range ∷ with_vid vid ranges)) (ne_eqb vid (range.last + 1) (not_here place refl))
     ∙ ap (λ rest. range ∷ rest) (with_vid-insert (range.last + 2) vid place ranges are.3 (omega arith)
     (λ k d below. before (suc k) d (omega arith)) (λ k d from upto. behind (suc k) d (omega arith) (omega arith))
     (λ d some. shifted place d some (apart d (omega arith))))
@@ -314,17 +314,17 @@ with_vid-insert low vid (suc place) (range ∷ ranges) are within before behind 
 
 pub with_vid-extend : (low vid place : ℕ) (ranges : List VidRange) (d : VidRange) → AreRangesFrom low ranges → place < length ranges
     → (get_or ranges place d).last + 1 ≡ vid
-    → with_vid vid ranges ≡ take place ranges ++ joined (get_or ranges place d).first vid (drop (suc place) ranges)
+    → with_vid vid ranges ≡ take place ranges ++ ranges_with (get_or ranges place d).first vid (drop (suc place) ranges)
 with_vid-extend low vid place [] d are within touches = absurd (omega arith)
 with_vid-extend low vid zero (range ∷ ranges) d are within touches =
-    ap (λ b. cond b (joined vid vid (range ∷ ranges)) (cond (vid == range.last + 1) (joined range.first vid ranges) (range ∷ with_vid vid ranges)))
+    ap (λ b. cond b (ranges_with vid vid (range ∷ ranges)) (cond (vid == range.last + 1) (ranges_with range.first vid ranges) (range ∷ with_vid vid ranges)))
     (lt-leb vid range.last (omega arith))
-    ∙ ap (λ b. cond b (joined range.first vid ranges) (range ∷ with_vid vid ranges)) (eq-eqb vid (range.last + 1) (sym touches))
+    ∙ ap (λ b. cond b (ranges_with range.first vid ranges) (range ∷ with_vid vid ranges)) (eq-eqb vid (range.last + 1) (sym touches))
 with_vid-extend low vid (suc place) (range ∷ ranges) d are within touches =
     let there = range-within (range.last + 2) ranges place d are.3 (omega arith) in
-    ap (λ b. cond b (joined vid vid (range ∷ ranges)) (cond (vid == range.last + 1) (joined range.first vid ranges) (range ∷ with_vid vid ranges)))
+    ap (λ b. cond b (ranges_with vid vid (range ∷ ranges)) (cond (vid == range.last + 1) (ranges_with range.first vid ranges) (range ∷ with_vid vid ranges)))
     (lt-leb vid range.last (omega (arith, there.0, there.1)))
-    ∙ ap (λ b. cond b (joined range.first vid ranges) (range ∷ with_vid vid ranges)) (ne_eqb vid (range.last + 1) (λ same. (omega (arith, there.0, there.1))))
+    ∙ ap (λ b. cond b (ranges_with range.first vid ranges) (range ∷ with_vid vid ranges)) (ne_eqb vid (range.last + 1) (λ same. (omega (arith, there.0, there.1))))
     ∙ ap (λ rest. range ∷ rest) (with_vid-extend (range.last + 2) vid place ranges d are.3 (omega arith) touches)
 
 -- the search over ranges, by the place of the first range that ends at the id or behind it

@@ -6,14 +6,14 @@ use Rattle.object_id.specs.declared.oid.Vid.{Vid}
 use Rattle.disk_lock.specs.declared.holder.Holder.{Holder}
 use Rattle.disk_lock.specs.Locks.{without_node}
 use Rattle.vdi_directory.specs.declared.header.Header.{Header}
-use Rattle.vdi_directory.specs.declared.effect.Claim.{Claim}
+use Rattle.vdi_directory.specs.declared.effect.Reservation.{Reservation}
 use Rattle.vdi_directory.specs.declared.effect.Effect.{Effect}
 use Rattle.vdi_directory.specs.declared.effect.Effect.TheVariants.{Reserved, Published, Snapped, Deleted, Held, Freed, Withdrawn, Left}
-use Rattle.vdi_directory.specs.Names.{Name, no_disk, is_same, published, snapped, without}
+use Rattle.vdi_directory.specs.Names.{Name, no_disk, is_same_bytes, name_with_working, name_with_snapshot, name_without}
 
 -- whether the effect grants the id
 abbrev pub grants : ℕ → Effect → Bool
-grants vid (Reserved grant) = grant.claim.vid.0 == vid
+grants vid (Reserved grant) = grant.reservation.vid.0 == vid
 grants vid _ = false
 
 -- the used ids are those that were granted
@@ -22,7 +22,7 @@ is_used effects vid = list_any (grants vid) effects
 
 -- a disk's header: it comes with the grant, and a snapshot gets its tag
 abbrev pub header_after : ℕ → Option Header → Effect → Option Header
-header_after vid header (Reserved grant) = if grant.claim.vid.0 == vid then Some grant.header else header
+header_after vid header (Reserved grant) = if grant.reservation.vid.0 == vid then Some grant.header else header
 header_after vid header (Snapped snap) =
     if snap.old.0 == vid then option_map (λ (old : Header). record old { tag = snap.tag }) header else header
 header_after vid header _ = header
@@ -32,42 +32,42 @@ header_of effects vid = fold (header_after vid) None effects
 
 -- what a name stands for, by the last effects that published, snapped or deleted a disk of it
 abbrev pub name_after : List ℕ → Name → Effect → Name
-name_after name now (Published vid of) = if is_same of name then published vid now else now
-name_after name now (Snapped snap) = if is_same snap.name name then snapped snap.old snap.vid snap.tag now else now
-name_after name now (Deleted vid of) = if is_same of name then without vid now else now
+name_after name now (Published vid of) = if is_same_bytes of name then name_with_working vid now else now
+name_after name now (Snapped snap) = if is_same_bytes snap.name name then name_with_snapshot snap.old snap.vid snap.tag now else now
+name_after name now (Deleted vid of) = if is_same_bytes of name then name_without vid now else now
 name_after name now _ = now
 
 unfoldable pub name_of : List Effect → List ℕ → Name
 name_of effects name = fold (name_after name) no_disk effects
 
-abbrev pub claims_but : Vid → List Claim → List Claim
-claims_but vid claims = filter (λ (claim : Claim). not (claim.vid.0 == vid.0)) claims
+abbrev pub reservations_but : Vid → List Reservation → List Reservation
+reservations_but vid reservations = filter (λ (reservation : Reservation). not (reservation.vid.0 == vid.0)) reservations
 
 -- the reservations that stand: each from its grant until it is published or freed, or its node leaves
-abbrev pub claims_after : List Claim → Effect → List Claim
-claims_after claims (Reserved grant) = claims ++ grant.claim ∷ []
-claims_after claims (Published vid of) = claims_but vid claims
-claims_after claims (Snapped snap) = claims_but snap.vid claims
-claims_after claims (Withdrawn vid) = claims_but vid claims
-claims_after claims (Left node) = filter (λ (claim : Claim). not (claim.by.0 == node.0)) claims
-claims_after claims _ = claims
+abbrev pub reservations_after : List Reservation → Effect → List Reservation
+reservations_after reservations (Reserved grant) = reservations ++ grant.reservation ∷ []
+reservations_after reservations (Published vid of) = reservations_but vid reservations
+reservations_after reservations (Snapped snap) = reservations_but snap.vid reservations
+reservations_after reservations (Withdrawn vid) = reservations_but vid reservations
+reservations_after reservations (Left node) = filter (λ (reservation : Reservation). not (reservation.by.0 == node.0)) reservations
+reservations_after reservations _ = reservations
 
-unfoldable pub claims_of : List Effect → List Claim
-claims_of effects = fold claims_after [] effects
+unfoldable pub reservations_of : List Effect → List Reservation
+reservations_of effects = fold reservations_after [] effects
 
--- the claim on an id
-abbrev pub claim_on : Vid → List Claim → Option Claim
-claim_on vid claims = find (λ (claim : Claim). claim.vid.0 == vid.0) claims
+-- the reservation on an id
+abbrev pub reservation_on : Vid → List Reservation → Option Reservation
+reservation_on vid reservations = find (λ (reservation : Reservation). reservation.vid.0 == vid.0) reservations
 
 -- ascending ids, with one more
-abbrev pub inserted : ℕ → List ℕ → List ℕ
-inserted vid [] = vid ∷ []
-inserted vid (first ∷ rest) = if nat_lt vid first then vid ∷ first ∷ rest else first ∷ inserted vid rest
+abbrev pub ids_with : ℕ → List ℕ → List ℕ
+ids_with vid [] = vid ∷ []
+ids_with vid (first ∷ rest) = if nat_lt vid first then vid ∷ first ∷ rest else first ∷ ids_with vid rest
 
 -- the live ids, ascending: those that are published and not deleted
 abbrev pub live_after : List ℕ → Effect → List ℕ
-live_after live (Published vid of) = inserted vid.0 live
-live_after live (Snapped snap) = inserted snap.vid.0 live
+live_after live (Published vid of) = ids_with vid.0 live
+live_after live (Snapped snap) = ids_with snap.vid.0 live
 live_after live (Deleted vid of) = filter (λ other. not (other == vid.0)) live
 live_after live _ = live
 

@@ -4,8 +4,8 @@ pub mod NameRows
 pub mod Sources
 pub mod Effects
 pub mod Decisions
-pub mod Bearers
-pub mod Books
+pub mod References
+pub mod DirectoryState
 pub mod States
 pub mod Sound
 pub mod Dead

@@ -3,66 +3,66 @@ use Rattle.std.specs.Prelude.{ℕ, ◌==◌, ◌||◌, Bool, true, false, List, 
 use Rattle.std.specs.Option.{option_map}
 use Rattle.object_id.specs.declared.node.NodeId.{NodeId}
 use Rattle.object_id.specs.declared.entry.Entry.{Entry}
-use Rattle.object_id.specs.declared.entry.Entry.TheVariants.{Format, Join, Leave, Reweight, Recovered, Reserve, Publish, Clone, Snapshot, Delete, Lock, Unlock}
+use Rattle.object_id.specs.declared.entry.Entry.TheVariants as entries
 use Rattle.vdi_directory.specs.declared.header.Header.{Header}
 use Rattle.vdi_directory.specs.declared.effect.Effect.{Effect}
 use Rattle.vdi_directory.specs.declared.effect.Effect.TheVariants as effects
 use Rattle.vdi_directory.specs.Effects.{header_of}
 
 -- reserved by a node, the working disk of its name, a snapshot with its tag, deleted, or a reservation that was freed
-pub data State : Type 0 where
-  Unused : State
-  Claimed : NodeId → State
-  Working : State
-  Shot : List ℕ → State
-  Deleted : State
-  Freed : State
+pub data VdiState : Type 0 where
+  Unused : VdiState
+  Reserved : NodeId → VdiState
+  Working : VdiState
+  Snapshot : List ℕ → VdiState
+  Deleted : VdiState
+  Freed : VdiState
 
-abbrev pub freed : State → State
-freed Unused = Unused
-freed (Claimed by) = Freed
-freed Working = Working
-freed (Shot tag) = Shot tag
-freed Deleted = Deleted
-freed Freed = Freed
+abbrev pub freed_state : VdiState → VdiState
+freed_state Unused = Unused
+freed_state (Reserved by) = Freed
+freed_state Working = Working
+freed_state (Snapshot tag) = Snapshot tag
+freed_state Deleted = Deleted
+freed_state Freed = Freed
 
-abbrev pub left : ℕ → State → State
-left node Unused = Unused
-left node (Claimed by) = if by.0 == node then Freed else Claimed by
-left node Working = Working
-left node (Shot tag) = Shot tag
-left node Deleted = Deleted
-left node Freed = Freed
+abbrev pub state_after_leave : ℕ → VdiState → VdiState
+state_after_leave node Unused = Unused
+state_after_leave node (Reserved by) = if by.0 == node then Freed else Reserved by
+state_after_leave node Working = Working
+state_after_leave node (Snapshot tag) = Snapshot tag
+state_after_leave node Deleted = Deleted
+state_after_leave node Freed = Freed
 
-abbrev pub state_after : ℕ → State → Effect → State
+abbrev pub state_after : ℕ → VdiState → Effect → VdiState
 state_after vid state effects.Nothing = state
-state_after vid state (effects.Reserved grant) = if grant.claim.vid.0 == vid then Claimed grant.claim.by else state
+state_after vid state (effects.Reserved grant) = if grant.reservation.vid.0 == vid then Reserved grant.reservation.by else state
 state_after vid state (effects.Published of name) = if of.0 == vid then Working else state
 state_after vid state (effects.Snapped snap) =
-    if snap.old.0 == vid then Shot snap.tag else (if snap.vid.0 == vid then Working else state)
+    if snap.old.0 == vid then Snapshot snap.tag else (if snap.vid.0 == vid then Working else state)
 state_after vid state (effects.Deleted of name) = if of.0 == vid then Deleted else state
 state_after vid state (effects.Held of holder) = state
 state_after vid state (effects.Freed of) = state
-state_after vid state (effects.Withdrawn of) = if of.0 == vid then freed state else state
-state_after vid state (effects.Left node) = left node.0 state
+state_after vid state (effects.Withdrawn of) = if of.0 == vid then freed_state state else state
+state_after vid state (effects.Left node) = state_after_leave node.0 state
 
-unfoldable pub state_of : List Effect → ℕ → State
+unfoldable pub state_of : List Effect → ℕ → VdiState
 state_of effects vid = fold (state_after vid) Unused effects
 
 -- states in the order in which an id may come to them
-abbrev pub rank : State → ℕ
+abbrev pub rank : VdiState → ℕ
 rank Unused = 0
-rank (Claimed by) = 1
+rank (Reserved by) = 1
 rank Working = 2
-rank (Shot tag) = 3
+rank (Snapshot tag) = 3
 rank Deleted = 4
 rank Freed = 4
 
-abbrev pub is_live_state : State → Bool
+abbrev pub is_live_state : VdiState → Bool
 is_live_state Unused = false
-is_live_state (Claimed by) = false
+is_live_state (Reserved by) = false
 is_live_state Working = true
-is_live_state (Shot tag) = true
+is_live_state (Snapshot tag) = true
 is_live_state Deleted = false
 is_live_state Freed = false
 
@@ -73,15 +73,15 @@ owner_of before vid = option_map (λ (header : Header). header.name) (header_of 
 -- whether an entry may take a disk from a session of the node: the node's leave, an entry of the node itself, and the
 -- snapshot of the disk, with which the lock goes over to the disk in its place
 abbrev pub may_take : ℕ → ℕ → Entry → Bool
-may_take node vid (Format members) = false
-may_take node vid (Join other zone vnodes) = false
-may_take node vid (Leave other) = other.0 == node
-may_take node vid (Reweight other vnodes) = false
-may_take node vid (Recovered other epoch) = false
-may_take node vid (Reserve by session name origin) = by.0 == node
-may_take node vid (Publish by of) = by.0 == node
-may_take node vid (Clone by of) = by.0 == node
-may_take node vid (Snapshot by old of) = by.0 == node || old.0 == vid
-may_take node vid (Delete by session name tag) = by.0 == node
-may_take node vid (Lock by session name tag) = by.0 == node
-may_take node vid (Unlock by session of) = by.0 == node
+may_take node vid (entries.Format members) = false
+may_take node vid (entries.Join other zone vnodes) = false
+may_take node vid (entries.Leave other) = other.0 == node
+may_take node vid (entries.Reweight other vnodes) = false
+may_take node vid (entries.Recovered other epoch) = false
+may_take node vid (entries.Reserve by session name origin) = by.0 == node
+may_take node vid (entries.Publish by of) = by.0 == node
+may_take node vid (entries.Clone by of) = by.0 == node
+may_take node vid (entries.Snapshot by old of) = by.0 == node || old.0 == vid
+may_take node vid (entries.Delete by session name tag) = by.0 == node
+may_take node vid (entries.Lock by session name tag) = by.0 == node
+may_take node vid (entries.Unlock by session of) = by.0 == node

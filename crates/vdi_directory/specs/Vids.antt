@@ -45,15 +45,15 @@ abbrev pub AreRanges : List VidRange → Type 0
 AreRanges ranges = AreRangesFrom 1 ranges
 
 -- the ranges with one id more, which joins those that it touches
-abbrev pub joined : ℕ → ℕ → List VidRange → List VidRange
-joined first vid [] = record { first = first; last = vid } ∷ []
-joined first vid (range ∷ ranges) =
+abbrev pub ranges_with : ℕ → ℕ → List VidRange → List VidRange
+ranges_with first vid [] = record { first = first; last = vid } ∷ []
+ranges_with first vid (range ∷ ranges) =
     if range.first == vid + 1 then record { first = first; last = range.last } ∷ ranges
     else record { first = first; last = vid } ∷ range ∷ ranges
 
 abbrev pub with_vid : ℕ → List VidRange → List VidRange
 with_vid vid [] = record { first = vid; last = vid } ∷ []
 with_vid vid (range ∷ ranges) =
-    if nat_le vid range.last then joined vid vid (range ∷ ranges)
-    else if vid == range.last + 1 then joined range.first vid ranges
+    if nat_le vid range.last then ranges_with vid vid (range ∷ ranges)
+    else if vid == range.last + 1 then ranges_with range.first vid ranges
     else range ∷ with_vid vid ranges

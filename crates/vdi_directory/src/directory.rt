@@ -3,14 +3,14 @@ ghost use Rattle.std.specs.Option.{option_copied, option_map};
 ghost use Rattle.epoch_log.specs.Appending.{IsReservable};
 ghost use Rattle.vdi_directory.specs.declared.header.Header.{Header as TheHeader};
 ghost use Rattle.vdi_directory.specs.Effects.{header_of, live_of};
-ghost use Rattle.vdi_directory.specs.Decisions.{happened, decision_after, found};
+ghost use Rattle.vdi_directory.specs.Decisions.{log_effects, decision_after, disk_found};
 ghost use Rattle.vdi_directory.specs.Dead.{IsDead};
-ghost use Rattle.vdi_directory.specs.Books.{AreLocks};
+ghost use Rattle.vdi_directory.specs.DirectoryState.{AreLocks};
 
-use crate::bearers::count_of;
-use crate::books::Books;
 use crate::decision::Decision;
+use crate::directory_state::DirectoryState;
 use crate::header::Header;
+use crate::references::count_of;
 use disk_lock::Locks;
 use object_id::{Entry, NoMemory, VdiSpec, Vid};
 use std::alloc::Global;
@@ -21,20 +21,20 @@ use std::marker::Model;
 pub struct Directory {
     pub(crate) alloc: Global,
     entries: Vec<Entry>,
-    pub(crate) books: Books,
+    pub(crate) state: DirectoryState,
 }
 
 impl Model for Directory {
     ghost use Rattle.std.specs.Prelude.{List};
     ghost use Rattle.object_id.specs.declared.entry.Entry.{Entry};
-    ghost use Rattle.vdi_directory.specs.Decisions.{happened};
-    ghost use Rattle.vdi_directory.specs.Books.{IsBooks};
+    ghost use Rattle.vdi_directory.specs.Decisions.{log_effects};
+    ghost use Rattle.vdi_directory.specs.DirectoryState.{IsDirectoryState};
 
     ghost Value = { List Entry };
 
     ghost view = { λ directory. directory.entries.items };
 
-    ghost invariant = { λ directory. IsBooks (happened directory.entries.items) directory.books };
+    ghost invariant = { λ directory. IsDirectoryState (log_effects directory.entries.items) directory.state };
 }
 
 impl Directory {
@@ -45,7 +45,7 @@ impl Directory {
         Directory {
             alloc,
             entries: Vec::new(alloc),
-            books: Books::new(alloc),
+            state: DirectoryState::new(alloc),
         }
     }
 
@@ -60,10 +60,10 @@ impl Directory {
     /// Without memory both are as before, and the entry isn't read.
     pub fn read_entry(&mut self, entry: &Entry, locks: &mut Locks) -> Result<Decision, NoMemory>
         requires reservable { IsReservable entry.now }
-        requires locks { AreLocks (happened self.old) locks.old }
+        requires locks { AreLocks (log_effects self.old) locks.old }
         ensures decision { IfOk result (λ decision. decision ≡ decision_after self.old entry.now) }
         ensures ok { OnOk result (self.new ≡ self.old ++ entry.now ∷ []) }
-        ensures locks { OnOk result (AreLocks (happened self.new) locks.new) }
+        ensures locks { OnOk result (AreLocks (log_effects self.new) locks.new) }
 
         ensures err { OnErr result (self.new ≡ self.old) }
         ensures locks_err { OnErr result (locks.new ≡ locks.old) }
@@ -71,26 +71,26 @@ impl Directory {
         self.entries.reserve(1)?;
         let copy = entry.copy(self.alloc)?;
         let outcome = self.outcome(entry, locks)?;
-        self.books.make(self.alloc, outcome.effect, locks)?;
+        self.state.make(self.alloc, outcome.effect, locks)?;
         self.entries.push_reserved(copy);
         Ok(outcome.decision)
     }
 
     /// The live published working disk of a name, or its live snapshot with the tag; `None` exactly where there is none.
     pub fn find(&self, name: &[u8], tag: Option<&[u8]>) -> Option<Vid>
-        ensures { result ≡ found self.now name.now (option_copied tag.entry) }
+        ensures { result ≡ disk_found self.now name.now (option_copied tag.entry) }
     {
         match tag {
-            None => self.books.names.working(name),
-            Some(tag) => self.books.names.tagged(name, tag),
+            None => self.state.names.working(name),
+            Some(tag) => self.state.names.tagged(name, tag),
         }
     }
 
     /// What a disk is made with; `None` exactly where no granted reservation has the id.
     pub fn spec(&self, vid: Vid) -> Option<VdiSpec>
-        ensures { result ≡ option_map (λ (header : TheHeader). header.spec) (header_of (happened self.now) vid.0) }
+        ensures { result ≡ option_map (λ (header : TheHeader). header.spec) (header_of (log_effects self.now) vid.0) }
     {
-        match self.books.headers.get(&vid.0) {
+        match self.state.headers.get(&vid.0) {
             Some(header) => Some(header.spec),
             None => None,
         }
@@ -99,23 +99,23 @@ impl Directory {
     /// Whether an id is dead: deleted, or a reservation that was freed, and all its descendants with it. An id that was
     /// never granted isn't.
     pub fn dead(&self, vid: Vid) -> bool
-        ensures { IsTrue result ↔ IsDead (happened self.now) vid.0 }
+        ensures { IsTrue result ↔ IsDead (log_effects self.now) vid.0 }
     {
-        self.books.headers.contains_key(&vid.0) && count_of(&self.books.bearers, vid) == 0
+        self.state.headers.contains_key(&vid.0) && count_of(&self.state.references, vid) == 0
     }
 
     /// A disk's header as it is now; `None` exactly where no granted reservation has the id.
     pub fn header(&self, vid: Vid) -> Option<&Header>
-        ensures { option_copied result ≡ header_of (happened self.now) vid.0 }
+        ensures { option_copied result ≡ header_of (log_effects self.now) vid.0 }
     {
-        self.books.headers.get(&vid.0)
+        self.state.headers.get(&vid.0)
     }
 
     /// Number `k`, from 0, of the live ids in ascending order; `None` exactly past the last.
     pub fn live_at(&self, k: usize) -> Option<Vid>
-        ensures { result ≡ option_map (λ (vid : ℕ). record { 0 = vid }) (slice_get (live_of (happened self.now)) k) }
+        ensures { result ≡ option_map (λ (vid : ℕ). record { 0 = vid }) (slice_get (live_of (log_effects self.now)) k) }
     {
-        match self.books.live.get(k) {
+        match self.state.live.get(k) {
             Some(vid) => Some(Vid(*vid)),
             None => None,
         }

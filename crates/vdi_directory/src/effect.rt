@@ -13,7 +13,7 @@ pub enum Source {
 
 /// A reservation that stands: an id, and the session that may publish it.
 #[derive(Debug, Drop)]
-pub struct Claim {
+pub struct Reservation {
     pub vid: Vid,
     pub by: NodeId,
     pub session: u32,
@@ -24,7 +24,7 @@ pub struct Claim {
 /// A reservation, and the header of the disk that it is for.
 #[derive(Debug, Drop)]
 pub struct Grant {
-    pub claim: Claim,
+    pub reservation: Reservation,
     pub header: Header,
 }
 

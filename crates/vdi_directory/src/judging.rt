@@ -1,16 +1,16 @@
 //! What is decided on the next entry, and what it changes. Nothing is changed here.
 ghost use Rattle.std.specs.Prelude.{◌≡◌, ℕ, List, IfOk, if◌then◌else◌};
 ghost use Rattle.std.specs.Option.{option_copied};
-ghost use Rattle.vdi_directory.specs.Effects.{holder_of, claims_of, claim_on as the_claim, name_of};
-ghost use Rattle.vdi_directory.specs.Decisions.{nothing, silent, granted, refused, is_held_by, is_claimed_by, is_taken as has_taken, reserved as the_reserved, held_disk as the_held, reserved_snapshot as the_snapshot, reserved_clone as the_clone, reservation as the_reservation, publication, snapshot as the_replacement, free_disk as the_free, target as the_target, deletion, lock as the_lock, release as the_release, outcome as the_outcome, happened};
+ghost use Rattle.vdi_directory.specs.Effects.{holder_of, reservations_of, reservation_on as the_reservation, name_of};
+ghost use Rattle.vdi_directory.specs.Decisions.{nothing, silent_outcome, grant_outcome, refusal_outcome, is_held_by, is_reserved_by, is_taken as has_taken, reservation_outcome as the_reserved, held_disk as the_held, reserved_snapshot as the_snapshot, reserved_clone as the_clone, reserve_outcome as the_reserve_outcome, publication, snapshot_outcome as the_replacement, free_disk as the_free, target as the_target, deletion, lock as the_lock, release as the_release, outcome as the_outcome, log_effects};
 ghost use Rattle.vdi_directory.specs.Sources.{is_for, tag_for as for_tag};
-ghost use Rattle.vdi_directory.specs.Books.{AreLocks};
+ghost use Rattle.vdi_directory.specs.DirectoryState.{AreLocks};
 
-use crate::claims::{claim_on, is_claimed};
 use crate::decision::{Decision, Outcome};
 use crate::directory::Directory;
-use crate::effect::{Claim, Effect, Grant, Snap, Source};
+use crate::effect::{Effect, Grant, Reservation, Snap, Source};
 use crate::header::Header;
+use crate::reservations::{is_reserved, reservation_on};
 use crate::vid_range::free_vid;
 use disk_lock::{Holder, Locks};
 use object_id::{Bytes, Cause, Entry, NoMemory, NodeId, Origin, VdiSpec, Vid};
@@ -26,7 +26,7 @@ impl Outcome {
     }
 
     fn silent(effect: Effect) -> Outcome
-        ensures { result ≡ silent effect }
+        ensures { result ≡ silent_outcome effect }
     {
         Outcome {
             decision: Decision::None,
@@ -35,7 +35,7 @@ impl Outcome {
     }
 
     fn granted(vid: Vid, effect: Effect) -> Outcome
-        ensures { result ≡ granted vid effect }
+        ensures { result ≡ grant_outcome vid effect }
     {
         Outcome {
             decision: Decision::Granted { vid },
@@ -44,7 +44,7 @@ impl Outcome {
     }
 
     fn refused(cause: Cause) -> Outcome
-        ensures { result ≡ refused cause }
+        ensures { result ≡ refusal_outcome cause }
     {
         Outcome {
             decision: Decision::Refused(cause),
@@ -83,25 +83,25 @@ fn is_held_by(node: NodeId, session: u32, holder: Option<Holder>) -> bool
     }
 }
 
-fn is_claimed_by(node: NodeId, session: u32, claim: Option<&Claim>) -> bool
-    ensures { result ≡ is_claimed_by node session (option_copied claim.entry) }
+fn is_reserved_by(node: NodeId, session: u32, reservation: Option<&Reservation>) -> bool
+    ensures { result ≡ is_reserved_by node session (option_copied reservation.entry) }
 {
-    match claim {
-        Some(claim) => claim.by == node && claim.session == session,
+    match reservation {
+        Some(reservation) => reservation.by == node && reservation.session == session,
         None => false,
     }
 }
 
 impl Directory {
     fn is_taken(&self, name: &Bytes) -> bool
-        ensures { result ≡ has_taken (happened self.now) name.now }
+        ensures { result ≡ has_taken (log_effects self.now) name.now }
     {
-        self.books.names.working(name.as_slice()).is_some()
-            || is_claimed(&self.books.claims, name.as_slice())
+        self.state.names.working(name.as_slice()).is_some()
+            || is_reserved(&self.state.reservations, name.as_slice())
     }
 
     /// Reserves a free id.
-    fn reserved(
+    fn reserve_id(
         &self,
         by: NodeId,
         session: u32,
@@ -110,12 +110,12 @@ impl Directory {
         parent: Option<Vid>,
         spec: VdiSpec,
     ) -> Result<Outcome, NoMemory>
-        ensures { IfOk result (λ o. o ≡ the_reserved (happened self.now) by session name.now source parent spec) }
+        ensures { IfOk result (λ o. o ≡ the_reserved (log_effects self.now) by session name.now source parent spec) }
     {
-        let Ok(vid) = free_vid(name.as_slice(), &self.books.used) else {
+        let Ok(vid) = free_vid(name.as_slice(), &self.state.used) else {
             return Ok(Outcome::refused(Cause::FullVdi));
         };
-        let claim = Claim {
+        let reservation = Reservation {
             vid,
             by,
             session,
@@ -125,19 +125,25 @@ impl Directory {
         let header = Header {
             name: name.copy(self.alloc)?,
             tag: Bytes::new(self.alloc),
-            snap_id: self.books.names.taken(name.as_slice()).saturating_add(1),
+            snap_id: self.state.names.taken(name.as_slice()).saturating_add(1),
             parent,
             spec,
         };
-        Ok(Outcome::granted(vid, Effect::Reserved(Grant { claim, header })))
+        Ok(Outcome::granted(
+            vid,
+            Effect::Reserved(Grant {
+                reservation,
+                header,
+            }),
+        ))
     }
 
     /// The working disk of a name, where the session holds it.
     fn held_disk(&self, by: NodeId, session: u32, name: &Bytes, locks: &Locks) -> Option<Vid>
-        requires { AreLocks (happened self.now) locks.now }
-        ensures { result ≡ the_held (happened self.now) by session (name_of (happened self.now) name.now).working }
+        requires { AreLocks (log_effects self.now) locks.now }
+        ensures { result ≡ the_held (log_effects self.now) by session (name_of (log_effects self.now) name.now).working }
     {
-        match self.books.names.working(name.as_slice()) {
+        match self.state.names.working(name.as_slice()) {
             Some(vid) if is_held_by(by, session, locks.holder(vid)) => Some(vid),
             _ => None,
         }
@@ -151,13 +157,13 @@ impl Directory {
         tag: &Bytes,
         held: Option<Vid>,
     ) -> Result<Outcome, NoMemory>
-        ensures { IfOk result (λ o. o ≡ the_snapshot (happened self.now) by session name.now tag.now held) }
+        ensures { IfOk result (λ o. o ≡ the_snapshot (log_effects self.now) by session name.now tag.now held) }
     {
         let Some(old) = held else {
             return Ok(Outcome::refused(Cause::VdiNotLocked));
         };
         if self
-            .books
+            .state
             .names
             .tagged(name.as_slice(), tag.as_slice())
             .is_some()
@@ -171,7 +177,7 @@ impl Directory {
             old,
             tag: tag.copy(self.alloc)?,
         };
-        self.reserved(by, session, name, source, Some(old), spec)
+        self.reserve_id(by, session, name, source, Some(old), spec)
     }
 
     fn reserved_clone(
@@ -181,7 +187,7 @@ impl Directory {
         name: &Bytes,
         base: Option<Vid>,
     ) -> Result<Outcome, NoMemory>
-        ensures { IfOk result (λ o. o ≡ the_clone (happened self.now) by session name.now base) }
+        ensures { IfOk result (λ o. o ≡ the_clone (log_effects self.now) by session name.now base) }
     {
         let Some(base) = base else {
             return Ok(Outcome::refused(Cause::NoTag));
@@ -192,10 +198,10 @@ impl Directory {
         let Some(spec) = self.spec(base) else {
             return Ok(Outcome::nothing());
         };
-        self.reserved(by, session, name, Source::Clone, Some(base), spec)
+        self.reserve_id(by, session, name, Source::Clone, Some(base), spec)
     }
 
-    fn reservation(
+    fn reserve(
         &self,
         by: NodeId,
         session: u32,
@@ -203,25 +209,25 @@ impl Directory {
         origin: &Origin,
         locks: &Locks,
     ) -> Result<Outcome, NoMemory>
-        requires { AreLocks (happened self.now) locks.now }
-        ensures { IfOk result (λ o. o ≡ the_reservation (happened self.now) by session name.now origin.now) }
+        requires { AreLocks (log_effects self.now) locks.now }
+        ensures { IfOk result (λ o. o ≡ the_reserve_outcome (log_effects self.now) by session name.now origin.now) }
     {
         match origin {
             Origin::Fresh { spec } => {
                 if self.is_taken(name) {
                     return Ok(Outcome::refused(Cause::VdiExist));
                 }
-                self.reserved(by, session, name, Source::Fresh, None, *spec)
+                self.reserve_id(by, session, name, Source::Fresh, None, *spec)
             }
             Origin::SnapshotOf { tag } => {
                 let held = self.held_disk(by, session, name, locks);
                 self.reserved_snapshot(by, session, name, tag, held)
             }
             Origin::CloneOf { base, tag } => {
-                if !self.books.names.is_live(base.as_slice()) {
+                if !self.state.names.is_live(base.as_slice()) {
                     return Ok(Outcome::refused(Cause::NoBaseVdi));
                 }
-                let from = self.books.names.tagged(base.as_slice(), tag.as_slice());
+                let from = self.state.names.tagged(base.as_slice(), tag.as_slice());
                 self.reserved_clone(by, session, name, from)
             }
         }
@@ -229,14 +235,14 @@ impl Directory {
 
     /// Publishes an id for its node, where its reservation is of the right source.
     fn publication(&self, by: NodeId, vid: Vid, clones: bool) -> Result<Outcome, NoMemory>
-        ensures { IfOk result (λ o. o ≡ publication by (is_for clones) (the_claim vid (claims_of (happened self.now)))) }
+        ensures { IfOk result (λ o. o ≡ publication by (is_for clones) (the_reservation vid (reservations_of (log_effects self.now)))) }
     {
-        let Some(claim) = claim_on(&self.books.claims, vid) else {
+        let Some(reservation) = reservation_on(&self.state.reservations, vid) else {
             return Ok(Outcome::nothing());
         };
-        if claim.by == by && is_for(clones, &claim.source) {
-            let name = claim.name.copy(self.alloc)?;
-            let vid = claim.vid;
+        if reservation.by == by && is_for(clones, &reservation.source) {
+            let name = reservation.name.copy(self.alloc)?;
+            let vid = reservation.vid;
             Ok(Outcome::granted(vid, Effect::Published { vid, name }))
         } else {
             Ok(Outcome::nothing())
@@ -251,16 +257,16 @@ impl Directory {
         vid: Vid,
         locks: &Locks,
     ) -> Result<Outcome, NoMemory>
-        requires { AreLocks (happened self.now) locks.now }
-        ensures { IfOk result (λ o. o ≡ the_replacement (happened self.now) by old (the_claim vid (claims_of (happened self.now)))) }
+        requires { AreLocks (log_effects self.now) locks.now }
+        ensures { IfOk result (λ o. o ≡ the_replacement (log_effects self.now) by old (the_reservation vid (reservations_of (log_effects self.now)))) }
     {
-        let Some(claim) = claim_on(&self.books.claims, vid) else {
+        let Some(reservation) = reservation_on(&self.state.reservations, vid) else {
             return Ok(Outcome::nothing());
         };
-        if claim.by != by {
+        if reservation.by != by {
             return Ok(Outcome::nothing());
         }
-        let Some(tag) = tag_for(old, &claim.source) else {
+        let Some(tag) = tag_for(old, &reservation.source) else {
             return Ok(Outcome::nothing());
         };
         let Some(holder) = locks.holder(old) else {
@@ -268,20 +274,20 @@ impl Directory {
         };
         let snap = Snap {
             old,
-            vid: claim.vid,
-            name: claim.name.copy(self.alloc)?,
+            vid: reservation.vid,
+            name: reservation.name.copy(self.alloc)?,
             tag: tag.copy(self.alloc)?,
             holder,
         };
-        Ok(Outcome::granted(claim.vid, Effect::Snapped(snap)))
+        Ok(Outcome::granted(reservation.vid, Effect::Snapped(snap)))
     }
 
     /// The working disk of a name, where nobody holds it.
     fn free_disk(&self, name: &Bytes, locks: &Locks) -> Result<Vid, Cause>
-        requires { AreLocks (happened self.now) locks.now }
-        ensures { result ≡ the_free (happened self.now) (name_of (happened self.now) name.now).working }
+        requires { AreLocks (log_effects self.now) locks.now }
+        ensures { result ≡ the_free (log_effects self.now) (name_of (log_effects self.now) name.now).working }
     {
-        let Some(vid) = self.books.names.working(name.as_slice()) else {
+        let Some(vid) = self.state.names.working(name.as_slice()) else {
             return Err(Cause::NoVdi);
         };
         match locks.holder(vid) {
@@ -294,16 +300,16 @@ impl Directory {
 
     /// Which disk or snapshot is meant by a name and a tag.
     fn target(&self, name: &Bytes, tag: &Option<Bytes>, locks: &Locks) -> Result<Vid, Cause>
-        requires { AreLocks (happened self.now) locks.now }
-        ensures { result ≡ the_target (happened self.now) name.now tag.now }
+        requires { AreLocks (log_effects self.now) locks.now }
+        ensures { result ≡ the_target (log_effects self.now) name.now tag.now }
     {
         let Some(tag) = tag else {
             return self.free_disk(name, locks);
         };
-        if !self.books.names.is_live(name.as_slice()) {
+        if !self.state.names.is_live(name.as_slice()) {
             return Err(Cause::NoVdi);
         }
-        match self.books.names.tagged(name.as_slice(), tag.as_slice()) {
+        match self.state.names.tagged(name.as_slice(), tag.as_slice()) {
             Some(vid) => Ok(vid),
             None => Err(Cause::NoTag),
         }
@@ -323,12 +329,12 @@ impl Directory {
 
     /// Frees the lock or the reservation, whichever the session has.
     fn release(&self, by: NodeId, session: u32, vid: Vid, locks: &Locks) -> Outcome
-        requires { AreLocks (happened self.now) locks.now }
-        ensures { result ≡ the_release (happened self.now) by session vid }
+        requires { AreLocks (log_effects self.now) locks.now }
+        ensures { result ≡ the_release (log_effects self.now) by session vid }
     {
         if is_held_by(by, session, locks.holder(vid)) {
             Outcome::silent(Effect::Freed { vid })
-        } else if is_claimed_by(by, session, claim_on(&self.books.claims, vid)) {
+        } else if is_reserved_by(by, session, reservation_on(&self.state.reservations, vid)) {
             Outcome::silent(Effect::Withdrawn { vid })
         } else {
             Outcome::nothing()
@@ -337,8 +343,8 @@ impl Directory {
 
     /// What is decided on the next entry, and what it changes.
     pub(crate) fn outcome(&self, entry: &Entry, locks: &Locks) -> Result<Outcome, NoMemory>
-        requires { AreLocks (happened self.now) locks.now }
-        ensures { IfOk result (λ o. o ≡ the_outcome (happened self.now) entry.now) }
+        requires { AreLocks (log_effects self.now) locks.now }
+        ensures { IfOk result (λ o. o ≡ the_outcome (log_effects self.now) entry.now) }
     {
         match entry {
             Entry::Format { .. }
@@ -351,7 +357,7 @@ impl Directory {
                 session,
                 name,
                 origin,
-            } => self.reservation(*by, *session, name, origin, locks),
+            } => self.reserve(*by, *session, name, origin, locks),
             Entry::Publish { by, vid } => self.publication(*by, *vid, false),
             Entry::Clone { by, vid } => self.publication(*by, *vid, true),
             Entry::Snapshot { by, old, vid } => self.replacement(*by, *old, *vid, locks),

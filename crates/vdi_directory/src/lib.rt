@@ -7,26 +7,26 @@
 //! of its entries, and keeps them so.
 //!
 //! No question scans the entries: names and headers stand in trees, the live ids in order, the used ids as sorted ranges,
-//! and the reservations that stand in a list, since a session has one command at a time (`specs/Books.antt`). Beside each
-//! id stands how many bear it, by which the dead are told (`specs/Bearers.antt`): an entry changes these counts along the
+//! and the reservations that stand in a list, since a session has one command at a time (`specs/DirectoryState.antt`). Beside each
+//! id stands how many bear it, by which the dead are told (`specs/References.antt`): an entry changes these counts along the
 //! parent chains of what it frees, and no further than they change.
 //! The crate stands on `object_id`, `disk_lock` and `epoch_log`, whose entry types it hands on.
 #![tactic(auto)]
 
-mod bearers;
-mod books;
-mod claims;
 mod decision;
 mod directory;
+mod directory_state;
 mod effect;
 mod header;
 mod headers;
 mod judging;
 mod laws;
 mod live_ids;
+mod live_snapshot;
 mod named;
 mod names;
-mod shot;
+mod references;
+mod reservations;
 #[cfg(test)]
 mod tests;
 mod used_ids;
@@ -34,7 +34,6 @@ mod vid_range;
 
 pub use decision::Decision;
 pub use directory::Directory;
-pub use epoch_log::{Cause, Entry, Epoch, Member, MemberList, NodeId, NodeList, Origin, VdiSpec};
 pub use header::Header;
 pub use laws::{
     a_disk_stays_with_its_holder, a_free_id_is_the_first, a_node_that_left_has_nothing,

@@ -2,11 +2,11 @@ ghost use Rattle.std.specs.Prelude.{◌≡◌, ℕ, OnOk, OnErr};
 ghost use Rattle.std.specs.Option.{option_copied};
 ghost use Rattle.std.specs.FinMap as tree;
 ghost use Rattle.vdi_directory.specs.declared.effect.Effect.TheVariants as effects;
-ghost use Rattle.vdi_directory.specs.Names.{no_disk, is_same, is_live, has_tag, tagged, published, snapped, unless, without};
+ghost use Rattle.vdi_directory.specs.Names.{no_disk, is_same_bytes, is_live_name, has_tag, snapshot_with_tag, name_with_working, name_with_snapshot, unless, name_without};
 ghost use Rattle.vdi_directory.specs.Effects.{holder_after};
 
 use crate::effect::Snap;
-use crate::shot::Shot;
+use crate::live_snapshot::LiveSnapshot;
 use disk_lock::Locks;
 use object_id::{NoMemory, Vid};
 use std::alloc::Global;
@@ -16,7 +16,7 @@ use std::marker::Model;
 #[derive(Drop)]
 pub struct Named {
     working: Option<Vid>,
-    shots: Vec<Shot>,
+    live_snapshots: Vec<LiveSnapshot>,
     taken: u32,
 }
 
@@ -25,7 +25,7 @@ impl Model for Named {
 
     ghost Value = { Name };
 
-    ghost view = { λ n. record { working = n.working; shots = n.shots.items; taken = n.taken } };
+    ghost view = { λ n. record { working = n.working; live_snapshots = n.live_snapshots.items; taken = n.taken } };
 }
 
 /// What is left of a working disk where this one goes.
@@ -38,10 +38,10 @@ fn unless(vid: Vid, working: Option<Vid>) -> Option<Vid>
     }
 }
 
-fn has_tag(shot: &Shot, tag: &[u8]) -> bool
-    ensures { result ≡ has_tag tag.now shot.now }
+fn has_tag(live_snapshot: &LiveSnapshot, tag: &[u8]) -> bool
+    ensures { result ≡ has_tag tag.now live_snapshot.now }
 {
-    shot.tag.as_slice() == tag
+    live_snapshot.tag.as_slice() == tag
 }
 
 impl Named {
@@ -51,7 +51,7 @@ impl Named {
     {
         Named {
             working: None,
-            shots: Vec::new(alloc),
+            live_snapshots: Vec::new(alloc),
             taken: 0,
         }
     }
@@ -71,40 +71,45 @@ impl Named {
 
     /// The live snapshot with a tag.
     pub fn tagged(&self, tag: &[u8]) -> Option<Vid>
-        ensures { result ≡ tagged tag.now self.now }
+        ensures { result ≡ snapshot_with_tag tag.now self.now }
     {
-        match self.shots.iter().find(|shot| has_tag(shot, tag)) {
-            Some(shot) => Some(shot.vid),
+        match self
+            .live_snapshots
+            .iter()
+            .find(|live_snapshot| has_tag(live_snapshot, tag))
+        {
+            Some(live_snapshot) => Some(live_snapshot.vid),
             None => None,
         }
     }
 
     /// Whether there is a live published disk or snapshot.
     pub fn is_live(&self) -> bool
-        ensures { result ≡ is_live self.now }
+        ensures { result ≡ is_live_name self.now }
     {
-        self.working.is_some() || !self.shots.is_empty()
+        self.working.is_some() || !self.live_snapshots.is_empty()
     }
 
     pub fn publish(&mut self, vid: Vid)
-        ensures { self.new ≡ published vid self.old }
+        ensures { self.new ≡ name_with_working vid self.old }
     {
         self.working = Some(vid);
     }
 
     /// Makes the working disk a snapshot and moves its lock to the new one. Without memory nothing changes.
     pub fn snap(&mut self, alloc: Global, snap: &Snap, locks: &mut Locks) -> Result<(), NoMemory>
-        ensures ok { OnOk result (self.new ≡ snapped snap.now.old snap.now.vid snap.now.tag self.old) }
+        ensures ok { OnOk result (self.new ≡ name_with_snapshot snap.now.old snap.now.vid snap.now.tag self.old) }
         ensures locks { OnOk result ((vid : ℕ) → tree.get locks.new vid
             ≡ holder_after vid (tree.get locks.old vid) (effects.Snapped snap.now)) }
         ensures err { OnErr result (self.new ≡ self.old) }
         ensures locks_err { OnErr result (locks.new ≡ locks.old) }
     {
-        self.shots.reserve(1)?;
+        self.live_snapshots.reserve(1)?;
         let tag = snap.tag.copy(alloc)?;
         locks.grant(snap.vid, snap.holder)?;
         locks.free(snap.old);
-        self.shots.push_reserved(Shot { vid: snap.old, tag });
+        self.live_snapshots
+            .push_reserved(LiveSnapshot { vid: snap.old, tag });
         self.working = Some(snap.vid);
         self.taken = self.taken.saturating_add(1);
         Ok(())
@@ -112,9 +117,10 @@ impl Named {
 
     /// Forgets a disk that was deleted.
     pub fn delete(&mut self, vid: Vid)
-        ensures { self.new ≡ without vid self.old }
+        ensures { self.new ≡ name_without vid self.old }
     {
         self.working = unless(vid, self.working);
-        self.shots.retain(|shot| shot.vid != vid);
+        self.live_snapshots
+            .retain(|live_snapshot| live_snapshot.vid != vid);
     }
 }

@@ -1,9 +1,9 @@
 ghost use Rattle.std.specs.Prelude.{◌≡◌, ℕ, List, IsSome, OnOk, OnErr};
 ghost use Rattle.std.specs.FinMap as tree;
 ghost use Rattle.vdi_directory.specs.declared.effect.Effect.TheVariants as effects;
-ghost use Rattle.vdi_directory.specs.Names.{no_disk, tagged, is_live};
+ghost use Rattle.vdi_directory.specs.Names.{no_disk, snapshot_with_tag, is_live_name};
 ghost use Rattle.vdi_directory.specs.Effects.{name_after, holder_after};
-ghost use Rattle.vdi_directory.specs.NameRows.{row_of, name_in};
+ghost use Rattle.vdi_directory.specs.NameRows.{name_row_of, name_in};
 
 use crate::effect::Snap;
 use crate::named::Named;
@@ -47,7 +47,7 @@ impl Names {
     }
 
     pub fn tagged(&self, name: &[u8], tag: &[u8]) -> Option<Vid>
-        ensures { result ≡ tagged tag.now (name_in self.now.rows name.now) }
+        ensures { result ≡ snapshot_with_tag tag.now (name_in self.now.rows name.now) }
     {
         match self.rows.get(name) {
             Some(named) => named.tagged(tag),
@@ -56,7 +56,7 @@ impl Names {
     }
 
     pub fn is_live(&self, name: &[u8]) -> bool
-        ensures { result ≡ is_live (name_in self.now.rows name.now) }
+        ensures { result ≡ is_live_name (name_in self.now.rows name.now) }
     {
         match self.rows.get(name) {
             Some(named) => named.is_live(),
@@ -67,7 +67,7 @@ impl Names {
     /// Makes a place for a name. No name stands for anything else then.
     pub fn add(&mut self, alloc: Global, name: &[u8]) -> Result<(), NoMemory>
         ensures same { (other : List ℕ) → name_in self.new.rows other ≡ name_in self.old.rows other }
-        ensures there { OnOk result (IsSome (row_of self.new.rows name.now)) }
+        ensures there { OnOk result (IsSome (name_row_of self.new.rows name.now)) }
     {
         if !self.rows.contains_key(name) {
             self.rows
@@ -77,7 +77,7 @@ impl Names {
     }
 
     pub fn publish(&mut self, name: &[u8], vid: Vid)
-        requires { IsSome (row_of self.old.rows name.now) }
+        requires { IsSome (name_row_of self.old.rows name.now) }
         ensures { (other : List ℕ) → name_in self.new.rows other
             ≡ name_after other (name_in self.old.rows other) (effects.Published vid name.now) }
     {
@@ -88,7 +88,7 @@ impl Names {
 
     /// Without memory nothing changes.
     pub fn snap(&mut self, alloc: Global, snap: &Snap, locks: &mut Locks) -> Result<(), NoMemory>
-        requires { IsSome (row_of self.old.rows snap.now.name) }
+        requires { IsSome (name_row_of self.old.rows snap.now.name) }
         ensures ok { OnOk result ((other : List ℕ) → name_in self.new.rows other
             ≡ name_after other (name_in self.old.rows other) (effects.Snapped snap.now)) }
         ensures locks { OnOk result ((vid : ℕ) → tree.get locks.new vid

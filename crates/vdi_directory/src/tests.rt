@@ -1,7 +1,7 @@
 //! Decisions that come from outside, and what no clause says.
 ghost use Rattle.std.specs.Prelude.{OnOk};
-ghost use Rattle.vdi_directory.specs.Decisions.{happened};
-ghost use Rattle.vdi_directory.specs.Books.{AreLocks};
+ghost use Rattle.vdi_directory.specs.Decisions.{log_effects};
+ghost use Rattle.vdi_directory.specs.DirectoryState.{AreLocks};
 
 use crate::decision::Decision;
 use crate::directory::Directory;
@@ -373,8 +373,8 @@ fn read_next(
     word: &[u8],
     text: &mut Vec<u8>,
 ) -> Result<bool, NoMemory>
-    requires { AreLocks (happened directory.old) locks.old }
-    ensures { OnOk result (AreLocks (happened directory.new) locks.new) }
+    requires { AreLocks (log_effects directory.old) locks.old }
+    ensures { OnOk result (AreLocks (log_effects directory.new) locks.new) }
 {
     let entry = entry_of(alloc, word)?;
     if !log.may_append(&entry) {
@@ -548,8 +548,8 @@ fn put(
     locks: &mut Locks,
     entry: &Entry,
 ) -> Result<Option<Vid>, NoMemory>
-    requires { AreLocks (happened directory.old) locks.old }
-    ensures { OnOk result (AreLocks (happened directory.new) locks.new) }
+    requires { AreLocks (log_effects directory.old) locks.old }
+    ensures { OnOk result (AreLocks (log_effects directory.new) locks.new) }
 {
     if !log.may_append(entry) {
         return Ok(None);
@@ -568,8 +568,8 @@ fn publish(
     locks: &mut Locks,
     k: u32,
 ) -> Result<(), NoMemory>
-    requires { AreLocks (happened directory.old) locks.old }
-    ensures { OnOk result (AreLocks (happened directory.new) locks.new) }
+    requires { AreLocks (log_effects directory.old) locks.old }
+    ensures { OnOk result (AreLocks (log_effects directory.new) locks.new) }
 {
     let by = NodeId(0);
     let reserve = reserve_of(alloc, b'F', by, 1, &name_of(k))?;

@@ -1,6 +1,6 @@
 ghost use Rattle.std.specs.Prelude.{◌≡◌, ◌<◌, ◌≤◌, ◌+◌, ◌++◌, false, take, drop, slice_index_or, vec_len, vec_capacity};
 ghost use Rattle.vdi_directory.specs.declared.vid_range.VidRange.{VidRange};
-ghost use Rattle.vdi_directory.specs.Vids.{is_in, joined, with_vid, AreRanges};
+ghost use Rattle.vdi_directory.specs.Vids.{is_in, ranges_with, with_vid, AreRanges};
 
 use crate::vid_range::{VID_MAX, VidRange, place_of};
 use object_id::Vid;
@@ -10,7 +10,7 @@ fn extend(used: &mut Vec<VidRange>, place: usize, vid: u32)
     requires within { place < vec_len used.old }
     requires vid { vid ≤ VID_MAX }
     ensures { (d : VidRange) → used.new.items ≡ take place used.old.items
-        ++ joined (slice_index_or used.old.items place d).first vid (drop (place + 1) used.old.items) }
+        ++ ranges_with (slice_index_or used.old.items place d).first vid (drop (place + 1) used.old.items) }
 {
     let first = used[place].first;
     if place + 1 < used.len() && used[place + 1].first == vid + 1 {
@@ -26,7 +26,7 @@ fn insert(used: &mut Vec<VidRange>, place: usize, vid: u32)
     requires within { place ≤ vec_len used.old }
     requires vid { vid ≤ VID_MAX }
     requires room { vec_len used.old < vec_capacity used.old }
-    ensures { used.new.items ≡ take place used.old.items ++ joined vid vid (drop place used.old.items) }
+    ensures { used.new.items ≡ take place used.old.items ++ ranges_with vid vid (drop place used.old.items) }
 {
     if place < used.len() && used[place].first == vid + 1 {
         let last = used[place].last;

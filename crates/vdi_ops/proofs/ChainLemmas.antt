@@ -23,7 +23,7 @@ after_agrees : (effect : Effect) (above : ℕ → ℕ → Bool) (chains : ℕ �
     → above_after above effect elder vid ≡ list_any (λ id. id == elder) (chain_after chains effect vid)
 after_agrees effects.Nothing above chains agree elder vid = agree elder vid
 after_agrees (effects.Reserved grant) above chains agree elder vid =
-    either_agrees (grant.claim.vid.0 == vid)
+    either_agrees (grant.reservation.vid.0 == vid)
     (is_parent_or_above above elder grant.header.parent) (above elder vid)
     (chain_from chains grant.header.parent) (chains vid) elder
     (parents_agree above chains agree elder grant.header.parent) (agree elder vid)

@@ -19,10 +19,10 @@ use Rattle.vdi_directory.specs.Effects.{header_of}
 use Rattle.vdi_ops.specs.declared.act.OpAct.TheVariants.{Append, Work, Reply}
 use Rattle.vdi_ops.specs.Entries.{first_entry}
 use Rattle.vdi_ops.specs.Tables.{chain_of, table_in, holes, inode_by}
-use Rattle.vdi_ops.specs.Works.{read_inode, create_inode, write_back, write_tag}
+use Rattle.vdi_ops.specs.InodeWorks.{read_inode, create_inode, write_back, write_tag}
 use Rattle.vdi_ops.specs.Op.{Asked, Op}
-use Rattle.vdi_ops.specs.Steps.{granted_known, copied_from, begun_by, begin, on_decision, on_done}
-use Rattle.vdi_ops.specs.Course.{Decided, Given, acts}
+use Rattle.vdi_ops.specs.Steps.{step_after_known_grant, copied_from, begun_with_entry, begin_command, on_decision, op_on_done}
+use Rattle.vdi_ops.specs.Course.{Decided, Given, op_acts_from}
 
 -- what was asked, and waits for its decision
 asked : NodeId → ℕ → Entry → VdiAsk → Option Content → Op
@@ -30,15 +30,15 @@ asked by session entry ask disk = record { by = by; session = session; stage = A
 
 pub create_goes : (before : List Effect) (by : NodeId) (session : ℕ) (name : List ℕ) (spec : VdiSpec) (disk : Option Content) (vid : Vid) (header : Header) (last : Decision)
     → header_of before vid.0 ≡ Some header
-    → acts before (begin by session (Create name spec) disk) (Decided (decisions.Granted vid) ∷ Given [] ∷ Decided last ∷ [])
+    → op_acts_from before (begin_command by session (Create name spec) disk) (Decided (decisions.Granted vid) ∷ Given [] ∷ Decided last ∷ [])
     ≡ Append (entries.Reserve by session name (Fresh spec)) ∷ Work (create_inode (inode_by header vid.0 (holes header.spec)))
     ∷ Append (entries.Publish by vid) ∷ Reply Done ∷ []
-unfolding asked acts begin on_decision on_done
+unfolding asked op_acts_from begin_command on_decision op_on_done
 create_goes before by session name spec disk vid header last is = subst
     (λ (known : Option Header).
     Append (entries.Reserve by session name (Fresh spec))
-    ∷ acts before
-    (granted_known (asked by session (entries.Reserve by session name (Fresh spec)) (Create name spec) disk) vid (chain_of before vid.0) disk (Create name spec) known)
+    ∷ op_acts_from before
+    (step_after_known_grant (asked by session (entries.Reserve by session name (Fresh spec)) (Create name spec) disk) vid (chain_of before vid.0) disk (Create name spec) known)
     (Given [] ∷ Decided last ∷ [])
     ≡ Append (entries.Reserve by session name (Fresh spec)) ∷ Work (create_inode (inode_by header vid.0 (holes header.spec)))
     ∷ Append (entries.Publish by vid) ∷ Reply Done ∷ [])
@@ -46,15 +46,15 @@ create_goes before by session name spec disk vid header last is = subst
 
 pub attach_goes : (before : List Effect) (by : NodeId) (session : ℕ) (name : List ℕ) (disk : Option Content) (vid : Vid) (header : Header) (bytes : List ℕ)
     → header_of before vid.0 ≡ Some header
-    → acts before (begin by session (Attach name None) disk) (Decided (decisions.Granted vid) ∷ Given bytes ∷ Given [] ∷ [])
+    → op_acts_from before (begin_command by session (Attach name None) disk) (Decided (decisions.Granted vid) ∷ Given bytes ∷ Given [] ∷ [])
     ≡ Append (entries.Lock by session name None) ∷ Work (read_inode vid.0 header.spec)
     ∷ Work (write_back (inode_by header vid.0 (table_in (vid.0 ∷ chain_of before vid.0) header.spec bytes)) bytes) ∷ Reply Done ∷ []
-unfolding asked acts begin on_decision on_done
+unfolding asked op_acts_from begin_command on_decision op_on_done
 attach_goes before by session name disk vid header bytes is = subst
     (λ (known : Option Header).
     Append (entries.Lock by session name None)
-    ∷ acts before
-    (granted_known (asked by session (entries.Lock by session name None) (Attach name None) disk) vid (chain_of before vid.0) disk (Attach name None) known)
+    ∷ op_acts_from before
+    (step_after_known_grant (asked by session (entries.Lock by session name None) (Attach name None) disk) vid (chain_of before vid.0) disk (Attach name None) known)
     (Given bytes ∷ Given [] ∷ [])
     ≡ Append (entries.Lock by session name None) ∷ Work (read_inode vid.0 header.spec)
     ∷ Work (write_back (inode_by header vid.0 (table_in (vid.0 ∷ chain_of before vid.0) header.spec bytes)) bytes) ∷ Reply Done ∷ [])
@@ -62,35 +62,35 @@ attach_goes before by session name disk vid header bytes is = subst
 
 pub attach_snapshot_goes : (before : List Effect) (by : NodeId) (session : ℕ) (name tag : List ℕ) (disk : Option Content) (vid : Vid) (header : Header) (bytes : List ℕ)
     → header_of before vid.0 ≡ Some header
-    → acts before (begin by session (Attach name (Some tag)) disk) (Decided (decisions.Granted vid) ∷ Given bytes ∷ [])
+    → op_acts_from before (begin_command by session (Attach name (Some tag)) disk) (Decided (decisions.Granted vid) ∷ Given bytes ∷ [])
     ≡ Append (entries.Lock by session name (Some tag)) ∷ Work (read_inode vid.0 header.spec) ∷ Reply Done ∷ []
-unfolding asked acts begin on_decision on_done
+unfolding asked op_acts_from begin_command on_decision op_on_done
 attach_snapshot_goes before by session name tag disk vid header bytes is = subst
     (λ (known : Option Header).
     Append (entries.Lock by session name (Some tag))
-    ∷ acts before
-    (granted_known (asked by session (entries.Lock by session name (Some tag)) (Attach name (Some tag)) disk) vid (chain_of before vid.0) disk (Attach name (Some tag)) known)
+    ∷ op_acts_from before
+    (step_after_known_grant (asked by session (entries.Lock by session name (Some tag)) (Attach name (Some tag)) disk) vid (chain_of before vid.0) disk (Attach name (Some tag)) known)
     (Given bytes ∷ [])
     ≡ Append (entries.Lock by session name (Some tag)) ∷ Work (read_inode vid.0 header.spec) ∷ Reply Done ∷ [])
     (sym is) refl
 
 pub close_goes : (before : List Effect) (by : NodeId) (session : ℕ) (disk : Content)
-    → acts before (begin by session Close (Some disk)) (Decided decisions.None ∷ [])
+    → op_acts_from before (begin_command by session Close (Some disk)) (Decided decisions.None ∷ [])
     ≡ Append (entries.Unlock by session (record { 0 = disk.vid })) ∷ Reply Done ∷ []
-unfolding acts begin on_decision
+unfolding op_acts_from begin_command on_decision
 close_goes before by session disk = refl
 
 pub snapshot_goes : (before : List Effect) (by : NodeId) (session : ℕ) (tag : List ℕ) (disk : Content) (vid : Vid) (header : Header) (last : Decision)
     → header_of before vid.0 ≡ Some header
-    → acts before (begin by session (Snapshot tag) (Some disk)) (Decided (decisions.Granted vid) ∷ Given [] ∷ Given [] ∷ Decided last ∷ [])
+    → op_acts_from before (begin_command by session (Snapshot tag) (Some disk)) (Decided (decisions.Granted vid) ∷ Given [] ∷ Given [] ∷ Decided last ∷ [])
     ≡ Append (entries.Reserve by session disk.name (SnapshotOf tag)) ∷ Work (write_tag disk tag)
     ∷ Work (create_inode (inode_by header vid.0 disk.table)) ∷ Append (entries.Snapshot by (record { 0 = disk.vid }) vid) ∷ Reply Done ∷ []
-unfolding asked acts begin on_decision on_done
+unfolding asked op_acts_from begin_command on_decision op_on_done
 snapshot_goes before by session tag disk vid header last is = subst
     (λ (known : Option Header).
     Append (entries.Reserve by session disk.name (SnapshotOf tag))
-    ∷ acts before
-    (granted_known (asked by session (entries.Reserve by session disk.name (SnapshotOf tag)) (Snapshot tag) (Some disk)) vid (chain_of before vid.0) (Some disk) (Snapshot tag) known)
+    ∷ op_acts_from before
+    (step_after_known_grant (asked by session (entries.Reserve by session disk.name (SnapshotOf tag)) (Snapshot tag) (Some disk)) vid (chain_of before vid.0) (Some disk) (Snapshot tag) known)
     (Given [] ∷ Given [] ∷ Decided last ∷ [])
     ≡ Append (entries.Reserve by session disk.name (SnapshotOf tag)) ∷ Work (write_tag disk tag)
     ∷ Work (create_inode (inode_by header vid.0 disk.table)) ∷ Append (entries.Snapshot by (record { 0 = disk.vid }) vid) ∷ Reply Done ∷ [])
@@ -98,44 +98,44 @@ snapshot_goes before by session tag disk vid header last is = subst
 
 pub clone_goes : (before : List Effect) (by : NodeId) (session : ℕ) (base tag name : List ℕ) (disk : Option Content) (vid parent : Vid) (header : Header) (bytes : List ℕ) (last : Decision)
     → header_of before vid.0 ≡ Some header → header.parent ≡ Some parent
-    → acts before (begin by session (Clone base tag name) disk) (Decided (decisions.Granted vid) ∷ Given bytes ∷ Given [] ∷ Decided last ∷ [])
+    → op_acts_from before (begin_command by session (Clone base tag name) disk) (Decided (decisions.Granted vid) ∷ Given bytes ∷ Given [] ∷ Decided last ∷ [])
     ≡ Append (entries.Reserve by session name (CloneOf base tag)) ∷ Work (read_inode parent.0 header.spec)
     ∷ Work (create_inode (inode_by header vid.0 (table_in (chain_of before vid.0) header.spec bytes))) ∷ Append (entries.Clone by vid) ∷ Reply Done ∷ []
-unfolding asked acts begin on_decision on_done
+unfolding asked op_acts_from begin_command on_decision op_on_done
 clone_goes before by session base tag name disk vid parent header bytes last is from =
     let op : Op = asked by session (entries.Reserve by session name (CloneOf base tag)) (Clone base tag name) disk in
     subst
     (λ (known : Option Header).
     Append (entries.Reserve by session name (CloneOf base tag))
-    ∷ acts before (granted_known op vid (chain_of before vid.0) disk (Clone base tag name) known) (Given bytes ∷ Given [] ∷ Decided last ∷ [])
+    ∷ op_acts_from before (step_after_known_grant op vid (chain_of before vid.0) disk (Clone base tag name) known) (Given bytes ∷ Given [] ∷ Decided last ∷ [])
     ≡ Append (entries.Reserve by session name (CloneOf base tag)) ∷ Work (read_inode parent.0 header.spec)
     ∷ Work (create_inode (inode_by header vid.0 (table_in (chain_of before vid.0) header.spec bytes))) ∷ Append (entries.Clone by vid) ∷ Reply Done ∷ [])
     (sym is)
     (subst
     (λ (origin : Option Vid).
     Append (entries.Reserve by session name (CloneOf base tag))
-    ∷ acts before (copied_from op vid (chain_of before vid.0) header origin) (Given bytes ∷ Given [] ∷ Decided last ∷ [])
+    ∷ op_acts_from before (copied_from op vid (chain_of before vid.0) header origin) (Given bytes ∷ Given [] ∷ Decided last ∷ [])
     ≡ Append (entries.Reserve by session name (CloneOf base tag)) ∷ Work (read_inode parent.0 header.spec)
     ∷ Work (create_inode (inode_by header vid.0 (table_in (chain_of before vid.0) header.spec bytes))) ∷ Append (entries.Clone by vid) ∷ Reply Done ∷ [])
     (sym from) refl)
 
 pub delete_goes : (before : List Effect) (by : NodeId) (session : ℕ) (name : List ℕ) (tag : Option (List ℕ)) (disk : Option Content) (vid : Vid) (header : Header)
     → header_of before vid.0 ≡ Some header
-    → acts before (begin by session (Delete name tag) disk) (Decided (decisions.Granted vid) ∷ [])
+    → op_acts_from before (begin_command by session (Delete name tag) disk) (Decided (decisions.Granted vid) ∷ [])
     ≡ Append (entries.Delete by session name tag) ∷ Reply Done ∷ []
-unfolding asked acts begin on_decision
+unfolding asked op_acts_from begin_command on_decision
 delete_goes before by session name tag disk vid header is = subst
     (λ (known : Option Header).
     Append (entries.Delete by session name tag)
-    ∷ acts before (granted_known (asked by session (entries.Delete by session name tag) (Delete name tag) disk) vid (chain_of before vid.0) disk (Delete name tag) known) []
+    ∷ op_acts_from before (step_after_known_grant (asked by session (entries.Delete by session name tag) (Delete name tag) disk) vid (chain_of before vid.0) disk (Delete name tag) known) []
     ≡ Append (entries.Delete by session name tag) ∷ Reply Done ∷ [])
     (sym is) refl
 
 -- a refusal of the first entry is the reply
 pub refused_goes : (before : List Effect) (by : NodeId) (session : ℕ) (entry : Entry) (ask : VdiAsk) (disk : Option Content) (cause : Cause)
     → first_entry by session disk ask ≡ Some entry
-    → acts before (begin by session ask disk) (Decided (decisions.Refused cause) ∷ []) ≡ Append entry ∷ Reply (Refused cause) ∷ []
-unfolding acts begin on_decision
+    → op_acts_from before (begin_command by session ask disk) (Decided (decisions.Refused cause) ∷ []) ≡ Append entry ∷ Reply (Refused cause) ∷ []
+unfolding op_acts_from begin_command on_decision
 refused_goes before by session entry ask disk cause is = subst
-    (λ (first : Option Entry). acts before (begun_by by session ask disk first) (Decided (decisions.Refused cause) ∷ []) ≡ Append entry ∷ Reply (Refused cause) ∷ [])
+    (λ (first : Option Entry). op_acts_from before (begun_with_entry by session ask disk first) (Decided (decisions.Refused cause) ∷ []) ≡ Append entry ∷ Reply (Refused cause) ∷ [])
     (sym is) refl

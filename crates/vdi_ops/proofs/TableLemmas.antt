@@ -13,10 +13,10 @@ use Rattle.object_id.specs.Policy.{policy_byte, strips_of}
 use Rattle.object_id.specs.Fields.{u8_bytes, u32_bytes, u64_bytes, numbers_bytes, numbers_at, zeros, Stands}
 use Rattle.object_id.proofs.FieldLemmas.{wide32, numbers-read, length-numbers_at}
 use Rattle.inode.specs.declared.layout.TheConstants.{INODE_BYTES, INODE_HEADER_BYTES, TEXT_BYTES, CHILDREN_BYTES}
-use Rattle.inode.specs.Layout.{Content, Unread, Fills, text_bytes, header_bytes, blank, no_children, SpellsInode, IsText, IsEntry}
+use Rattle.inode.specs.Layout.{Content, UnreadParts, Fills, text_bytes, header_bytes, unread_zeros, no_children, SpellsInode, IsFieldText, IsEntry}
 use Rattle.inode.proofs.TableLemmas.{entries-fit}
-use Rattle.vdi_ops.specs.Tables.{kept, table_in}
-use Rattle.vdi_ops.specs.Works.{written_bytes, written_back}
+use Rattle.vdi_ops.specs.Tables.{kept_entry, table_in}
+use Rattle.vdi_ops.specs.InodeWorks.{written_bytes, written_back}
 
 -- ---- the entries that count
 
@@ -25,25 +25,25 @@ kept_as : (ids : List ℕ) (entry : ℕ) (there : Bool) → list_any (λ id. id 
 kept_as ids entry true is = inr is
 kept_as ids entry false is = inl refl
 
-kept_counts : (ids : List ℕ) (entry : ℕ) → (kept ids entry ≡ 0) ⊎ (list_any (λ id. id == kept ids entry) ids ≡ true)
+kept_counts : (ids : List ℕ) (entry : ℕ) → (kept_entry ids entry ≡ 0) ⊎ (list_any (λ id. id == kept_entry ids entry) ids ≡ true)
 kept_counts ids entry = kept_as ids entry (list_any (λ id. id == entry) ids) refl
 
-kept_all : (ids entries : List ℕ) → All (λ entry. (entry ≡ 0) ⊎ (list_any (λ id. id == entry) ids ≡ true)) (map (kept ids) entries)
+kept_all : (ids entries : List ℕ) → All (λ entry. (entry ≡ 0) ⊎ (list_any (λ id. id == entry) ids ≡ true)) (map (kept_entry ids) entries)
 kept_all ids [] = All-nil (λ (entry : ℕ). (entry ≡ 0) ⊎ (list_any (λ id. id == entry) ids ≡ true))
 kept_all ids (entry ∷ entries) =
-    All-cons (λ (e : ℕ). (e ≡ 0) ⊎ (list_any (λ id. id == e) ids ≡ true)) (kept ids entry) (map (kept ids) entries)
+    All-cons (λ (e : ℕ). (e ≡ 0) ⊎ (list_any (λ id. id == e) ids ≡ true)) (kept_entry ids entry) (map (kept_entry ids) entries)
     (kept_counts ids entry) (kept_all ids entries)
 
 pub table_counts : (ids : List ℕ) (spec : VdiSpec) (bytes : List ℕ)
     → All (λ entry. (entry ≡ 0) ⊎ (list_any (λ id. id == entry) ids ≡ true)) (table_in ids spec bytes)
 table_counts ids spec bytes = kept_all ids (numbers_at w32 (objects_of spec) INODE_HEADER_BYTES bytes)
 
-pub kept_stays : (ids : List ℕ) (entry : ℕ) → list_any (λ id. id == entry) ids ≡ true → kept ids entry ≡ entry
+pub kept_stays : (ids : List ℕ) (entry : ℕ) → list_any (λ id. id == entry) ids ≡ true → kept_entry ids entry ≡ entry
 kept_stays ids entry there = cond-true (list_any (λ id. id == entry) ids) entry 0 there
 
 pub table_length : (ids : List ℕ) (spec : VdiSpec) (bytes : List ℕ) → length (table_in ids spec bytes) ≡ objects_of spec
 table_length ids spec bytes =
-    length-map (numbers_at w32 (objects_of spec) INODE_HEADER_BYTES bytes) (kept ids)
+    length-map (numbers_at w32 (objects_of spec) INODE_HEADER_BYTES bytes) (kept_entry ids)
     ∙ length-numbers_at w32 (objects_of spec) INODE_HEADER_BYTES bytes
 
 -- ---- the header in front of the table
@@ -53,7 +53,7 @@ thirteen : (a b c d e f g h i j k l m : List ℕ)
     ≡ length a + length b + length c + length d + length e + length f + length g + length h + length i + length j + length k + length l + length m
 thirteen a b c d e f g h i j k l m = simp length-append
 
-header_length : (content : Content) (unread : Unread) → Fills content unread → length (header_bytes content unread) ≡ INODE_HEADER_BYTES
+header_length : (content : Content) (unread : UnreadParts) → Fills content unread → length (header_bytes content unread) ≡ INODE_HEADER_BYTES
 header_length content unread fills =
     let sum = thirteen
     (text_bytes content.name unread.after_name) (text_bytes content.tag unread.after_tag) unread.times
@@ -93,10 +93,10 @@ table_stands bytes read s =
     record { parts = behind_header bytes read s ∙ ap (λ rest. numbers_bytes w32 read.table ++ rest) (sym behind) }
 
 pub table_read : (ids : List ℕ) (spec : VdiSpec) (bytes : List ℕ) (read : Content) → SpellsInode bytes read
-    → All IsEntry read.table → length read.table ≡ objects_of spec → table_in ids spec bytes ≡ map (kept ids) read.table
+    → All IsEntry read.table → length read.table ≡ objects_of spec → table_in ids spec bytes ≡ map (kept_entry ids) read.table
 table_read ids spec bytes read s entries count =
-    ap (λ n. map (kept ids) (numbers_at w32 n INODE_HEADER_BYTES bytes)) (sym count)
-    ∙ ap (map (kept ids))
+    ap (λ n. map (kept_entry ids) (numbers_at w32 n INODE_HEADER_BYTES bytes)) (sym count)
+    ∙ ap (map (kept_entry ids))
     (numbers-read w32 (2 ^ 32) wide32 bytes read.table INODE_HEADER_BYTES
     (INODE_HEADER_BYTES + length (numbers_bytes w32 read.table)) (entries-fit read.table entries) (table_stands bytes read s))
 
@@ -108,7 +108,7 @@ children_fill : length no_children ≡ CHILDREN_BYTES
 unfolding no_children
 children_fill = length-replicate {A = ℕ} CHILDREN_BYTES 0
 
-blank_fills : (content : Content) → IsText content.name → IsText content.tag → Fills content (blank content)
+blank_fills : (content : Content) → IsFieldText content.name → IsFieldText content.tag → Fills content (unread_zeros content)
 blank_fills content name tag = record {
   name = text_fills content.name name.0;
   tag = text_fills content.tag tag.0;
@@ -118,14 +118,14 @@ blank_fills content name tag = record {
   children = children_fill;
 }
 
-pub written_spells : (inode read : Content) (bytes : List ℕ) → IsText inode.name → IsText inode.tag → SpellsInode bytes read
+pub written_spells : (inode read : Content) (bytes : List ℕ) → IsFieldText inode.name → IsFieldText inode.tag → SpellsInode bytes read
     → SpellsInode (written_back inode bytes) (record inode { table = read.table })
 written_spells inode read bytes name tag s =
-    let head : List ℕ = header_bytes inode (blank inode) in
-    let fills : Fills inode (blank inode) = blank_fills inode name tag in
-    let long : 0 + length head ≡ INODE_HEADER_BYTES = ap (λ n. 0 + n) (header_length inode (blank inode) fills) in
+    let head : List ℕ = header_bytes inode (unread_zeros inode) in
+    let fills : Fills inode (unread_zeros inode) = blank_fills inode name tag in
+    let long : 0 + length head ≡ INODE_HEADER_BYTES = ap (λ n. 0 + n) (header_length inode (unread_zeros inode) fills) in
     record {
-      unread = blank inode;
+      unread = unread_zeros inode;
       rest = s.rest;
       fills = blank_fills (record inode { table = read.table }) name tag;
       whole =

@@ -12,18 +12,18 @@ use Rattle.peer_proto.specs.declared.guest.VdiAsk.{VdiAsk}
 use Rattle.peer_proto.specs.declared.guest.VdiAsk.TheVariants.{Create, Attach, Close, Snapshot, Clone, Delete}
 
 -- a tag, where there is one, is as a name may be
-abbrev pub IsTag : Option (List ℕ) → Type 0
-IsTag None = Unit {0}
-IsTag (Some tag) = IsName tag
+abbrev pub IsOptionalTag : Option (List ℕ) → Type 0
+IsOptionalTag None = Unit {0}
+IsOptionalTag (Some tag) = IsName tag
 
 -- what a command may ask: its names and tags are such, and a new disk may be made so
-abbrev pub IsAsk : VdiAsk → Type 0
-IsAsk (Create name spec) = IsName name × IsSpec spec
-IsAsk (Attach name tag) = IsName name × IsTag tag
-IsAsk Close = Unit {0}
-IsAsk (Snapshot tag) = IsName tag
-IsAsk (Clone base tag name) = IsName base × IsName tag × IsName name
-IsAsk (Delete name tag) = IsName name × IsTag tag
+abbrev pub IsVdiAsk : VdiAsk → Type 0
+IsVdiAsk (Create name spec) = IsName name × IsSpec spec
+IsVdiAsk (Attach name tag) = IsName name × IsOptionalTag tag
+IsVdiAsk Close = Unit {0}
+IsVdiAsk (Snapshot tag) = IsName tag
+IsVdiAsk (Clone base tag name) = IsName base × IsName tag × IsName name
+IsVdiAsk (Delete name tag) = IsName name × IsOptionalTag tag
 
 -- the open disk, here told by whether it is a snapshot, decides at once: a second disk isn't opened
 abbrev pub no_second : Option Bool → Option Cause
@@ -42,13 +42,13 @@ needs_working_disk (Some true) = Some Readonly
 needs_working_disk (Some false) = None
 
 -- when a command is refused on the spot
-abbrev pub refusal : Option Bool → VdiAsk → Option Cause
-refusal disk (Create name spec) = None
-refusal disk (Attach name tag) = no_second disk
-refusal disk Close = needs_disk disk
-refusal disk (Snapshot tag) = needs_working_disk disk
-refusal disk (Clone base tag name) = None
-refusal disk (Delete name tag) = None
+abbrev pub command_refusal : Option Bool → VdiAsk → Option Cause
+command_refusal disk (Create name spec) = None
+command_refusal disk (Attach name tag) = no_second disk
+command_refusal disk Close = needs_disk disk
+command_refusal disk (Snapshot tag) = needs_working_disk disk
+command_refusal disk (Clone base tag name) = None
+command_refusal disk (Delete name tag) = None
 
 -- whether what a command opens is a snapshot
 abbrev pub opens_snapshot : VdiAsk → Bool

@@ -1,6 +1,6 @@
 pub mod Entries
 pub mod Tables
-pub mod Works
+pub mod InodeWorks
 pub mod Op
 pub mod Steps
 pub mod Course

@@ -20,83 +20,83 @@ use Rattle.vdi_ops.specs.declared.act.OpAct.TheVariants.{Append, Work, Reply}
 use Rattle.vdi_ops.specs.declared.end.OpEnd.{OpEnd}
 use Rattle.vdi_ops.specs.Entries.{opens_snapshot, first_entry, unlock_of}
 use Rattle.vdi_ops.specs.Tables.{chain_of, table_in, holes, inode_by}
-use Rattle.vdi_ops.specs.Works.{read_inode, create_inode, write_back, write_tag}
-use Rattle.vdi_ops.specs.Op.{Task, Opening, WritingBack, Tagging, Copying, Making, Stage, Asked, Working, Publishing, Answered, Op, Step}
+use Rattle.vdi_ops.specs.InodeWorks.{read_inode, create_inode, write_back, write_tag}
+use Rattle.vdi_ops.specs.Op.{Task, Opening, WritingBack, Tagging, Copying, Making, OpStage, Asked, Working, Publishing, Answered, Op, OpStep}
 
 -- an entry is put, and the command waits for its decision
-abbrev pub appends : Op → Stage → Entry → Step
+abbrev pub appends : Op → OpStage → Entry → OpStep
 appends op stage entry = record { op = record op { stage = stage }; act = Append entry }
 
 -- a work begins for the id that was granted
-abbrev pub works : Op → Vid → Task → ObjWork → Step
+abbrev pub works : Op → Vid → Task → ObjWork → OpStep
 works op vid task work = record { op = record op { stage = Working vid task }; act = Work work }
 
 -- the command ends with a reply, and the session has this inode open by it
-abbrev pub replies : Op → GuestRsp → Option Content → Step
+abbrev pub replies : Op → GuestRsp → Option Content → OpStep
 replies op reply opened = record { op = record op { stage = Answered opened }; act = Reply reply }
 
 -- a command begins with this entry
-abbrev pub begun_by : NodeId → ℕ → VdiAsk → Option Content → Option Entry → Option Step
-begun_by by session ask disk None = None
-begun_by by session ask disk (Some entry) =
+abbrev pub begun_with_entry : NodeId → ℕ → VdiAsk → Option Content → Option Entry → Option OpStep
+begun_with_entry by session ask disk None = None
+begun_with_entry by session ask disk (Some entry) =
     Some (record { op = record { by = by; session = session; stage = Asked entry ask disk }; act = Append entry })
 
 -- a command begins with its first entry; none where it is about the open disk, and there is none
-unfoldable pub begin : NodeId → ℕ → VdiAsk → Option Content → Option Step
-begin by session ask disk = begun_by by session ask disk (first_entry by session disk ask)
+unfoldable pub begin_command : NodeId → ℕ → VdiAsk → Option Content → Option OpStep
+begin_command by session ask disk = begun_with_entry by session ask disk (first_entry by session disk ask)
 
 -- the granted id of a snapshot takes the open disk's place, with its table
-abbrev pub taken_over : Op → Vid → List ℕ → Header → Option Content → Option Step
+abbrev pub taken_over : Op → Vid → List ℕ → Header → Option Content → Option OpStep
 taken_over op vid tag header None = None
 taken_over op vid tag header (Some old) =
     Some (works op vid (Tagging (record { 0 = old.vid }) (inode_by header vid.0 old.table)) (write_tag old tag))
 
 -- a clone reads the inode of its parent
-abbrev pub copied_from : Op → Vid → List ℕ → Header → Option Vid → Option Step
+abbrev pub copied_from : Op → Vid → List ℕ → Header → Option Vid → Option OpStep
 copied_from op vid chain header None = None
 copied_from op vid chain header (Some parent) = Some (works op vid (Copying chain header) (read_inode parent.0 header.spec))
 
 -- what comes after a grant, by what was asked, with the granted id's parent chain and header
-abbrev pub granted : Op → Vid → List ℕ → Option Content → VdiAsk → Header → Option Step
-granted op vid chain disk (Create name spec) header = Some (works
+abbrev pub step_after_grant : Op → Vid → List ℕ → Option Content → VdiAsk → Header → Option OpStep
+step_after_grant op vid chain disk (Create name spec) header = Some (works
     op
     vid
     (Making (entries.Publish op.by vid) None)
     (create_inode (inode_by header vid.0 (holes header.spec))))
-granted op vid chain disk (Attach name tag) header =
+step_after_grant op vid chain disk (Attach name tag) header =
     Some (works op vid (Opening (opens_snapshot (Attach name tag)) (vid.0 ∷ chain) header) (read_inode vid.0 header.spec))
-granted op vid chain disk Close header = Some (replies op Done None)
-granted op vid chain disk (Snapshot tag) header = taken_over op vid tag header disk
-granted op vid chain disk (Clone base tag name) header = copied_from op vid chain header header.parent
-granted op vid chain disk (Delete name tag) header = Some (replies op Done None)
+step_after_grant op vid chain disk Close header = Some (replies op Done None)
+step_after_grant op vid chain disk (Snapshot tag) header = taken_over op vid tag header disk
+step_after_grant op vid chain disk (Clone base tag name) header = copied_from op vid chain header header.parent
+step_after_grant op vid chain disk (Delete name tag) header = Some (replies op Done None)
 
 -- what was granted is known to the directory
-abbrev pub granted_known : Op → Vid → List ℕ → Option Content → VdiAsk → Option Header → Option Step
-granted_known op vid chain disk ask None = None
-granted_known op vid chain disk ask (Some header) = granted op vid chain disk ask header
+abbrev pub step_after_known_grant : Op → Vid → List ℕ → Option Content → VdiAsk → Option Header → Option OpStep
+step_after_known_grant op vid chain disk ask None = None
+step_after_known_grant op vid chain disk ask (Some header) = step_after_grant op vid chain disk ask header
 
 -- a command's first entry is decided: it is refused, or goes on with what it was granted; an unlock grants nothing
-abbrev pub decided : List Effect → Op → VdiAsk → Option Content → Decision → Option Step
-decided known op ask disk decisions.None = Some (replies op Done None)
-decided known op ask disk (decisions.Granted vid) =
-    granted_known op vid (chain_of known vid.0) disk ask (header_of known vid.0)
-decided known op ask disk (decisions.Refused cause) = Some (replies op (Refused cause) None)
+abbrev pub step_after_decision : List Effect → Op → VdiAsk → Option Content → Decision → Option OpStep
+step_after_decision known op ask disk decisions.None = Some (replies op Done None)
+step_after_decision known op ask disk (decisions.Granted vid) =
+    step_after_known_grant op vid (chain_of known vid.0) disk ask (header_of known vid.0)
+step_after_decision known op ask disk (decisions.Refused cause) = Some (replies op (Refused cause) None)
 
 -- the same by what the command waits for: its last entry is only awaited
-abbrev pub decided_at : List Effect → Decision → Op → Stage → Option Step
-decided_at known decision op (Asked entry ask disk) = decided known op ask disk decision
+abbrev pub decided_at : List Effect → Decision → Op → OpStage → Option OpStep
+decided_at known decision op (Asked entry ask disk) = step_after_decision known op ask disk decision
 decided_at known decision op (Working vid task) = None
 decided_at known decision op (Publishing entry opened) = Some (replies op Done opened)
 decided_at known decision op (Answered opened) = None
 
 -- the node has read the entry that the command waits for, and the directory decided it. What the entries did is known, this
 -- one's effect too; none where the command waits for no entry
-unfoldable pub on_decision : List Effect → Decision → Op → Option Step
+unfoldable pub on_decision : List Effect → Decision → Op → Option OpStep
 on_decision known decision op = decided_at known decision op op.stage
 
 -- a work is done, and gave these bytes: a snapshot is open once its inode was read, a disk once it was written back too;
 -- what was created is published
-abbrev pub task_done : Op → Vid → List ℕ → Task → Step
+abbrev pub task_done : Op → Vid → List ℕ → Task → OpStep
 task_done op vid bytes (Opening true ids header) =
     replies op Done (Some (inode_by header vid.0 (table_in ids header.spec bytes)))
 task_done op vid bytes (Opening false ids header) = works
@@ -115,18 +115,18 @@ task_done op vid bytes (Copying ids header) = works
 task_done op vid bytes (Making entry opened) = appends op (Publishing entry opened) entry
 
 -- the same by what the command waits for
-abbrev pub done_at : List ℕ → Op → Stage → Option Step
+abbrev pub done_at : List ℕ → Op → OpStage → Option OpStep
 done_at bytes op (Asked entry ask disk) = None
 done_at bytes op (Working vid task) = Some (task_done op vid bytes task)
 done_at bytes op (Publishing entry opened) = None
 done_at bytes op (Answered opened) = None
 
 -- the work that the command waits for is done; none where it waits for no work
-unfoldable pub on_done : List ℕ → Op → Option Step
-on_done bytes op = done_at bytes op op.stage
+unfoldable pub op_on_done : List ℕ → Op → Option OpStep
+op_on_done bytes op = done_at bytes op op.stage
 
 -- a command ends with the refusal of its work, and the granted id is given back
-abbrev pub refused_at : Cause → Op → Stage → Option OpEnd
+abbrev pub refused_at : Cause → Op → OpStage → Option OpEnd
 refused_at cause op (Asked entry ask disk) = None
 refused_at cause op (Working vid task) =
     Some (record { unlock = Some (unlock_of op.by op.session vid.0); reply = Refused cause })
@@ -134,5 +134,5 @@ refused_at cause op (Publishing entry opened) = None
 refused_at cause op (Answered opened) = None
 
 -- the work that the command waits for was refused; none where it waits for no work
-unfoldable pub on_refused : Cause → Op → Option OpEnd
-on_refused cause op = refused_at cause op op.stage
+unfoldable pub on_refusal : Cause → Op → Option OpEnd
+on_refusal cause op = refused_at cause op op.stage

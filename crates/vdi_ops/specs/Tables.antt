@@ -21,7 +21,7 @@ chain_from chains (Some parent) = parent.0 ∷ chains parent.0
 abbrev pub chain_after : (ℕ → List ℕ) → Effect → ℕ → List ℕ
 chain_after chains effects.Nothing vid = chains vid
 chain_after chains (effects.Reserved grant) vid =
-    if grant.claim.vid.0 == vid then chain_from chains grant.header.parent else chains vid
+    if grant.reservation.vid.0 == vid then chain_from chains grant.header.parent else chains vid
 chain_after chains (effects.Published of name) vid = chains vid
 chain_after chains (effects.Snapped snap) vid = chains vid
 chain_after chains (effects.Deleted of name) vid = chains vid
@@ -35,12 +35,12 @@ unfoldable pub chain_of : List Effect → ℕ → List ℕ
 chain_of before = fold chain_after (λ vid. []) before
 
 -- an entry counts where it is one of these ids, and else is a hole
-abbrev pub kept : List ℕ → ℕ → ℕ
-kept ids entry = if list_any (λ id. id == entry) ids then entry else 0
+abbrev pub kept_entry : List ℕ → ℕ → ℕ
+kept_entry ids entry = if list_any (λ id. id == entry) ids then entry else 0
 
 -- the table in an inode's bytes, with the entries that count
 abbrev pub table_in : List ℕ → VdiSpec → List ℕ → List ℕ
-table_in ids spec bytes = map (kept ids) (numbers_at w32 (objects_of spec) INODE_HEADER_BYTES bytes)
+table_in ids spec bytes = map (kept_entry ids) (numbers_at w32 (objects_of spec) INODE_HEADER_BYTES bytes)
 
 -- the table of a disk on which nothing was written
 abbrev pub holes : VdiSpec → List ℕ

@@ -1,9 +1,8 @@
 ghost use Rattle.std.specs.Prelude.{◌≡◌, IfOk};
 
-use object_id::NoMemory;
+use object_id::{Entry, NoMemory};
 use peer_proto::GuestRsp;
 use std::alloc::Global;
-use vdi_directory::Entry;
 
 /// How a command ends whose work was refused.
 #[derive(Debug, Drop)]

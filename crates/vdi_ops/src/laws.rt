@@ -10,7 +10,7 @@ ghost use Rattle.object_id.specs.declared.entry.Entry.{Entry};
 ghost use Rattle.object_id.specs.declared.entry.Entry.TheVariants as entries;
 ghost use Rattle.object_id.specs.Spec.{IsSpec, objects_of};
 ghost use Rattle.inode.specs.declared.layout.TheConstants.{INODE_HEADER_BYTES, INODE_BYTES};
-ghost use Rattle.inode.specs.Layout.{Content, IsText, IsEntry, SpellsInode};
+ghost use Rattle.inode.specs.Layout.{Content, IsFieldText, IsEntry, SpellsInode};
 ghost use Rattle.peer_proto.specs.declared.guest.VdiAsk.{VdiAsk};
 ghost use Rattle.peer_proto.specs.declared.guest.VdiAsk.TheVariants.{Create, Attach, Close, Snapshot, Clone, Delete};
 ghost use Rattle.peer_proto.specs.declared.guest.GuestRsp.TheVariants.{Done, Refused};
@@ -22,54 +22,69 @@ ghost use Rattle.vdi_directory.specs.Effects.{header_of};
 ghost use Rattle.vdi_directory.specs.Dead.{is_above};
 ghost use Rattle.vdi_ops.specs.declared.act.OpAct.TheVariants.{Append, Work, Reply};
 ghost use Rattle.vdi_ops.specs.Entries.{first_entry};
-ghost use Rattle.vdi_ops.specs.Tables.{chain_of, kept, table_in, holes, inode_by};
-ghost use Rattle.vdi_ops.specs.Works.{written_bytes, written_back, read_inode, create_inode, write_back, write_tag};
-ghost use Rattle.vdi_ops.specs.Op.{Op, entry_wanted, bytes_wanted, IsAwaited};
-ghost use Rattle.vdi_ops.specs.Steps.{begin, on_decision, on_done, on_refused};
-ghost use Rattle.vdi_ops.specs.Course.{Decided, Given, acts};
+ghost use Rattle.vdi_ops.specs.Tables.{chain_of, kept_entry, table_in, holes, inode_by};
+ghost use Rattle.vdi_ops.specs.InodeWorks.{written_bytes, written_back, read_inode, create_inode, write_back, write_tag};
+ghost use Rattle.vdi_ops.specs.Op.{Op, entry_wanted, op_bytes_wanted, IsAwaitedByCommand};
+ghost use Rattle.vdi_ops.specs.Steps.{begin_command, on_decision, op_on_done, on_refusal};
+ghost use Rattle.vdi_ops.specs.Course.{Decided, Given, op_acts_from};
 
 /// How each command goes, from its first entry to its reply, where each is granted and each work is done.
 pub fn commands_go_so()
     // An inode of holes is created, and the disk published.
-    ensures create { (known : List Effect) (by : NodeId) (session : ℕ) (name : List ℕ) (spec : VdiSpec) (disk : Option Content) (vid : Vid) (header : TheHeader) (last : Decision)
+    ensures create { (known : List Effect) (by : NodeId) (session : ℕ) (name : List ℕ) (spec : VdiSpec) (disk : Option Content)
+        (vid : Vid) (header : TheHeader) (last : Decision)
         → header_of known vid.0 ≡ Some header
-        → acts known (begin by session (Create name spec) disk) (Decided (decisions.Granted vid) ∷ Given [] ∷ Decided last ∷ [])
+        → op_acts_from known (begin_command by session (Create name spec) disk)
+        (Decided (decisions.Granted vid) ∷ Given [] ∷ Decided last ∷ [])
         ≡ Append (entries.Reserve by session name (Fresh spec)) ∷ Work (create_inode (inode_by header vid.0 (holes header.spec)))
         ∷ Append (entries.Publish by vid) ∷ Reply Done ∷ [] }
     // The disk's inode is read, and written back with the directory's header.
-    ensures attach { (known : List Effect) (by : NodeId) (session : ℕ) (name : List ℕ) (disk : Option Content) (vid : Vid) (header : TheHeader) (bytes : List ℕ)
+    ensures attach { (known : List Effect) (by : NodeId) (session : ℕ) (name : List ℕ) (disk : Option Content) (vid : Vid)
+        (header : TheHeader) (bytes : List ℕ)
         → header_of known vid.0 ≡ Some header
-        → acts known (begin by session (Attach name None) disk) (Decided (decisions.Granted vid) ∷ Given bytes ∷ Given [] ∷ [])
+        → op_acts_from known (begin_command by session (Attach name None) disk)
+        (Decided (decisions.Granted vid) ∷ Given bytes ∷ Given [] ∷ [])
         ≡ Append (entries.Lock by session name None) ∷ Work (read_inode vid.0 header.spec)
         ∷ Work (write_back (inode_by header vid.0 (table_in (vid.0 ∷ chain_of known vid.0) header.spec bytes)) bytes) ∷ Reply Done ∷ [] }
     // A snapshot's is only read.
-    ensures attach_snapshot { (known : List Effect) (by : NodeId) (session : ℕ) (name tag : List ℕ) (disk : Option Content) (vid : Vid) (header : TheHeader) (bytes : List ℕ)
+    ensures attach_snapshot { (known : List Effect) (by : NodeId) (session : ℕ) (name tag : List ℕ) (disk : Option Content) (vid : Vid)
+        (header : TheHeader) (bytes : List ℕ)
         → header_of known vid.0 ≡ Some header
-        → acts known (begin by session (Attach name (Some tag)) disk) (Decided (decisions.Granted vid) ∷ Given bytes ∷ [])
+        → op_acts_from known (begin_command by session (Attach name (Some tag)) disk) (Decided (decisions.Granted vid) ∷ Given bytes ∷ [])
         ≡ Append (entries.Lock by session name (Some tag)) ∷ Work (read_inode vid.0 header.spec) ∷ Reply Done ∷ [] }
     ensures close { (known : List Effect) (by : NodeId) (session : ℕ) (disk : Content)
-        → acts known (begin by session Close (Some disk)) (Decided decisions.None ∷ [])
+        → op_acts_from known (begin_command by session Close (Some disk)) (Decided decisions.None ∷ [])
         ≡ Append (entries.Unlock by session (record { 0 = disk.vid })) ∷ Reply Done ∷ [] }
     // The open disk's inode gets the tag, and the granted id's inode is created with the session's table.
-    ensures snapshot { (known : List Effect) (by : NodeId) (session : ℕ) (tag : List ℕ) (disk : Content) (vid : Vid) (header : TheHeader) (last : Decision)
+    ensures snapshot { (known : List Effect) (by : NodeId) (session : ℕ) (tag : List ℕ) (disk : Content) (vid : Vid) (header : TheHeader)
+        (last : Decision)
         → header_of known vid.0 ≡ Some header
-        → acts known (begin by session (Snapshot tag) (Some disk)) (Decided (decisions.Granted vid) ∷ Given [] ∷ Given [] ∷ Decided last ∷ [])
+        → op_acts_from known (begin_command by session (Snapshot tag) (Some disk))
+        (Decided (decisions.Granted vid) ∷ Given [] ∷ Given [] ∷ Decided last ∷ [])
         ≡ Append (entries.Reserve by session disk.name (SnapshotOf tag)) ∷ Work (write_tag disk tag)
-        ∷ Work (create_inode (inode_by header vid.0 disk.table)) ∷ Append (entries.Snapshot by (record { 0 = disk.vid }) vid) ∷ Reply Done ∷ [] }
+        ∷ Work (create_inode (inode_by header vid.0 disk.table)) ∷ Append (entries.Snapshot by (record {
+          0 = disk.vid;
+        }) vid) ∷ Reply Done ∷ [] }
     // The parent's inode is read, and the granted id's created with its table.
-    ensures clone { (known : List Effect) (by : NodeId) (session : ℕ) (base tag name : List ℕ) (disk : Option Content) (vid parent : Vid) (header : TheHeader) (bytes : List ℕ) (last : Decision)
+    ensures clone { (known : List Effect) (by : NodeId) (session : ℕ) (base tag name : List ℕ) (disk : Option Content) (vid parent : Vid)
+        (header : TheHeader) (bytes : List ℕ) (last : Decision)
         → header_of known vid.0 ≡ Some header → header.parent ≡ Some parent
-        → acts known (begin by session (Clone base tag name) disk) (Decided (decisions.Granted vid) ∷ Given bytes ∷ Given [] ∷ Decided last ∷ [])
+        → op_acts_from known (begin_command by session (Clone base tag name) disk)
+        (Decided (decisions.Granted vid) ∷ Given bytes ∷ Given [] ∷ Decided last ∷ [])
         ≡ Append (entries.Reserve by session name (CloneOf base tag)) ∷ Work (read_inode parent.0 header.spec)
-        ∷ Work (create_inode (inode_by header vid.0 (table_in (chain_of known vid.0) header.spec bytes))) ∷ Append (entries.Clone by vid) ∷ Reply Done ∷ [] }
-    ensures delete { (known : List Effect) (by : NodeId) (session : ℕ) (name : List ℕ) (tag : Option (List ℕ)) (disk : Option Content) (vid : Vid) (header : TheHeader)
+        ∷ Work (create_inode (inode_by header vid.0 (table_in (chain_of known vid.0) header.spec bytes))) ∷ Append
+        (entries.Clone by vid) ∷ Reply Done ∷ [] }
+    ensures delete { (known : List Effect) (by : NodeId) (session : ℕ) (name : List ℕ) (tag : Option (List ℕ)) (disk : Option Content)
+        (vid : Vid) (header : TheHeader)
         → header_of known vid.0 ≡ Some header
-        → acts known (begin by session (Delete name tag) disk) (Decided (decisions.Granted vid) ∷ [])
+        → op_acts_from known (begin_command by session (Delete name tag) disk) (Decided (decisions.Granted vid) ∷ [])
         ≡ Append (entries.Delete by session name tag) ∷ Reply Done ∷ [] }
     // Where the first entry is refused, that is the reply.
-    ensures refused { (known : List Effect) (by : NodeId) (session : ℕ) (entry : Entry) (ask : VdiAsk) (disk : Option Content) (cause : Cause)
+    ensures refused { (known : List Effect) (by : NodeId) (session : ℕ) (entry : Entry) (ask : VdiAsk) (disk : Option Content)
+        (cause : Cause)
         → first_entry by session disk ask ≡ Some entry
-        → acts known (begin by session ask disk) (Decided (decisions.Refused cause) ∷ []) ≡ Append entry ∷ Reply (Refused cause) ∷ [] }
+        → op_acts_from known (begin_command by session ask disk) (Decided (decisions.Refused cause) ∷ [])
+        ≡ Append entry ∷ Reply (Refused cause) ∷ [] }
 {}
 
 /// The parent chain of an id is the ids that the directory calls above it.
@@ -81,16 +96,16 @@ pub fn the_chain_is_what_stands_above()
 /// What a command does is what it then waits for: the decision on an entry, a work, or nothing, once it has its reply.
 pub fn a_command_waits_for_what_it_did()
     ensures begun { (by : NodeId) (session : ℕ) (ask : VdiAsk) (disk : Option Content)
-        → IfSome (begin by session ask disk) IsAwaited }
+        → IfSome (begin_command by session ask disk) IsAwaitedByCommand }
     ensures decided { (known : List Effect) (decision : Decision) (op : Op)
-        → IfSome (on_decision known decision op) IsAwaited }
+        → IfSome (on_decision known decision op) IsAwaitedByCommand }
     ensures done { (bytes : List ℕ) (op : Op)
-        → IfSome (on_done bytes op) IsAwaited }
+        → IfSome (op_on_done bytes op) IsAwaitedByCommand }
     // An entry is decided, and a work is done or refused, only where the command waits for it.
     ensures entries { (known : List Effect) (decision : Decision) (op : Op)
         → IsTrue (is_some (on_decision known decision op)) → IsTrue (is_some (entry_wanted op)) }
-    ensures works { (bytes : List ℕ) (op : Op) → is_some (on_done bytes op) ≡ is_some (bytes_wanted op) }
-    ensures refused { (cause : Cause) (op : Op) → is_some (on_refused cause op) ≡ is_some (bytes_wanted op) }
+    ensures works { (bytes : List ℕ) (op : Op) → is_some (op_on_done bytes op) ≡ is_some (op_bytes_wanted op) }
+    ensures refused { (cause : Cause) (op : Op) → is_some (on_refusal cause op) ≡ is_some (op_bytes_wanted op) }
 {}
 
 /// What an opening or a clone takes from an inode that it reads: the table, as far as its entries count.
@@ -98,16 +113,16 @@ pub fn the_table_alone_is_taken()
     // Each entry is a hole, or one of the ids that count; and one that counts stays.
     ensures entries { (ids : List ℕ) (spec : VdiSpec) (bytes : List ℕ)
         → All (λ entry. (entry ≡ 0) ⊎ IsTrue (list_any (λ id. id == entry) ids)) (table_in ids spec bytes) }
-    ensures stays { (ids : List ℕ) (entry : ℕ) → IsTrue (list_any (λ id. id == entry) ids) → kept ids entry ≡ entry }
+    ensures stays { (ids : List ℕ) (entry : ℕ) → IsTrue (list_any (λ id. id == entry) ids) → kept_entry ids entry ≡ entry }
     ensures count { (ids : List ℕ) (spec : VdiSpec) (bytes : List ℕ) → length (table_in ids spec bytes) ≡ objects_of spec }
     // Of bytes that spell an inode it is that inode's table.
     ensures table { (ids : List ℕ) (spec : VdiSpec) (bytes : List ℕ) (read : Content) → SpellsInode bytes read
-        → All IsEntry read.table → length read.table ≡ objects_of spec → table_in ids spec bytes ≡ map (kept ids) read.table }
+        → All IsEntry read.table → length read.table ≡ objects_of spec → table_in ids spec bytes ≡ map (kept_entry ids) read.table }
 {}
 
 /// What an opening writes back spells the header that the directory has, with the table as it was read.
 pub fn the_table_is_written_back()
-    ensures { (inode read : Content) (bytes : List ℕ) → IsText inode.name → IsText inode.tag → SpellsInode bytes read
+    ensures { (inode read : Content) (bytes : List ℕ) → IsFieldText inode.name → IsFieldText inode.tag → SpellsInode bytes read
         → SpellsInode (written_back inode bytes) (record inode { table = read.table }) }
 {}
 

@@ -23,4 +23,3 @@ pub use laws::{
     the_chain_is_what_stands_above, the_table_alone_is_taken, the_table_is_written_back,
 };
 pub use peer_proto::{GuestRsp, VdiAsk, WorkDone};
-pub use vdi_directory::{Decision, Directory, Entry};

@@ -9,13 +9,13 @@ use Rattle.object_id.specs.Policy.{wanted_of}
 use Rattle.hash_ring.specs.Circle.{hash_of_object}
 use Rattle.hash_ring.specs.Placement.{targets_of}
 use Rattle.vnode_table.specs.Targets.{targets_in}
-use Rattle.vnode_table.specs.Epochs.{Entered, is_entered, members_at}
+use Rattle.vnode_table.specs.Epochs.{EpochMembers, is_entered, members_at}
 
-abbrev pub is_at : ℕ → Entered → Bool
+abbrev pub is_at : ℕ → EpochMembers → Bool
 is_at epoch term = term.epoch == epoch
 
 -- an epoch was entered exactly where its term is found
-pub is_some-find : (terms : List Entered) (epoch : ℕ) → is_some (find (is_at epoch) terms) ≡ is_entered terms epoch
+pub is_some-find : (terms : List EpochMembers) (epoch : ℕ) → is_some (find (is_at epoch) terms) ≡ is_entered terms epoch
 is_some-find [] epoch = refl
 is_some-find (t ∷ ts) epoch = go (t.epoch == epoch) (is_some-find ts epoch)
   where
@@ -25,17 +25,17 @@ is_some-find (t ∷ ts) epoch = go (t.epoch == epoch) (is_some-find ts epoch)
     go false e = e
 
 -- the same of what a search by reference answers, in terms that stand the other way round
-pub is_some-found : (found : Option (Bor Entered)) (terms epochs : List Entered) (epoch : ℕ)
+pub is_some-found : (found : Option (Bor EpochMembers)) (terms epochs : List EpochMembers) (epoch : ℕ)
     → option_copied found ≡ find (is_at epoch) (reverse terms) → reverse terms ≡ epochs → is_some found ≡ is_entered epochs epoch
 is_some-found found terms epochs epoch e turned =
     copied found ∙ ap is_some (e ∙ ap (find (is_at epoch)) turned) ∙ is_some-find epochs epoch
   where
-    copied : (f : Option (Bor Entered)) → is_some f ≡ is_some (option_copied f)
+    copied : (f : Option (Bor EpochMembers)) → is_some f ≡ is_some (option_copied f)
     copied None = refl
     copied (Some x) = refl
 
 -- its members are then those of the term
-pub members_at-find : (terms : List Entered) (epoch : ℕ) (term : Entered) → find (is_at epoch) terms ≡ Some term
+pub members_at-find : (terms : List EpochMembers) (epoch : ℕ) (term : EpochMembers) → find (is_at epoch) terms ≡ Some term
     → members_at terms epoch ≡ term.members
 members_at-find [] epoch term e = cc
 members_at-find (t ∷ ts) epoch term e = go (t.epoch == epoch) e (λ f. members_at-find ts epoch term f)
@@ -43,23 +43,23 @@ members_at-find (t ∷ ts) epoch term e = go (t.epoch == epoch) e (λ f. members
     go : (b : Bool) → cond b (Some t) (find (is_at epoch) ts) ≡ Some term
         → (find (is_at epoch) ts ≡ Some term → members_at ts epoch ≡ term.members)
         → cond b t.members (members_at ts epoch) ≡ term.members
-    go true f ih = let same : t ≡ term = cc in ap (λ (u : Entered). u.members) same
+    go true f ih = let same : t ≡ term = cc in ap (λ (u : EpochMembers). u.members) same
     go false f ih = ih f
 
-pub members_at-found : (found : Bor Entered) (terms epochs : List Entered) (epoch : ℕ)
+pub members_at-found : (found : Bor EpochMembers) (terms epochs : List EpochMembers) (epoch : ℕ)
     → Some found.now ≡ find (is_at epoch) (reverse terms) → reverse terms ≡ epochs → found.now.members ≡ members_at epochs epoch
 members_at-found found terms epochs epoch e turned =
     sym (members_at-find epochs epoch found.now (sym (e ∙ ap (find (is_at epoch)) turned)))
 
 -- the targets by these members, hash and number are those of the object in the epoch
-pub targets_in-parts : (epochs : List Entered) (epoch oid : ℕ) (policy : Policy) (members : List Member) (hash wanted : ℕ)
+pub targets_in-parts : (epochs : List EpochMembers) (epoch oid : ℕ) (policy : Policy) (members : List Member) (hash wanted : ℕ)
     → members ≡ members_at epochs epoch → hash ≡ hash_of_object oid → wanted ≡ wanted_of policy (kind_of oid)
     → targets_of members hash wanted ≡ targets_in epochs epoch oid policy
 unfolding targets_in
 targets_in-parts epochs epoch oid policy members hash wanted m h w =
     ap (λ ms. targets_of ms hash wanted) m ∙ ap₂ (λ x n. targets_of (members_at epochs epoch) x n) h w
 
-pub reverse-push : (terms : List Entered) (term : Entered) → reverse (terms ++ term ∷ []) ≡ term ∷ reverse terms
+pub reverse-push : (terms : List EpochMembers) (term : EpochMembers) → reverse (terms ++ term ∷ []) ≡ term ∷ reverse terms
 reverse-push terms term = reverse-append terms (term ∷ [])
 
 not_equal : (a b : ℕ) → a ≢ b → (a == b) ≡ false
@@ -68,15 +68,15 @@ not_equal a b h = grind arith
 equal : (a : ℕ) → (a == a) ≡ true
 equal a = grind arith
 
-pub members_at-other : (term : Entered) (terms : List Entered) (epoch : ℕ) → term.epoch ≢ epoch
+pub members_at-other : (term : EpochMembers) (terms : List EpochMembers) (epoch : ℕ) → term.epoch ≢ epoch
     → members_at (term ∷ terms) epoch ≡ members_at terms epoch
 members_at-other term terms epoch h =
     ap (λ b. cond b term.members (members_at terms epoch)) (not_equal term.epoch epoch h)
 
-pub members_at-itself : (term : Entered) (terms : List Entered) → members_at (term ∷ terms) term.epoch ≡ term.members
+pub members_at-itself : (term : EpochMembers) (terms : List EpochMembers) → members_at (term ∷ terms) term.epoch ≡ term.members
 members_at-itself term terms = ap (λ b. cond b term.members (members_at terms term.epoch)) (equal term.epoch)
 
-pub is_entered-more : (term : Entered) (terms : List Entered) (epoch : ℕ) → IsTrue (is_entered terms epoch)
+pub is_entered-more : (term : EpochMembers) (terms : List EpochMembers) (epoch : ℕ) → IsTrue (is_entered terms epoch)
     → IsTrue (is_entered (term ∷ terms) epoch)
 is_entered-more term terms epoch h = go (term.epoch == epoch)
   where

@@ -6,9 +6,9 @@
 //! index. Entering an epoch, also one without members, leaves the lists of all others as they are.
 #![tactic(auto)]
 
+mod epoch_ring;
 mod laws;
 mod placement;
-mod term;
 #[cfg(test)]
 mod tests;
 

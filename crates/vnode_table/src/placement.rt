@@ -1,10 +1,10 @@
 ghost use Rattle.std.specs.Prelude.{◌≡◌, ◌==◌, false, [], ◌∷◌, length, take, drop, reverse, find, option_copied, OnOk, OnErr, IsTrue};
 ghost use Rattle.object_id.specs.Policy.{IsPolicy};
 ghost use Rattle.hash_ring.specs.Placement.{AreWeighted};
-ghost use Rattle.vnode_table.specs.Epochs.{Entered, is_entered};
+ghost use Rattle.vnode_table.specs.Epochs.{EpochMembers, is_entered};
 ghost use Rattle.vnode_table.specs.Targets.{targets_in};
 
-use crate::term::Term;
+use crate::epoch_ring::EpochRing;
 use hash_ring::object_hash;
 use object_id::{Epoch, Member, NoMemory, NodeId, Oid, Policy};
 use std::alloc::Global;
@@ -13,21 +13,21 @@ use std::marker::Model;
 /// The epochs that were entered, each with its members. Contracts see them in a list, the last entered first.
 #[derive(Drop)]
 pub struct Placement {
-    terms: Vec<Term>,
+    terms: Vec<EpochRing>,
 }
 
 impl Model for Placement {
     ghost use Rattle.std.specs.Prelude.{List, reverse};
-    ghost use Rattle.vnode_table.specs.Epochs.{Entered};
+    ghost use Rattle.vnode_table.specs.Epochs.{EpochMembers};
 
-    ghost Value = { List Entered };
+    ghost Value = { List EpochMembers };
 
     ghost view = { λ placement. reverse placement.terms.items };
 }
 
 /// An epoch's term, sought from the last entered on, since most look-ups are of late epochs.
-fn term_of(terms: &[Term], epoch: Epoch) -> Option<&Term>
-    ensures { option_copied result ≡ find (λ (term : Entered). term.epoch == epoch.0) (reverse terms.now) }
+fn term_of(terms: &[EpochRing], epoch: Epoch) -> Option<&EpochRing>
+    ensures { option_copied result ≡ find (λ (term : EpochMembers). term.epoch == epoch.0) (reverse terms.now) }
 {
     terms.iter().rev().find(|term| term.is_of(epoch))
 }
@@ -57,7 +57,7 @@ impl Placement {
         ensures err { OnErr result (self.new ≡ self.old) }
     {
         let alloc = *self.terms.allocator();
-        self.terms.push(Term::new(alloc, epoch, members)?)?;
+        self.terms.push(EpochRing::new(alloc, epoch, members)?)?;
         Ok(())
     }
 

@@ -1,5 +1,5 @@
 -- Each step of the walk leads to an older write, and keeps the answer.
-use Rattle.disk_history.specs.Books.{fate_of}
+use Rattle.disk_history.specs.CheckerState.{fate_of}
 use Rattle.disk_history.proofs.ItemLemmas.{walk_found, walk_goes_on, walk_falls, walk_within, walk_ends}
 use Rattle.disk_history.proofs.writes.may_give.Goals as goal
 

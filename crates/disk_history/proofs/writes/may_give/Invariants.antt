@@ -1,5 +1,5 @@
 use Rattle.std.proofs.Common.{◌≡◌, length, reverse}
-use Rattle.disk_history.specs.Books.{fate_of, items_from, IsWithin, may_give as gives}
+use Rattle.disk_history.specs.CheckerState.{fate_of, items_from, IsWithin, may_give as gives}
 use Rattle.disk_history.proofs.ItemLemmas.{steps_left}
 use Rattle.disk_history.proofs.writes.may_give.Given as goal
 

@@ -1,5 +1,5 @@
 -- Each step of the walk leads to an older write, past one that was refused.
-use Rattle.disk_history.specs.Books.{fate_of}
+use Rattle.disk_history.specs.CheckerState.{fate_of}
 use Rattle.disk_history.proofs.ItemLemmas.{walk_falls, walk_within, walk_skips}
 use Rattle.disk_history.proofs.writes.unrefused.Goals as goal
 

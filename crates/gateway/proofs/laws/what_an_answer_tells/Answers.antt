@@ -1,10 +1,10 @@
-use Rattle.gateway.proofs.AnswerLaws.{went_on-tells, answered-open, answered-none, marked-awaited}
+use Rattle.gateway.proofs.AnswerLaws.{attempt_continued-tells, message_ended-open, message_ended-none, messages_with_status-awaited}
 use Rattle.gateway.proofs.laws.what_an_answer_tells.Goals as goal
 
 pub returns : goal.returns
 returns c = record {
-  tells = went_on-tells;
-  attempt = answered-open;
-  none = answered-none;
-  known = marked-awaited;
+  tells = attempt_continued-tells;
+  attempt = message_ended-open;
+  none = message_ended-none;
+  known = messages_with_status-awaited;
 }

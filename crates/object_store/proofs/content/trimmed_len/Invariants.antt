@@ -1,10 +1,10 @@
 use Rattle.std.proofs.Common.{◌≡◌, ◌≤◌, length, take}
-use Rattle.object_store.specs.Bytes.{trimmed}
+use Rattle.object_store.specs.Bytes.{trimmed_bytes}
 use Rattle.object_store.proofs.content.trimmed_len.Given as goal
 
 abbrev pub invariant-loop-end : goal.invariant-loop-end
 invariant-loop-end l = record {
-  value : trimmed (take l.end l.bytes) ≡ trimmed l.bytes;
+  value : trimmed_bytes (take l.end l.bytes) ≡ trimmed_bytes l.bytes;
   within : l.end ≤ length l.bytes;
 }
 

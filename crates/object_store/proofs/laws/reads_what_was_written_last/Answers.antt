@@ -1,5 +1,5 @@
-use Rattle.object_store.proofs.CallLaws.{read-after}
+use Rattle.object_store.proofs.CallLaws.{read-rows_after}
 use Rattle.object_store.proofs.laws.reads_what_was_written_last.Goals as goal
 
 pub returns : goal.returns
-returns c = read-after
+returns c = read-rows_after

@@ -1,4 +1,4 @@
-use Rattle.sheep_world.proofs.RunLemmas.{history-grows}
+use Rattle.sheep_world.proofs.RunLaws.{history-grows}
 use Rattle.sheep_world.proofs.laws.a_history_only_grows.Goals as goal
 
 pub returns : goal.returns

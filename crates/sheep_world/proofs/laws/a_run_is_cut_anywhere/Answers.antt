@@ -1,4 +1,4 @@
-use Rattle.sheep_world.proofs.RunLemmas.{run-prefix}
+use Rattle.sheep_world.proofs.RunLaws.{run-prefix}
 use Rattle.sheep_world.proofs.laws.a_run_is_cut_anywhere.Goals as goal
 
 pub returns : goal.returns

@@ -1,5 +1,5 @@
-use Rattle.sheep_world.proofs.AskLemmas.{first_life, second_life, weight_kept}
+use Rattle.sheep_world.proofs.AskedInputs.{first_incarnation, second_incarnation, weight_kept}
 use Rattle.sheep_world.proofs.laws.lives_worked_out.Goals as goal
 
 pub returns : goal.returns
-returns c = record { first = first_life; second = second_life; weight = weight_kept }
+returns c = record { first = first_incarnation; second = second_incarnation; weight = weight_kept }

@@ -1,13 +1,13 @@
-use Rattle.sheep_world.proofs.WireLemmas.{wired-phase, wired-leave, wired-reweight, wired-join, wired-lost}
-use Rattle.sheep_world.proofs.OpeningLemmas.{opening-wired}
-use Rattle.sheep_world.proofs.PutLemmas.{wired-put}
-use Rattle.sheep_world.proofs.BackLemmas.{wired-back}
-use Rattle.sheep_world.proofs.RecoverLemmas.{wired-recover}
-use Rattle.sheep_world.proofs.RetryLemmas.{wired-retry}
-use Rattle.sheep_world.proofs.GuestLemmas.{wired-guest}
-use Rattle.sheep_world.proofs.ReadLemmas.{wired-log_next}
-use Rattle.sheep_world.proofs.LossLemmas.{wired-lose_request, wired-lose_reply, wired-deliver_reply}
-use Rattle.sheep_world.proofs.EndLemmas.{wired-lose_idle_request, wired-lose_idle_reply, wired-deliver_idle_reply}
+use Rattle.sheep_world.proofs.InFlightEvents.{wired-phase, wired-leave, wired-reweight, wired-join, wired-lost}
+use Rattle.sheep_world.proofs.InFlightOpening.{opening-wired}
+use Rattle.sheep_world.proofs.InFlightPut.{wired-put}
+use Rattle.sheep_world.proofs.InFlightBack.{wired-on_back}
+use Rattle.sheep_world.proofs.InFlightRecoverTick.{wired-recover}
+use Rattle.sheep_world.proofs.InFlightRetryTick.{wired-retry}
+use Rattle.sheep_world.proofs.InFlightGuest.{wired-guest}
+use Rattle.sheep_world.proofs.InFlightLogNext.{wired-log_next}
+use Rattle.sheep_world.proofs.InFlightLoss.{wired-lose_request, wired-lose_reply, wired-deliver_reply}
+use Rattle.sheep_world.proofs.InFlightRecoveryAnswer.{wired-lose_idle_request, wired-lose_idle_reply, wired-deliver_idle_reply}
 use Rattle.sheep_world.proofs.laws.nodes_and_wire_stay_together.Goals as goal
 
 pub returns : goal.returns
@@ -19,7 +19,7 @@ returns c = record {
   reweight = wired-reweight;
   join = wired-join;
   lost = wired-lost;
-  back = wired-back;
+  back = wired-on_back;
   recover = wired-recover;
   retry = wired-retry;
   guest = wired-guest;

@@ -1,4 +1,4 @@
-use Rattle.sheep_world.proofs.MeetLemmas.{meets-put, meets-recover, meets-retry, meets-lost, meets-reply}
+use Rattle.sheep_world.proofs.NodeConditions.{meets-put, meets-recover, meets-retry, meets-lost, meets-reply}
 use Rattle.sheep_world.proofs.laws.nodes_step_on_what_they_may.Goals as goal
 
 pub returns : goal.returns

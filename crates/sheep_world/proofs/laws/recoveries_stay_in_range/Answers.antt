@@ -1,5 +1,5 @@
-use Rattle.sheep_world.proofs.OpeningRange.{range-opening}
-use Rattle.sheep_world.proofs.RangeLemmas.{range-phase, range-put, range-lost, range-leave, range-reweight, range-join, range-guest, range-retry, range-lose_request, range-lose_reply}
+use Rattle.sheep_world.proofs.RecoveryRangeOpening.{range-opening}
+use Rattle.sheep_world.proofs.RecoveryRangeEvents.{range-phase, range-put, range-lost, range-leave, range-reweight, range-join, range-guest, range-retry, range-lose_request, range-lose_reply}
 use Rattle.sheep_world.proofs.laws.recoveries_stay_in_range.Goals as goal
 
 pub returns : goal.returns

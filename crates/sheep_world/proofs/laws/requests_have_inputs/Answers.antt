@@ -1,4 +1,4 @@
-use Rattle.sheep_world.proofs.AskLemmas.{is_some-input_of, input_of-parts}
+use Rattle.sheep_world.proofs.AskedInputs.{is_some-input_of, input_of-parts}
 use Rattle.sheep_world.proofs.laws.requests_have_inputs.Goals as goal
 
 pub returns : goal.returns

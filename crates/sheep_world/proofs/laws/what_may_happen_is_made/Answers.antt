@@ -1,4 +1,4 @@
-use Rattle.sheep_world.proofs.EnabledLemmas.{is_some-step}
+use Rattle.sheep_world.proofs.EnabledLaws.{is_some-step}
 use Rattle.sheep_world.proofs.laws.what_may_happen_is_made.Goals as goal
 
 pub returns : goal.returns

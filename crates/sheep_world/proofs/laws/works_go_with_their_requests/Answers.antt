@@ -1,4 +1,4 @@
-use Rattle.sheep_world.proofs.KeptLemmas.{driven-opening, driven-deliver_request, driven-phase, driven-put, driven-recover, driven-lost, driven-leave, driven-join, driven-reweight, driven-back}
+use Rattle.sheep_world.proofs.OneWorkEvents.{driven-opening, driven-deliver_request, driven-phase, driven-put, driven-recover, driven-lost, driven-leave, driven-join, driven-reweight, driven-back}
 use Rattle.sheep_world.proofs.laws.works_go_with_their_requests.Goals as goal
 
 pub returns : goal.returns

@@ -1,6 +1,6 @@
 use Rattle.std.proofs.Common.{refl}
 use Rattle.std.specs.Fmt.{digits}
-use Rattle.trace_text.specs.Reading.{event_in}
+use Rattle.trace_text.specs.EventReading.{event_in}
 use Rattle.trace_text.proofs.laws.lines_read.Goals as goal
 
 pub returns : goal.returns

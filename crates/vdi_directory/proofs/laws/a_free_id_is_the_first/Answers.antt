@@ -1,5 +1,5 @@
 use Rattle.std.proofs.Common.{arith}
-use Rattle.vdi_directory.proofs.BookLemmas.{free_id-is}
+use Rattle.vdi_directory.proofs.StateLemmas.{free_id-is}
 use Rattle.vdi_directory.proofs.FreeLemmas.{none-free, free-is-first}
 use Rattle.vdi_directory.proofs.laws.a_free_id_is_the_first.Goals as goal
 

@@ -1,8 +1,8 @@
-use Rattle.vdi_directory.proofs.LawLemmas.{left-holds-nothing, left-claims-nothing}
+use Rattle.vdi_directory.proofs.LawLemmas.{state_after_leave-holds-nothing, state_after_leave-reservations-nothing}
 use Rattle.vdi_directory.proofs.laws.a_node_that_left_has_nothing.Goals as goal
 
 pub returns-clause-locks : goal.returns-clause-locks
-returns-clause-locks c = left-holds-nothing
+returns-clause-locks c = state_after_leave-holds-nothing
 
-pub returns-clause-claims : goal.returns-clause-claims
-returns-clause-claims c = left-claims-nothing
+pub returns-clause-reservations : goal.returns-clause-reservations
+returns-clause-reservations c = state_after_leave-reservations-nothing

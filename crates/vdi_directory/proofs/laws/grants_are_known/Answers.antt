@@ -1,8 +1,8 @@
-use Rattle.vdi_directory.proofs.KnownLemmas.{header-granted, clone-granted, snapshot-granted}
+use Rattle.vdi_directory.proofs.KnownLemmas.{header-grant_outcome, clone-granted, snapshot-granted}
 use Rattle.vdi_directory.proofs.laws.grants_are_known.Goals as goal
 
 pub returns-clause-header : goal.returns-clause-header
-returns-clause-header c = header-granted
+returns-clause-header c = header-grant_outcome
 
 pub returns-clause-clone : goal.returns-clause-clone
 returns-clause-clone c = λ entries by session name base tag vid. clone-granted entries by session name vid base tag

@@ -1,7 +1,7 @@
 use Rattle.std.proofs.Common.{◌≡◌, ◌≢◌, ℕ, suc, ◌+◌, ◌-◌, ◌<◌, ◌≤◌, ◌++◌, List, length, get_or, take, drop, ap, sym, subst, ◌∙◌, arith}
 use Rattle.std.proofs.lemmas.List.{get_or_default}
 use Rattle.vdi_directory.specs.declared.vid_range.VidRange.{VidRange}
-use Rattle.vdi_directory.specs.Vids.{joined}
+use Rattle.vdi_directory.specs.Vids.{ranges_with}
 use Rattle.vdi_directory.proofs.VidLemmas.{with_vid-insert, with_vid-extend}
 use Rattle.vdi_directory.proofs.used_ids.add_used.Goals as goal
 use Rattle.vdi_directory.proofs.used_ids.add_used.Goals.{else-place-gt0-via-then-place-gt0+else-index-vid, else-place-gt0-via-else-place-gt0}
@@ -15,7 +15,7 @@ returns-then-index-vid c =
     let up : place - 1 + 1 ≡ suc (place - 1) = omega arith in
     let here : (get_or items (place - 1) r).last + 1 ≡ c.args.vid.0 = ap (λ (x : VidRange). x.last + 1) (sym c.index.ensures) ∙ c.if-index-vid.true in
     c.extend.ensures r
-    ∙ ap (λ n. take (place - 1) items ++ joined (get_or items (place - 1) r).first c.args.vid.0 (drop n items)) up
+    ∙ ap (λ n. take (place - 1) items ++ ranges_with (get_or items (place - 1) r).first c.args.vid.0 (drop n items)) up
     ∙ sym (with_vid-extend 1 c.args.vid.0 (place - 1) items r c.requires.ranges (omega (arith, c.place_of-place.ensures.within)) here)
 
 pub returns-else-place-gt0 : goal.returns-else-place-gt0

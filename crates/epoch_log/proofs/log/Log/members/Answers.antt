@@ -1,6 +1,6 @@
 use Rattle.std.proofs.Common.{◌≡◌, ◌+◌, ◌-◌, ◌≤◌, List, length, ap, sym, subst, ◌∙◌, arith}
 use Rattle.object_id.specs.declared.entry.Entry.{Entry}
-use Rattle.epoch_log.specs.declared.term.Term.{Term}
+use Rattle.epoch_log.specs.declared.epoch_record.EpochRecord.{EpochRecord}
 use Rattle.epoch_log.specs.Epochs.{epoch_of, members_in}
 use Rattle.epoch_log.specs.Appending.{IsLog}
 use Rattle.epoch_log.specs.Tally.{IsTally, term_in}
@@ -17,7 +17,7 @@ fill-requires c =
     let term : c.index.result.now ≡ term_in entries c.args.epoch.0
     = c.index.ensures ∙ t.terms (c.args.epoch.0 - 1) c.index.result.now (omega (arith, c.requires.0)) ∙ ap (term_in entries) place in
     let members : length c.as_slice.result.now ≡ length (members_in entries c.args.epoch.0)
-    = ap length (c.as_slice.ensures ∙ ap (λ (all : Term). all.members) term) in
+    = ap length (c.as_slice.ensures ∙ ap (λ (all : EpochRecord). all.members) term) in
     let most : length (members_in entries c.args.epoch.0) ≤ 64 = (IsLog-members entries c.args.epoch.0 c.self.invariant.0 begun).1 in
     omega arith
 

@@ -1,7 +1,7 @@
 use Rattle.std.proofs.Common.{◌≡◌, ◌∙◌, ◌-◌, ◌≤◌, ap, sym, subst, length, map, cond, Some, None, true, IfSome, arith}
 use Rattle.std.proofs.lemmas.Result.{IfOk-weaker}
 use Rattle.object_store.specs.Rows.{is_open_at, open_at}
-use Rattle.object_store.specs.Kept.{seen, RoomIn}
+use Rattle.object_store.specs.KeptRows.{seen_row, RoomIn}
 use Rattle.object_store.proofs.RowLemmas.{open_last_at, orderly_set, map_set_same}
 use Rattle.object_store.proofs.KeptLemmas.{KeepsRowRoom-set, RoomIn-set}
 use Rattle.object_store.proofs.object_rows.ObjectRows.reserve.Goals as goal
@@ -18,8 +18,8 @@ invariant_of-self c = orderly_set c.self.inside.rows.items (c.len-count.result -
 
 pub returns-clause-rows : goal.returns-clause-rows
 returns-clause-rows c =
-    map_set_same seen c.self.inside.rows.items (c.len-count.result - 1) c.index_mut.result.now c.reserve_in.new.row (omega arith) c.index_mut.ensures.value c.reserve_in.ensures.row
-    ∙ ap (map seen) c.self.view_is
+    map_set_same seen_row c.self.inside.rows.items (c.len-count.result - 1) c.index_mut.result.now c.reserve_in.new.row (omega arith) c.index_mut.ensures.value c.reserve_in.ensures.row
+    ∙ ap (map seen_row) c.self.view_is
 
 pub returns-clause-room : goal.returns-clause-room
 returns-clause-room c = λ index n had.

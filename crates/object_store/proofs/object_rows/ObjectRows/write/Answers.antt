@@ -1,6 +1,6 @@
 use Rattle.std.proofs.Common.{◌∙◌, ◌+◌, ◌-◌, ap, sym, subst, length, slice_set, cond, Some, None, arith}
 use Rattle.object_store.specs.Rows.{open_at}
-use Rattle.object_store.specs.Kept.{written, lay, RoomIn}
+use Rattle.object_store.specs.KeptRows.{rows_with_piece, lay, RoomIn}
 use Rattle.object_store.proofs.RowLemmas.{changed_last_at, open_last_at, orderly_set}
 use Rattle.object_store.proofs.object_rows.ObjectRows.write.Goals as goal
 
@@ -19,4 +19,4 @@ returns-then-count-gt0 c =
     let rows = c.self.inside.rows.items in
     ap (slice_set rows (c.len-count.result - 1)) c.write_in.ensures
     ∙ changed_last_at c.args.index (lay c.args.offset c.args.piece.now) rows (c.len-count.result - 1) c.index_mut.result.now (omega arith) c.self.invariant c.index_mut.ensures.value
-    ∙ ap (written c.args.index c.args.offset c.args.piece.now) c.self.view_is
+    ∙ ap (rows_with_piece c.args.index c.args.offset c.args.piece.now) c.self.view_is

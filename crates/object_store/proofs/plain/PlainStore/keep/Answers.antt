@@ -5,7 +5,7 @@ use Rattle.std.specs.BTreeMap.{is_at}
 use Rattle.std.specs.Ordering.{nat_cmp}
 use Rattle.std.proofs.lemmas.Result.{IfOk-weaker}
 use Rattle.object_store.specs.Rows.{open_at}
-use Rattle.object_store.specs.Kept.{RoomIn, KeepsRowRoom}
+use Rattle.object_store.specs.KeptRows.{RoomIn, KeepsRowRoom}
 use Rattle.object_store.specs.Plain.{kept_of}
 use Rattle.object_store.proofs.PlainLemmas.{put_unseen, KeepsRoom-put, HasRoomIn-put}
 use Rattle.object_store.proofs.plain.PlainStore.keep.Goals as goal

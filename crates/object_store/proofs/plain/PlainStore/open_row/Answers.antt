@@ -5,9 +5,9 @@ use Rattle.std.specs.BTreeMap.{is_at}
 use Rattle.std.specs.Ordering.{nat_cmp}
 use Rattle.object_store.specs.Rows.{open_at}
 use Rattle.object_store.specs.Store.{open_row}
-use Rattle.object_store.specs.Kept.{seen}
-use Rattle.object_store.specs.Plain.{all_seen}
-use Rattle.object_store.proofs.PlainLemmas.{open_row-all_seen, kept_of-found}
+use Rattle.object_store.specs.KeptRows.{seen_row}
+use Rattle.object_store.specs.Plain.{seen_rows}
+use Rattle.object_store.proofs.PlainLemmas.{open_row-seen_rows, kept_of-found}
 use Rattle.object_store.proofs.plain.PlainStore.open_row.Goals as goal
 
 pub returns-in-Some : goal.returns-in-Some
@@ -15,13 +15,13 @@ returns-in-Some c =
     let es = c.self.inside.objects.entries in
     let key = c.args.key.now in
     let found : lookup (is_at (nat_cmp key.oid)) es ≡ Some c.in-Some.rows.now = sym c.get.ensures.value ∙ ap option_copied c.in-Some.is in
-    ap (option_map seen) (c.open_row.ensures ∙ ap (open_at key.index) (sym (kept_of-found es key.oid c.in-Some.rows.now found)))
-    ∙ sym (open_row-all_seen es key) ∙ ap (λ os. open_row (all_seen os) key) c.self.view_is
+    ap (option_map seen_row) (c.open_row.ensures ∙ ap (open_at key.index) (sym (kept_of-found es key.oid c.in-Some.rows.now found)))
+    ∙ sym (open_row-seen_rows es key) ∙ ap (λ os. open_row (seen_rows os) key) c.self.view_is
 
 pub returns-in-None : goal.returns-in-None
 returns-in-None c =
     let es = c.self.inside.objects.entries in
     let key = c.args.key.now in
     let found : lookup (is_at (nat_cmp key.oid)) es ≡ None = sym c.get.ensures.value ∙ ap option_copied c.in-None.is in
-    sym (ap (λ os. open_row (all_seen os) key) (sym c.self.view_is) ∙ open_row-all_seen es key
-    ∙ ap (λ o. option_map seen (open_at key.index (unwrap_or o []))) found)
+    sym (ap (λ os. open_row (seen_rows os) key) (sym c.self.view_is) ∙ open_row-seen_rows es key
+    ∙ ap (λ o. option_map seen_row (open_at key.index (unwrap_or o []))) found)

@@ -2,11 +2,11 @@ use Rattle.std.proofs.Common.{◌≡◌, ◌∙◌, ap, sym, subst, refl, rules}
 use Rattle.object_store.specs.Rows.{advanced}
 use Rattle.object_store.specs.Store.{each_entry, each}
 use Rattle.object_store.specs.Answers.{KeepsRoom}
-use Rattle.object_store.specs.Plain.{all_seen, HasRoomIn}
+use Rattle.object_store.specs.Plain.{seen_rows, HasRoomIn}
 use Rattle.object_store.proofs.MapLemmas.{retained}
-use Rattle.object_store.proofs.SeenLemmas.{seen-advanced}
+use Rattle.object_store.proofs.SeenLemmas.{seen_row-advanced}
 use Rattle.object_store.proofs.RoomLemmas.{KeepsRowRoom-advanced}
-use Rattle.object_store.proofs.PlainLemmas.{all_seen-each_entry, KeepsRoom-each_entry}
+use Rattle.object_store.proofs.PlainLemmas.{seen_rows-each_entry, KeepsRoom-each_entry}
 use Rattle.object_store.proofs.plain.PlainStoreObjStore.advance.Goals as goal
 
 pub returns-clause-rows : goal.returns-clause-rows
@@ -15,8 +15,8 @@ returns-clause-rows c =
     let next = c.args.next.0 in
     let es = c.self.inside.objects.entries in
     let kept : c.retain.new.self.entries ≡ each_entry (advanced keeps next) es = retained _ (advanced keeps next) _ (λ k v b w f' t. search rules) es _ c.retain.ensures.filtered in
-    ap all_seen kept ∙ all_seen-each_entry (advanced keeps next) (advanced keeps next) (seen-advanced keeps next) es c.retain.ensures.was_ordered
-    ∙ ap (λ os. each (advanced keeps next) (all_seen os)) c.self.view_is
+    ap seen_rows kept ∙ seen_rows-each_entry (advanced keeps next) (advanced keeps next) (seen_row-advanced keeps next) es c.retain.ensures.was_ordered
+    ∙ ap (λ os. each (advanced keeps next) (seen_rows os)) c.self.view_is
 
 pub returns-clause-room : goal.returns-clause-room
 returns-clause-room c =

@@ -2,11 +2,11 @@ use Rattle.std.proofs.Common.{◌≡◌, ◌∙◌, ap, sym, subst, rules}
 use Rattle.object_store.specs.Rows.{without_disk}
 use Rattle.object_store.specs.Store.{each_entry, each}
 use Rattle.object_store.specs.Answers.{KeepsRoom}
-use Rattle.object_store.specs.Plain.{all_seen, HasRoomIn}
+use Rattle.object_store.specs.Plain.{seen_rows, HasRoomIn}
 use Rattle.object_store.proofs.MapLemmas.{retained}
-use Rattle.object_store.proofs.SeenLemmas.{seen-without_disk}
+use Rattle.object_store.proofs.SeenLemmas.{seen_row-without_disk}
 use Rattle.object_store.proofs.RoomLemmas.{KeepsRowRoom-without_disk, without_disk-none}
-use Rattle.object_store.proofs.PlainLemmas.{all_seen-each_entry, KeepsRoom-each_entry}
+use Rattle.object_store.proofs.PlainLemmas.{seen_rows-each_entry, KeepsRoom-each_entry}
 use Rattle.object_store.proofs.plain.PlainStoreObjStore.drop_vid.Goals as goal
 
 pub returns-clause-rows : goal.returns-clause-rows
@@ -14,8 +14,8 @@ returns-clause-rows c =
     let vid = c.args.vid.0 in
     let es = c.self.inside.objects.entries in
     let kept : c.retain.new.self.entries ≡ each_entry (without_disk vid) es = retained _ (without_disk vid) _ (λ k v b w f' t. search rules) es _ c.retain.ensures.filtered in
-    ap all_seen kept ∙ all_seen-each_entry (without_disk vid) (without_disk vid) (seen-without_disk vid) es c.retain.ensures.was_ordered
-    ∙ ap (λ os. each (without_disk vid) (all_seen os)) c.self.view_is
+    ap seen_rows kept ∙ seen_rows-each_entry (without_disk vid) (without_disk vid) (seen_row-without_disk vid) es c.retain.ensures.was_ordered
+    ∙ ap (λ os. each (without_disk vid) (seen_rows os)) c.self.view_is
 
 pub returns-clause-room : goal.returns-clause-room
 returns-clause-room c =

@@ -1,10 +1,10 @@
 use Rattle.std.proofs.Common.{◌≡◌, ◌∙◌, Ok, sym}
 use Rattle.object_store.specs.Store.{piece_there}
-use Rattle.object_store.specs.Plain.{all_seen}
-use Rattle.object_store.proofs.AnswerLemmas.{piece_there-within}
+use Rattle.object_store.specs.Plain.{seen_rows}
+use Rattle.object_store.proofs.AnswerLemmas.{piece_there-value_within}
 use Rattle.object_store.proofs.plain.PlainStoreObjStore.reserve_write.Goals as goal
 
 pub keep-requires : goal.keep-requires
 keep-requires c =
-    let there : piece_there (all_seen c.args.self.now) c.args.key c.args.offset c.args.length ≡ Ok (tt {0}) = sym c.check_piece.ensures ∙ c.in_ok-check_piece.was in
-    piece_there-within c.args.self.now c.args.key c.args.offset c.args.length there
+    let there : piece_there (seen_rows c.args.self.now) c.args.key c.args.offset c.args.length ≡ Ok (tt {0}) = sym c.check_piece.ensures ∙ c.in_ok-check_piece.was in
+    piece_there-value_within c.args.self.now c.args.key c.args.offset c.args.length there

@@ -5,9 +5,9 @@ use Rattle.std.specs.BTreeMap.{is_at}
 use Rattle.std.specs.Ordering.{nat_cmp}
 use Rattle.object_store.specs.Rows.{row_holding}
 use Rattle.object_store.specs.Store.{copy_of, copy_at}
-use Rattle.object_store.specs.Kept.{seen}
-use Rattle.object_store.specs.Plain.{all_seen}
-use Rattle.object_store.proofs.AnswerLemmas.{copy_at-all_seen}
+use Rattle.object_store.specs.KeptRows.{seen_row}
+use Rattle.object_store.specs.Plain.{seen_rows}
+use Rattle.object_store.proofs.AnswerLemmas.{copy_at-seen_rows}
 use Rattle.object_store.proofs.plain.PlainStoreObjStore.row_at.Goals as goal
 
 pub returns-in_default : goal.returns-in_default
@@ -15,8 +15,8 @@ returns-in_default c =
     let es = c.self.inside.objects.entries in
     let level = c.args.level.0 in
     let found : lookup (is_at (nat_cmp c.args.oid)) es ≡ None = sym c.get.ensures.value ∙ ap option_copied c.in_default.is in
-    sym (ap (λ os. copy_at (all_seen os) c.args.oid level) (sym c.self.view_is) ∙ copy_at-all_seen es c.args.oid level
-    ∙ ap (λ o. option_map copy_of (option_map seen (row_holding level (unwrap_or o [])))) found)
+    sym (ap (λ os. copy_at (seen_rows os) c.args.oid level) (sym c.self.view_is) ∙ copy_at-seen_rows es c.args.oid level
+    ∙ ap (λ o. option_map copy_of (option_map seen_row (row_holding level (unwrap_or o [])))) found)
 
 pub returns-in_default-row_holding : goal.returns-in_default-row_holding
 returns-in_default-row_holding c =
@@ -24,9 +24,9 @@ returns-in_default-row_holding c =
     let level = c.args.level.0 in
     let found : lookup (is_at (nat_cmp c.args.oid)) es ≡ Some c.in-Some.rows.now = sym c.get.ensures.value ∙ ap option_copied c.in-Some.is in
     let none : row_holding level c.in-Some.rows.now ≡ None = sym c.row_holding.ensures ∙ ap option_copied c.in_default-row_holding.is in
-    sym (ap (λ os. copy_at (all_seen os) c.args.oid level) (sym c.self.view_is) ∙ copy_at-all_seen es c.args.oid level
-    ∙ ap (λ o. option_map copy_of (option_map seen (row_holding level (unwrap_or o [])))) found
-    ∙ ap (λ o. option_map copy_of (option_map seen o)) none)
+    sym (ap (λ os. copy_at (seen_rows os) c.args.oid level) (sym c.self.view_is) ∙ copy_at-seen_rows es c.args.oid level
+    ∙ ap (λ o. option_map copy_of (option_map seen_row (row_holding level (unwrap_or o [])))) found
+    ∙ ap (λ o. option_map copy_of (option_map seen_row o)) none)
 
 pub returns : goal.returns
 returns c =
@@ -35,6 +35,6 @@ returns c =
     let found : lookup (is_at (nat_cmp c.args.oid)) es ≡ Some c.in-Some.rows.now = sym c.get.ensures.value ∙ ap option_copied c.in-Some.is in
     let held : row_holding level c.in-Some.rows.now ≡ Some c.in-Some-row_holding.row.now = sym c.row_holding.ensures ∙ ap option_copied c.in-Some-row_holding.is in
     ap Some c.in_ok-copy_row.ensures
-    ∙ sym (ap (λ os. copy_at (all_seen os) c.args.oid level) (sym c.self.view_is) ∙ copy_at-all_seen es c.args.oid level
-    ∙ ap (λ o. option_map copy_of (option_map seen (row_holding level (unwrap_or o [])))) found
-    ∙ ap (λ o. option_map copy_of (option_map seen o)) held)
+    ∙ sym (ap (λ os. copy_at (seen_rows os) c.args.oid level) (sym c.self.view_is) ∙ copy_at-seen_rows es c.args.oid level
+    ∙ ap (λ o. option_map copy_of (option_map seen_row (row_holding level (unwrap_or o [])))) found
+    ∙ ap (λ o. option_map copy_of (option_map seen_row o)) held)

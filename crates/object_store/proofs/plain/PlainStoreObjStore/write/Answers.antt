@@ -2,16 +2,16 @@ use Rattle.std.proofs.Common.{◌≡◌, ◌∙◌, ◌+◌, length, Ok, ap, sym
 use Rattle.std.specs.FinMap as tree
 use Rattle.object_store.specs.Store.{AllRows, rows_of, open_row, piece_there, write_in}
 use Rattle.object_store.specs.Answers.{MakesSurely}
-use Rattle.object_store.specs.Plain.{all_seen, kept_of}
-use Rattle.object_store.proofs.SeenLemmas.{seen-written}
-use Rattle.object_store.proofs.RoomLemmas.{KeepsRowRoom-written}
-use Rattle.object_store.proofs.PlainLemmas.{one_put, rows_of-all_seen, KeepsRoom-put}
+use Rattle.object_store.specs.Plain.{seen_rows, kept_of}
+use Rattle.object_store.proofs.SeenLemmas.{seen_row-rows_with_piece}
+use Rattle.object_store.proofs.RoomLemmas.{KeepsRowRoom-rows_with_piece}
+use Rattle.object_store.proofs.PlainLemmas.{one_put, rows_of-seen_rows, KeepsRoom-put}
 use Rattle.object_store.proofs.AnswerLemmas.{on_open-Ok, piece_there-found}
 use Rattle.object_store.proofs.plain.PlainStoreObjStore.write.Goals as goal
 
 pub lay-requires-clause-there : goal.lay-requires-clause-there
 lay-requires-clause-there c =
-    let there : piece_there (all_seen c.args.self.now) c.args.key c.args.offset (length c.args.bytes.now) ≡ Ok (tt {0}) = sym c.check_piece.ensures ∙ c.in_ok-check_piece.was in
+    let there : piece_there (seen_rows c.args.self.now) c.args.key c.args.offset (length c.args.bytes.now) ≡ Ok (tt {0}) = sym c.check_piece.ensures ∙ c.in_ok-check_piece.was in
     piece_there-found c.args.self.now c.args.key c.args.offset (length c.args.bytes.now) there
 
 pub returns-clause-rows : goal.returns-clause-rows
@@ -19,17 +19,17 @@ returns-clause-rows c =
     let es = c.args.self.now in
     let key = c.args.key in
     let piece = c.args.bytes.now in
-    let there : piece_there (all_seen es) key c.args.offset (length piece) ≡ Ok (tt {0}) = sym c.check_piece.ensures ∙ c.in_ok-check_piece.was in
-    let all : AllRows = tree.insert (all_seen es) key.oid (write_in key.index c.args.offset piece (rows_of (all_seen es) key.oid)) in
-    let made : all_seen c.lay.new.self ≡ all =
+    let there : piece_there (seen_rows es) key c.args.offset (length piece) ≡ Ok (tt {0}) = sym c.check_piece.ensures ∙ c.in_ok-check_piece.was in
+    let all : AllRows = tree.insert (seen_rows es) key.oid (write_in key.index c.args.offset piece (rows_of (seen_rows es) key.oid)) in
+    let made : seen_rows c.lay.new.self ≡ all =
     one_put es c.lay.new.self key.oid _ c.lay.ensures
-    ∙ ap (tree.insert (all_seen es) key.oid)
-    (seen-written key.index c.args.offset piece (kept_of es key.oid) ∙ ap (write_in key.index c.args.offset piece) (sym (rows_of-all_seen es key.oid))) in
-    subst (λ step. MakesSurely step (λ all. all_seen c.lay.new.self ≡ all) (all_seen c.lay.new.self ≡ all_seen es) (Ok (tt {0})))
-    (sym (on_open-Ok (c.args.offset + length piece) (open_row (all_seen es) key) all there)) made
+    ∙ ap (tree.insert (seen_rows es) key.oid)
+    (seen_row-rows_with_piece key.index c.args.offset piece (kept_of es key.oid) ∙ ap (write_in key.index c.args.offset piece) (sym (rows_of-seen_rows es key.oid))) in
+    subst (λ step. MakesSurely step (λ all. seen_rows c.lay.new.self ≡ all) (seen_rows c.lay.new.self ≡ seen_rows es) (Ok (tt {0})))
+    (sym (on_open-Ok (c.args.offset + length piece) (open_row (seen_rows es) key) all there)) made
 
 pub returns-clause-room : goal.returns-clause-room
 returns-clause-room c =
     let es = c.args.self.now in
     let key = c.args.key in
-    KeepsRoom-put es c.lay.new.self key.oid _ c.lay.ensures (KeepsRowRoom-written key.index c.args.offset c.args.bytes.now (kept_of es key.oid))
+    KeepsRoom-put es c.lay.new.self key.oid _ c.lay.ensures (KeepsRowRoom-rows_with_piece key.index c.args.offset c.args.bytes.now (kept_of es key.oid))

@@ -3,7 +3,7 @@ use Rattle.std.specs.Option.{option_copied_mut}
 use Rattle.std.specs.Map.{lookup, set_value}
 use Rattle.std.proofs.lemmas.Map.Steps.{set_value_same}
 use Rattle.std.proofs.lemmas.Result.{on_ok_weaker, on_err_weaker}
-use Rattle.vdi_directory.specs.Names.{no_disk, is_same, snapped}
+use Rattle.vdi_directory.specs.Names.{no_disk, is_same_bytes, name_with_snapshot}
 use Rattle.vdi_directory.specs.NameRows.{name_in}
 use Rattle.vdi_directory.proofs.NameLemmas.{is_key, change-row}
 use Rattle.vdi_directory.proofs.names.Names.snap.Goals as goal
@@ -16,8 +16,8 @@ returns-in-Some-clause-ok c =
     let found : lookup (is_key name) es ≡ Some c.in-Some.named.now = sym c.get_mut.ensures.value ∙ ap option_copied_mut c.in-Some.is in
     on_ok_weaker c.snap.result (λ made. λ other.
     change-row es (c.get_mut.follows.lender c.snap.new.self).entries name other c.in-Some.named.now c.snap.new.self
-    (snapped snap.old snap.vid snap.tag) found made ((c.get_mut.follows.holds c.snap.new.self).0)
-    ∙ ap (λ bytes. cond (is_same bytes other) (snapped snap.old snap.vid snap.tag (name_in c.args.self.now.rows other)) (name_in c.args.self.now.rows other)) c.as_slice.ensures)
+    (name_with_snapshot snap.old snap.vid snap.tag) found made ((c.get_mut.follows.holds c.snap.new.self).0)
+    ∙ ap (λ bytes. cond (is_same_bytes bytes other) (name_with_snapshot snap.old snap.vid snap.tag (name_in c.args.self.now.rows other)) (name_in c.args.self.now.rows other)) c.as_slice.ensures)
     c.snap.ensures.ok
 
 pub returns-in-Some-clause-err : goal.returns-in-Some-clause-err

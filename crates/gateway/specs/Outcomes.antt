@@ -1,0 +1,67 @@
+-- What each act of a gateway tells, in the words of its work.
+use Rattle.std.specs.Prelude.{◌≡◌, ◌⊎◌, ℕ, ◌+◌, ◌<◌, ◌≤◌, true, false, List, length, map, All, Some, None}
+use Rattle.std.specs.List.{range_with_len}
+use Rattle.object_id.specs.declared.cause.Cause.TheVariants.{Halt}
+use Rattle.object_id.specs.declared.node.NodeId.{NodeId}
+use Rattle.object_id.specs.Oid.{kind_of}
+use Rattle.object_id.specs.Policy.{need_of}
+use Rattle.peer_proto.specs.declared.ask.PeerReq.{PeerReq}
+use Rattle.peer_proto.specs.declared.work.ObjWork.{ObjWork}
+use Rattle.peer_proto.specs.declared.work.ObjWork.TheVariants.{Create, Write, Read}
+use Rattle.gateway.specs.declared.act.Act.{Act}
+use Rattle.gateway.specs.declared.act.Act.TheVariants as acts
+use Rattle.gateway.specs.declared.message.Message.{Message}
+use Rattle.gateway.specs.Work.{zones_for}
+use Rattle.gateway.specs.Attempt.{Attempt, is_success, successes, is_over, is_done, bytes_given, first_failure}
+use Rattle.gateway.specs.State.{Work, Gateway, is_touched}
+use Rattle.gateway.specs.Step.{refusal_after_attempt}
+
+-- each of these messages succeeded
+abbrev pub AllSucceeded : List Message → Type 0
+AllSucceeded messages = All (λ (message : Message). is_success message.status ≡ true) messages
+
+-- of a create or write each message succeeded, of a read as many as it needs
+abbrev pub HasEnough : ObjWork → List Message → Type 0
+HasEnough (Create oid policy size offset bytes) messages = AllSucceeded messages
+HasEnough (Write oid policy offset bytes) messages = AllSucceeded messages
+HasEnough (Read oid policy offset size) messages = need_of policy (kind_of oid) ≤ length (successes messages)
+
+-- an attempt ended and wasn't done
+abbrev pub HasFailed : ObjWork → List Message → Type 0
+HasFailed work messages = (is_over messages ≡ true) × (is_done work messages ≡ false)
+
+-- an attempt asks as many targets as its work needs to succeed
+abbrev pub AsksEnough : ObjWork → List Message → Type 0
+AsksEnough (Create oid policy size offset bytes) messages = Unit {0}
+AsksEnough (Write oid policy offset bytes) messages = Unit {0}
+AsksEnough (Read oid policy offset size) messages = need_of policy (kind_of oid) ≤ length messages
+
+-- what may be told when it is known what one more message of an attempt came to. Nothing is sent; a work waits while a
+-- message is unanswered, or where the attempt failed and the request isn't refused; it is done where the attempt has
+-- enough; its request is refused where it is untouched, the attempt failed and at least `tries` have ended, with the
+-- first cause in the order of the targets
+abbrev pub Tells : Gateway → ℕ → Work → Attempt → Act → Type 0
+Tells gateway req work attempt (acts.Send sends) = ⊥
+Tells gateway req work attempt acts.Wait =
+    (is_over attempt.messages ≡ false)
+    ⊎ (HasFailed work.work attempt.messages × (refusal_after_attempt gateway req work.work (work.ended + 1) attempt ≡ None))
+Tells gateway req work attempt (acts.Done done) =
+    (done.req ≡ req) × (is_over attempt.messages ≡ true) × HasEnough work.work attempt.messages
+    × (done.bytes ≡ bytes_given work.work attempt.messages)
+Tells gateway req work attempt (acts.Refused number cause) =
+    (number ≡ req) × (is_touched req gateway ≡ false) × HasFailed work.work attempt.messages
+    × (gateway.tries ≤ work.ended + 1) × (first_failure work.work attempt.epoch attempt.messages ≡ Some cause)
+
+-- requests are numbered upwards
+abbrev pub AreNumberedFrom : ℕ → List (NodeId × PeerReq) → Type 0
+AreNumberedFrom first sends = map (λ (send : NodeId × PeerReq). send.1.number) sends ≡ range_with_len first (length sends)
+
+-- what may be told when an attempt is to begin where members have so many zones: it begins where they are as many as it
+-- has to begin in; with fewer a touched request waits, and an untouched one is refused
+abbrev pub BeginsAttempt : Gateway → ℕ → Work → ℕ → ℕ → Act → Type 0
+BeginsAttempt gateway req work first zones (acts.Send sends) = (zones_for work.work ≤ zones) × AreNumberedFrom first sends.list
+BeginsAttempt gateway req work first zones acts.Wait = (zones < zones_for work.work) × (is_touched req gateway ≡ true)
+BeginsAttempt gateway req work first zones (acts.Done done) = ⊥
+BeginsAttempt gateway req work first zones (acts.Refused number cause) =
+    (number ≡ req) × (zones < zones_for work.work) × (is_touched req gateway ≡ false)
+    × (cause ≡ Halt zones (zones_for work.work))

@@ -1,0 +1,108 @@
+-- The run against the script: each request at a gateway is the one of its number, of a session of this incarnation,
+-- with the disk on which it
+-- began; each attempt is for such a one; and who is to join is new.
+use Rattle.std.specs.Prelude.{◌≡◌, ℕ, true, false, List, length, ◌∷◌, ◌++◌, slice_get, Option, Some, ◌+◌, drop, flat_map, None}
+use Rattle.std.specs.FinMap as tree
+use Rattle.cluster_script.specs.declared.statement.Statement.{Statement}
+use Rattle.cluster_script.specs.declared.statement.Statement.TheVariants as lines
+use Rattle.cluster_script.specs.Phases.{Phase, phases_of}
+use Rattle.cluster_script.specs.NumberedRequests.{session_of, request_at}
+use Rattle.cluster_script.specs.Sessions.{ScriptSession, session_numbered}
+use Rattle.peer_proto.specs.declared.guest.DiskAsk.{DiskAsk}
+use Rattle.peer_proto.specs.declared.guest.DiskAsk.TheVariants.{Read, Write}
+use Rattle.guest_driver.specs.declared.disk.Disk.{Disk}
+use Rattle.guest_driver.specs.Pieces.{Piece, pieces}
+use Rattle.guest_driver.specs.Driver.{Driver, Reads, Writes, Answered}
+use Rattle.sheep_node.specs.declared.ask.Ask.{Ask}
+use Rattle.sheep_node.specs.declared.ask.Ask.TheVariants as asks
+use Rattle.sheep_node.specs.State.{Request, Course, Waiting, Driving, Commanding, session_at}
+use Rattle.sheep_world.specs.World.{Host, StartedRequest, World, progress_at, host_at}
+use Rattle.sheep_world.specs.BegunRequests.{WasBegun}
+use Rattle.sheep_world.specs.Asking.{ask_of_statement, session_asking}
+use Rattle.overlap_law.specs.Attempts.{AttemptRecord}
+use Rattle.overlap_law.specs.Each.{EachAttempt}
+use Rattle.overlap_law.specs.Holders.{is_object_among}
+
+-- a piece and those behind it are the last ones of a request on this disk
+abbrev pub AreLeft : Disk → ℕ → ℕ → Piece → List Piece → Type 0
+AreLeft disk offset size piece rest = (before : List Piece) × (pieces disk.inode.spec.shift offset size ≡ before ++ piece ∷ rest)
+
+-- a driver is that of what was asked of the disk
+abbrev pub IsDriverOf : Disk → DiskAsk → Driver → Type 0
+IsDriverOf disk ask (Reads told piece rest) = (offset : ℕ) × (size : ℕ) × (ask ≡ Read offset size) × AreLeft disk offset size piece rest
+IsDriverOf disk ask (Writes payload stage piece rest) = (offset : ℕ) × (ask ≡ Write offset payload)
+    × AreLeft disk offset (length payload) piece rest
+IsDriverOf disk ask Answered = ⊥
+
+-- the disk on which a request began is the one that its session has open
+pub record IsOnDisk (opened : Option Disk) (began : Option ℕ) : Type 0 where
+  pub disk : Disk
+  pub there : opened ≡ Some disk
+  pub same : began ≡ Some disk.inode.vid
+
+-- a read or write that began is the one that was asked
+pub record IsDriverOfAsk (asked : Option Ask) (opened : Option Disk) (began : Option ℕ) (driver : Driver) : Type 0 where
+  pub ask : DiskAsk
+  pub on : IsOnDisk opened began
+  pub of : asked ≡ Some (asks.Disk ask)
+  pub is : IsDriverOf on.disk ask driver
+
+-- where a request is, by what was asked, what its session has open, and on which disk it began
+abbrev pub IsCourseOf : Option Ask → Option Disk → Option ℕ → Course → Type 0
+IsCourseOf asked opened began (Waiting ask) = (asked ≡ Some (asks.Disk ask)) × IsOnDisk opened began
+IsCourseOf asked opened began (Driving driver) = IsDriverOfAsk asked opened began driver
+IsCourseOf asked opened began (Commanding ask op) = asked ≡ Some (asks.Vdi ask)
+
+-- a request of a node is the script's of its number
+pub record IsRequestOfScript (script : List Statement) (world : World) (n : ℕ) (host : Host) (req : ℕ) (request : Request) : Type 0 where
+  pub session : ScriptSession
+  pub statement : Statement
+  pub place : ℕ
+  pub started : StartedRequest
+  pub declared : session_numbered script request.session ≡ Some session
+  pub of_node : session.node ≡ n
+  pub of_incarnation : session.incarnation ≡ host.incarnation
+  pub stands : request_at script req ≡ Some statement
+  pub own : session_of statement ≡ Some request.session
+  pub unanswered : slice_get (progress_at request.session world).unanswered place ≡ Some started
+  pub number : started.req ≡ req
+  pub course : IsCourseOf (ask_of_statement statement) (session_at request.session host.node).disk started.disk request.course
+
+-- the same of each request of a node that isn't lost
+pub record RequestsAreTheScripts (script : List Statement) (world : World) : Type 0 where
+  pub each : (n req : ℕ) (host : Host) (request : Request) → host_at n world ≡ Some host → host.is_lost ≡ false
+      → tree.get host.node.requests req ≡ Some request → IsRequestOfScript script world n host req request
+
+-- an attempt is for a request of a session of its gateway's incarnation
+pub record IsForARequest (script : List Statement) (attempt : AttemptRecord) : Type 0 where
+  pub session : ScriptSession
+  pub asking : session_asking script attempt.req ≡ Some attempt.session
+  pub declared : session_numbered script attempt.session ≡ Some session
+  pub of_node : session.node ≡ attempt.gateway.0
+  pub of_incarnation : session.incarnation ≡ attempt.incarnation
+
+-- the same of each attempt
+pub record AttemptsAreTheScripts (script : List Statement) (attempts : List AttemptRecord) : Type 0 where
+  pub each : EachAttempt attempts (λ j attempt. IsForARequest script attempt)
+
+-- a request was started: a session has begun it
+abbrev pub WasStarted : List Statement → World → ℕ → Type 0
+WasStarted script world req = (session : ℕ) × WasBegun script world.guests session req
+
+-- what was refused was started and has its reply, and what has none was started
+pub record TheRefusedAreAnswered (script : List Statement) (world : World) (refused : List ℕ) : Type 0 where
+  pub started : (req : ℕ) → is_object_among req refused ≡ true → WasStarted script world req
+  pub answered : (session place : ℕ) (started : StartedRequest) → slice_get (progress_at session world).unanswered place ≡ Some started
+      → is_object_among started.req refused ≡ false
+  pub unanswered : (session place : ℕ) (started : StartedRequest) → slice_get (progress_at session world).unanswered place ≡ Some started
+      → WasStarted script world started.req
+
+-- the controls that are still to come: those that are left, then those of the phases behind
+abbrev pub controls_to_come : List Statement → World → List Statement
+controls_to_come script world = world.controls ++ flat_map (λ (phase : Phase). phase.controls) (drop (world.phase + 1) (phases_of script))
+
+-- a node whose join is to come isn't there, and joins once
+pub record JoinsAreNew (script : List Statement) (world : World) : Type 0 where
+  pub absent : (place node : ℕ) → slice_get (controls_to_come script world) place ≡ Some (lines.Join node) → host_at node world ≡ None
+  pub once : (place other node : ℕ) → slice_get (controls_to_come script world) place ≡ Some (lines.Join node)
+      → slice_get (controls_to_come script world) other ≡ Some (lines.Join node) → place ≡ other

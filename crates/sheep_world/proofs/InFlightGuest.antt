@@ -1,0 +1,203 @@
+-- A guest's request, and a command that goes on, leave nodes and wire together.
+use Rattle.std.proofs.Common.{◌≡◌, ℕ, ◌==◌, Bool, true, false, ◌&&◌, List, [], ◌∷◌, ◌++◌, Option, Some, None, is_none, refl, sym, ap, subst, ◌∙◌}
+use Rattle.std.specs.Option.{option_map_or, option_and_then, IfSome}
+use Rattle.std.specs.FinMap as tree
+use Rattle.std.proofs.lemmas.Bool.{eq-eqb, and_parts}
+use Rattle.std.proofs.lemmas.Option.{cond_some}
+use Rattle.object_id.specs.declared.cause.Cause.{Cause}
+use Rattle.cluster_script.specs.declared.statement.Statement.{Statement}
+use Rattle.cluster_script.specs.NumberedRequests.{session_of, request_at}
+use Rattle.cluster_script.specs.Sessions.{ScriptSession, session_numbered}
+use Rattle.peer_proto.specs.declared.guest.DiskAsk.{DiskAsk}
+use Rattle.peer_proto.specs.declared.guest.VdiAsk.{VdiAsk}
+use Rattle.peer_proto.specs.declared.work.ObjWork.{ObjWork}
+use Rattle.gateway.specs.State.{Work}
+use Rattle.guest_driver.specs.declared.disk.Disk.{Disk}
+use Rattle.vdi_ops.specs.declared.act.OpAct.{OpAct}
+use Rattle.vdi_ops.specs.declared.act.OpAct.TheVariants as op_acts
+use Rattle.vdi_ops.specs.Op as ops
+use Rattle.vdi_ops.specs.Op.{Op, OpStage, Asked, Working, Publishing, Answered, opened_inode, entry_wanted, entry_wanted_at, IsAwaitedByCommand, IsAwaitedAtOpStage}
+use Rattle.vdi_ops.specs.Steps.{begin_command}
+use Rattle.vdi_ops.proofs.StepLemmas.{begin_awaited}
+use Rattle.sheep_node.specs.declared.ask.Ask.{Ask}
+use Rattle.sheep_node.specs.declared.ask.Ask.TheVariants as asks
+use Rattle.sheep_node.specs.declared.event.Event.TheVariants as events
+use Rattle.sheep_node.specs.declared.input.Input.{Input}
+use Rattle.sheep_node.specs.declared.input.Input.TheVariants as inputs
+use Rattle.sheep_node.specs.State.{Waiting, Commanding, Request, Node}
+use Rattle.sheep_node.specs.StepState.{StepState, at_first, session_in, with_disk, with_course}
+use Rattle.sheep_node.specs.Courses.{disk_after, command_acted, command_stepped, command_went_on}
+use Rattle.sheep_node.specs.Guests as nodes
+use Rattle.sheep_node.specs.Guests.{request_refusal, inode_open, queued_as, with_queued_request, request_taken, request_taken_unless}
+use Rattle.sheep_node.specs.LogReading.{is_epoch_member}
+use Rattle.sheep_node.specs.Step.{on_input, node_step}
+use Rattle.sheep_world.specs.World.{Host, World, host_at, is_host_up}
+use Rattle.sheep_world.specs.Asking.{ask_of_statement, input_by, input_of}
+use Rattle.sheep_world.specs.Conditions.{serves, has_gateway, next_request, may_begin_request, may_ask, may_guest}
+use Rattle.sheep_world.specs.World.{progress_at}
+use Rattle.sheep_world.specs.NodeSteps.{node_stepped, node_stepped_if, at_rest}
+use Rattle.sheep_world.specs.Effects.{request_started, requests_started, next_input, gateway_node_stepped, guest_effect}
+use Rattle.sheep_world.specs.Step.{EventOutcome, step, guest_made}
+use Rattle.sheep_world.specs.WireMatch.{WireMatchesNodes}
+use Rattle.sheep_world.specs.OneWork.{may_work_at, may_work_of, HasOneWorkPerRequest, NodesHaveOneWorkPerRequest, IsSentInRange, IsNewRequest}
+use Rattle.sheep_world.proofs.EnabledLaws.{looked_up}
+use Rattle.sheep_world.proofs.NumberTools.{got_own}
+use Rattle.sheep_world.proofs.OneWorkLaws.{IsGood, IsFreeIn, free_session, good_session, good_course, ended_good, work_asked_good, course_begun_good}
+use Rattle.sheep_world.proofs.InFlightRetryTick.{good_first, good_at_end, DoesWell, good_well, step_together, StaysTogether}
+
+-- ---- a command goes on
+
+-- a command whose act is a work waits for no entry
+no_entry : (work : ObjWork) (stage : OpStage) → IsAwaitedAtOpStage (op_acts.Work work) stage → is_none (entry_wanted_at stage) ≡ true
+no_entry work (Asked entry ask disk) awaited = absurd (cc (awaited))
+no_entry work (Working vid task) awaited = refl
+no_entry work (Publishing entry opened_inode) awaited = absurd (cc (awaited))
+no_entry work (Answered opened_inode) awaited = refl
+
+command_acted_good : (old : Node) (number req : ℕ) (ask : VdiAsk) (op : Op) (act : OpAct) (so_far : StepState) → IsAwaitedAtOpStage act op.stage
+    → tree.get so_far.node.requests req ≡ Some (record { session = number; course = Commanding ask op })
+    → IsFreeIn req so_far → IsGood old so_far → IsGood old (command_acted number req ask op act so_far)
+command_acted_good old number req ask op (op_acts.Append entry) so_far awaited there free good = record { going = good.going; driven = good.driven }
+command_acted_good old number req ask op (op_acts.Work work) so_far awaited there free good =
+    work_asked_good old number req work so_far free
+    (ap (may_work_of number) there
+    ∙ ap (λ (b : Bool). b && is_none (entry_wanted op)) (eq-eqb number number refl)
+    ∙ no_entry work op.stage awaited)
+    good
+command_acted_good old number req ask op (op_acts.Reply reply) so_far awaited there free good =
+    let disk = disk_after ask (opened_inode op) (session_in number so_far).disk in
+    let session = record (session_in number so_far) { disk = disk } in
+    ended_good old number req reply (with_disk number disk so_far)
+    (free_session req so_far.node.gateway.works so_far.node.sessions number session refl free)
+    (good_session old number session so_far refl good)
+
+command_stepped_good : (old : Node) (number req : ℕ) (ask : VdiAsk) (step : ops.OpStep) (so_far : StepState) → IsAwaitedByCommand step → IsFreeIn req so_far
+    → IsGood old so_far → IsGood old (command_stepped number req ask step so_far)
+unfolding command_stepped
+command_stepped_good old number req ask step so_far awaited free good =
+    let request : Request = record { session = number; course = Commanding ask step.op } in
+    command_acted_good old number req ask step.op step.act (with_course number req (Commanding ask step.op) so_far) awaited
+    (got_own so_far.node.requests req request) free (good_course old number req (Commanding ask step.op) so_far free good)
+
+pub command_went_on_good : (old : Node) (number req : ℕ) (ask : VdiAsk) (step : Option ops.OpStep) (so_far : StepState) → IfSome step IsAwaitedByCommand
+    → IsFreeIn req so_far → IsGood old so_far → IsGood old (command_went_on number req ask step so_far)
+command_went_on_good old number req ask None so_far awaited free good = good
+command_went_on_good old number req ask (Some step) so_far awaited free good = command_stepped_good old number req ask step so_far awaited free good
+
+-- ---- a guest's request
+
+pushed_good : (old : Node) (number req : ℕ) (ask : DiskAsk) (disk : Option Disk) (so_far : StepState) → IsGood old so_far → IsGood old (with_queued_request number req ask disk so_far)
+pushed_good old number req ask None so_far good = good
+pushed_good old number req ask (Some disk) so_far good =
+    good_session old number
+    (record (session_in number so_far) { queue = (session_in number so_far).queue ++ queued_as disk.inode.spec.shift req ask ∷ [] }) so_far refl good
+
+pushed_free : (number req : ℕ) (ask : DiskAsk) (disk : Option Disk) (so_far : StepState) → IsFreeIn req so_far → IsFreeIn req (with_queued_request number req ask disk so_far)
+pushed_free number req ask None so_far free = free
+pushed_free number req ask (Some disk) so_far free =
+    free_session req so_far.node.gateway.works so_far.node.sessions number
+    (record (session_in number so_far) { queue = (session_in number so_far).queue ++ queued_as disk.inode.spec.shift req ask ∷ [] }) refl free
+
+taken_good : (old : Node) (number req : ℕ) (ask : Ask) (so_far : StepState) → IsFreeIn req so_far → IsGood old so_far → IsGood old (request_taken number req ask so_far)
+taken_good old number req (asks.Disk ask) so_far free good =
+    let waiting = with_course number req (Waiting ask) so_far in
+    let disk = (session_in number so_far).disk in
+    course_begun_good old number req (Waiting ask) (with_queued_request number req ask disk waiting)
+    (λ never. pushed_free number req ask disk waiting free)
+    (pushed_good old number req ask disk waiting (good_course old number req (Waiting ask) so_far free good))
+taken_good old number req (asks.Vdi ask) so_far free good =
+    command_went_on_good old number req ask (begin_command so_far.node.me number ask (inode_open (session_in number so_far).disk)) so_far
+    (begin_awaited so_far.node.me number ask (inode_open (session_in number so_far).disk)) free good
+
+taken_unless_good : (old : Node) (cause : Option Cause) (number req : ℕ) (ask : Ask) (so_far : StepState) → IsFreeIn req so_far → IsGood old so_far
+    → IsGood old (request_taken_unless cause number req ask so_far)
+taken_unless_good old None number req ask so_far free good = taken_good old number req ask so_far free good
+taken_unless_good old (Some cause) number req ask so_far free good = record { going = good.going; driven = good.driven }
+
+pub guest_good : (node : Node) (req number : ℕ) (ask : Ask) → HasOneWorkPerRequest node → tree.get node.requests req ≡ None
+    → IsGood node (node_step (inputs.Guest req number ask) node)
+unfolding node_step on_input nodes.on_guest
+guest_good node req number ask driven new =
+    let so_far = at_first node in
+    good_at_end node (nodes.on_guest req number ask so_far)
+    (taken_unless_good node (request_refusal node.peer (session_in number so_far).disk ask) number req ask so_far
+    (record {
+      idle = by_work (tree.get node.gateway.works req) refl;
+      out = λ inode_queue waiting there same.
+          let never : may_work_of inode_queue None ≡ true
+          = ap (may_work_of inode_queue) (sym (ap (tree.get node.requests) same ∙ new)) ∙ driven.driven.waiting_works inode_queue waiting there in
+          absurd (cc (never));
+    })
+    (good_first node driven))
+  where
+    by_work : (o : Option Work) → tree.get node.gateway.works req ≡ o → tree.get node.gateway.works req ≡ None
+    by_work None none = none
+    by_work (Some work) there =
+        let never : may_work_at None ≡ true = ap may_work_at (sym new) ∙ driven.driven.open_works req work there in
+        absurd (cc (never))
+
+-- ---- and in the world
+
+-- a node steps well on an input, if there is one
+abbrev StepsWell : ℕ → Option Input → World → Type 0
+StepsWell n None world = Unit {0}
+StepsWell n (Some input) world = (host : Host) → host_at n world ≡ Some host → (is_host_up host ≡ true) × DoesWell input host.node
+
+module _ (statements : List Statement) (number : ℕ) (world : World) (session : ScriptSession)
+    (found : session_numbered statements number ≡ Some session) (asks : may_ask statements session world ≡ true)
+    (new : IsNewRequest statements number world) (driven : NodesHaveOneWorkPerRequest world) (wired : WireMatchesNodes world) where
+  is_served : (host : Host) → host_at session.node world ≡ Some host → is_host_up host ≡ true
+  is_served host at =
+      let serving : has_gateway session world ≡ true
+      = (and_parts (has_gateway session world)
+      (option_map_or (may_begin_request statements world.phase (progress_at session.number world)) (next_request statements session.number world) false) asks).0 in
+      let serves_so : serves session host ≡ true = sym (ap (λ (o : Option Host). option_map_or (serves session) o false) at) ∙ serving in
+      (and_parts (is_host_up host) (host.incarnation == session.incarnation) (and_parts (is_host_up host && host.incarnation == session.incarnation) (is_epoch_member host.node) serves_so).0).0
+
+  well_by : (req : ℕ) → next_request statements number world ≡ Some req → (of : Option ℕ) (ask : Option Ask)
+      → StepsWell session.node (input_by req of ask) world
+  well_by req next None ask = tt
+  well_by req next (Some of) None = tt
+  well_by req next (Some of) (Some ask) =
+      λ host at. (
+        is_served host at,
+        good_well (inputs.Guest req of ask) host.node (driven session.node host at)
+            (guest_good host.node req of ask (driven session.node host at) (new session req host found next at)),
+      )
+
+  well_at : (req : ℕ) → next_request statements number world ≡ Some req → (inode_queue : Option Statement)
+      → StepsWell session.node (option_and_then (λ s. input_by req (session_of s) (ask_of_statement s)) inode_queue) world
+  well_at req next None = tt
+  well_at req next (Some inode_queue) = well_by req next (session_of inode_queue) (ask_of_statement inode_queue)
+
+  well_on : (o : Option ℕ) → next_request statements number world ≡ o → StepsWell session.node (option_and_then (input_of statements) o) world
+  well_on None next = tt
+  well_on (Some req) next = well_at req next (request_at statements req)
+
+  steps_on : (input : Option Input) → StepsWell session.node input world → (req : Option ℕ)
+      → StaysTogether (node_stepped_if statements session.node input (request_started session req (at_rest world)))
+  unfolding node_stepped
+  steps_on None well None = λ requests. (wired, driven)
+  steps_on None well (Some req) = λ requests. (wired, driven)
+  steps_on (Some input) well None =
+      step_together statements (at_rest world) session.node input (host_at session.node world) refl well driven wired
+  steps_on (Some input) well (Some req) =
+      step_together statements (request_started session (Some req) (at_rest world)) session.node input (host_at session.node world) refl well driven wired
+
+  guest_together : StaysTogether (gateway_node_stepped statements (Some session) (next_input statements number world) (requests_started statements (Some session) (at_rest world)))
+  guest_together =
+      steps_on (next_input statements number world) (well_on (next_request statements number world) refl)
+      (next_request statements session.number (at_rest world))
+
+pub wired-guest : (statements : List Statement) (world : World) (made : EventOutcome) (number : ℕ)
+    → step statements (events.Guest number) world ≡ Some made → IsNewRequest statements number world → IsSentInRange made.world → NodesHaveOneWorkPerRequest world
+    → WireMatchesNodes world → WireMatchesNodes made.world × NodesHaveOneWorkPerRequest made.world
+unfolding step guest_effect
+wired-guest statements world made number is new requests driven wired =
+    let t = cond_some (may_guest statements number world) (guest_made statements number world (guest_effect statements number world)) made is in
+    let (session, found, asks) = looked_up (λ session. may_ask statements session world) (session_numbered statements number) t.0 in
+    let together : StaysTogether (guest_effect statements number world)
+    = subst
+    (λ (o : Option ScriptSession). StaysTogether (gateway_node_stepped statements o (next_input statements number world) (requests_started statements o (at_rest world))))
+    (sym found) (guest_together statements number world session found asks new driven wired) in
+    subst (λ (made : EventOutcome). IsSentInRange made.world → WireMatchesNodes made.world × NodesHaveOneWorkPerRequest made.world) t.1 together requests

@@ -1,0 +1,361 @@
+-- A node that reads an entry of the log leaves nodes and wire together.
+use Rattle.std.proofs.Common.{◌≡◌, inl, ℕ, ◌+◌, ◌==◌, ◌<◌, nat_lt, Bool, true, false, ◌&&◌, ◌||◌, cond, List, [], ◌∷◌, ◌++◌, length, map, Contains, Option, Some, None, is_some, is_none, refl, sym, ap, subst, ◌∙◌, ⊎_elim}
+use native.Mathlib.Omega.{arith}
+use Rattle.std.specs.Option.{option_map, option_map_or}
+use Rattle.std.specs.FinMap as tree
+use Rattle.std.proofs.lemmas.Bool.{eqb-true, and_parts, or_cases, or_left, or_right}
+use Rattle.std.proofs.lemmas.Option.{cond_some, same_Some}
+use Rattle.object_id.specs.declared.entry.Entry.{Entry}
+use Rattle.object_id.specs.declared.entry.Member.{Member}
+use Rattle.object_id.specs.declared.entry.VdiSpec.{VdiSpec}
+use Rattle.object_id.specs.declared.node.NodeId.{NodeId}
+use Rattle.object_id.specs.Oid.{vid_of, kind_of}
+use Rattle.object_store.specs.declared.row.RowCopy.{RowCopy}
+use Rattle.cluster_script.specs.declared.statement.Statement.{Statement}
+use Rattle.epoch_log.specs.Epochs.{begins_epoch, epoch_of, settled_of}
+use Rattle.epoch_log.specs.Appending.{is_format}
+use Rattle.vnode_table.specs.Targets.{targets_in}
+use Rattle.vdi_directory.specs.declared.header.Header.{Header}
+use Rattle.vdi_directory.specs.declared.effect.Effect.{Effect}
+use Rattle.vdi_directory.specs.declared.effect.Grant.{Grant}
+use Rattle.vdi_directory.specs.declared.effect.Effect.TheVariants as effects
+use Rattle.vdi_directory.specs.declared.decision.Decision.{Decision}
+use Rattle.vdi_directory.specs.Effects.{is_used, header_after, header_of}
+use Rattle.vdi_directory.specs.Decisions.{outcome, log_effects}
+use Rattle.vdi_directory.proofs.StateLemmas.{log_effects-push, header_of-push}
+use Rattle.vdi_directory.proofs.LawLemmas.{grant_outcome-unused}
+use Rattle.vdi_directory.proofs.LineLemmas.{line-log_effects}
+use Rattle.peer_proto.specs.declared.ask.PeerAsk.{PeerAsk}
+use Rattle.peer_proto.specs.declared.ask.PeerAsk.TheVariants as asks
+use Rattle.peer_proto.specs.declared.say.PeerSay.{PeerSay}
+use Rattle.peer_proto.specs.declared.say.PeerSay.TheVariants as says
+use Rattle.peer_service.specs.State.{Peer, effects_of, length_of_rows, row_size}
+use Rattle.peer_service.specs.Epochs as peers
+use Rattle.peer_service.specs.Epochs.{peer_settled_to}
+use Rattle.peer_service.specs.LogReading.{read_entry, decision_on}
+use Rattle.gateway.specs.Outcomes.{AreNumberedFrom}
+use Rattle.gateway.specs.State as gateways
+use Rattle.gateway.specs.State.{Gateway}
+use Rattle.recovery.specs.Shown.{NodeView, is_asked_row, shown_with_pending}
+use Rattle.recovery.specs.State as recoveries
+use Rattle.recovery.specs.State.{Message}
+use Rattle.recovery.specs.Fits as recovery_fits
+use Rattle.recovery.specs.Steps.{at_start, recovery_from_epoch, to_recover}
+use Rattle.recovery.proofs.StepLemmas.{either}
+use Rattle.vdi_ops.specs.Op.{entry_wanted}
+use Rattle.vdi_ops.specs.Steps.{on_decision}
+use Rattle.vdi_ops.proofs.StepLemmas.{decision_awaited}
+use Rattle.sheep_node.specs.declared.event.Event.TheVariants as events
+use Rattle.sheep_node.specs.declared.input.Input.TheVariants as inputs
+use Rattle.sheep_node.specs.State.{Course, Waiting, Driving, Commanding, Request, Node}
+use Rattle.sheep_node.specs.RecoveryView.{recovery_state_of}
+use Rattle.sheep_node.specs.May.{fits_node}
+use Rattle.sheep_node.specs.Same.{is_wanted, waits_for_entry}
+use Rattle.sheep_node.specs.StepState.{StepState, at_first}
+use Rattle.sheep_node.specs.Courses.{course_decided}
+use Rattle.sheep_node.specs.LogReading as nodes
+use Rattle.sheep_node.specs.LogReading.{is_epoch_member, epoch_members, with_peer, with_epoch_members, peer_entered, recovery_begun, recovery_begun_if, epoch_entered, entered_by, settled_by, asker_of, decision_told, on_log_entry}
+use Rattle.sheep_node.specs.Step.{on_input, node_step}
+use Rattle.sheep_node.proofs.SoundReading.{entries_reading}
+use Rattle.sheep_node.proofs.SoundSteps.{stepped_numbers, stepped_counts}
+use Rattle.sheep_world.specs.World.{Host, World, host_at, node_at, is_host_up}
+use Rattle.sheep_world.specs.Conditions.{may_log_next}
+use Rattle.sheep_world.specs.NodeSteps.{node_stepped, node_stepped_if, at_rest}
+use Rattle.sheep_world.specs.Effects.{next_entry, log_next_effect}
+use Rattle.sheep_world.specs.Step.{EventOutcome, step, with_replies}
+use Rattle.sheep_world.specs.WireMatch.{asked_by_gateway, WireMatchesNodes}
+use Rattle.sheep_world.specs.OneWork.{may_work, HaveOneWorkPerRequest, NumbersAreOfOneWork, NumbersAreBelow, HasOneWorkPerRequest, NodesHaveOneWorkPerRequest, IsSentInRange}
+use Rattle.sheep_world.proofs.ListTools.{has-none, has-found}
+use Rattle.sheep_world.proofs.InFlightSends.{Sends, Asking}
+use Rattle.sheep_world.proofs.InFlightRecoverTick.{Any}
+use Rattle.gateway.proofs.TryLaws.{found-passes}
+use Rattle.sheep_world.proofs.OneWorkLaws.{Requests, Sessions, IsGood, IsFreeIn, free_of, let_begin_good}
+use Rattle.sheep_world.proofs.InFlightRetryTick.{got_entry, good_first, good_at_end, good_so_far_asks, good_driven, DoesWell, asks_after, step_together, StaysTogether}
+use Rattle.sheep_world.proofs.InFlightGuest.{command_went_on_good}
+
+-- ---- the length of an object's rows stays known
+
+-- a header that is known stays, but for its tag
+abbrev HasSpecOf : Header → Option Header → Type 0
+HasSpecOf header None = ⊥
+HasSpecOf header (Some now) = now.spec ≡ header.spec
+
+header_stays : (entries : List Entry) (entry : Entry) (vid : ℕ) (header : Header) → header_of (log_effects entries) vid ≡ Some header
+    → HasSpecOf header (header_of (log_effects (entries ++ entry ∷ [])) vid)
+header_stays entries entry vid header is =
+    let before = log_effects entries in
+    let effect = (outcome before entry).effect in
+    subst (HasSpecOf header)
+    (sym (ap (λ (effects : List Effect). header_of effects vid) (log_effects-push entries entry)
+    ∙ header_of-push before effect vid
+    ∙ ap (λ (o : Option Header). header_after vid o effect) is))
+    (by_effect effect refl)
+  where
+    by_id : (grant : Grant) → (outcome (log_effects entries) entry).effect ≡ effects.Reserved grant → (b : Bool) → (grant.reservation.vid.0 == vid) ≡ b
+        → HasSpecOf header (cond b (Some grant.header) (Some header))
+    by_id grant what true same =
+        let new : is_used (log_effects entries) grant.reservation.vid.0 ≡ false = (grant_outcome-unused entries entry grant what).1 in
+        let used : is_used (log_effects entries) vid ≡ true = (inode_queue-log_effects entries).known vid ∙ ap is_some is in
+        let unused : is_used (log_effects entries) vid ≡ false
+        = ap (is_used (log_effects entries)) (sym (eqb-true grant.reservation.vid.0 vid same)) ∙ new in
+        absurd (cc (used, unused))
+    by_id grant what false other = refl
+
+    by_effect : (effect : Effect) → (outcome (log_effects entries) entry).effect ≡ effect → HasSpecOf header (header_after vid (Some header) effect)
+    by_effect effects.Nothing what = refl
+    by_effect (effects.Reserved grant) what = by_id grant what (grant.reservation.vid.0 == vid) refl
+    by_effect (effects.Published id name) what = refl
+    by_effect (effects.Snapped snap) what =
+        either (HasSpecOf header) (snap.old.0 == vid) (Some (record header { tag = snap.tag })) (Some header) refl refl
+    by_effect (effects.Deleted id name) what = refl
+    by_effect (effects.Held id holder) what = refl
+    by_effect (effects.Freed id) what = refl
+    by_effect (effects.Withdrawn id) what = refl
+    by_effect (effects.Left node) what = refl
+
+size_stays : (one other : Peer) (entry : Entry) (oid size : ℕ) → other.entries ≡ one.entries ++ entry ∷ [] → length_of_rows one oid ≡ Some size
+    → length_of_rows other oid ≡ Some size
+size_stays one other entry oid size more is = by_header (header_of (log_effects one.entries) (vid_of oid)) refl is
+  where
+    now_by : (header : Header) (now : Option Header) → HasSpecOf header now → row_size (kind_of oid) header.spec ≡ size
+        → option_map (row_size (kind_of oid)) (option_map (λ (header : Header). header.spec) now) ≡ Some size
+    now_by header None has so = absurd has
+    now_by header (Some now) has so = ap (λ (spec : VdiSpec). Some (row_size (kind_of oid) spec)) has ∙ ap (λ (n : ℕ). Some n) so
+
+    by_header : (o : Option Header) → header_of (log_effects one.entries) (vid_of oid) ≡ o
+        → option_map (row_size (kind_of oid)) (option_map (λ (header : Header). header.spec) o) ≡ Some size
+        → length_of_rows other oid ≡ Some size
+    by_header None known so = absurd (cc (so))
+    by_header (Some header) known so =
+        ap (λ (entries : List Entry). option_map (row_size (kind_of oid)) (option_map (λ (header : Header). header.spec) (header_of (log_effects entries) (vid_of oid)))) more
+        ∙ now_by header (header_of (log_effects (one.entries ++ entry ∷ [])) (vid_of oid)) (header_stays one.entries entry (vid_of oid) header known)
+        (same_Some (row_size (kind_of oid) header.spec) size so)
+
+-- what was known of the lengths of rows is known still
+abbrev Grows : NodeView → NodeView → Type 0
+Grows one other = (oid size : ℕ) → one.size_of oid ≡ Some size → other.size_of oid ≡ Some size
+
+row_still : (one other : NodeView) (wanted : ℕ) (ask : PeerAsk) (row : RowCopy) → Grows one other
+    → recovery_fits.fits_row one wanted ask row ≡ true → recovery_fits.fits_row other wanted ask row ≡ true
+row_still one other wanted (asks.Create key size offset bytes) row grows fit = fit
+row_still one other wanted (asks.Write key offset bytes) row grows fit = fit
+row_still one other wanted (asks.Read key offset size) row grows fit = fit
+row_still one other wanted asks.List row grows fit = fit
+row_still one other wanted (asks.RecoverRead oid level) row grows fit = by_size (one.size_of oid) refl fit
+  where
+    by_size : (o : Option ℕ) → one.size_of oid ≡ o → is_asked_row level.0 wanted o row ≡ true → is_asked_row level.0 wanted (other.size_of oid) row ≡ true
+    by_size None known fits_node = absurd (cc (fits_node))
+    by_size (Some size) known fits_node = ap (λ (o : Option ℕ). is_asked_row level.0 wanted o row) (grows oid size known) ∙ fits_node
+
+fit_still : (one other : NodeView) (message : Option Message) (say : PeerSay) → Grows one other
+    → recovery_fits.fits_message one message say ≡ true → recovery_fits.fits_message other message say ≡ true
+fit_still one other None say grows fit = fit
+fit_still one other (Some message) says.Success grows fit = fit
+fit_still one other (Some message) (says.Piece bytes) grows fit = fit
+fit_still one other (Some message) (says.Objects oids) grows fit = fit
+fit_still one other (Some message) (says.Row row) grows fit = row_still one other message.wanted message.request.ask row grows fit
+fit_still one other (Some message) says.NoRow grows fit = fit
+fit_still one other (Some message) (says.Refused refusal) grows fit = fit
+
+-- ---- what reading an entry keeps
+
+record Keeps (old new : Node) : Type 0 where
+  me_so : new.me ≡ old.me
+  gateway_so : new.gateway ≡ old.gateway
+  requests_so : new.requests ≡ old.requests
+  sessions_so : new.sessions ≡ old.sessions
+  sends_so : new.sends ≡ old.sends
+  messages_so : recoveries.all_unanswered new.recovery ≡ recoveries.all_unanswered old.recovery
+
+pub begun_same : (epoch : ℕ) (members : List NodeId) (state : recoveries.RecoveryState)
+    → recoveries.all_unanswered (recovery_from_epoch epoch members state).recovery ≡ recoveries.all_unanswered state.recovery
+unfolding recovery_from_epoch
+begun_same epoch members state =
+    let start = at_start epoch members state in
+    either (λ (after : recoveries.RecoveryState). recoveries.all_unanswered after.recovery ≡ recoveries.all_unanswered state.recovery)
+    (recoveries.is_listed start.recovery) (record start { shown = shown_with_pending (to_recover start) start.shown }) start refl refl
+
+begun_keeps : (old : Node) (member : Bool) (node : Node) → Keeps old node → Keeps old (recovery_begun_if member node)
+begun_keeps old true node h = record {
+  me_so = h.me_so;
+  gateway_so = h.gateway_so;
+  requests_so = h.requests_so;
+  sessions_so = h.sessions_so;
+  sends_so = h.sends_so;
+  messages_so =
+      begun_same node.peer.epoch (map (λ (member : Member). member.node) (epoch_members node)) (recovery_state_of node) ∙ h.messages_so;
+}
+begun_keeps old false node h = h
+
+same_keeps : (old node : Node) (peer : Peer) → Keeps old node → Keeps old (with_peer peer node)
+same_keeps old node peer h = record {
+  me_so = h.me_so;
+  gateway_so = h.gateway_so;
+  requests_so = h.requests_so;
+  sessions_so = h.sessions_so;
+  sends_so = h.sends_so;
+  messages_so = h.messages_so;
+}
+
+placed_keeps : (old : Node) (epoch : ℕ) (node : Node) → Keeps old node → Keeps old (with_epoch_members epoch node)
+placed_keeps old epoch node h = record {
+  me_so = h.me_so;
+  gateway_so = h.gateway_so;
+  requests_so = h.requests_so;
+  sessions_so = h.sessions_so;
+  sends_so = h.sends_so;
+  messages_so = h.messages_so;
+}
+
+entered_keeps : (old : Node) (entry : Entry) (node : Node) → Keeps old node → Keeps old (entered_by entry node)
+entered_keeps old entry node h =
+    let there = with_epoch_members (epoch_of node.peer.entries) node in
+    either (Keeps old) (begins_epoch entry) (epoch_entered node) (cond (is_format entry) (with_epoch_members 1 node) node)
+    (begun_keeps old (is_epoch_member (peer_entered there)) (peer_entered there)
+    (same_keeps old there (peers.peer_in_next_epoch there.me (targets_in there.epochs) there.peer) (placed_keeps old (epoch_of node.peer.entries) node h)))
+    (either (Keeps old) (is_format entry) (with_epoch_members 1 node) node (placed_keeps old 1 node h) h)
+
+read_keeps : (entry : Entry) (node : Node) → Keeps node (nodes.entry_read entry node)
+unfolding nodes.entry_read
+read_keeps entry node =
+    let read = with_peer (read_entry entry node.peer) node in
+    let entered = entered_by entry read in
+    let settled = settled_of (read_entry entry node.peer).entries in
+    let kept : Keeps node read
+    = record { me_so = refl; gateway_so = refl; requests_so = refl; sessions_so = refl; sends_so = refl; messages_so = refl } in
+    let then : Keeps node entered = entered_keeps node entry read kept in
+    either (Keeps node) (nat_lt entered.peer.settled settled) (with_peer (peer_settled_to settled entered.peer) entered) entered
+    (same_keeps node entered (peer_settled_to settled entered.peer) then) then
+
+-- a node that has read an entry waits for the same as before
+read_asks : (entry : Entry) (node : Node) → Asking Any node (nodes.entry_read entry node) []
+read_asks entry node =
+    let after = nodes.entry_read entry node in
+    let kept = read_keeps entry node in
+    let no_more : node.sends ≡ node.sends + 0 = omega arith in
+    record {
+      me_so = kept.me_so;
+      count_so = kept.sends_so ∙ no_more;
+      numbers = refl;
+      own = λ send there. has-none send there;
+      read = λ send there. has-none send there;
+      asked = λ send there. inl (
+        subst (λ (sends : Sends). Contains sends send)
+            (λ i. asked_by_gateway (kept.me_so i) (kept.gateway_so i)
+            ++ map (λ (message : Message). (message.to, message.request)) (kept.messages_so i)) there,
+        tt,
+      );
+      waits_on = λ number waits stays.
+          (λ i. gateways.gateway_awaits number (kept.gateway_so i) || is_some (recoveries.message_of number (kept.messages_so i))) ∙ waits;
+      waits_too = λ send there. has-none send there;
+      fits_on = λ rsp below stays fit. ⊎_elim
+          (λ (works : gateways.fits_gateway rsp node.gateway ≡ true).
+          or_left (gateways.fits_gateway rsp after.gateway) (recovery_fits.fits_recovery rsp (recovery_state_of after)) (ap (gateways.fits_gateway rsp) kept.gateway_so ∙ works))
+          (λ (recovers : recovery_fits.fits_recovery rsp (recovery_state_of node) ≡ true).
+          or_right (gateways.fits_gateway rsp after.gateway) (recovery_fits.fits_recovery rsp (recovery_state_of after))
+          (ap (λ (messages : List Message). recovery_fits.fits_message (recovery_state_of after).shown (recoveries.message_of rsp.number messages) rsp.say) kept.messages_so
+          ∙ fit_still (recovery_state_of node).shown (recovery_state_of after).shown (recoveries.message_of rsp.number (recoveries.all_unanswered node.recovery)) rsp.say
+          (λ oid size known. size_stays node.peer after.peer entry oid size (entries_reading entry node) known) recovers))
+          (or_cases (gateways.fits_gateway rsp node.gateway) (recovery_fits.fits_recovery rsp (recovery_state_of node)) fit);
+    }
+
+read_driven : (entry : Entry) (node : Node) → HasOneWorkPerRequest node → HasOneWorkPerRequest (nodes.entry_read entry node)
+read_driven entry node driven =
+    let kept = read_keeps entry node in
+    record {
+      own = ap (λ (gateway : Gateway). gateway.me) kept.gateway_so ∙ driven.own ∙ sym kept.me_so;
+      driven = subst (λ (gateway : Gateway). HaveOneWorkPerRequest gateway.works (nodes.entry_read entry node).requests (nodes.entry_read entry node).sessions)
+          (sym kept.gateway_so)
+          (subst (λ (requests : Requests). HaveOneWorkPerRequest node.gateway.works requests (nodes.entry_read entry node).sessions) (sym kept.requests_so)
+          (subst (λ (sessions : Sessions). HaveOneWorkPerRequest node.gateway.works node.requests sessions) (sym kept.sessions_so) driven.driven));
+      once = subst (λ (gateway : Gateway). NumbersAreOfOneWork gateway.works) (sym kept.gateway_so) driven.once;
+      given = subst (λ (gateway : Gateway). NumbersAreBelow (nodes.entry_read entry node).sends gateway.works) (sym kept.gateway_so)
+          (subst (λ (count : ℕ). NumbersAreBelow count node.gateway.works) (sym kept.sends_so) driven.given);
+      recovers = λ number waits.
+          ap (λ (messages : List Message). is_some (recoveries.message_of number messages)) kept.messages_so
+          ∙ driven.recovers number (sym (ap (λ (gateway : Gateway). gateways.gateway_awaits number gateway) kept.gateway_so) ∙ waits);
+      recovering = λ number waits.
+          subst (λ (count : ℕ). number < count) (sym kept.sends_so)
+          (driven.recovering number (sym (ap (λ (messages : List Message). is_some (recoveries.message_of number messages)) kept.messages_so) ∙ waits));
+    }
+
+-- ---- the decision goes to the command that waits for it
+
+wanted_never : (entry : Entry) (course : Course) → waits_for_entry entry course ≡ true → may_work course ≡ false
+wanted_never entry (Waiting ask) waits = absurd (cc (waits))
+wanted_never entry (Driving driver) waits = absurd (cc (waits))
+wanted_never entry (Commanding ask op) waits = by_entry (entry_wanted op) waits
+  where
+    by_entry : (o : Option Entry) → is_wanted entry o ≡ true → is_none o ≡ false
+    by_entry None waits = absurd (cc (waits))
+    by_entry (Some wanted) waits = refl
+
+decided_good : (old : Node) (number req : ℕ) (decision : Decision) (course : Course) (so_far : StepState) → IsFreeIn req so_far → IsGood old so_far
+    → IsGood old (course_decided number req decision course so_far)
+unfolding course_decided
+decided_good old number req decision (Waiting ask) so_far free good = good
+decided_good old number req decision (Driving driver) so_far free good = good
+decided_good old number req decision (Commanding ask op) so_far free good =
+    command_went_on_good old number req ask (on_decision (effects_of so_far.node.peer) decision op) so_far
+    (decision_awaited (effects_of so_far.node.peer) decision op) free good
+
+told_good : (entry : Entry) (decision : Decision) (node : Node) (so_far : StepState) (found : Option (ℕ × Request)) → asker_of entry node ≡ found
+    → so_far.node.requests ≡ node.requests → (old : Node) → IsGood old so_far → IsGood old (decision_told decision found so_far)
+told_good entry decision node so_far None is same old good = good
+told_good entry decision node so_far (Some found) is same old good =
+    let there : tree.get so_far.node.requests found.0 ≡ Some found.1
+    = ap (λ (requests : Requests). tree.get requests found.0) same
+    ∙ got_entry node.requests found
+    (has-found (λ (found : ℕ × Request). waits_for_entry entry found.1.course) (tree.entries node.requests) found is) in
+    let never = wanted_never entry found.1.course
+    (found-passes (λ (found : ℕ × Request). waits_for_entry entry found.1.course) (tree.entries node.requests) found is) in
+    let_begin_good old found.1.session (course_decided found.1.session found.0 decision found.1.course so_far)
+    (decided_good old found.1.session found.0 decision found.1.course so_far (free_of old found.0 found.1 so_far there never good) good)
+
+log_read_good : (entry : Entry) (node : Node) → HasOneWorkPerRequest node → IsGood (nodes.entry_read entry node) (on_log_entry entry (at_first node))
+unfolding on_log_entry
+log_read_good entry node driven =
+    let after = nodes.entry_read entry node in
+    told_good entry (decision_on entry node.peer) node (at_first after) (asker_of entry node) refl (read_keeps entry node).requests_so after
+    (good_first after (read_driven entry node driven))
+
+-- ---- and in the world
+
+pub reads_well : (entry : Entry) (node : Node) → HasOneWorkPerRequest node → DoesWell (inputs.LogEntry entry) node
+unfolding node_step on_input
+reads_well entry node driven =
+    let after = nodes.entry_read entry node in
+    let so_far = node_step (inputs.LogEntry entry) node in
+    let good : IsGood after so_far = good_at_end after (on_log_entry entry (at_first node)) (log_read_good entry node driven) in
+    let same : after.sends ≡ node.sends = (read_keeps entry node).sends_so in
+    record {
+      asks = λ requests.
+          asks_after Any node after so_far.node so_far.outputs.sends (read_asks entry node)
+          (good_so_far_asks after so_far
+          (subst (λ (n : ℕ). AreNumberedFrom n so_far.outputs.sends) (sym same) (stepped_numbers (inputs.LogEntry entry) node))
+          (stepped_counts (inputs.LogEntry entry) node ∙ ap (λ (n : ℕ). n + length so_far.outputs.sends) (sym same))
+          good requests);
+      driven = good_driven after so_far (read_driven entry node driven) good;
+    }
+
+read_together : (statements : List Statement) (world : World) (n : ℕ) (entry : Option Entry) → may_log_next n world ≡ true → NodesHaveOneWorkPerRequest world → WireMatchesNodes world
+    → StaysTogether (node_stepped_if statements n (option_map (λ entry. inputs.LogEntry entry) entry) (at_rest world))
+unfolding node_stepped
+read_together statements world n None may driven wired = λ requests. (wired, driven)
+read_together statements world n (Some entry) may driven wired =
+    step_together statements (at_rest world) n (inputs.LogEntry entry) (host_at n world) refl
+    (λ host at.
+    let passes : (is_host_up host && nat_lt (length host.node.peer.entries) (length world.log)) ≡ true
+    = sym (ap (λ (o : Option Host). option_map_or (λ (host : Host). is_host_up host && nat_lt (length host.node.peer.entries) (length world.log)) o false) at)
+    ∙ may in
+    ((and_parts (is_host_up host) (nat_lt (length host.node.peer.entries) (length world.log)) passes).0, reads_well entry host.node (driven n host at)))
+    driven wired
+
+pub wired-log_next : (statements : List Statement) (world : World) (made : EventOutcome) (node : NodeId)
+    → step statements (events.LogNext node) world ≡ Some made → IsSentInRange made.world → NodesHaveOneWorkPerRequest world → WireMatchesNodes world
+    → WireMatchesNodes made.world × NodesHaveOneWorkPerRequest made.world
+unfolding step log_next_effect
+wired-log_next statements world made node is requests driven wired =
+    let t = cond_some (may_log_next node.0 world) (with_replies statements world (log_next_effect statements node.0 world)) made is in
+    subst (λ (made : EventOutcome). IsSentInRange made.world → WireMatchesNodes made.world × NodesHaveOneWorkPerRequest made.world) t.1
+    (read_together statements world node.0 (next_entry world.log (node_at node.0 world)) t.0 driven wired) requests

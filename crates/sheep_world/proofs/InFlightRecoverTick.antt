@@ -1,0 +1,245 @@
+-- A tick of a recovery leaves nodes and wire together, and each recovery in range.
+use Rattle.std.proofs.Common.{◌≡◌, ◌≢◌, inl, inr, ℕ, ◌==◌, ◌≤◌, ◌^◌, ◌-◌, Bool, true, false, not, ◌&&◌, ◌||◌, cond, List, [], ◌∷◌, ◌++◌, length, map, Contains, Option, Some, None, is_some, refl, ap, subst, ◌∙◌, ⊎_elim}
+use native.Mathlib.Omega.{arith}
+use Rattle.std.specs.Ordering.{nat_cmp}
+use Rattle.std.specs.Option.{option_map_or}
+use Rattle.std.specs.FinMap as tree
+use Rattle.std.proofs.lemmas.Bool.{eq-eqb, eqb-true, leb-true, and_parts, or_left, or_right}
+use Rattle.std.proofs.lemmas.Option.{cond_some}
+use Rattle.std.proofs.lemmas.List.{append-nil}
+use Rattle.std.proofs.lemmas.List.Elements.{All-contains, Contains-append_left, Contains-append_cases}
+use Rattle.object_id.specs.declared.node.NodeId.{NodeId}
+use Rattle.cluster_script.specs.declared.statement.Statement.{Statement}
+use Rattle.peer_proto.specs.declared.ask.PeerReq.{PeerReq}
+use Rattle.peer_proto.specs.declared.say.PeerRsp.{PeerRsp}
+use Rattle.peer_proto.specs.Ask.{IsPeerReq}
+use Rattle.peer_proto.proofs.AskLemmas.{ask-again}
+use Rattle.gateway.specs.State as gateways
+use Rattle.recovery.specs.State as recoveries
+use Rattle.recovery.specs.State.{Message}
+use Rattle.recovery.specs.Fits as recovery_fits
+use Rattle.recovery.specs.Tick.{tick_messages, tick_sends, state_after_tick}
+use Rattle.recovery.specs.Frame.{Frame}
+use Rattle.recovery.proofs.StepLemmas.{either, frame_of_tick}
+use Rattle.recovery.proofs.RangeLemmas.{asked_by_own, asked_in_range, ticked_in_range}
+use Rattle.sheep_node.specs.declared.limits.TheConstants.{SENDS_MAX}
+use Rattle.sheep_node.specs.declared.event.Event.TheVariants as events
+use Rattle.sheep_node.specs.declared.input.Input.TheVariants as inputs
+use Rattle.sheep_node.specs.State.{Node}
+use Rattle.sheep_node.specs.RecoveryView.{recovery_state_of}
+use Rattle.sheep_node.specs.May.{has_numbers, may_tick}
+use Rattle.sheep_node.specs.StepState.{StepState, at_first}
+use Rattle.sheep_node.specs.Step as steps
+use Rattle.sheep_node.specs.Step.{is_due, with_recovered, recovered_put, on_input, node_step}
+use Rattle.sheep_node.proofs.Numbers.{tick_numbers}
+use Rattle.sheep_world.specs.World.{name_cmp, Packet, Host, World, host_at, is_host_up}
+use Rattle.sheep_world.specs.Conditions.{may_recover}
+use Rattle.sheep_world.specs.NodeSteps.{host_stepped, node_stepped, at_rest}
+use Rattle.sheep_world.specs.Effects.{recover_tick_effect}
+use Rattle.sheep_world.specs.Step.{EventOutcome, step, with_replies}
+use Rattle.sheep_world.specs.WireMatch.{asked_by_gateway, asked_by_recovery, WireMatchesNodes}
+use Rattle.sheep_world.specs.Ranges.{RecoversInRange, AllRecoverInRange, RecoveriesAreInRange}
+use Rattle.sheep_world.proofs.ListTools.{has-none, has_cases}
+use Rattle.sheep_world.proofs.InFlightEvents.{got_insert, none_there}
+use Rattle.sheep_world.proofs.InFlightPut.{next_host}
+use Rattle.sheep_world.proofs.InFlightSends.{Sends, Asking, Leaves, wired_asking}
+
+-- all numbers
+abbrev pub Any : ℕ → Type 0
+Any number = Unit {0}
+
+-- what the last act of a step, `Recovered`, leaves
+abbrev pub AsksFrom : (ℕ → Type 0) → Node → StepState → Type 0
+AsksFrom Stays old so_far = Asking Stays old so_far.node so_far.outputs.sends
+
+pub asks_at_end : (Stays : ℕ → Type 0) (old : Node) (so_far : StepState) → AsksFrom Stays old so_far → AsksFrom Stays old (recovered_put so_far)
+unfolding recovered_put
+asks_at_end Stays old so_far asking =
+    either (AsksFrom Stays old) (is_due so_far.node) (with_recovered so_far) so_far
+    (record {
+      me_so = asking.me_so;
+      count_so = asking.count_so;
+      numbers = asking.numbers;
+      own = asking.own;
+      read = asking.read;
+      asked = asking.asked;
+      waits_on = asking.waits_on;
+      waits_too = asking.waits_too;
+      fits_on = asking.fits_on;
+    })
+    asking
+
+pub range_at_end : (so_far : StepState) → RecoversInRange so_far.node → RecoversInRange (recovered_put so_far).node
+unfolding recovered_put
+range_at_end so_far range =
+    either (λ (so_far : StepState). RecoversInRange so_far.node) (is_due so_far.node) (with_recovered so_far) so_far
+    (record { own = range.own; range = range.range }) range
+
+none_both : {X : Type 0} (xs ys : List X) → xs ++ ys ≡ [] → (xs ≡ []) × (ys ≡ [])
+none_both [] ys is = (refl, is)
+none_both (x ∷ xs) ys is = absurd (cc (is))
+
+or_first : (a b : Bool) → b ≡ false → (a || b) ≡ true → a ≡ true
+or_first true b none is = refl
+or_first false b none is = absurd (cc (none, is))
+
+-- the message of a number that is among some is found
+pub numbered_there : (messages : List Message) (send : NodeId × PeerReq)
+    → Contains (map (λ (message : Message). (message.to, message.request)) messages) send
+    → is_some (recoveries.message_of send.1.number messages) ≡ true
+numbered_there [] send there = has-none send there
+numbered_there (message ∷ messages) send there = ⊎_elim
+    (λ (same : (message.to, message.request) ≡ send).
+    here (message.request.number == send.1.number)
+    (eq-eqb message.request.number send.1.number (ap (λ (s : NodeId × PeerReq). s.1.number) same)))
+    (λ (later : Contains (map (λ (message : Message). (message.to, message.request)) messages) send).
+    by_tie (message.request.number == send.1.number) (numbered_there messages send later))
+    (has_cases (message.to, message.request) send (map (λ (message : Message). (message.to, message.request)) messages) there)
+  where
+    here : (b : Bool) → b ≡ true → is_some (cond b (Some message) (recoveries.message_of send.1.number messages)) ≡ true
+    here true is = refl
+    here false is = absurd (cc (is))
+
+    by_tie : (b : Bool) → is_some (recoveries.message_of send.1.number messages) ≡ true
+        → is_some (cond b (Some message) (recoveries.message_of send.1.number messages)) ≡ true
+    by_tie true found = refl
+    by_tie false found = found
+
+-- a tick is made where nothing is unanswered, so that afterwards its own messages are
+module _ (node : Node) (may : may_tick node ≡ true) where
+  none_asked : recoveries.all_unanswered node.recovery ≡ []
+  none_asked =
+      none_there (recoveries.all_unanswered node.recovery)
+      (eqb-true (length (recoveries.all_unanswered node.recovery)) 0
+      (and_parts (not (recoveries.is_finished (recovery_state_of node))) (length (recoveries.all_unanswered node.recovery) == 0) may).1)
+
+  pub asked_now : recoveries.all_unanswered (state_after_tick node.sends (recovery_state_of node)).recovery ≡ tick_messages node.sends (recovery_state_of node)
+  asked_now =
+      let none = none_both node.recovery.unanswered node.recovery.older none_asked in
+      let frame = frame_of_tick node.sends (recovery_state_of node) in
+      let messages = tick_messages node.sends (recovery_state_of node) in
+      (λ i. (frame i).unanswered ++ (frame i).older)
+      ∙ (λ i. (none.0 i ++ messages) ++ none.1 i)
+      ∙ append-nil messages
+
+  sends_now : asked_by_recovery (state_after_tick node.sends (recovery_state_of node)).recovery ≡ tick_sends node.sends (recovery_state_of node)
+  unfolding tick_sends
+  sends_now = ap (map (λ (message : Message). (message.to, message.request))) asked_now
+
+  waited_now : (send : NodeId × PeerReq) → Contains (tick_sends node.sends (recovery_state_of node)) send
+      → recoveries.recovery_awaits send.1.number (state_after_tick node.sends (recovery_state_of node)).recovery ≡ true
+  unfolding tick_sends
+  waited_now send there =
+      ap (λ (messages : List Message). is_some (recoveries.message_of send.1.number messages)) asked_now
+      ∙ numbered_there (tick_messages node.sends (recovery_state_of node)) send there
+
+  waited_never : (number : ℕ) → recoveries.recovery_awaits number node.recovery ≡ false
+  waited_never number = ap (λ (messages : List Message). is_some (recoveries.message_of number messages)) none_asked
+
+  fitted_never : (rsp : PeerRsp) → recovery_fits.fits_recovery rsp (recovery_state_of node) ≡ false
+  fitted_never rsp =
+      ap (λ (messages : List Message). recovery_fits.fits_message (recovery_state_of node).shown (recoveries.message_of rsp.number messages) rsp.say) none_asked
+
+  pub tick_asks : has_numbers node ≡ true → RecoversInRange node → AsksFrom Any node (steps.on_recover_tick (at_first node))
+  unfolding steps.on_recover_tick
+  tick_asks numbers range =
+      let state = recovery_state_of node in
+      let sends = tick_sends node.sends state in
+      let count : node.sends ≤ SENDS_MAX = leb-true node.sends SENDS_MAX numbers in
+      let room : node.sends ≤ 2 ^ 32 - 64 = omega (arith, count) in
+      let requests = asked_in_range node.sends state (record { work = may; room = room }) range.range in
+      record {
+        me_so = refl;
+        count_so = refl;
+        numbers = tick_numbers node.sends state;
+        own = λ send there.
+            All-contains (λ (send : NodeId × PeerReq). send.1.from ≡ node.recovery.me) sends send (asked_by_own node.sends state) there ∙ range.own;
+        read = λ send there. ask-again send.1 (All-contains (λ (send : NodeId × PeerReq). IsPeerReq send.1) sends send requests there);
+        asked = λ send there. ⊎_elim
+            (λ (held : Contains (asked_by_gateway node.me node.gateway) send).
+            inl (Contains-append_left (asked_by_gateway node.me node.gateway) (asked_by_recovery node.recovery) send held, tt))
+            (λ (new : Contains (asked_by_recovery (state_after_tick node.sends state).recovery) send).
+            inr (subst (λ (list : Sends). Contains list send) sends_now new))
+            (Contains-append_cases (asked_by_gateway node.me node.gateway) (asked_by_recovery (state_after_tick node.sends state).recovery) send there);
+        waits_on = λ number waits stays.
+            or_left (gateways.gateway_awaits number node.gateway) (recoveries.recovery_awaits number (state_after_tick node.sends state).recovery)
+            (or_first (gateways.gateway_awaits number node.gateway) (recoveries.recovery_awaits number node.recovery) (waited_never number) waits);
+        waits_too = λ send there.
+            or_right (gateways.gateway_awaits send.1.number node.gateway) (recoveries.recovery_awaits send.1.number (state_after_tick node.sends state).recovery)
+            (waited_now send there);
+        fits_on = λ rsp below stays fit.
+            or_left (gateways.fits_gateway rsp node.gateway) (recovery_fits.fits_recovery rsp (recovery_state_of (steps.on_recover_tick (at_first node)).node))
+            (or_first (gateways.fits_gateway rsp node.gateway) (recovery_fits.fits_recovery rsp state) (fitted_never rsp) fit);
+      }
+
+  tick_range : has_numbers node ≡ true → RecoversInRange node → RecoversInRange (steps.on_recover_tick (at_first node)).node
+  unfolding steps.on_recover_tick
+  tick_range numbers range =
+      let state = recovery_state_of node in
+      let count : node.sends ≤ SENDS_MAX = leb-true node.sends SENDS_MAX numbers in
+      let room : node.sends ≤ 2 ^ 32 - 64 = omega (arith, count) in
+      let after = ticked_in_range node.sends state (record { work = may; room = room }) range.range in
+      let frame = frame_of_tick node.sends state in
+      record {
+        own = ap (λ (f : Frame). f.me) frame ∙ range.own;
+        range = record {
+          me = after.me;
+          epoch = after.epoch;
+          settled = range.range.settled;
+          waiting = after.waiting;
+          policies = range.range.policies;
+          targets = range.range.targets;
+          named = after.named;
+          kept = after.kept;
+          pending = after.pending;
+          search = after.search;
+        };
+      }
+
+  pub recovered_asks : has_numbers node ≡ true → RecoversInRange node → AsksFrom Any node (node_step inputs.RecoverTick node)
+  unfolding node_step on_input
+  recovered_asks numbers range = asks_at_end Any node (steps.on_recover_tick (at_first node)) (tick_asks numbers range)
+
+  pub recovered_range : has_numbers node ≡ true → RecoversInRange node → RecoversInRange (node_step inputs.RecoverTick node).node
+  unfolding node_step on_input
+  recovered_range numbers range = range_at_end (steps.on_recover_tick (at_first node)) (tick_range numbers range)
+
+-- the recoveries of all nodes stay in range where one steps and its own does
+pub range_after : (hosts : tree.FinMap nat_cmp Host) (n : ℕ) (host : Host) → RecoversInRange host.node → AllRecoverInRange hosts
+    → AllRecoverInRange (tree.insert hosts n host)
+range_after hosts n host own range q at got = ⊎_elim
+    (λ (same : (q ≡ n) × (host ≡ at)). subst (λ (host : Host). RecoversInRange host.node) same.1 own)
+    (λ (other : (q ≢ n) × (tree.get hosts q ≡ Some at)). range q at other.1)
+    (got_insert hosts n host q at got)
+
+-- nothing leaves the wire
+pub nothing_leaves : (n : ℕ) (wire : tree.FinMap name_cmp Packet) → Leaves Any n wire wire
+nothing_leaves n wire = record {
+  others = λ name apart. refl;
+  kept = λ name own stays. refl;
+  was = λ name packet got. got;
+  stays = λ name packet got own. tt;
+}
+
+wired_ticked : (statements : List Statement) (world : World) (n : ℕ) (o : Option Host) → host_at n world ≡ o
+    → option_map_or (λ (host : Host). is_host_up host && may_tick host.node) o false ≡ true → RecoveriesAreInRange world → WireMatchesNodes world
+    → WireMatchesNodes (host_stepped statements n inputs.RecoverTick o (at_rest world)) × RecoveriesAreInRange (host_stepped statements n inputs.RecoverTick o (at_rest world))
+wired_ticked statements world n None there may range wired = absurd (cc (may))
+wired_ticked statements world n (Some host) there may range wired =
+    let (up, ticks) = and_parts (is_host_up host) (may_tick host.node) may in
+    let numbers = (and_parts (not host.is_lost) (has_numbers host.node) up).1 in
+    let so_far = node_step inputs.RecoverTick host.node in
+    let own = range n host there in (
+      wired_asking Any world.hosts world.wire world.wire n host so_far.node so_far.outputs.sends there up wired
+          (recovered_asks host.node ticks numbers own) (nothing_leaves n world.wire),
+      range_after world.hosts n (next_host host so_far.node) (recovered_range host.node ticks numbers own) range,
+    )
+
+pub wired-recover : (statements : List Statement) (world : World) (made : EventOutcome) (node : NodeId)
+    → step statements (events.RecoverTick node) world ≡ Some made → RecoveriesAreInRange world → WireMatchesNodes world
+    → WireMatchesNodes made.world × RecoveriesAreInRange made.world
+unfolding step recover_tick_effect node_stepped
+wired-recover statements world made node is range wired =
+    let t = cond_some (may_recover node.0 world) (with_replies statements world (recover_tick_effect statements node.0 world)) made is in
+    subst (λ (made : EventOutcome). WireMatchesNodes made.world × RecoveriesAreInRange made.world) t.1
+    (wired_ticked statements world node.0 (host_at node.0 world) refl t.0 range wired)

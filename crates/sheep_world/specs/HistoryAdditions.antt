@@ -1,0 +1,130 @@
+-- What each event adds to the history.
+use Rattle.std.specs.Prelude.{ℕ, ◌+◌, ◌*◌, ◌/◌, ◌==◌, Bool, true, false, ◌&&◌, List, [], ◌∷◌, length, take, drop, map, flat_map, filter, find, Option, Some, None, is_some}
+use Rattle.std.specs.List.{range_with_len}
+use Rattle.std.specs.Option.{option_and_then, option_map_or}
+use Rattle.object_id.specs.declared.limits.TheConstants.{BLOCK_BYTES}
+use Rattle.object_id.specs.declared.oid.Kind.TheVariants.{Block}
+use Rattle.strip_coding.specs.Part.{is_in_strips}
+use Rattle.disk_history.specs.declared.event.HistEvent.{HistEvent}
+use Rattle.disk_history.specs.declared.event.HistEvent.TheVariants.{WriteStart, WriteDone, WriteRefused, WriterLost, Read}
+use Rattle.cluster_script.specs.declared.statement.Statement.{Statement}
+use Rattle.cluster_script.specs.declared.statement.Statement.TheVariants as lines
+use Rattle.cluster_script.specs.NumberedRequests.{session_of, request_at, numbered_requests, payload_of}
+use Rattle.cluster_script.specs.Sessions.{ScriptSession, session_numbered}
+use Rattle.peer_proto.specs.declared.guest.GuestRsp.{GuestRsp}
+use Rattle.peer_proto.specs.declared.guest.GuestRsp.TheVariants as replies
+use Rattle.guest_driver.specs.declared.disk.Disk.{Disk}
+use Rattle.sheep_world.specs.World.{Host, StartedRequest, World, host_at, progress_at}
+use Rattle.sheep_world.specs.Asking.{session_asking}
+use Rattle.sheep_world.specs.Conditions.{next_request}
+use Rattle.sheep_world.specs.Effects.{open_disk_at}
+
+-- a block's part of bytes, by its place among them
+abbrev pub block_in : List ℕ → ℕ → List ℕ
+block_in bytes place = take BLOCK_BYTES (drop (place * BLOCK_BYTES) bytes)
+
+-- an event for each block of a piece, ascending: of the block's number, and its part of the bytes
+abbrev pub each_block : (ℕ → List ℕ → HistEvent) → ℕ → List ℕ → List HistEvent
+each_block event offset bytes =
+    map (λ place. event (offset / BLOCK_BYTES + place) (block_in bytes place)) (range_with_len 0 (length bytes / BLOCK_BYTES))
+
+-- the writes of a piece to an open disk begin
+abbrev pub writes_begin : ℕ → ℕ → List ℕ → Disk → List HistEvent
+writes_begin req offset bytes disk =
+    each_block
+    (λ block piece. WriteStart req disk.inode.vid block (is_in_strips disk.inode.spec.policy Block) piece)
+    offset bytes
+
+-- what a request begins on the disk that its session has open: a write's blocks, ascending
+abbrev pub begins_on : ℕ → Option Disk → Statement → List HistEvent
+begins_on req disk (lines.Write session offset length pattern) =
+    option_map_or (writes_begin req offset (payload_of pattern length)) disk []
+begins_on req disk s = []
+
+-- what a session's next request begins, if it has one
+abbrev pub request_grown : List Statement → World → ScriptSession → Option ℕ → List HistEvent
+request_grown statements world session None = []
+request_grown statements world session (Some req) =
+    option_map_or (begins_on req (open_disk_at session world)) (request_at statements req) []
+
+-- the same by the session's number
+abbrev pub writes_grown : List Statement → ℕ → World → List HistEvent
+writes_grown statements number world = option_map_or
+    (λ session. request_grown statements world session (next_request statements number world))
+    (session_numbered statements number) []
+
+-- whether a started request is the one of a number
+abbrev pub is_started_request : ℕ → StartedRequest → Bool
+is_started_request req started = started.req == req
+
+-- a request that was started and has no reply
+abbrev pub started_at : List Statement → ℕ → World → Option StartedRequest
+started_at statements req world = option_and_then
+    (λ session. find (is_started_request req) (progress_at session world).unanswered)
+    (session_asking statements req)
+
+-- the disk on which a request without reply began
+abbrev pub disk_of : List Statement → ℕ → World → Option ℕ
+disk_of statements req world = option_and_then (λ (started : StartedRequest). started.disk) (started_at statements req world)
+
+-- the end of a write
+abbrev pub write_ended : ℕ → GuestRsp → HistEvent
+write_ended req replies.Done = WriteDone req
+write_ended req (replies.Piece bytes) = WriteDone req
+write_ended req (replies.Refused cause) = WriteRefused req
+write_ended req (replies.Granted vid) = WriteDone req
+
+-- the blocks that a reply gives, ascending
+abbrev pub blocks_read : ℕ → ℕ → GuestRsp → List HistEvent
+blocks_read disk offset replies.Done = []
+blocks_read disk offset (replies.Piece bytes) = each_block (λ block piece. Read disk block piece) offset bytes
+blocks_read disk offset (replies.Refused cause) = []
+blocks_read disk offset (replies.Granted vid) = []
+
+-- what a reply adds: of a request that began on an open disk a write's end, or a read's blocks
+abbrev pub reply_adds : ℕ → GuestRsp → ℕ → Statement → List HistEvent
+reply_adds req rsp disk (lines.Read session offset length) = blocks_read disk offset rsp
+reply_adds req rsp disk (lines.Write session offset length pattern) = write_ended req rsp ∷ []
+reply_adds req rsp disk s = []
+
+-- the same where the request began on a disk, and is one of the script
+abbrev pub added_by : ℕ → GuestRsp → Option ℕ → Option Statement → List HistEvent
+added_by req rsp None s = []
+added_by req rsp (Some disk) None = []
+added_by req rsp (Some disk) (Some s) = reply_adds req rsp disk s
+
+-- what one reply adds
+abbrev pub reply_grown : List Statement → World → ℕ × GuestRsp → List HistEvent
+reply_grown statements world reply =
+    added_by reply.0 reply.1 (disk_of statements reply.0 world) (request_at statements reply.0)
+
+-- what the replies of a step add, by request: their requests had no reply in the world before
+abbrev pub replies_grown : List Statement → World → World → List HistEvent
+replies_grown statements before after = flat_map (reply_grown statements before) after.outputs.replies
+
+-- whether a statement is a write
+abbrev pub is_write : Statement → Bool
+is_write (lines.Write session offset length pattern) = true
+is_write s = false
+
+-- whether a session belongs to the present incarnation of a node
+abbrev pub is_of_incarnation : List Statement → ℕ → ℕ → ℕ → Bool
+is_of_incarnation statements node incarnation session =
+    option_map_or (λ (of : ScriptSession). of.node == node && of.incarnation == incarnation) (session_numbered statements session) false
+
+-- whether a request is a write that began on an open disk in this incarnation of a node, and has no reply
+abbrev pub is_lost_write : List Statement → World → ℕ → ℕ → ℕ × Statement → Bool
+is_lost_write statements world node incarnation request =
+    is_write request.1 && option_map_or (is_of_incarnation statements node incarnation) (session_of request.1) false
+    && is_some (disk_of statements request.0 world)
+
+-- the writers that a node's loss leaves without reply, by request
+abbrev pub writers_lost : List Statement → World → ℕ → Option Host → List HistEvent
+writers_lost statements world node None = []
+writers_lost statements world node (Some host) =
+    map (λ (request : ℕ × Statement). WriterLost request.0)
+    (filter (is_lost_write statements world node host.incarnation) (numbered_requests statements))
+
+-- the same by the node's number
+abbrev pub loss_grown : List Statement → ℕ → World → List HistEvent
+loss_grown statements node world = writers_lost statements world node (host_at node world)

@@ -1,0 +1,66 @@
+-- One node's step in the world: what it sends enters the wire, and what it replied to is answered.
+use Rattle.std.specs.Prelude.{ℕ, ◌==◌, not, List, fold, filter, Option, Some, None, unwrap_or}
+use Rattle.std.specs.Ordering.{nat_cmp}
+use Rattle.std.specs.FinMap as tree
+use Rattle.object_id.specs.declared.node.NodeId.{NodeId}
+use Rattle.cluster_script.specs.declared.statement.Statement.{Statement}
+use Rattle.peer_proto.specs.declared.ask.PeerReq.{PeerReq}
+use Rattle.peer_proto.specs.declared.guest.GuestRsp.{GuestRsp}
+use Rattle.peer_proto.specs.Ask.{ask_bytes}
+use Rattle.sheep_node.specs.declared.input.Input.{Input}
+use Rattle.sheep_node.specs.StepState.{StepState}
+use Rattle.sheep_node.specs.Step.{node_step}
+use Rattle.sheep_world.specs.declared.name.MessageName.{MessageName}
+use Rattle.sheep_world.specs.World.{name_cmp, Packet, Request, Host, StartedRequest, SessionProgress, World, host_at, no_progress}
+use Rattle.sheep_world.specs.Opening.{no_outputs}
+use Rattle.sheep_world.specs.Asking.{session_asking}
+
+-- the name of a request
+abbrev pub request_name : PeerReq → MessageName
+request_name request = record { sender = request.from; number = request.number }
+
+-- a request enters the wire, on its way to a node
+abbrev pub wire_with_request : tree.FinMap name_cmp Packet → NodeId × PeerReq → tree.FinMap name_cmp Packet
+wire_with_request wire send = tree.insert wire (request_name send.1) (Request send.0 (ask_bytes send.1))
+
+-- a session in which a request is no longer without reply
+abbrev pub progress_without_request : ℕ → SessionProgress → SessionProgress
+progress_without_request req guest = record guest { unanswered = filter (λ (started : StartedRequest). not (started.req == req)) guest.unanswered }
+
+-- the request of a session has its reply
+abbrev pub progress_after_reply_in : ℕ → Option ℕ → tree.FinMap nat_cmp SessionProgress → tree.FinMap nat_cmp SessionProgress
+progress_after_reply_in req None guests = guests
+progress_after_reply_in req (Some session) guests =
+    tree.insert guests session (progress_without_request req (unwrap_or (tree.get guests session) no_progress))
+
+-- the same of a reply, by the session that asked
+abbrev pub progress_after_reply : List Statement → tree.FinMap nat_cmp SessionProgress → ℕ × GuestRsp → tree.FinMap nat_cmp SessionProgress
+progress_after_reply statements guests reply = progress_after_reply_in reply.0 (session_asking statements reply.0) guests
+
+-- the world after the step of a node in its host
+abbrev pub world_after_step : List Statement → ℕ → Input → Host → StepState → World → World
+world_after_step statements node input host so_far world = record world {
+  hosts = tree.insert world.hosts node (record host { node = so_far.node });
+  wire = fold wire_with_request world.wire so_far.outputs.sends;
+  guests = fold (progress_after_reply statements) world.guests so_far.outputs.replies;
+  input = Some input;
+  outputs = so_far.outputs;
+}
+
+-- the node in a host steps on an input
+abbrev pub host_stepped : List Statement → ℕ → Input → Option Host → World → World
+host_stepped statements node input None world = world
+host_stepped statements node input (Some host) world = world_after_step statements node input host (node_step input host.node) world
+
+-- a node steps on an input
+unfoldable pub node_stepped : List Statement → ℕ → Input → World → World
+node_stepped statements node input world = host_stepped statements node input (host_at node world) world
+
+-- a node steps on an input, if there is one
+abbrev pub node_stepped_if : List Statement → ℕ → Option Input → World → World
+node_stepped_if statements node None world = world
+node_stepped_if statements node (Some input) world = node_stepped statements node input world
+
+-- no node steps
+abbrev pub at_rest : World → World
+at_rest world = record world { input = None; outputs = no_outputs }

@@ -1,0 +1,11 @@
+use Rattle.std.proofs.Common.{ℕ, ◌+◌, drop}
+use Rattle.vdi_directory.specs.References.{AreReferenceCounts, parent_in, count_in, reserved_by}
+use Rattle.vdi_directory.proofs.references.drop_references_of.Given as goal
+
+-- the reservations from here on are still to be taken
+abbrev pub invariant-loop-reservation : goal.invariant-loop-reservation
+invariant-loop-reservation l = record {
+  loses : (own : ℕ → ℕ) → AreReferenceCounts (parent_in l.headers) (λ vid. own vid + reserved_by l.node l.reservations vid) (count_in l.fn.references)
+      → AreReferenceCounts (parent_in l.headers) (λ vid. own vid + reserved_by l.node (drop l.reservation-index l.reservations) vid) (count_in l.references);
+  can : (own : ℕ → ℕ) × AreReferenceCounts (parent_in l.headers) (λ vid. own vid + reserved_by l.node (drop l.reservation-index l.reservations) vid) (count_in l.references);
+}

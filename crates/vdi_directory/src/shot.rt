@@ -1,8 +1,0 @@
-use object_id::{Bytes, Vid};
-
-/// A live snapshot of a name.
-#[derive(Debug, Drop)]
-pub struct Shot {
-    pub vid: Vid,
-    pub tag: Bytes,
-}

@@ -1,0 +1,58 @@
+ghost use Rattle.std.specs.Prelude.{◌≡◌, ◌==◌, ℕ, ◌≤◌, length, take, drop, IfOk};
+ghost use Rattle.hash_ring.specs.Placement.{AreWeighted, targets_of};
+
+use hash_ring::Ring;
+use object_id::{Epoch, Member, MemberList, NoMemory, NodeId};
+use std::alloc::Global;
+use std::marker::Model;
+
+/// An epoch with its members, and the ring of their points. Contracts see the epoch and the members.
+#[derive(Drop)]
+pub struct EpochRing {
+    epoch: Epoch,
+    members: MemberList,
+    ring: Ring,
+}
+
+impl Model for EpochRing {
+    ghost use Rattle.std.specs.Prelude.{◌≡◌, ℕ};
+    ghost use Rattle.hash_ring.specs.Placement.{targets_of};
+    ghost use Rattle.hash_ring.specs.Points.{targets_among};
+    ghost use Rattle.vnode_table.specs.Epochs.{EpochMembers};
+
+    ghost Value = { EpochMembers };
+
+    ghost view = { λ term. record { epoch = term.epoch.0; members = term.members } };
+
+    ghost invariant = { λ term. (object wanted : ℕ) → targets_among term.ring object wanted ≡ targets_of term.members object wanted };
+}
+
+impl EpochRing {
+    pub fn new(alloc: Global, epoch: Epoch, members: &[Member]) -> Result<EpochRing, NoMemory>
+        requires { AreWeighted members.now }
+        ensures { IfOk result (λ term. term ≡ record { epoch = epoch.0; members = members.now }) }
+    {
+        Ok(EpochRing {
+            epoch,
+            members: MemberList::from_vec(Vec::from_slice(alloc, members)?),
+            ring: Ring::build(alloc, members)?,
+        })
+    }
+
+    /// Whether this is the epoch's.
+    pub fn is_of(&self, epoch: Epoch) -> bool
+        ensures { result ≡ (self.now.epoch == epoch.0) }
+    {
+        self.epoch == epoch
+    }
+
+    /// The first `n` targets of an object of this hash. The rest of `out` stays.
+    pub fn targets(&self, hash: u64, n: usize, out: &mut [NodeId]) -> usize
+        requires { n ≤ length out.old }
+        ensures count { result ≡ length (targets_of self.now.members hash n) }
+        ensures filled { take result out.new ≡ targets_of self.now.members hash n }
+        ensures rest { drop result out.new ≡ drop result out.old }
+    {
+        self.ring.targets(hash, n, out)
+    }
+}
