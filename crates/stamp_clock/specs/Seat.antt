@@ -48,4 +48,10 @@ IsSpentBy last old new =
 -- what two seats make when they are joined
 abbrev pub joined_seat : SeatState → SeatState → SeatState
 joined_seat seat other =
-    record { clock = seat.clock; mine = seat.mine ++ other.mine; seen = max seat.seen other.seen; room = seat.room + other.room; spent = seat.spent || other.spent }
+    record {
+      clock = seat.clock;
+      mine = seat.mine ++ other.mine;
+      seen = max seat.seen other.seen;
+      room = seat.room + other.room;
+      spent = seat.spent || other.spent;
+    }

@@ -136,6 +136,8 @@ impl Clock {
         // Another one found a number, which is `last` or above it.
         ensures past { seat.old.spent ≡ false → OnErr result (IsSpentBy self.now.last seat.old seat.new) }
         ensures spent { OnErr result (seat.new.spent ≡ true) }
+
+        ensures clock { seat.new.clock ≡ seat.old.clock }
     {
         if seat.spent {
             return Err(ClockSpent);

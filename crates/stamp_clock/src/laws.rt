@@ -1,8 +1,11 @@
 //! The promises on stamps: each is the contract of a call.
-ghost use Rattle.std.specs.Prelude.{◌≡◌, ◌≢◌, ◌+◌, ◌<◌, ◌≤◌, ℕ, List, [], ◌∷◌, ◌++◌, All, Contains, Some, slice_get, slice_set, IfOk, OnErr, ◌⊎◌, true, false};
+ghost use Rattle.std.specs.Prelude.{◌≡◌, ◌≢◌, ◌+◌, ◌<◌, ◌≤◌, ◌⊎◌, ℕ, true, false, List, [], ◌∷◌, ◌++◌};
+ghost use Rattle.std.specs.Prelude.{All, Contains, Some, slice_get, slice_set, IfOk, OnErr};
 ghost use Rattle.stamp_clock.specs.declared.rule.View.{View};
 ghost use Rattle.stamp_clock.specs.Stamps.{AreStamps, HasNoneTwice, IsViewAt};
-ghost use Rattle.stamp_clock.specs.Steps.{first_view, view_after_draw, view_of_note, view_of_seat, view_without_seat, joined_view, empty_view};
+ghost use Rattle.stamp_clock.specs.Steps.{first_view, view_after_draw, view_of_note, view_of_seat, view_without_seat};
+ghost use Rattle.stamp_clock.specs.Steps.{joined_view, empty_view};
+ghost use Rattle.stamp_clock.specs.Seat.{joined_seat};
 
 use crate::clock::{Clock, ClockSpent};
 use crate::seat::Seat;
@@ -23,13 +26,14 @@ pub fn stamps_grow(clock: &Clock, seat: &mut Seat) -> Result<u64, ClockSpent>
     requires { seat.old.clock ≡ clock.now.id }
     ensures above { IfOk result (λ stamp. All (λ earlier. earlier < stamp) seat.old.mine) }
     ensures drawn { IfOk result (λ stamp. seat.new.mine ≡ stamp ∷ seat.old.mine) }
+    ensures clock { seat.new.clock ≡ seat.old.clock }
     ensures spent { OnErr result (seat.new.spent ≡ true) }
 {
     numbers_of_a_seat(seat);
     clock.draw(seat)
 }
 
-/// A number drawn after a note was learned is above the one that the note's maker drew before it made the note.
+/// A number drawn after a note was learned is above the one that the note's maker drew before making the note.
 pub fn a_stamp_is_above_what_was_brought(
     clock: &Clock,
     maker: &mut Seat,
@@ -41,6 +45,7 @@ pub fn a_stamp_is_above_what_was_brought(
     // The first is the maker's, the second the taker's.
     ensures made { IfOk result (λ stamps. maker.new.mine ≡ stamps.0 ∷ maker.old.mine) }
     ensures taken { IfOk result (λ stamps. taker.new.mine ≡ stamps.1 ∷ taker.old.mine) }
+    ensures clock { (maker.new.clock ≡ maker.old.clock) × (taker.new.clock ≡ taker.old.clock) }
     ensures spent { OnErr result ((maker.new.spent ≡ true) ⊎ (taker.new.spent ≡ true)) }
 {
     let sent = clock.draw(maker)?;
@@ -54,7 +59,8 @@ pub fn a_stamp_is_above_what_was_brought(
 pub fn no_stamp_twice(clock: &Clock, seat: &mut Seat, other: Seat)
     requires seat { seat.old.clock ≡ clock.now.id }
     requires other { other.clock ≡ clock.now.id }
-    ensures { (number : ℕ) → Contains seat.old.mine number → Contains other.mine number → ⊥ }
+    ensures joined { seat.new ≡ joined_seat seat.old other }
+    ensures apart { (number : ℕ) → Contains seat.old.mine number → Contains other.mine number → ⊥ }
 {
     clock.join(seat, other);
 }

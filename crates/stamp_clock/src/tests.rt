@@ -1,6 +1,5 @@
-//! What no clause says: that calls come through with ample memory, that stamps are the numbers from 0 on, also where
-//! several threads draw them, and that a clock can be named where a value crosses threads.
-
+//! What no clause says: that calls come through with ample memory, that stamps are the numbers from 0 on, also when two
+//! threads draw them, and that a value can cross threads under the name of its clock.
 ghost use Rattle.std.specs.Prelude.{◌≡◌, ◌<◌, IfOk};
 
 use crate::{Clock, ClockName, ClockSpent, Note, Seat, stamps_grow};
@@ -20,19 +19,6 @@ fn is_spent_from_the_last_number_on(rt: HostRuntime) -> Result<(), Fail> {
     Ok(())
 }
 
-// A draw that ends so uses up a number too, but only a seat that was answered so, or took one in, stays spent.
-#[test]
-fn a_spent_seat_spends_the_one_that_takes_it_in(rt: HostRuntime) -> Result<(), Fail> {
-    let (clock, mut seats) = Clock::new(rt.alloc(), 0, 2)?;
-    assert_eq!(rt; seats.len(), 2);
-    assert_eq!(rt; clock.draw(&mut seats[1]), Err(ClockSpent));
-    if let Some(spent) = seats.pop() {
-        clock.join(&mut seats[0], spent);
-    }
-    assert_eq!(rt; clock.draw(&mut seats[0]), Err(ClockSpent));
-    Ok(())
-}
-
 // The most seats, and the greatest last number.
 #[test]
 fn each_seat_draws_the_next_number(rt: HostRuntime) -> Result<(), Fail> {
@@ -47,17 +33,20 @@ fn each_seat_draws_the_next_number(rt: HostRuntime) -> Result<(), Fail> {
     Ok(())
 }
 
-// What a seat learned is below its next number, whichever way the note went.
 #[test]
-fn a_note_of_a_note_carries_as_much(rt: HostRuntime) -> Result<(), Fail> {
+fn notes_and_joins_use_up_no_number(rt: HostRuntime) -> Result<(), Fail> {
     let (clock, mut seats) = Clock::new(rt.alloc(), 10, 2)?;
-    assert_eq!(rt; seats.len(), 2);
-    let mut note = clock.note(&mut seats[0]);
+    let (Some(mut taker), Some(mut maker)) = (seats.pop(), seats.pop()) else {
+        panic!(rt; "two seats");
+    };
+    assert_eq!(rt; clock.draw(&mut maker), Ok(0));
+    let mut note = clock.note(&mut maker);
     let again = clock.again(&mut note);
-    clock.learn(&mut seats[1], again);
-    clock.learn(&mut seats[0], note);
-    assert_eq!(rt; clock.draw(&mut seats[1]), Ok(0));
-    assert_eq!(rt; stamps_grow(&clock, &mut seats[0]), Ok(1));
+    clock.learn(&mut taker, again);
+    clock.learn(&mut maker, note);
+    assert_eq!(rt; stamps_grow(&clock, &mut taker), Ok(1));
+    clock.join(&mut taker, maker);
+    assert_eq!(rt; clock.draw(&mut taker), Ok(2));
     Ok(())
 }
 
