@@ -54,10 +54,6 @@ abbrev pub IsSound : ℕ → Known → StepState → Type 0
 IsSound first known so_far =
     Sound first known (known_of so_far.node so_far.outputs.say so_far.outputs.put) so_far.outputs.sends so_far.node.sends so_far.outputs.replies
 
-pub either : {X : Type 0} (P : X → Type 0) (b : Bool) (x y : X) → P x → P y → P (cond b x y)
-either P true x y px py = px
-either P false x y px py = py
-
 pub sent_sound : (first : ℕ) (known : Known) (sends : List (NodeId × PeerReq)) (so_far : StepState)
     → AreNumberedFrom so_far.node.sends sends → IsSound first known so_far → IsSound first known (with_sends sends so_far)
 sent_sound first known sends so_far n s = record {

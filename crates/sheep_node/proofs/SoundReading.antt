@@ -1,5 +1,6 @@
 -- Reading an entry keeps a step sound, and adds that entry to those that were read.
 use Rattle.std.proofs.Common.{◌≡◌, ℕ, nat_lt, Bool, true, false, cond, List, [], ◌∷◌, ◌++◌, Option, Some, None, refl, ap, ◌∙◌}
+use Rattle.proof_tools.proofs.Booleans.{cond_either}
 use Rattle.object_id.specs.declared.node.NodeId.{NodeId}
 use Rattle.object_id.specs.declared.entry.Entry.{Entry}
 use Rattle.epoch_log.specs.Epochs.{begins_epoch, epoch_of, settled_of}
@@ -13,7 +14,7 @@ use Rattle.sheep_node.specs.State.{Request, Node}
 use Rattle.sheep_node.specs.StepState.{StepState, with_node}
 use Rattle.sheep_node.specs.Courses.{course_decided}
 use Rattle.sheep_node.specs.LogReading.{is_epoch_member, with_peer, with_epoch_members, peer_entered, recovery_begun_if, epoch_entered, entered_by, settled_by, entry_read, asker_of, decision_told, on_log_entry, on_back}
-use Rattle.sheep_node.proofs.Sound.{place_of, Known, known_of, IsSound, either}
+use Rattle.sheep_node.proofs.Sound.{place_of, Known, known_of, IsSound}
 use Rattle.sheep_node.proofs.SoundWorks.{course_decided_sound}
 use Rattle.sheep_node.proofs.SoundWaits.{let_begin_sound}
 
@@ -44,15 +45,15 @@ epoch_entered_at me entries count node h =
 entered_by_at : (me : NodeId) (entries : List Entry) (count : ℕ) (entry : Entry) (node : Node) → IsAt me entries count node
     → IsAt me entries count (entered_by entry node)
 entered_by_at me entries count entry node h =
-    either (IsAt me entries count) (begins_epoch entry) (epoch_entered node) (cond (is_format entry) (with_epoch_members 1 node) node)
+    cond_either (IsAt me entries count) (begins_epoch entry) (epoch_entered node) (cond (is_format entry) (with_epoch_members 1 node) node)
     (epoch_entered_at me entries count node h)
-    (either (IsAt me entries count) (is_format entry) (with_epoch_members 1 node) node h h)
+    (cond_either (IsAt me entries count) (is_format entry) (with_epoch_members 1 node) node h h)
 
 settled_by_at : (me : NodeId) (entries : List Entry) (count settled : ℕ) (node : Node) → IsAt me entries count node
     → IsAt me entries count (settled_by settled node)
 unfolding peer_settled_to
 settled_by_at me entries count settled node h =
-    either (IsAt me entries count) (nat_lt node.peer.settled settled) (with_peer (peer_settled_to settled node.peer) node) node h h
+    cond_either (IsAt me entries count) (nat_lt node.peer.settled settled) (with_peer (peer_settled_to settled node.peer) node) node h h
 
 peer_read_at : (entry : Entry) (node : Node)
     → IsAt node.me (node.peer.entries ++ entry ∷ []) node.sends (with_peer (read_entry entry node.peer) node)

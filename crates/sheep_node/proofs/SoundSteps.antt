@@ -1,6 +1,7 @@
 -- Each input keeps a step sound, and so does `Recovered` at its end.
 use Rattle.std.proofs.Common.{◌≡◌, ℕ, ◌+◌, ◌&&◌, not, Bool, true, false, cond, List, [], ◌∷◌, length, Option, Some, None, Result, Ok, Err, refl, ap, sym, subst, ◌∙◌, arith}
 use Rattle.std.proofs.Math.Bool.{and-false}
+use Rattle.proof_tools.proofs.Booleans.{cond_either}
 use Rattle.object_id.specs.declared.entry.Entry.{Entry}
 use Rattle.object_store.specs.declared.fault.StoreFault.{StoreFault}
 use Rattle.object_store.specs.Store.{AllRows, read_at, write_at}
@@ -31,7 +32,7 @@ use Rattle.sheep_node.specs.Step.{on_request, recovery_stepped, on_reply, on_los
 use Rattle.sheep_node.specs.StepFacts.{read_after, may_begin_recovery, said_on, first_entry_of, put_on, Ascend}
 use Rattle.gateway.specs.Outcomes.{AreNumberedFrom}
 use Rattle.sheep_node.proofs.Numbers.{answered_numbers, retried_numbers, tick_numbers}
-use Rattle.sheep_node.proofs.Sound.{Place, place_of, Known, known_of, IsSound, either, sent_sound}
+use Rattle.sheep_node.proofs.Sound.{Place, place_of, Known, known_of, IsSound, sent_sound}
 use Rattle.sheep_node.proofs.SoundWaits.{gateway_stepped_sound, guest_asked_sound}
 use Rattle.sheep_node.proofs.SoundReading.{log_read_sound, back_sound, entries_reading, entries_back}
 
@@ -105,7 +106,7 @@ answered_sound : (first : ℕ) (known : Known) (rsp : PeerRsp) (so_far : StepSta
     → IsSound first known so_far → IsSound first known (on_reply rsp so_far)
 unfolding on_reply
 answered_sound first known rsp so_far s =
-    either (IsSound first known) (gateways.gateway_awaits rsp.number so_far.node.gateway)
+    cond_either (IsSound first known) (gateways.gateway_awaits rsp.number so_far.node.gateway)
     (after_gateway_step (gateway_steps.gateway_on_reply so_far.node.gateway rsp) so_far)
     (recovery_stepped (recovery_steps.recovery_on_reply rsp (recovery_state_of so_far.node)) so_far)
     (gateway_stepped_sound first known (gateway_steps.gateway_on_reply so_far.node.gateway rsp) so_far
@@ -116,7 +117,7 @@ lost_sound : (first : ℕ) (known : Known) (number : ℕ) (so_far : StepState)
     → IsSound first known so_far → IsSound first known (on_loss number so_far)
 unfolding on_loss
 lost_sound first known number so_far s =
-    either (IsSound first known) (gateways.gateway_awaits number so_far.node.gateway)
+    cond_either (IsSound first known) (gateways.gateway_awaits number so_far.node.gateway)
     (after_gateway_step (gateway_steps.gateway_on_loss so_far.node.gateway number) so_far)
     (recovery_stepped (recovery_steps.recovery_on_loss number (recovery_state_of so_far.node)) so_far)
     (gateway_stepped_sound first known (gateway_steps.gateway_on_loss so_far.node.gateway number) so_far
@@ -243,7 +244,7 @@ with_recovered_ends first known so_far e = record {
 recovered_put_ends : (first : ℕ) (known : Known) (so_far : StepState) → IsSound first known so_far → Ends first known (recovered_put so_far)
 unfolding recovered_put
 recovered_put_ends first known so_far s =
-    either (Ends first known) (is_due so_far.node) (with_recovered so_far) so_far
+    cond_either (Ends first known) (is_due so_far.node) (with_recovered so_far) so_far
     (with_recovered_ends first known so_far (sound_ends first known so_far s)) (sound_ends first known so_far s)
 
 stepped_ends : (input : Input) (node : Node) → Ends node.sends (known_after input node) (node_step input node)
@@ -316,7 +317,7 @@ put_once so_far done =
 recovered_stays : (so_far : StepState) → so_far.node.recovered ≡ true → (recovered_put so_far).node.recovered ≡ true
 unfolding recovered_put
 recovered_stays so_far done =
-    either (λ (t : StepState). t.node.recovered ≡ true) (is_due so_far.node) (with_recovered so_far) so_far refl done
+    cond_either (λ (t : StepState). t.node.recovered ≡ true) (is_due so_far.node) (with_recovered so_far) so_far refl done
 
 put_before : (input : Input) (node : Node) → may_begin_recovery input ≡ false → (after input node).recovered ≡ node.recovered
 put_before (inputs.Guest req session ask) node quiet = refl

@@ -1,6 +1,7 @@
 -- What waited, an act of the gateway and a guest's request keep a step sound.
 use Rattle.std.proofs.Common.{ℕ, ◌==◌, List, [], ◌∷◌, fold, Option, Some, None}
 use Rattle.std.specs.FinMap as tree
+use Rattle.proof_tools.proofs.Booleans.{cond_either}
 use Rattle.object_id.specs.declared.cause.Cause.{Cause}
 use Rattle.peer_proto.specs.declared.guest.DiskAsk.{DiskAsk}
 use Rattle.peer_proto.specs.declared.guest.GuestRsp.TheVariants.{Refused}
@@ -23,7 +24,7 @@ use Rattle.sheep_node.specs.Courses.{disk_begun, course_went_on}
 use Rattle.sheep_node.specs.Waiting.{next_begun, course_begun, found_request_begun, begun_if_may, passed_over, let_begin, queue_left_by, work_done, work_refused, after_act, after_gateway_step}
 use Rattle.sheep_node.specs.Guests.{request_refusal, with_queued_request, request_taken, request_taken_unless, on_guest, inode_open}
 use Rattle.sheep_node.proofs.Numbers.{NumbersOf}
-use Rattle.sheep_node.proofs.Sound.{Known, IsSound, either, sent_sound, replied_sound}
+use Rattle.sheep_node.proofs.Sound.{Known, IsSound, sent_sound, replied_sound}
 use Rattle.sheep_node.proofs.SoundWorks.{request_refused_sound, work_begun_sound, disk_begun_sound, command_went_on_sound, course_went_on_sound}
 
 next_begun_sound : (first : ℕ) (known : Known) (number : ℕ) (next : Option lines.Waiting) (so_far : StepState)
@@ -35,7 +36,7 @@ next_begun_sound first known number (Some next) so_far s =
 course_begun_sound : (first : ℕ) (known : Known) (number req : ℕ) (course : Course) (so_far : StepState)
     → IsSound first known so_far → IsSound first known (course_begun number req course so_far)
 course_begun_sound first known number req (Waiting ask) so_far s =
-    either (IsSound first known) (may_run req (session_in number so_far).queue)
+    cond_either (IsSound first known) (may_run req (session_in number so_far).queue)
     (disk_begun number req ask (session_in number so_far).disk so_far) so_far
     (disk_begun_sound first known number req ask (session_in number so_far).disk so_far s) s
 course_begun_sound first known number req (Driving driver) so_far s = s
@@ -45,7 +46,7 @@ request_begun_sound : (first : ℕ) (known : Known) (number req : ℕ) (request 
     → IsSound first known so_far → IsSound first known (found_request_begun number req request so_far)
 request_begun_sound first known number req None so_far s = s
 request_begun_sound first known number req (Some request) so_far s =
-    either (IsSound first known) (request.session == number) (course_begun number req request.course so_far) so_far
+    cond_either (IsSound first known) (request.session == number) (course_begun number req request.course so_far) so_far
     (course_begun_sound first known number req request.course so_far s) s
 
 all_begun_sound : (first : ℕ) (known : Known) (number : ℕ) (reqs : List ℕ) (so_far : StepState)

@@ -1,6 +1,7 @@
 -- The works and courses of requests keep a step sound.
 use Rattle.std.proofs.Common.{ℕ, List, Option, Some, None}
 use Rattle.std.specs.FinMap as tree
+use Rattle.proof_tools.proofs.Booleans.{cond_either}
 use Rattle.object_id.specs.declared.cause.Cause.{Cause}
 use Rattle.object_id.specs.declared.entry.Entry.{Entry}
 use Rattle.peer_proto.specs.declared.guest.DiskAsk.{DiskAsk}
@@ -28,7 +29,7 @@ use Rattle.sheep_node.specs.StepState.{StepState, with_optional_entry, session_i
 use Rattle.sheep_node.specs.RequestWorks.{command_refused, course_refused, request_refused, queue_left, after_start, start_of, work_begun, work_asked}
 use Rattle.sheep_node.specs.Courses.{driver_acted, driver_stepped, driver_went_on, disk_went_on, disk_begun, disk_after, command_acted, command_stepped, command_went_on, course_went_on, course_decided}
 use Rattle.sheep_node.proofs.Numbers.{NumbersOf, started_numbers}
-use Rattle.sheep_node.proofs.Sound.{Known, IsSound, either, sent_sound, ended_sound}
+use Rattle.sheep_node.proofs.Sound.{Known, IsSound, sent_sound, ended_sound}
 
 appended_sound : (first : ℕ) (known : Known) (entry : Option Entry) (so_far : StepState)
     → IsSound first known so_far → IsSound first known (with_optional_entry entry so_far)
@@ -75,7 +76,7 @@ work_asked_sound : (first : ℕ) (known : Known) (number req : ℕ) (work : ObjW
     → IsSound first known so_far → IsSound first known (work_asked number req work so_far)
 unfolding work_asked
 work_asked_sound first known number req work so_far s =
-    either (IsSound first known) (may_open_work (session_in number so_far).inode_queue work)
+    cond_either (IsSound first known) (may_open_work (session_in number so_far).inode_queue work)
     (work_begun number req work (with_inode_queue number (queue_with_open (session_in number so_far).inode_queue req work) so_far))
     (with_inode_queue number (queue_with_waiting (session_in number so_far).inode_queue req work) so_far)
     (work_begun_sound first known number req work (with_inode_queue number (queue_with_open (session_in number so_far).inode_queue req work) so_far) s)

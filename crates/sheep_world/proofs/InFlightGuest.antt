@@ -4,6 +4,7 @@ use Rattle.std.specs.Option.{option_map_or, option_and_then, IfSome}
 use Rattle.std.specs.FinMap as tree
 use Rattle.std.proofs.lemmas.Bool.{eq-eqb, and_parts}
 use Rattle.std.proofs.lemmas.Option.{cond_some}
+use Rattle.proof_tools.proofs.FiniteMaps.{get-insert_same}
 use Rattle.object_id.specs.declared.cause.Cause.{Cause}
 use Rattle.cluster_script.specs.declared.statement.Statement.{Statement}
 use Rattle.cluster_script.specs.NumberedRequests.{session_of, request_at}
@@ -41,7 +42,6 @@ use Rattle.sheep_world.specs.Step.{EventOutcome, step, guest_made}
 use Rattle.sheep_world.specs.WireMatch.{WireMatchesNodes}
 use Rattle.sheep_world.specs.OneWork.{may_work_at, may_work_of, HasOneWorkPerRequest, NodesHaveOneWorkPerRequest, IsSentInRange, IsNewRequest}
 use Rattle.sheep_world.proofs.EnabledLaws.{looked_up}
-use Rattle.sheep_world.proofs.NumberTools.{got_own}
 use Rattle.sheep_world.proofs.OneWorkLaws.{IsGood, IsFreeIn, free_session, good_session, good_course, ended_good, work_asked_good, course_begun_good}
 use Rattle.sheep_world.proofs.InFlightRetryTick.{good_first, good_at_end, DoesWell, good_well, step_together, StaysTogether}
 
@@ -77,7 +77,7 @@ unfolding command_stepped
 command_stepped_good old number req ask step so_far awaited free good =
     let request : Request = record { session = number; course = Commanding ask step.op } in
     command_acted_good old number req ask step.op step.act (with_course number req (Commanding ask step.op) so_far) awaited
-    (got_own so_far.node.requests req request) free (good_course old number req (Commanding ask step.op) so_far free good)
+    (get-insert_same so_far.node.requests req request) free (good_course old number req (Commanding ask step.op) so_far free good)
 
 pub command_went_on_good : (old : Node) (number req : ℕ) (ask : VdiAsk) (step : Option ops.OpStep) (so_far : StepState) → IfSome step IsAwaitedByCommand
     → IsFreeIn req so_far → IsGood old so_far → IsGood old (command_went_on number req ask step so_far)
