@@ -10,3 +10,8 @@ pub mod LogReading
 pub mod Step
 pub mod May
 pub mod StepFacts
+pub mod RecoveryRange
+pub mod OneWork
+pub mod Changes
+pub mod OwnEntries
+pub mod SessionQueues

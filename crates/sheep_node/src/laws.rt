@@ -1,5 +1,6 @@
 //! Laws of a step, for the proofs of the layers above: each is the contract of a function that does nothing.
-ghost use Rattle.std.specs.Prelude.{◌≡◌, ℕ, ◌+◌, ◌<◌, true, false, List, [], ◌∷◌, ◌++◌, length, Option, Some, None, IsTrue};
+ghost use Rattle.std.specs.Prelude.{◌≡◌, ◌⊎◌, ℕ, ◌+◌, ◌<◌, true, false, List, [], ◌∷◌, ◌++◌, length, Option, Some, None, IsTrue};
+ghost use Rattle.std.specs.FinMap.{contains_key};
 ghost use Rattle.object_id.specs.declared.node.NodeId.{NodeId};
 ghost use Rattle.object_id.specs.declared.entry.Entry.{Entry};
 ghost use Rattle.object_id.specs.declared.entry.Entry.TheVariants as entries;
@@ -14,11 +15,16 @@ ghost use Rattle.peer_proto.specs.declared.work.ObjWork.{ObjWork};
 ghost use Rattle.gateway.specs.State.{is_touched};
 ghost use Rattle.gateway.specs.Outcomes.{AreNumberedFrom};
 ghost use Rattle.vdi_ops.specs.Op.{Op, entry_wanted};
+ghost use Rattle.sheep_node.specs.declared.ask.Ask.{Ask};
 ghost use Rattle.sheep_node.specs.declared.ask.Ask.TheVariants.{Vdi};
 ghost use Rattle.sheep_node.specs.declared.input.Input.{Input};
 ghost use Rattle.sheep_node.specs.declared.input.Input.TheVariants as inputs;
 ghost use Rattle.sheep_node.specs.State.{Node, Commanding, initial_node};
-ghost use Rattle.sheep_node.specs.StepState.{StepState};
+ghost use Rattle.sheep_node.specs.StepState.{StepState, at_first};
+ghost use Rattle.sheep_node.specs.OneWork.{HasOneWorkPerRequest};
+ghost use Rattle.sheep_node.specs.OwnEntries.{HasOnlyOwnEntries};
+ghost use Rattle.sheep_node.specs.SessionQueues.{QueuesAreDiskRequests};
+ghost use Rattle.sheep_node.specs.Changes.{input_received, Leads};
 ghost use Rattle.sheep_node.specs.Same.{is_of_command, waits_for_entry};
 ghost use Rattle.sheep_node.specs.RequestWorks.{work_begun};
 ghost use Rattle.sheep_node.specs.May.{May};
@@ -109,4 +115,39 @@ pub fn a_create_begins_with_its_reservation()
     ensures { (req session : ℕ) (name : List ℕ) (spec : VdiSpec) (node : Node) → is_due node ≡ false
         → (node_step (inputs.Guest req session (Vdi (Create name spec))) node).node.outbox
         ≡ node.outbox ++ entries.Reserve node.me session name (Fresh spec) ∷ [] }
+{}
+
+/// A node's step is a chain of changes, each with one effect, behind what its input changes by itself.
+pub fn a_step_is_a_chain_of_changes()
+    ensures { (input : Input) (node : Node) → May input node → HasOneWorkPerRequest node
+        → Leads input node (input_received input (at_first node)) (node_step input node) }
+{}
+
+/// A request has one work at most, open or in its session's line, and a number is waited for once: so a node opens, and so
+/// it stays at each step.
+pub fn a_request_has_one_work()
+    ensures opens { (me : NodeId) (tries : ℕ) → HasOneWorkPerRequest (initial_node me tries) }
+    ensures stays { (input : Input) (node : Node) → May input node → HasOneWorkPerRequest node
+        → HasOneWorkPerRequest (node_step input node).node }
+{}
+
+/// The entries that a node puts are its own: its commands' and its own `Recovered`.
+pub fn a_node_puts_its_own_entries()
+    ensures opens { (me : NodeId) (tries : ℕ) → HasOnlyOwnEntries (initial_node me tries) }
+    ensures stays { (input : Input) (node : Node) → May input node → HasOneWorkPerRequest node → HasOnlyOwnEntries node
+        → HasOnlyOwnEntries (node_step input node).node }
+{}
+
+/// A session's queue is its reads and writes without reply.
+pub fn a_queue_has_the_disk_requests()
+    ensures opens { (me : NodeId) (tries : ℕ) → QueuesAreDiskRequests (initial_node me tries) }
+    ensures stays { (input : Input) (node : Node) → May input node → HasOneWorkPerRequest node → QueuesAreDiskRequests node
+        → QueuesAreDiskRequests (node_step input node).node }
+{}
+
+/// A node's requests are those that it had, and the guest's request that it steps on.
+pub fn requests_come_from_inputs()
+    ensures { (input : Input) (node : Node) (req : ℕ) → May input node → HasOneWorkPerRequest node
+        → contains_key (node_step input node).node.requests req ≡ true
+        → (contains_key node.requests req ≡ true) ⊎ ((session : ℕ) × (ask : Ask) × (input ≡ inputs.Guest req session ask)) }
 {}

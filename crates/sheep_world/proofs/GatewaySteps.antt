@@ -23,7 +23,7 @@ use Rattle.gateway.specs.Step.{next_attempt}
 use Rattle.recovery.specs.State.{Recovery}
 use Rattle.sheep_node.specs.State.{Node}
 use Rattle.sheep_world.specs.WireMatch.{unanswered_in}
-use Rattle.sheep_world.specs.OneWork.{NumbersAreOfOneWork, NumbersAreBelow}
+use Rattle.sheep_node.specs.OneWork.{NumbersAreOfOneWork, NumbersAreBelow}
 use Rattle.sheep_world.proofs.NumberTools.{same_or_not, below_or_not, got_own, got_other}
 use Rattle.sheep_world.proofs.ListTools.{has-here, has-later, has-none, has_cases}
 use Rattle.sheep_world.proofs.InFlightSends.{Sends}

@@ -42,7 +42,7 @@ use Rattle.sheep_node.specs.Waiting.{queue_left_by, work_done, after_act, after_
 use Rattle.sheep_node.specs.Step as steps
 use Rattle.sheep_node.specs.Step.{recovery_stepped, on_input, is_due, with_recovered, recovered_put, node_step}
 use Rattle.sheep_node.proofs.SoundSteps.{stepped_numbers, stepped_counts}
-use Rattle.sheep_world.specs.OneWork.{HasOneWorkPerRequest}
+use Rattle.sheep_node.specs.OneWork.{HasOneWorkPerRequest}
 use Rattle.sheep_world.proofs.InFlightSends.{Asking}
 use Rattle.sheep_world.proofs.InFlightRecoveryAnswer.{Other, left_now, lost_asks, replied_asks}
 use Rattle.sheep_world.proofs.NumberTools.{got_removed}

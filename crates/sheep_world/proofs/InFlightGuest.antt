@@ -39,7 +39,8 @@ use Rattle.sheep_world.specs.NodeSteps.{node_stepped, node_stepped_if, at_rest}
 use Rattle.sheep_world.specs.Effects.{request_started, requests_started, next_input, gateway_node_stepped, guest_effect}
 use Rattle.sheep_world.specs.Step.{EventOutcome, step, guest_made}
 use Rattle.sheep_world.specs.WireMatch.{WireMatchesNodes}
-use Rattle.sheep_world.specs.OneWork.{may_work_at, may_work_of, HasOneWorkPerRequest, NodesHaveOneWorkPerRequest, IsSentInRange, IsNewRequest}
+use Rattle.sheep_node.specs.OneWork.{may_work_at, may_work_of, HasOneWorkPerRequest}
+use Rattle.sheep_world.specs.OneWork.{NodesHaveOneWorkPerRequest, IsSentInRange, IsNewRequest}
 use Rattle.sheep_world.proofs.EnabledLaws.{looked_up}
 use Rattle.sheep_world.proofs.NumberTools.{got_own}
 use Rattle.sheep_world.proofs.OneWorkLaws.{IsGood, IsFreeIn, free_session, good_session, good_course, ended_good, work_asked_good, course_begun_good}

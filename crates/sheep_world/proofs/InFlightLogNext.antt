@@ -64,7 +64,8 @@ use Rattle.sheep_world.specs.NodeSteps.{node_stepped, node_stepped_if, at_rest}
 use Rattle.sheep_world.specs.Effects.{next_entry, log_next_effect}
 use Rattle.sheep_world.specs.Step.{EventOutcome, step, with_replies}
 use Rattle.sheep_world.specs.WireMatch.{asked_by_gateway, WireMatchesNodes}
-use Rattle.sheep_world.specs.OneWork.{may_work, HaveOneWorkPerRequest, NumbersAreOfOneWork, NumbersAreBelow, HasOneWorkPerRequest, NodesHaveOneWorkPerRequest, IsSentInRange}
+use Rattle.sheep_node.specs.OneWork.{may_work, HaveOneWorkPerRequest, NumbersAreOfOneWork, NumbersAreBelow, HasOneWorkPerRequest}
+use Rattle.sheep_world.specs.OneWork.{NodesHaveOneWorkPerRequest, IsSentInRange}
 use Rattle.sheep_world.proofs.ListTools.{has-none, has-found}
 use Rattle.sheep_world.proofs.InFlightSends.{Sends, Asking}
 use Rattle.sheep_world.proofs.InFlightRecoverTick.{Any}

@@ -53,7 +53,8 @@ use Rattle.sheep_world.specs.NodeSteps.{host_stepped, node_stepped, at_rest}
 use Rattle.sheep_world.specs.Effects.{retry_tick_effect}
 use Rattle.sheep_world.specs.Step.{EventOutcome, step, with_replies}
 use Rattle.sheep_world.specs.WireMatch.{unanswered_in, asked_by, asked_by_recovery, WireMatchesNodes}
-use Rattle.sheep_world.specs.OneWork.{may_work_at, waiting_in, HaveOneWorkPerRequest, HasOneWorkPerRequest, NodesHaveOneWorkPerRequest, IsSentInRange}
+use Rattle.sheep_node.specs.OneWork.{may_work_at, waiting_in, HaveOneWorkPerRequest, HasOneWorkPerRequest}
+use Rattle.sheep_world.specs.OneWork.{NodesHaveOneWorkPerRequest, IsSentInRange}
 use Rattle.sheep_world.proofs.ListTools.{has-here, has-none, has-later, has_cases, has-found}
 use Rattle.sheep_world.proofs.NameTools.{entries-got}
 use Rattle.sheep_world.proofs.InFlightEvents.{got_insert}

@@ -44,7 +44,8 @@ use Rattle.sheep_world.specs.Opening as worlds
 use Rattle.sheep_world.specs.Opening.{format_entry, initial_host}
 use Rattle.sheep_world.specs.MembershipChanges.{lost_host, control_taken, host_changed, without_replies, node_lost, node_left, node_joined, node_reweighted, join_of, last_weight, revived_host, node_rejoined, came_back, phase_ended}
 use Rattle.sheep_world.specs.Step.{EventOutcome, step, only, put_made, loss_made, with_replies}
-use Rattle.sheep_world.specs.OneWork.{waiting_in, AreOfDifferentRequests, HaveOneWorkPerRequest, NumbersAreOfOneWork, NumbersAreBelow, HasOneWorkPerRequest, NodesHaveOneWorkPerRequest}
+use Rattle.sheep_node.specs.OneWork.{waiting_in, AreOfDifferentRequests, HaveOneWorkPerRequest, NumbersAreOfOneWork, NumbersAreBelow, HasOneWorkPerRequest}
+use Rattle.sheep_world.specs.OneWork.{NodesHaveOneWorkPerRequest}
 use Rattle.sheep_world.proofs.ListTools.{has-none, has-here, has-later}
 use Rattle.sheep_world.proofs.InFlightPut.{next_host}
 use Rattle.sheep_world.proofs.InFlightSends.{numbers_within}

@@ -35,7 +35,7 @@ use Rattle.sheep_node.specs.StepState.{StepState, with_optional_entry, with_sess
 use Rattle.sheep_node.specs.RequestWorks.{command_refused, course_refused, request_refused, queue_left, after_start, work_begun, work_asked}
 use Rattle.sheep_node.specs.Courses.{driver_acted, driver_stepped, disk_begun}
 use Rattle.sheep_node.specs.Waiting.{next_begun, course_begun, found_request_begun, begun_if_may, passed_over, let_begin, queue_left_by, work_refused}
-use Rattle.sheep_world.specs.OneWork.{may_work, may_work_at, may_work_of, waiting_in, AreOfDifferentRequests, HaveOneWorkPerRequest}
+use Rattle.sheep_node.specs.OneWork.{may_work, may_work_at, may_work_of, waiting_in, AreOfDifferentRequests, HaveOneWorkPerRequest}
 use Rattle.sheep_world.proofs.NumberTools.{same_or_not, got_own, got_other, got_left, removed_none}
 use Rattle.sheep_world.proofs.ListTools.{has-here, has-later, has-none}
 use Rattle.sheep_world.proofs.GatewaySteps.{Works, Going, IsIdle, going_opened, going_short}

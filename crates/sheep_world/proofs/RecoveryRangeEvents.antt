@@ -64,8 +64,10 @@ use Rattle.sheep_world.specs.Effects.{request_started, requests_started, next_in
 use Rattle.sheep_world.specs.Messages.{without_message, loss_used, loss_told, message_lost}
 use Rattle.sheep_world.specs.MembershipChanges.{lost_host, control_taken, host_changed, without_replies, node_lost, node_left, node_joined, node_reweighted, phase_ended}
 use Rattle.sheep_world.specs.Step.{EventOutcome, step, only, put_made, loss_made, guest_made, with_replies}
-use Rattle.sheep_world.specs.OneWork.{HasOneWorkPerRequest, NodesHaveOneWorkPerRequest, IsNewRequest}
-use Rattle.sheep_world.specs.Ranges.{RecoversInRange, AllRecoverInRange, RecoveriesAreInRange}
+use Rattle.sheep_node.specs.OneWork.{HasOneWorkPerRequest}
+use Rattle.sheep_world.specs.OneWork.{NodesHaveOneWorkPerRequest, IsNewRequest}
+use Rattle.sheep_node.specs.RecoveryRange.{RecoversInRange}
+use Rattle.sheep_world.specs.Ranges.{AllRecoverInRange, RecoveriesAreInRange}
 use Rattle.sheep_world.proofs.InFlightPut.{next_host}
 use Rattle.sheep_world.proofs.InFlightRecoverTick.{range_at_end, range_after}
 use Rattle.sheep_world.proofs.OneWorkLaws.{IsGood}
