@@ -1,11 +1,6 @@
+pub mod Cases
 pub mod Numbers
-pub mod Sound
-pub mod SoundWorks
-pub mod SoundWaits
-pub mod SoundReading
-pub mod SoundSteps
 pub mod StepLaws
-pub mod LogLaws
 pub mod SameLaws
 pub mod StartLaws
 pub mod NumberTools
@@ -23,3 +18,4 @@ pub mod RequestChanges
 pub mod PeerLog
 pub mod StepEffects
 pub mod StepResults
+pub mod LogLaws

@@ -8,6 +8,9 @@ use Rattle.epoch_log.specs.Epochs.{begins_epoch, epoch_of, settled_of}
 use Rattle.epoch_log.specs.Appending.{is_format}
 use Rattle.epoch_log.proofs.EpochLemmas.{epoch_of-append, members_in-append, settled_of-begun, settled_of-append}
 use Rattle.vnode_table.specs.Epochs.{EpochMembers}
+use Rattle.gateway.specs.State as gateways
+use Rattle.recovery.specs.Steps as recovery_steps
+use Rattle.peer_service.specs.State.{Peer}
 use Rattle.peer_service.specs.Epochs as peers
 use Rattle.peer_service.specs.Epochs.{peer_settled_to}
 use Rattle.peer_service.specs.LogReading.{without_objects, read_entry}
@@ -16,11 +19,16 @@ use Rattle.sheep_node.specs.declared.input.Input.{Input}
 use Rattle.sheep_node.specs.declared.input.Input.TheVariants as inputs
 use Rattle.sheep_node.specs.State.{Node, initial_node}
 use Rattle.sheep_node.specs.LogReading.{is_epoch_member, entered_in, with_peer, with_epoch_members, peer_entered, recovery_begun_if, epoch_entered, entered_by, entry_read, epochs_up_to, on_back}
-use Rattle.sheep_node.specs.Step.{node_step}
+use Rattle.sheep_node.specs.RecoveryView.{recovery_state_of}
+use Rattle.sheep_node.specs.StepState.{StepState, at_first}
+use Rattle.sheep_node.specs.Step.{on_request, recovery_stepped, on_put, on_recover_tick, node_step}
 use Rattle.sheep_node.specs.May.{MayRead, Meets, May}
 use Rattle.sheep_node.specs.StepFacts.{epochs_of, FollowsLog, IsByTheLog}
-use Rattle.sheep_node.proofs.Sound.{Place}
-use Rattle.sheep_node.proofs.SoundSteps.{after, stepped_place}
+use Rattle.sheep_node.specs.OneWork.{HasOneWorkPerRequest}
+use Rattle.sheep_node.specs.Changes.{input_received}
+use Rattle.sheep_node.proofs.Cases.{either}
+use Rattle.sheep_node.proofs.PeerLog.{Log, served_same}
+use Rattle.sheep_node.proofs.StepResults.{step_peer, step_epochs}
 
 -- the epochs of entries, with one more
 
@@ -236,22 +244,39 @@ back_follows entries node above =
 
 -- each step
 
-after_follows : (input : Input) (node : Node) → Meets input node → IsByTheLog node → IsByTheLog (after input node)
-after_follows (inputs.Guest req session ask) node may h = h
-after_follows (inputs.Request request) node may h = h
-after_follows (inputs.Reply rsp) node may h = h
-after_follows (inputs.Lost number) node may h = h
-after_follows (inputs.LogEntry entry) node may h = reads_follow entry node may h
-after_follows inputs.Put node may h = h
-after_follows inputs.RecoverTick node may h = h
-after_follows inputs.RetryTick node may h = h
-after_follows (inputs.Back entries) node may h = back_follows entries node may.above_1
+received_follows : (input : Input) (node : Node) → Meets input node → IsByTheLog node → IsByTheLog (input_received input (at_first node)).node
+unfolding on_request on_recover_tick
+received_follows (inputs.Guest req session ask) node may h = h
+received_follows (inputs.Request request) node may h =
+    subst (λ (log : Log). FollowsLog log.epoch log.settled node.epochs log.entries) (sym (served_same node.peer request)) h
+received_follows (inputs.Reply rsp) node may h =
+    either (λ (start : StepState). IsByTheLog start.node) (gateways.gateway_awaits rsp.number node.gateway) (at_first node)
+    (recovery_stepped (recovery_steps.recovery_on_reply rsp (recovery_state_of node)) (at_first node)) h
+    (record { epoch_so = h.epoch_so; settled_so = h.settled_so; epochs_so = h.epochs_so })
+received_follows (inputs.Lost number) node may h =
+    either (λ (start : StepState). IsByTheLog start.node) (gateways.gateway_awaits number node.gateway) (at_first node)
+    (recovery_stepped (recovery_steps.recovery_on_loss number (recovery_state_of node)) (at_first node)) h
+    (record { epoch_so = h.epoch_so; settled_so = h.settled_so; epochs_so = h.epochs_so })
+received_follows (inputs.LogEntry entry) node may h = reads_follow entry node may h
+received_follows inputs.Put node may h = by_outbox node.outbox
+  where
+    by_outbox : (outbox : List Entry) → IsByTheLog (on_put outbox (at_first node)).node
+    by_outbox [] = h
+    by_outbox (entry ∷ later) = record { epoch_so = h.epoch_so; settled_so = h.settled_so; epochs_so = h.epochs_so }
+received_follows inputs.RecoverTick node may h =
+    record { epoch_so = h.epoch_so; settled_so = h.settled_so; epochs_so = h.epochs_so }
+received_follows inputs.RetryTick node may h = h
+received_follows (inputs.Back entries) node may h = back_follows entries node may.above_1
 
 -- a node stays where the entries that it has read have it
-pub stepped_follows : (input : Input) (node : Node) → May input node → IsByTheLog node → IsByTheLog (node_step input node).node
-stepped_follows input node may h =
-    subst (λ (place : Place). FollowsLog place.epoch place.settled place.epochs place.entries) (sym (stepped_place input node))
-    (after_follows input node may.condition h)
+pub step_follows : (input : Input) (node : Node) → May input node → HasOneWorkPerRequest node → IsByTheLog node
+    → IsByTheLog (node_step input node).node
+step_follows input node may one_work h =
+    let start = (input_received input (at_first node)).node in
+    subst (λ (peer : Peer). FollowsLog peer.epoch peer.settled (node_step input node).node.epochs peer.entries)
+    (sym (step_peer input node may one_work))
+    (subst (λ (epochs : List EpochMembers). FollowsLog start.peer.epoch start.peer.settled epochs start.peer.entries)
+    (sym (step_epochs input node may one_work)) (received_follows input node may.condition h))
 
 -- so it opens
 pub opening_follows : (me : NodeId) (tries : ℕ) → IsByTheLog (initial_node me tries)

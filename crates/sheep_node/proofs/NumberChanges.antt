@@ -50,7 +50,7 @@ use Rattle.sheep_node.proofs.MessageNumbers.{all_before, fresh_apart, fresh_belo
 use Rattle.sheep_node.proofs.ReadParts.{read_keeps, begun_same}
 use Rattle.sheep_node.proofs.OneWorkChanges.{StepHasOneWork, by_touch, none_good, change_keeps_one_work, received_one_work}
 use Rattle.sheep_node.proofs.StepChain.{kept_by_chain, step_chain}
-use Rattle.sheep_node.proofs.Sound.{either}
+use Rattle.sheep_node.proofs.Cases.{either}
 
 -- a number is of one work or of the recovery, and was given; the gateway asks in the node's name
 pub record HaveOneNumberEach (me own : NodeId) (works : Works) (count : ℕ) (recovery : Recovery) : Type 0 where

@@ -53,7 +53,7 @@ use Rattle.sheep_node.proofs.NumberTools.{got_own, got_removed}
 use Rattle.sheep_node.proofs.ListTools.{has-here, has-none}
 use Rattle.sheep_node.proofs.OneWorkParts.{Requests, Sessions, driven_session, free_session, finished_waiting, may_at, driven_insert, driven_queued, began_waiting, driven_taken, free_taken, driven_removed, driven_course, driven_gone, free_at, free_removed}
 use Rattle.sheep_node.proofs.ReadParts.{read_keeps}
-use Rattle.sheep_node.proofs.Sound.{either}
+use Rattle.sheep_node.proofs.Cases.{either}
 
 abbrev pub StepHasOneWork : StepState → Type 0
 StepHasOneWork so_far = HaveOneWorkPerRequest so_far.node.gateway.works so_far.node.requests so_far.node.sessions

@@ -13,7 +13,7 @@ use Rattle.sheep_node.specs.OneWork.{may_work, may_work_at, may_work_of, waiting
 use Rattle.sheep_node.proofs.NumberTools.{same_or_not, got_own, got_other, got_removed, got_left, removed_none}
 use Rattle.sheep_node.proofs.ListTools.{has-here, has-later, has-none}
 use Rattle.sheep_node.proofs.EntryTools.{Works}
-use Rattle.sheep_node.proofs.Sound.{either}
+use Rattle.sheep_node.proofs.Cases.{either}
 
 abbrev pub Requests : Type 0
 Requests = tree.FinMap nat_cmp Request

@@ -56,7 +56,7 @@ use Rattle.sheep_node.proofs.EntryTools.{got_insert}
 use Rattle.sheep_node.proofs.ReadParts.{read_keeps}
 use Rattle.sheep_node.proofs.OneWorkChanges.{awaited_of}
 use Rattle.sheep_node.proofs.StepChain.{kept_by_chain, step_chain}
-use Rattle.sheep_node.proofs.Sound.{either}
+use Rattle.sheep_node.proofs.Cases.{either}
 
 -- ---- the steps of a command
 

@@ -20,7 +20,7 @@ use Rattle.peer_service.specs.LogReading.{without_objects, read_entry}
 use Rattle.peer_service.specs.Back.{closed_at_end, come_back}
 use Rattle.sheep_node.specs.State.{Node}
 use Rattle.sheep_node.specs.LogReading.{is_epoch_member, with_peer, with_epoch_members, peer_entered, recovery_begun_if, epoch_entered, entered_by, settled_by, entry_read, on_back}
-use Rattle.sheep_node.proofs.Sound.{either}
+use Rattle.sheep_node.proofs.Cases.{either}
 
 -- ---- a served request reads nothing of the log
 

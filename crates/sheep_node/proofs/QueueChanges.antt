@@ -48,7 +48,7 @@ use Rattle.sheep_node.proofs.ListTools.{has-here, has-later, has-none, has_cases
 use Rattle.sheep_node.proofs.OneWorkParts.{Requests, Sessions}
 use Rattle.sheep_node.proofs.ReadParts.{read_keeps}
 use Rattle.sheep_node.proofs.StepChain.{kept_by_chain, step_chain}
-use Rattle.sheep_node.proofs.Sound.{either}
+use Rattle.sheep_node.proofs.Cases.{either}
 
 -- ---- a session among others
 

@@ -17,7 +17,7 @@ use Rattle.sheep_node.specs.State.{Node}
 use Rattle.sheep_node.specs.RecoveryView.{recovery_state_of}
 use Rattle.sheep_node.specs.LogReading as nodes
 use Rattle.sheep_node.specs.LogReading.{is_epoch_member, epoch_members, with_peer, with_epoch_members, peer_entered, recovery_begun, recovery_begun_if, epoch_entered, entered_by, settled_by}
-use Rattle.sheep_node.proofs.Sound.{either}
+use Rattle.sheep_node.proofs.Cases.{either}
 
 pub record LeavesWorks (old new : Node) : Type 0 where
   pub me_so : new.me ≡ old.me

@@ -35,7 +35,7 @@ use Rattle.sheep_node.proofs.EntryTools.{got_insert}
 use Rattle.sheep_node.proofs.OneWorkParts.{Requests}
 use Rattle.sheep_node.proofs.ReadParts.{read_keeps}
 use Rattle.sheep_node.proofs.StepChain.{kept_by_chain, step_chain}
-use Rattle.sheep_node.proofs.Sound.{either}
+use Rattle.sheep_node.proofs.Cases.{either}
 
 -- each number of a request is so
 abbrev pub AllAre : (ℕ → Type 0) → Requests → Type 0

@@ -43,7 +43,7 @@ use Rattle.sheep_node.specs.OneWork.{HasOneWorkPerRequest}
 use Rattle.sheep_node.specs.Changes as changes
 use Rattle.sheep_node.specs.Changes.{Outcome, ToWork, ToEntry, ToReply, without_ended_work, zones_of_members, without_denied_work, attempt_in, RequestSteps, DiskBegins, DiskGoesOn, CommandBegins, CommandGoesOn, CommandDecided, after_command_step, WorkIsNext, AtOnce, InTurn, Again, input_received, Change}
 use Rattle.sheep_node.proofs.Numbers.{tick_numbers, numbers_joined}
-use Rattle.sheep_node.proofs.Sound.{either}
+use Rattle.sheep_node.proofs.Cases.{either}
 use Rattle.sheep_node.proofs.ReadParts.{read_keeps}
 use Rattle.sheep_node.proofs.StepChain.{kept_by_chain, step_chain}
 

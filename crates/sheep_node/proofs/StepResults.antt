@@ -22,7 +22,7 @@ use Rattle.sheep_node.specs.StepFacts.{read_after, may_begin_recovery, said_on, 
 use Rattle.sheep_node.specs.May.{May}
 use Rattle.sheep_node.specs.OneWork.{HasOneWorkPerRequest}
 use Rattle.sheep_node.specs.Changes.{input_received}
-use Rattle.sheep_node.proofs.Sound.{either}
+use Rattle.sheep_node.proofs.Cases.{either}
 use Rattle.sheep_node.proofs.ReadParts.{read_keeps}
 use Rattle.sheep_node.proofs.PeerLog.{Log, log_of, served_same, entries_reading, entries_back}
 use Rattle.sheep_node.proofs.StepEffects.{Untouched, untouched_in, AreInOrder, step_in_order}

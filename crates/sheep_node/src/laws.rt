@@ -34,30 +34,36 @@ ghost use Rattle.sheep_node.specs.StepFacts.{read_after, may_begin_recovery, onl
 /// The sends of a step are numbered upwards from the node's count, and the count grows by how many they are. So no two
 /// sends of a node have one number.
 pub fn sends_are_numbered()
-    ensures numbers { (input : Input) (node : Node) → AreNumberedFrom node.sends (node_step input node).outputs.sends }
-    ensures count { (input : Input) (node : Node)
+    ensures numbers { (input : Input) (node : Node) → May input node → HasOneWorkPerRequest node
+        → AreNumberedFrom node.sends (node_step input node).outputs.sends }
+    ensures count { (input : Input) (node : Node) → May input node → HasOneWorkPerRequest node
         → (node_step input node).node.sends ≡ node.sends + length (node_step input node).outputs.sends }
 {}
 
 /// Only an entry of the log, and coming back, change what a node has read; and it stays itself.
 pub fn only_the_log_is_read()
-    ensures read { (input : Input) (node : Node) → (node_step input node).node.peer.entries ≡ read_after input node.peer.entries }
-    ensures own { (input : Input) (node : Node) → (node_step input node).node.me ≡ node.me }
+    ensures read { (input : Input) (node : Node) → May input node → HasOneWorkPerRequest node
+        → (node_step input node).node.peer.entries ≡ read_after input node.peer.entries }
+    ensures own { (input : Input) (node : Node) → May input node → HasOneWorkPerRequest node → (node_step input node).node.me ≡ node.me }
 {}
 
 /// A node's epoch, its settled epoch and the members of its epochs are those of the entries that it has read: so it opens,
 /// and so it stays at each step.
 pub fn a_node_is_where_its_entries_have_it()
     ensures opens { (me : NodeId) (tries : ℕ) → IsByTheLog (initial_node me tries) }
-    ensures stays { (input : Input) (node : Node) → May input node → IsByTheLog node → IsByTheLog (node_step input node).node }
+    ensures stays { (input : Input) (node : Node) → May input node → HasOneWorkPerRequest node → IsByTheLog node
+        → IsByTheLog (node_step input node).node }
 {}
 
 /// Something is said to a peer only on a request, and put into the log only on Put: the outbox's first entry. Guests are
 /// replied to by ascending request.
 pub fn outputs_are_as_the_input()
-    ensures say { (input : Input) (node : Node) → (node_step input node).outputs.say ≡ said_on input node }
-    ensures put { (input : Input) (node : Node) → (node_step input node).outputs.put ≡ put_on input node }
-    ensures replies { (input : Input) (node : Node) → Ascend (node_step input node).outputs.replies }
+    ensures say { (input : Input) (node : Node) → May input node → HasOneWorkPerRequest node
+        → (node_step input node).outputs.say ≡ said_on input node }
+    ensures put { (input : Input) (node : Node) → May input node → HasOneWorkPerRequest node
+        → (node_step input node).outputs.put ≡ put_on input node }
+    ensures replies { (input : Input) (node : Node) → May input node → HasOneWorkPerRequest node
+        → Ascend (node_step input node).outputs.replies }
 {}
 
 /// A request of another epoch is answered with the node's own, and changes nothing.
@@ -92,7 +98,8 @@ pub fn what_is_put_leaves_the_outbox()
 pub fn recovered_is_put_once()
     ensures due { (input : Input) (node : Node) → is_due (node_step input node).node ≡ false }
     ensures once { (so_far : StepState) → so_far.node.recovered ≡ true → recovered_put so_far ≡ so_far }
-    ensures stays { (input : Input) (node : Node) → may_begin_recovery input ≡ false → node.recovered ≡ true
+    ensures stays { (input : Input) (node : Node) → May input node → HasOneWorkPerRequest node
+        → may_begin_recovery input ≡ false → node.recovered ≡ true
         → (node_step input node).node.recovered ≡ true }
 {}
 
