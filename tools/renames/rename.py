@@ -159,7 +159,7 @@ def clause_spans(t):
         if not m: break
         ls = t.rfind('\n', 0, m.start()) + 1
         if '//' in t[ls:m.start()]:
-            pos = m.end(); continue
+            pos = t.find('\n', m.start()); continue
         if t[m.start():m.start() + 10].startswith('ghost use'):
             pos = t.index(';', m.start()) + 1; continue
         i, depth = m.end(), 1

@@ -103,3 +103,10 @@ for q in glob.glob(d + 'proofs/**/*', recursive=True):
         n = os.path.basename(q); m = parts(pm)(re.match('.*', n))
         if m != n and os.path.exists(q): mv(q, os.path.join(os.path.dirname(q), m))
 sub_all(paths('vdi_directory'), [(r"\bmod state;", 'mod directory_state;'), (r"crate::state::", 'crate::directory_state::'), (r"\b(proofs|declared)\.state\b", r"\1.directory_state"), (r"(?m)^((?:pub )?mod |use Rattle\.vdi_directory\.proofs\.)ShotLemmas", r"\1SnapshotLemmas"), (r"\bShotLemmas\b", 'SnapshotLemmas')])
+
+# the files of vdi_directory's proofs, as others cite them
+for p in glob.glob('crates/*/proofs/**/*.antt', recursive=True):
+    t = s = open(p, encoding='utf-8').read()
+    for a, b in (('BookLemmas', 'StateLemmas'), ('BearerLemmas', 'ReferenceLemmas'), ('ShotLemmas', 'SnapshotLemmas'), ('UnborneLemmas', 'UnreferencedLemmas')):
+        s = re.sub(r"(Rattle\.vdi_directory\.proofs\.)" + a + r"\b", r"\1" + b, s)
+    if s != t: open(p, 'w', encoding='utf-8').write(s)

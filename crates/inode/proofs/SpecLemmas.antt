@@ -4,7 +4,7 @@ use Rattle.std.specs.Option.{ok_or}
 use Rattle.std.proofs.lemmas.Bool.{eqb-true, eqb-false, eq-eqb, ne_eqb, le-leb, leb-true, lt-ltb, ltb-true, and_parts, and_from, not-true, not_from_false}
 use Rattle.object_id.specs.declared.policy.Policy.{Policy}
 use Rattle.object_id.specs.declared.entry.VdiSpec.{VdiSpec}
-use Rattle.object_id.specs.declared.entry.TheConstants.{SHIFT_MIN, SHIFT_MAX}
+use Rattle.object_id.specs.declared.limits.TheConstants.{SHIFT_MIN, SHIFT_MAX, VID_MAX}
 use Rattle.object_id.specs.Oid.{IsVid}
 use Rattle.object_id.specs.Policy.{IsPolicy, policy_byte, strips_of}
 use Rattle.object_id.specs.Spec.{IsSpec}
@@ -101,9 +101,9 @@ spec-read bytes spec e =
 pub vid-read : (bytes : List ℕ) (vid : ℕ) → vid_at bytes ≡ Ok vid → (u32_at 560 bytes ≡ vid) × IsVid vid
 unfolding vid_at
 vid-read bytes vid e =
-    let through = let-through (leb 1 (u32_at 560 bytes) && ltb (u32_at 560 bytes) (2 ^ 24)) (u32_at 560 bytes) vid faults.BadSize e in
-    let both = and_parts (leb 1 (u32_at 560 bytes)) (ltb (u32_at 560 bytes) (2 ^ 24)) through.0 in
-    (through.1, subst (λ n. IsVid n) through.1 (leb-true 1 (u32_at 560 bytes) both.0, ltb-true (u32_at 560 bytes) (2 ^ 24) both.1))
+    let through = let-through (leb 1 (u32_at 560 bytes) && leb (u32_at 560 bytes) VID_MAX) (u32_at 560 bytes) vid faults.BadSize e in
+    let both = and_parts (leb 1 (u32_at 560 bytes)) (leb (u32_at 560 bytes) VID_MAX) through.0 in
+    (through.1, subst (λ n. IsVid n) through.1 (leb-true 1 (u32_at 560 bytes) both.0, leb-true (u32_at 560 bytes) VID_MAX both.1))
 
 -- ---- what stands there is read
 
@@ -140,6 +140,6 @@ spec-again bytes spec at =
 pub vid-again : (bytes : List ℕ) (vid : ℕ) → u32_at 560 bytes ≡ vid → IsVid vid → vid_at bytes ≡ Ok vid
 unfolding vid_at
 vid-again bytes vid at valid =
-    let fits : (leb 1 (u32_at 560 bytes) && ltb (u32_at 560 bytes) (2 ^ 24)) ≡ true
-    = ap (λ n. leb 1 n && ltb n (2 ^ 24)) at ∙ and_from (leb 1 vid) (ltb vid (2 ^ 24)) (le-leb 1 vid valid.0) (lt-ltb vid (2 ^ 24) valid.1) in
-    passes (leb 1 (u32_at 560 bytes) && ltb (u32_at 560 bytes) (2 ^ 24)) (u32_at 560 bytes) faults.BadSize fits ∙ ap (λ n. Ok n) at
+    let fits : (leb 1 (u32_at 560 bytes) && leb (u32_at 560 bytes) VID_MAX) ≡ true
+    = ap (λ n. leb 1 n && leb n VID_MAX) at ∙ and_from (leb 1 vid) (leb vid VID_MAX) (le-leb 1 vid valid.0) (le-leb vid VID_MAX valid.1) in
+    passes (leb 1 (u32_at 560 bytes) && leb (u32_at 560 bytes) VID_MAX) (u32_at 560 bytes) faults.BadSize fits ∙ ap (λ n. Ok n) at

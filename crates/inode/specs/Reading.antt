@@ -6,7 +6,7 @@ use Rattle.std.specs.Int.{w32}
 use Rattle.object_id.specs.declared.policy.Policy.{Policy}
 use Rattle.object_id.specs.declared.policy.Policy.TheVariants.{Copies, Coded}
 use Rattle.object_id.specs.declared.entry.VdiSpec.{VdiSpec}
-use Rattle.object_id.specs.declared.entry.TheConstants.{SHIFT_MIN, SHIFT_MAX}
+use Rattle.object_id.specs.declared.limits.TheConstants.{SHIFT_MIN, SHIFT_MAX, VID_MAX}
 use Rattle.object_id.specs.Policy.{is_width}
 use Rattle.object_id.specs.Spec.{objects_of}
 use Rattle.object_id.specs.Fields.{u8_at, u32_at, u64_at, numbers_at}
@@ -80,7 +80,7 @@ spec_at bytes = do
   Ok (record { size = size; policy = policy; shift = shift })
 
 unfoldable pub vid_at : List ℕ → Result ℕ InodeFault
-vid_at bytes = if nat_le 1 (u32_at 560 bytes) && nat_lt (u32_at 560 bytes) (2 ^ 24) then Ok (u32_at 560 bytes) else Err faults.BadSize
+vid_at bytes = if nat_le 1 (u32_at 560 bytes) && nat_le (u32_at 560 bytes) VID_MAX then Ok (u32_at 560 bytes) else Err faults.BadSize
 
 -- as many entries as the disk has objects
 abbrev pub is_entry : ℕ → Bool

@@ -116,9 +116,9 @@ fn vid_at(bytes: &[u8]) -> Result<Vid, InodeFault>
     requires { INODE_HEADER_BYTES ≤ length bytes.now }
     ensures { reading.GivesField (λ vid. vid.0) result (reading.vid_at bytes.now) }
 {
-    let vid = u32_at(bytes, 560);
-    if 1 <= vid && vid < ENTRY_END {
-        Ok(Vid(vid))
+    let vid = Vid(u32_at(bytes, 560));
+    if vid.is_valid() {
+        Ok(vid)
     } else {
         Err(InodeFault::BadSize)
     }

@@ -1,6 +1,9 @@
 pub mod Hash
 pub mod Oid
+pub mod Node
 pub mod Policy
+pub mod Same
+pub mod Span
 pub mod Spec
 pub mod Piece
 pub mod Fields

@@ -1,5 +1,6 @@
 -- The layout of an object id, by its bits.
 use Rattle.std.specs.Prelude.{◌≡◌, ◌≢◌, ◌⊎◌, ℕ, ◌+◌, ◌*◌, ◌/◌, ◌%◌, ◌^◌, ◌<◌, ◌≤◌, ◌==◌, if◌then◌else◌}
+use Rattle.object_id.specs.declared.limits.TheConstants.{VID_MAX}
 use Rattle.object_id.specs.declared.oid.Kind.{Kind}
 use Rattle.object_id.specs.declared.oid.Kind.TheVariants.{Block, Inode}
 
@@ -18,7 +19,7 @@ kind_of raw = if bits raw 63 1 == 1 then Inode else Block
 
 -- a disk's id
 abbrev pub IsVid : ℕ → Type 0
-IsVid vid = (1 ≤ vid) × (vid < 2 ^ 24)
+IsVid vid = (1 ≤ vid) × (vid ≤ VID_MAX)
 
 -- bits 20 to 31 and 56 to 62 are reserved, and those of the index in an inode's id
 abbrev pub HasReservedBit : ℕ → Type 0

@@ -2,17 +2,18 @@
 use Rattle.std.specs.Prelude.{ℕ, ◌+◌, ◌*◌, ◌/◌, ◌≤◌, ◌==◌, ◌||◌, Bool, IsTrue}
 use Rattle.object_id.specs.declared.policy.Policy.{Policy}
 use Rattle.object_id.specs.declared.policy.Policy.TheVariants.{Copies, Coded}
+use Rattle.object_id.specs.declared.limits.TheConstants.{COPIES_MAX, DATA_STRIPS_MAX, PARITY_MAX}
 use Rattle.object_id.specs.declared.oid.Kind.{Kind}
 use Rattle.object_id.specs.declared.oid.Kind.TheVariants.{Block, Inode}
 
 -- how many data strips there may be
 abbrev pub is_width : ℕ → Bool
-is_width d = d == 2 || d == 4 || d == 8 || d == 16
+is_width d = d == 2 || d == 4 || d == 8 || d == DATA_STRIPS_MAX
 
--- 1 to 31 whole copies, or 2, 4, 8 or 16 data strips and 1 to 15 parity strips
+-- some whole copies, at most 31, or 2, 4, 8 or 16 data strips and some parity strips, at most 15
 abbrev pub IsPolicy : Policy → Type 0
-IsPolicy (Copies copies) = (1 ≤ copies) × (copies ≤ 31)
-IsPolicy (Coded d p) = IsTrue (is_width d) × (1 ≤ p) × (p ≤ 15)
+IsPolicy (Copies copies) = (1 ≤ copies) × (copies ≤ COPIES_MAX)
+IsPolicy (Coded d p) = IsTrue (is_width d) × (1 ≤ p) × (p ≤ PARITY_MAX)
 
 -- the policy byte: half the data strips in the high four bits, the parity strips in the low four
 abbrev pub policy_byte : Policy → ℕ

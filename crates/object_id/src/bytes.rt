@@ -1,4 +1,5 @@
 ghost use Rattle.std.specs.Prelude.{◌≡◌, ◌↔◌, ℕ, List, [], length, IfOk, IsTrue};
+ghost use Rattle.std.specs.Str.{bytes_eq};
 
 use crate::memory::NoMemory;
 use std::alloc::Global;
@@ -11,6 +12,8 @@ pub struct Bytes {
 }
 
 impl Model for Bytes {
+    ghost use Rattle.std.specs.Prelude.{ℕ, List};
+
     ghost Value = { List ℕ };
 
     ghost view = { λ b. b.items.items };
@@ -61,7 +64,8 @@ impl Bytes {
 
     /// Whether both hold the same bytes.
     pub fn same(&self, other: &Bytes) -> bool
-        ensures { IsTrue result ↔ (self.now ≡ other.now) }
+        ensures value { result ≡ bytes_eq self.now other.now }
+        ensures exact { IsTrue result ↔ (self.now ≡ other.now) }
     {
         self.as_slice() == other.as_slice()
     }

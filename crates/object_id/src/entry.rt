@@ -1,21 +1,17 @@
-ghost use Rattle.std.specs.Prelude.{◌≡◌, IfOk, Option};
+ghost use Rattle.std.specs.Prelude.{◌≡◌, ◌↔◌, IfOk, IsTrue};
+ghost use Rattle.object_id.specs.Spec.{IsSpec, IsOrigin};
 
 use crate::bytes::Bytes;
 use crate::items::{Duplicate, Items};
+use crate::limits::{BLOCK_BYTES, OBJECTS_MAX, SHIFT_MAX, SHIFT_MIN};
 use crate::memory::NoMemory;
+use crate::name::is_name;
 use crate::node::{Epoch, NodeId};
 use crate::oid::Vid;
 use crate::policy::Policy;
 use std::alloc::Global;
 
-/// The least size of a data object is 2^12 bytes, the greatest 2^24.
-pub const SHIFT_MIN: u8 = 12;
-
-pub const SHIFT_MAX: u8 = 24;
-/// The longest name and the longest tag, in bytes.
-pub const NAME_BYTES_MAX: usize = 255;
-
-/// A member of an epoch: in which zone it stands, and its weight, the number of its virtual nodes (1 to 256).
+/// A member of an epoch: in which zone it stands, and its weight, the number of its virtual nodes.
 #[derive(Clone, Copy, Debug, PartialEq, Eq)]
 pub struct Member {
     pub node: NodeId,
@@ -29,6 +25,24 @@ pub struct VdiSpec {
     pub size: u64,
     pub policy: Policy,
     pub shift: u8,
+}
+
+impl VdiSpec {
+    /// Whether a disk may be made so: a policy, objects of a size that they may have, and a size in whole blocks that
+    /// at most as many objects hold as a disk may have.
+    pub fn is_valid(self) -> bool
+        ensures { IsTrue result ↔ IsSpec self }
+    {
+        if self.shift < SHIFT_MIN || SHIFT_MAX < self.shift {
+            return false;
+        }
+        let block = u64::from(BLOCK_BYTES);
+        let most = u64::from(OBJECTS_MAX) * (1 << self.shift);
+        if self.size < block || most < self.size || self.size % block != 0 {
+            return false;
+        }
+        self.policy.is_valid()
+    }
 }
 
 pub type NodeList = Items<NodeId>;
@@ -56,6 +70,17 @@ pub enum Origin {
 }
 
 impl Origin {
+    /// Whether a disk may be made from this: a spec that is valid, and a name and a tag that are such.
+    pub fn is_valid(&self) -> bool
+        ensures { IsTrue result ↔ IsOrigin self.now }
+    {
+        match self {
+            Origin::Fresh { spec } => spec.is_valid(),
+            Origin::SnapshotOf { tag } => is_name(tag.as_slice()),
+            Origin::CloneOf { base, tag } => is_name(base.as_slice()) && is_name(tag.as_slice()),
+        }
+    }
+
     pub fn copy(&self, alloc: Global) -> Result<Self, NoMemory>
         ensures { IfOk result (λ copy. copy ≡ self.now) }
     {
@@ -244,6 +269,52 @@ mod tests {
                 .is_some_and(|member| member.node == NodeId(2) && member.zone == 2)
         );
         assert!(rt; copy.get(3).is_none());
+        Ok(())
+    }
+
+    fn spec(size: u64, shift: u8) -> VdiSpec {
+        VdiSpec {
+            size,
+            policy: Policy::Copies(3),
+            shift,
+        }
+    }
+
+    #[test]
+    fn specs_end_at_their_limits(rt: HostRuntime) {
+        // As many objects as a disk may have, of the least size and of the greatest.
+        assert!(rt; spec(4_294_967_296, 12).is_valid() && !spec(4_294_967_808, 12).is_valid());
+        assert!(rt;
+            spec(17_592_186_044_416, 24).is_valid() && !spec(17_592_186_044_928, 24).is_valid()
+        );
+        assert!(rt; spec(512, 12).is_valid() && !spec(0, 12).is_valid());
+        assert!(rt; !spec(511, 12).is_valid() && !spec(513, 12).is_valid());
+        assert!(rt; !spec(512, 11).is_valid() && !spec(512, 25).is_valid());
+        let policy = Policy::Coded { d: 3, p: 2 };
+        assert!(rt;
+            !VdiSpec {
+                policy,
+                ..spec(512, 22)
+            }
+            .is_valid()
+        );
+    }
+
+    #[test]
+    fn origins_have_names_and_specs(rt: HostRuntime) -> Result<(), Fail> {
+        let alloc = rt.alloc();
+        assert!(rt;
+            Origin::Fresh {
+                spec: spec(512, 22)
+            }
+            .is_valid()
+        );
+        assert!(rt; !Origin::Fresh { spec: spec(0, 22) }.is_valid());
+        let tag = Bytes::from_slice(alloc, b"t1")?;
+        assert!(rt; Origin::SnapshotOf { tag }.is_valid());
+        let base = Bytes::from_slice(alloc, b"vm")?;
+        let tag = Bytes::new(alloc);
+        assert!(rt; !Origin::CloneOf { base, tag }.is_valid());
         Ok(())
     }
 }

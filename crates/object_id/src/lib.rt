@@ -13,27 +13,39 @@ mod fields;
 mod hash;
 mod items;
 mod laws;
+mod limits;
 mod memory;
+mod name;
 mod node;
 mod oid;
 mod piece;
 mod policy;
+mod same;
+mod span;
 #[cfg(test)]
 mod tests;
 
 pub use bytes::Bytes;
 pub use cause::Cause;
-pub use entry::{
-    Entry, Member, MemberList, NAME_BYTES_MAX, NodeList, Origin, SHIFT_MAX, SHIFT_MIN, VdiSpec,
-};
+pub use entry::{Entry, Member, MemberList, NodeList, Origin, VdiSpec};
 pub use fields::{u16_at, u32_at, u64_at};
 pub use hash::fnv1a;
 pub use items::{Duplicate, Items};
 pub use laws::{
-    laid_over_laws, read_numbers_fit, read_numbers_stand, spelled_numbers_are_read, target_counts,
+    laid_over_laws, limits_in_numbers, read_numbers_fit, read_numbers_stand, sameness_is_decided,
+    sizes_within_limits, spelled_numbers_are_read, target_counts,
+};
+pub use limits::{
+    BLOCK_BYTES, COPIES_MAX, DATA_STRIPS_MAX, EPOCH_MAX, INDEX_MAX, INPUT_BYTES_MAX, LENGTH_MAX,
+    LIMIT_DEFAULT, LIMIT_MAX, LOSSES_MAX, NAME_BYTES_MAX, NODES_DEFAULT, NODES_MAX,
+    OBJECT_BYTES_MAX, OBJECTS_MAX, PARITY_MAX, READ_BYTES_MAX, REQUESTS_AT_ONCE, REQUESTS_MAX,
+    SESSIONS_MAX, SHIFT_DEFAULT, SHIFT_MAX, SHIFT_MIN, SIZE_MAX, TARGETS_MAX, TRIES_DEFAULT,
+    TRIES_MAX, VID_MAX, VNODES_DEFAULT, VNODES_MAX, WRITE_BYTES_MAX, ZONES_MAX,
 };
 pub use memory::NoMemory;
-pub use node::{Epoch, NodeId};
+pub use name::{is_name, is_tag};
+pub use node::{Epoch, NodeId, is_session, is_weight, is_zone};
 pub use oid::{Kind, Oid, OidFault, Vid};
-pub use piece::{BLOCK_BYTES, lay_over};
+pub use piece::lay_over;
 pub use policy::{BadPolicy, Policy};
+pub use span::is_span;

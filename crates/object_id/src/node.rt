@@ -1,7 +1,56 @@
-/// The number of a node, 0 to 63. A number is never given to a second node.
+ghost use Rattle.std.specs.Prelude.{◌↔◌, IsTrue};
+ghost use Rattle.object_id.specs.Node.{IsNode, IsZone, IsSession, IsWeight};
+
+use crate::limits::{NODES_MAX, SESSIONS_MAX, VNODES_MAX, ZONES_MAX};
+
+/// The number of a node, below [`NODES_MAX`]. A number is never given to a second node.
 #[derive(Clone, Copy, Debug, PartialEq, Eq, PartialOrd, Ord)]
 pub struct NodeId(pub u32);
 
 /// A membership epoch, counted from 1. Each change of the members begins the next one.
 #[derive(Clone, Copy, Debug, PartialEq, Eq, PartialOrd, Ord)]
 pub struct Epoch(pub u32);
+
+impl NodeId {
+    /// Whether a node may have this number.
+    pub fn is_valid(self) -> bool
+        ensures { IsTrue result ↔ IsNode self.0 }
+    {
+        self.0 < NODES_MAX
+    }
+}
+
+/// Whether a zone may have this number.
+pub fn is_zone(zone: u32) -> bool
+    ensures { IsTrue result ↔ IsZone zone }
+{
+    zone < ZONES_MAX
+}
+
+/// Whether a session may have this number.
+pub fn is_session(session: u32) -> bool
+    ensures { IsTrue result ↔ IsSession session }
+{
+    1 <= session && session <= SESSIONS_MAX
+}
+
+/// Whether a member may have this weight, its number of virtual nodes.
+pub fn is_weight(vnodes: u16) -> bool
+    ensures { IsTrue result ↔ IsWeight vnodes }
+{
+    1 <= vnodes && vnodes <= VNODES_MAX
+}
+
+#[cfg(test)]
+mod tests {
+    use super::*;
+
+    #[test]
+    fn numbers_end_at_their_limits(rt: HostRuntime) {
+        assert!(rt; NodeId(0).is_valid() && NodeId(63).is_valid());
+        assert!(rt; !NodeId(64).is_valid() && !NodeId(u32::MAX).is_valid());
+        assert!(rt; is_zone(0) && is_zone(63) && !is_zone(64));
+        assert!(rt; !is_session(0) && is_session(1) && is_session(64) && !is_session(65));
+        assert!(rt; !is_weight(0) && is_weight(1) && is_weight(256) && !is_weight(257));
+    }
+}

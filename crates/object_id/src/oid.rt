@@ -1,16 +1,21 @@
-ghost use Rattle.std.specs.Prelude.{◌≡◌, ℕ, ◌<◌, ◌^◌, ◌↔◌, IfOk, IsErrOf};
+ghost use Rattle.std.specs.Prelude.{◌≡◌, ℕ, ◌<◌, ◌↔◌, IfOk, IsErrOf, IsTrue};
 ghost use Rattle.object_id.specs.Oid.{IsOid, IsVid, HasReservedBit, IsFreeOfReserved, vid_of, index_of, kind_of, inode_number, object_number};
 
+use crate::limits::{OBJECTS_MAX, VID_MAX};
 use std::marker::Model;
 
-/// The greatest id of a disk.
-pub const VID_MAX: u32 = 0xff_ffff;
-/// How many data objects a disk may have.
-pub const OBJECTS_MAX: u32 = 1 << 20;
-
-/// The id of a disk, a snapshot or a clone: 1 to 2^24 - 1.
+/// The id of a disk, a snapshot or a clone: 1 to [`VID_MAX`].
 #[derive(Clone, Copy, Debug, PartialEq, Eq, PartialOrd, Ord)]
 pub struct Vid(pub u32);
+
+impl Vid {
+    /// Whether the number is a disk's id.
+    pub fn is_valid(self) -> bool
+        ensures { IsTrue result ↔ IsVid self.0 }
+    {
+        1 <= self.0 && self.0 <= VID_MAX
+    }
+}
 
 /// What an object has: blocks of the disk, or the disk's inode.
 #[derive(Clone, Copy, Debug, PartialEq, Eq)]
@@ -62,7 +67,7 @@ impl Oid {
     /// The data object `index` of a disk, from 0.
     pub fn object(vid: Vid, index: u32) -> Self
         requires vid { IsVid vid.0 }
-        requires index { index < 2 ^ 20 }
+        requires index { index < OBJECTS_MAX }
         ensures { result ≡ object_number vid.0 index }
     {
         Oid {
@@ -90,7 +95,7 @@ impl Oid {
     /// The place of a data object in its disk; 0 of an inode.
     pub fn index(self) -> u32
         ensures value { result ≡ index_of self }
-        ensures within { result < 2 ^ 20 }
+        ensures within { result < OBJECTS_MAX }
     {
         (self.raw & 0xf_ffff) as u32
     }
@@ -151,5 +156,11 @@ mod tests {
             0x0001_ec8c_0000_0000
         );
         assert_eq!(rt; Oid::inode(Vid(0x01_ec8c)).as_u64(), 0x8001_ec8c_0000_0000);
+    }
+
+    #[test]
+    fn ids_of_disks_end_at_24_bits(rt: HostRuntime) {
+        assert!(rt; !Vid(0).is_valid() && Vid(1).is_valid());
+        assert!(rt; Vid(16_777_215).is_valid() && !Vid(16_777_216).is_valid());
     }
 }

@@ -1,9 +1,6 @@
 ghost use Rattle.std.specs.Prelude.{◌≡◌, ◌+◌, ◌≤◌, length};
 ghost use Rattle.object_id.specs.Piece.{laid_over};
 
-/// The unit of disk sizes, offsets and lengths, in bytes. A history speaks of disks block by block.
-pub const BLOCK_BYTES: u32 = 512;
-
 /// Lays a piece over the bytes from `offset` on.
 pub fn lay_over(bytes: &mut [u8], offset: usize, piece: &[u8])
     requires { offset + length piece.now ≤ length bytes.old }

@@ -1,20 +1,28 @@
-ghost use Rattle.std.specs.Prelude.{◌≡◌, ◌≤◌, IfOk};
-ghost use Rattle.object_id.specs.Policy.{IsPolicy, policy_byte, strips_of, wanted_of, need_of};
+ghost use Rattle.std.specs.Prelude.{◌≡◌, ◌↔◌, IfOk, IsTrue};
+ghost use Rattle.object_id.specs.Policy.{IsPolicy, is_width as is_number_of_data_strips, policy_byte, strips_of, wanted_of, need_of};
 
+use crate::limits::{COPIES_MAX, DATA_STRIPS_MAX, PARITY_MAX};
 use crate::oid::Kind;
 
 /// How an object of a disk is kept on several nodes.
 #[derive(Clone, Copy, Debug, PartialEq, Eq)]
 pub enum Policy {
-    /// So many whole copies, 1 to 31.
+    /// So many whole copies, 1 to [`COPIES_MAX`].
     Copies(u8),
-    /// `d` data strips, 2, 4, 8 or 16, and `p` parity strips, 1 to 15. Inodes have `p + 1` whole copies.
+    /// `d` data strips, 2, 4, 8 or 16, and `p` parity strips, 1 to [`PARITY_MAX`]. Inodes have `p + 1` whole copies.
     Coded { d: u8, p: u8 },
 }
 
 /// A policy byte and a number of copies that spell no policy.
 #[derive(Clone, Copy, Debug, PartialEq, Eq)]
 pub struct BadPolicy;
+
+/// Whether there may be so many data strips.
+fn is_width(d: u8) -> bool
+    ensures { result ≡ is_number_of_data_strips d }
+{
+    d == 2 || d == 4 || d == 8 || d == DATA_STRIPS_MAX
+}
 
 impl Policy {
     /// Reads the policy that a policy byte and the number of copies beside it spell: byte 0 with 1 to 31 whole
@@ -25,20 +33,28 @@ impl Policy {
         ensures only { (policy : Policy) → IsPolicy policy → policy_byte policy ≡ byte → strips_of policy ≡ copies
             → result ≡ Ok policy }
     {
-        if byte == 0 {
-            return if 1 <= copies && copies <= 31 {
-                Ok(Policy::Copies(copies))
-            } else {
-                Err(BadPolicy)
-            };
-        }
-        let d = byte / 16 * 2;
-        let p = byte % 16;
-        let is_width = d == 2 || d == 4 || d == 8 || d == 16;
-        if is_width && p != 0 && copies == d + p {
-            Ok(Policy::Coded { d, p })
+        let policy = if byte == 0 {
+            Policy::Copies(copies)
+        } else {
+            Policy::Coded {
+                d: byte / 16 * 2,
+                p: byte % 16,
+            }
+        };
+        if policy.is_valid() && policy.wanted(Kind::Block) == copies {
+            Ok(policy)
         } else {
             Err(BadPolicy)
+        }
+    }
+
+    /// Whether the numbers are such as a policy may have.
+    pub fn is_valid(self) -> bool
+        ensures { IsTrue result ↔ IsPolicy self }
+    {
+        match self {
+            Policy::Copies(copies) => 1 <= copies && copies <= COPIES_MAX,
+            Policy::Coded { d, p } => is_width(d) && 1 <= p && p <= PARITY_MAX,
         }
     }
 
@@ -105,5 +121,28 @@ mod tests {
             (6, 3)
         );
         assert_eq!(rt; (coded.need(Kind::Block), coded.need(Kind::Inode)), (4, 1));
+    }
+
+    #[test]
+    fn policies_end_at_their_limits(rt: HostRuntime) {
+        for copies in [1, 2, 31] {
+            assert!(rt; Policy::Copies(copies).is_valid(), "{copies} copies");
+        }
+        for copies in [0, 32, 255] {
+            assert!(rt; !Policy::Copies(copies).is_valid(), "{copies} copies");
+        }
+        for d in [2, 4, 8, 16] {
+            assert!(rt;
+                Policy::Coded { d, p: 1 }.is_valid() && Policy::Coded { d, p: 15 }.is_valid(),
+                "{d} strips"
+            );
+            assert!(rt;
+                !Policy::Coded { d, p: 0 }.is_valid() && !Policy::Coded { d, p: 16 }.is_valid(),
+                "{d} strips"
+            );
+        }
+        for d in [0, 1, 3, 6, 15, 17, 32] {
+            assert!(rt; !Policy::Coded { d, p: 2 }.is_valid(), "{d} strips");
+        }
     }
 }

@@ -23,7 +23,7 @@ ghost use Rattle.overlap_law.specs.Overlap.{Overlap};
 
 /// The replies are legal in each moment of which the invariant holds.
 pub fn the_overlap_gives_legal_replies()
-    ensures { (moment : Moment) → Overlap moment → IsLegalWhereBorne moment.past }
+    ensures { (moment : MomentWithPast) → Overlap moment → IsLegalWhereAvailable moment.past }
 {}
 
 /// The lists of recoveries are complete there, for each object that is good.

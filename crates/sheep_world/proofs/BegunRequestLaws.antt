@@ -209,9 +209,9 @@ module _ (statements : List Statement) (number : ℕ) (world : World) (session :
     begun_by (Some of) None = tt
     begun_by (Some of) (Some ask) = begun_now
 
-    begun_at : (line : Option Statement) → IsAskBegun req (option_and_then (λ s. input_by req (session_of s) (ask_of_statement s)) line)
+    begun_at : (inode_queue : Option Statement) → IsAskBegun req (option_and_then (λ s. input_by req (session_of s) (ask_of_statement s)) inode_queue)
     begun_at None = tt
-    begun_at (Some line) = begun_by (session_of line) (ask_of_statement line)
+    begun_at (Some inode_queue) = begun_by (session_of inode_queue) (ask_of_statement inode_queue)
 
     there_begun : RequestsWereBegun statements (begun_world req)
     there_begun =

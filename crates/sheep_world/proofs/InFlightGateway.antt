@@ -99,9 +99,9 @@ module _ (node : Node) (driven : HasOneWorkPerRequest node) (number : ℕ) (stat
   free_without : (touched : set.FinSet nat_cmp) → IsFree req (tree.remove node.gateway.works req) node.sessions
   free_without touched = record {
     idle = got_removed node.gateway.works req;
-    out = λ line waiting_step waits same.
+    out = λ inode_queue waiting_step waits same.
         let none : tree.get node.gateway.works req ≡ None
-        = ap (tree.get node.gateway.works) (sym same) ∙ driven.driven.waiting_free line waiting_step waits in
+        = ap (tree.get node.gateway.works) (sym same) ∙ driven.driven.waiting_free inode_queue waiting_step waits in
         absurd (cc (there, none));
   }
 

@@ -124,9 +124,9 @@ guest_good node req number ask driven new =
     (taken_unless_good node (request_refusal node.peer (session_in number so_far).disk ask) number req ask so_far
     (record {
       idle = by_work (tree.get node.gateway.works req) refl;
-      out = λ line waiting there same.
-          let never : may_work_of line None ≡ true
-          = ap (may_work_of line) (sym (ap (tree.get node.requests) same ∙ new)) ∙ driven.driven.waiting_works line waiting there in
+      out = λ inode_queue waiting there same.
+          let never : may_work_of inode_queue None ≡ true
+          = ap (may_work_of inode_queue) (sym (ap (tree.get node.requests) same ∙ new)) ∙ driven.driven.waiting_works inode_queue waiting there in
           absurd (cc (never));
     })
     (good_first node driven))
@@ -166,10 +166,10 @@ module _ (statements : List Statement) (number : ℕ) (world : World) (session :
             (guest_good host.node req of ask (driven session.node host at) (new session req host found next at)),
       )
 
-  well_at : (req : ℕ) → next_request statements number world ≡ Some req → (line : Option Statement)
-      → StepsWell session.node (option_and_then (λ s. input_by req (session_of s) (ask_of_statement s)) line) world
+  well_at : (req : ℕ) → next_request statements number world ≡ Some req → (inode_queue : Option Statement)
+      → StepsWell session.node (option_and_then (λ s. input_by req (session_of s) (ask_of_statement s)) inode_queue) world
   well_at req next None = tt
-  well_at req next (Some line) = well_by req next (session_of line) (ask_of_statement line)
+  well_at req next (Some inode_queue) = well_by req next (session_of inode_queue) (ask_of_statement inode_queue)
 
   well_on : (o : Option ℕ) → next_request statements number world ≡ o → StepsWell session.node (option_and_then (input_of statements) o) world
   well_on None next = tt

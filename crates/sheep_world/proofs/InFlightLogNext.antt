@@ -22,7 +22,7 @@ use Rattle.vdi_directory.specs.declared.effect.Effect.TheVariants as effects
 use Rattle.vdi_directory.specs.declared.decision.Decision.{Decision}
 use Rattle.vdi_directory.specs.Effects.{is_used, header_after, header_of}
 use Rattle.vdi_directory.specs.Decisions.{outcome, log_effects}
-use Rattle.vdi_directory.proofs.BookLemmas.{log_effects-push, header_of-push}
+use Rattle.vdi_directory.proofs.StateLemmas.{log_effects-push, header_of-push}
 use Rattle.vdi_directory.proofs.LawLemmas.{grant_outcome-unused}
 use Rattle.vdi_directory.proofs.LineLemmas.{line-log_effects}
 use Rattle.peer_proto.specs.declared.ask.PeerAsk.{PeerAsk}
@@ -96,7 +96,7 @@ header_stays entries entry vid header is =
         → HasSpecOf header (cond b (Some grant.header) (Some header))
     by_id grant what true same =
         let new : is_used (log_effects entries) grant.reservation.vid.0 ≡ false = (grant_outcome-unused entries entry grant what).1 in
-        let used : is_used (log_effects entries) vid ≡ true = (line-log_effects entries).known vid ∙ ap is_some is in
+        let used : is_used (log_effects entries) vid ≡ true = (inode_queue-log_effects entries).known vid ∙ ap is_some is in
         let unused : is_used (log_effects entries) vid ≡ false
         = ap (is_used (log_effects entries)) (sym (eqb-true grant.reservation.vid.0 vid same)) ∙ new in
         absurd (cc (used, unused))

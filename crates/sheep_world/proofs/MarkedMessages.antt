@@ -214,7 +214,7 @@ module _ (node : Node) (gateway : Gateway) (number : ℕ) (marks : Marks number 
           let (work, was, so) = marks.was req now got in
           once.driven.open_works req work was;
       waiting_works = once.driven.waiting_works;
-      waiting_free = λ line waiting there. by_work waiting.req (tree.get gateway.works waiting.req) refl (once.driven.waiting_free line waiting there);
+      waiting_free = λ inode_queue waiting there. by_work waiting.req (tree.get gateway.works waiting.req) refl (once.driven.waiting_free inode_queue waiting there);
       apart = once.driven.apart;
     };
     once = λ q one other now later got_one got_two awaits_one awaits_two.

@@ -221,7 +221,7 @@ none_found q work got = absurd (cc (sym (tree.get-empty nat_cmp q) ∙ got))
 none_waits : {P : Type 0} (q : ℕ) (waiting : lines.Waiting) → Contains (waiting_in q tree.empty) waiting → P
 none_waits q waiting there =
     has-none waiting
-    (subst (λ (o : Option Session). Contains (unwrap_or o new_session).line.waiting waiting) (tree.get-empty nat_cmp q) there)
+    (subst (λ (o : Option Session). Contains (unwrap_or o new_session).inode_queue.waiting waiting) (tree.get-empty nat_cmp q) there)
 
 -- a node that has nothing open, and waits for nothing
 idle_driven : (me : NodeId) (tries : ℕ) (node : Node) → node.me ≡ me → node.gateway ≡ gateways.initial_gateway me tries → node.requests ≡ tree.empty
@@ -234,7 +234,7 @@ idle_driven me tries node me_so gateway_so requests_so sessions_so none = record
         open_works = λ q work got. none_found q work got;
         waiting_works = λ q waiting there. none_waits q waiting there;
         waiting_free = λ q waiting there. none_waits q waiting there;
-        apart = λ q. subst (λ (o : Option Session). AreOfDifferentRequests (unwrap_or o new_session).line.waiting) (sym (tree.get-empty nat_cmp q)) tt;
+        apart = λ q. subst (λ (o : Option Session). AreOfDifferentRequests (unwrap_or o new_session).inode_queue.waiting) (sym (tree.get-empty nat_cmp q)) tt;
       }));
   once = subst NumbersAreOfOneWork (sym open_works) (λ q one other work later got_one got_two awaits_one awaits_two. none_found one work got_one);
   given = subst (NumbersAreBelow node.sends) (sym open_works) (λ q req work got awaited. none_found req work got);

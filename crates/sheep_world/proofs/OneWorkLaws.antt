@@ -67,18 +67,18 @@ MayWorkIn number req so_far = may_work_of number (tree.get so_far.node.requests 
 -- ---- sessions whose lines stay
 
 -- a session that is changed but for what waits in its line
-same_waiting : (sessions : Sessions) (number : ℕ) (session : Session) → session.line.waiting ≡ waiting_in number sessions → (q : ℕ)
+same_waiting : (sessions : Sessions) (number : ℕ) (session : Session) → session.inode_queue.waiting ≡ waiting_in number sessions → (q : ℕ)
     → waiting_in q (tree.insert sessions number session) ≡ waiting_in q sessions
 same_waiting sessions number session same q = ⊎_elim
     (λ (own : q ≡ number).
     ap (λ (k : ℕ). waiting_in k (tree.insert sessions number session)) own
-    ∙ ap (λ (o : Option Session). (unwrap_or o new_session).line.waiting) (got_own sessions number session)
+    ∙ ap (λ (o : Option Session). (unwrap_or o new_session).inode_queue.waiting) (got_own sessions number session)
     ∙ same ∙ ap (λ (k : ℕ). waiting_in k sessions) (sym own))
-    (λ (other : q ≢ number). ap (λ (o : Option Session). (unwrap_or o new_session).line.waiting) (got_other sessions number session q other))
+    (λ (other : q ≢ number). ap (λ (o : Option Session). (unwrap_or o new_session).inode_queue.waiting) (got_other sessions number session q other))
     (same_or_not q number)
 
 driven_session : (works : Works) (requests : Requests) (sessions : Sessions) (number : ℕ) (session : Session)
-    → session.line.waiting ≡ waiting_in number sessions → HaveOneWorkPerRequest works requests sessions → HaveOneWorkPerRequest works requests (tree.insert sessions number session)
+    → session.inode_queue.waiting ≡ waiting_in number sessions → HaveOneWorkPerRequest works requests sessions → HaveOneWorkPerRequest works requests (tree.insert sessions number session)
 driven_session works requests sessions number session same driven =
     let so = same_waiting sessions number session same in
     record {
@@ -89,14 +89,14 @@ driven_session works requests sessions number session same driven =
     }
 
 pub free_session : (req : ℕ) (works : Works) (sessions : Sessions) (number : ℕ) (session : Session)
-    → session.line.waiting ≡ waiting_in number sessions → IsFree req works sessions → IsFree req works (tree.insert sessions number session)
+    → session.inode_queue.waiting ≡ waiting_in number sessions → IsFree req works sessions → IsFree req works (tree.insert sessions number session)
 free_session req works sessions number session same free = record {
   idle = free.idle;
   out = λ q waiting_step there.
       free.out q waiting_step (subst (λ (list : List lines.Waiting). Contains list waiting_step) (same_waiting sessions number session same q) there);
 }
 
-pub good_session : (old : Node) (number : ℕ) (session : Session) (so_far : StepState) → session.line.waiting ≡ (session_in number so_far).line.waiting
+pub good_session : (old : Node) (number : ℕ) (session : Session) (so_far : StepState) → session.inode_queue.waiting ≡ (session_in number so_far).inode_queue.waiting
     → IsGood old so_far → IsGood old (with_session number session so_far)
 good_session old number session so_far same good = record {
   going = good.going;
@@ -120,8 +120,8 @@ good_course old number req course so_far free good =
             absurd (cc (there, none)))
             (λ (other : q ≢ req). ap may_work_at (got_other requests req request q other) ∙ good.driven.open_works q work there)
             (same_or_not q req);
-        waiting_works = λ line waiting_step there.
-            ap (may_work_of line) (got_other requests req request waiting_step.req (free.out line waiting_step there)) ∙ good.driven.waiting_works line waiting_step there;
+        waiting_works = λ inode_queue waiting_step there.
+            ap (may_work_of inode_queue) (got_other requests req request waiting_step.req (free.out inode_queue waiting_step there)) ∙ good.driven.waiting_works inode_queue waiting_step there;
         waiting_free = good.driven.waiting_free;
         apart = good.driven.apart;
       };
@@ -137,8 +137,8 @@ good_gone old req so_far free good = record {
       absurd (cc (there, none)))
       (λ (other : q ≢ req). ap may_work_at (got_left so_far.node.requests req q other) ∙ good.driven.open_works q work there)
       (same_or_not q req);
-  waiting_works = λ line waiting_step there.
-      ap (may_work_of line) (got_left so_far.node.requests req waiting_step.req (free.out line waiting_step there)) ∙ good.driven.waiting_works line waiting_step there;
+  waiting_works = λ inode_queue waiting_step there.
+      ap (may_work_of inode_queue) (got_left so_far.node.requests req waiting_step.req (free.out inode_queue waiting_step there)) ∙ good.driven.waiting_works inode_queue waiting_step there;
   waiting_free = good.driven.waiting_free;
   apart = good.driven.apart;
 }
@@ -179,20 +179,20 @@ request_refused_good old req cause (Some request) so_far free good =
     course_refused_good old request.session req cause request.course so_far free good
 
 -- a work has left the line, in which the same wait
-finished_waiting : (line : InodeQueue) (work : ObjWork) → (queue_after_end line work).waiting ≡ line.waiting
-finished_waiting line work =
-    either (λ (after : InodeQueue). after.waiting ≡ line.waiting) (is_on_inode work) (record line { current = None }) line refl refl
+finished_waiting : (inode_queue : InodeQueue) (work : ObjWork) → (queue_after_end inode_queue work).waiting ≡ inode_queue.waiting
+finished_waiting inode_queue work =
+    either (λ (after : InodeQueue). after.waiting ≡ inode_queue.waiting) (is_on_inode work) (record inode_queue { current = None }) inode_queue refl refl
 
 pub left_good : (old : Node) (number : ℕ) (work : ObjWork) (so_far : StepState) → IsGood old so_far → IsGood old (queue_left number work so_far)
 left_good old number work so_far good =
-    good_session old number (record (session_in number so_far) { line = queue_after_end (session_in number so_far).line work }) so_far
-    (finished_waiting (session_in number so_far).line work) good
+    good_session old number (record (session_in number so_far) { inode_queue = queue_after_end (session_in number so_far).inode_queue work }) so_far
+    (finished_waiting (session_in number so_far).inode_queue work) good
 
 pub left_free : (req number : ℕ) (work : ObjWork) (so_far : StepState) → IsFreeIn req so_far → IsFreeIn req (queue_left number work so_far)
 left_free req number work so_far free =
     free_session req so_far.node.gateway.works so_far.node.sessions number
-    (record (session_in number so_far) { line = queue_after_end (session_in number so_far).line work })
-    (finished_waiting (session_in number so_far).line work) free
+    (record (session_in number so_far) { inode_queue = queue_after_end (session_in number so_far).inode_queue work })
+    (finished_waiting (session_in number so_far).inode_queue work) free
 
 -- ---- a work begins
 
@@ -276,15 +276,15 @@ pushed_apart (first ∷ later) new out apart = (
 
 -- a work waits behind the others of its session
 module _ (works : Works) (requests : Requests) (sessions : Sessions) (number : ℕ) (session : Session) (new : lines.Waiting)
-    (behind : session.line.waiting ≡ waiting_in number sessions ++ new ∷ []) where
-  own_line : (q : ℕ) → q ≡ number → waiting_in q (tree.insert sessions number session) ≡ waiting_in number sessions ++ new ∷ []
-  own_line q own =
+    (behind : session.inode_queue.waiting ≡ waiting_in number sessions ++ new ∷ []) where
+  own_inode_queue : (q : ℕ) → q ≡ number → waiting_in q (tree.insert sessions number session) ≡ waiting_in number sessions ++ new ∷ []
+  own_inode_queue q own =
       ap (λ (k : ℕ). waiting_in k (tree.insert sessions number session)) own
-      ∙ ap (λ (o : Option Session). (unwrap_or o new_session).line.waiting) (got_own sessions number session)
+      ∙ ap (λ (o : Option Session). (unwrap_or o new_session).inode_queue.waiting) (got_own sessions number session)
       ∙ behind
 
-  other_line : (q : ℕ) → q ≢ number → waiting_in q (tree.insert sessions number session) ≡ waiting_in q sessions
-  other_line q other = ap (λ (o : Option Session). (unwrap_or o new_session).line.waiting) (got_other sessions number session q other)
+  other_inode_queue : (q : ℕ) → q ≢ number → waiting_in q (tree.insert sessions number session) ≡ waiting_in q sessions
+  other_inode_queue q other = ap (λ (o : Option Session). (unwrap_or o new_session).inode_queue.waiting) (got_other sessions number session q other)
 
   waits_there : (q : ℕ) (waiting_step : lines.Waiting) → Contains (waiting_in q (tree.insert sessions number session)) waiting_step
       → Contains (waiting_in q sessions) waiting_step ⊎ ((q ≡ number) × (new ≡ waiting_step))
@@ -294,8 +294,8 @@ module _ (works : Works) (requests : Requests) (sessions : Sessions) (number : �
       inl (subst (λ (k : ℕ). Contains (waiting_in k sessions) waiting_step) (sym own) old))
       (λ (same : new ≡ waiting_step). inr (own, same))
       (Contains-push_cases (waiting_in number sessions) new waiting_step
-      (subst (λ (list : List lines.Waiting). Contains list waiting_step) (own_line q own) there)))
-      (λ (other : q ≢ number). inl (subst (λ (list : List lines.Waiting). Contains list waiting_step) (other_line q other) there))
+      (subst (λ (list : List lines.Waiting). Contains list waiting_step) (own_inode_queue q own) there)))
+      (λ (other : q ≢ number). inl (subst (λ (list : List lines.Waiting). Contains list waiting_step) (other_inode_queue q other) there))
       (same_or_not q number)
 
   driven_queued : may_work_of number (tree.get requests new.req) ≡ true → IsFree new.req works sessions → HaveOneWorkPerRequest works requests sessions
@@ -313,29 +313,29 @@ module _ (works : Works) (requests : Requests) (sessions : Sessions) (number : �
         (λ (own : (q ≡ number) × (new ≡ waiting_step)). ap (λ (w : lines.Waiting). tree.get works w.req) (sym own.1) ∙ free.idle)
         (waits_there q waiting_step there);
     apart = λ q. ⊎_elim
-        (λ (own : q ≡ number). subst AreOfDifferentRequests (sym (own_line q own))
+        (λ (own : q ≡ number). subst AreOfDifferentRequests (sym (own_inode_queue q own))
         (pushed_apart (waiting_in number sessions) new (free.out number) (driven.apart number)))
-        (λ (other : q ≢ number). subst AreOfDifferentRequests (sym (other_line q other)) (driven.apart q))
+        (λ (other : q ≢ number). subst AreOfDifferentRequests (sym (other_inode_queue q other)) (driven.apart q))
         (same_or_not q number);
   }
 
-began_waiting : (line : InodeQueue) (req : ℕ) (work : ObjWork) → (queue_with_open line req work).waiting ≡ line.waiting
-began_waiting line req work =
-    either (λ (after : InodeQueue). after.waiting ≡ line.waiting) (is_on_inode work) (record line { current = Some req }) line refl refl
+began_waiting : (inode_queue : InodeQueue) (req : ℕ) (work : ObjWork) → (queue_with_open inode_queue req work).waiting ≡ inode_queue.waiting
+began_waiting inode_queue req work =
+    either (λ (after : InodeQueue). after.waiting ≡ inode_queue.waiting) (is_on_inode work) (record inode_queue { current = Some req }) inode_queue refl refl
 
 pub work_asked_good : (old : Node) (number req : ℕ) (work : ObjWork) (so_far : StepState) → IsFreeIn req so_far → MayWorkIn number req so_far → IsGood old so_far
     → IsGood old (work_asked number req work so_far)
 unfolding work_asked
 work_asked_good old number req work so_far free may good =
     let session = session_in number so_far in
-    let taken = record session { line = queue_with_open session.line req work } in
-    let kept = record session { line = queue_with_waiting session.line req work } in
-    either (IsGood old) (may_open_work session.line work)
-    (work_begun number req work (with_inode_queue number (queue_with_open session.line req work) so_far))
-    (with_inode_queue number (queue_with_waiting session.line req work) so_far)
-    (work_begun_good old number req work (with_inode_queue number (queue_with_open session.line req work) so_far)
-    (free_session req so_far.node.gateway.works so_far.node.sessions number taken (began_waiting session.line req work) free)
-    may (good_session old number taken so_far (began_waiting session.line req work) good))
+    let taken = record session { inode_queue = queue_with_open session.inode_queue req work } in
+    let kept = record session { inode_queue = queue_with_waiting session.inode_queue req work } in
+    either (IsGood old) (may_open_work session.inode_queue work)
+    (work_begun number req work (with_inode_queue number (queue_with_open session.inode_queue req work) so_far))
+    (with_inode_queue number (queue_with_waiting session.inode_queue req work) so_far)
+    (work_begun_good old number req work (with_inode_queue number (queue_with_open session.inode_queue req work) so_far)
+    (free_session req so_far.node.gateway.works so_far.node.sessions number taken (began_waiting session.inode_queue req work) free)
+    may (good_session old number taken so_far (began_waiting session.inode_queue req work) good))
     (record {
       going = good.going;
       driven = driven_queued so_far.node.gateway.works so_far.node.requests so_far.node.sessions number kept (record { req = req; work = work }) refl
@@ -407,23 +407,23 @@ all_begun_good old number (req ∷ reqs) so_far good =
 
 -- the first work that waits leaves its line
 module _ (works : Works) (requests : Requests) (sessions : Sessions) (number : ℕ) (session : Session) (first : lines.Waiting) (later : List lines.Waiting)
-    (was : waiting_in number sessions ≡ first ∷ later) (now : session.line.waiting ≡ later) (driven : HaveOneWorkPerRequest works requests sessions) where
-  left_line_of : (q : ℕ) → q ≡ number → waiting_in q (tree.insert sessions number session) ≡ later
-  left_line_of q own =
+    (was : waiting_in number sessions ≡ first ∷ later) (now : session.inode_queue.waiting ≡ later) (driven : HaveOneWorkPerRequest works requests sessions) where
+  left_inode_queue_of : (q : ℕ) → q ≡ number → waiting_in q (tree.insert sessions number session) ≡ later
+  left_inode_queue_of q own =
       ap (λ (k : ℕ). waiting_in k (tree.insert sessions number session)) own
-      ∙ ap (λ (o : Option Session). (unwrap_or o new_session).line.waiting) (got_own sessions number session)
+      ∙ ap (λ (o : Option Session). (unwrap_or o new_session).inode_queue.waiting) (got_own sessions number session)
       ∙ now
 
-  kept_line : (q : ℕ) → q ≢ number → waiting_in q (tree.insert sessions number session) ≡ waiting_in q sessions
-  kept_line q other = ap (λ (o : Option Session). (unwrap_or o new_session).line.waiting) (got_other sessions number session q other)
+  kept_inode_queue : (q : ℕ) → q ≢ number → waiting_in q (tree.insert sessions number session) ≡ waiting_in q sessions
+  kept_inode_queue q other = ap (λ (o : Option Session). (unwrap_or o new_session).inode_queue.waiting) (got_other sessions number session q other)
 
   waited_before : (q : ℕ) (waiting_step : lines.Waiting) → Contains (waiting_in q (tree.insert sessions number session)) waiting_step
       → Contains (waiting_in q sessions) waiting_step
   waited_before q waiting_step there = ⊎_elim
       (λ (own : q ≡ number).
       subst (λ (list : List lines.Waiting). Contains list waiting_step) (sym (ap (λ (k : ℕ). waiting_in k sessions) own ∙ was))
-      (has-later first waiting_step later (subst (λ (list : List lines.Waiting). Contains list waiting_step) (left_line_of q own) there)))
-      (λ (other : q ≢ number). subst (λ (list : List lines.Waiting). Contains list waiting_step) (kept_line q other) there)
+      (has-later first waiting_step later (subst (λ (list : List lines.Waiting). Contains list waiting_step) (left_inode_queue_of q own) there)))
+      (λ (other : q ≢ number). subst (λ (list : List lines.Waiting). Contains list waiting_step) (kept_inode_queue q other) there)
       (same_or_not q number)
 
   apart_there : AreOfDifferentRequests (first ∷ later)
@@ -435,8 +435,8 @@ module _ (works : Works) (requests : Requests) (sessions : Sessions) (number : �
     waiting_works = λ q waiting_step there. driven.waiting_works q waiting_step (waited_before q waiting_step there);
     waiting_free = λ q waiting_step there. driven.waiting_free q waiting_step (waited_before q waiting_step there);
     apart = λ q. ⊎_elim
-        (λ (own : q ≡ number). subst AreOfDifferentRequests (sym (left_line_of q own)) apart_there.1)
-        (λ (other : q ≢ number). subst AreOfDifferentRequests (sym (kept_line q other)) (driven.apart q))
+        (λ (own : q ≡ number). subst AreOfDifferentRequests (sym (left_inode_queue_of q own)) apart_there.1)
+        (λ (other : q ≢ number). subst AreOfDifferentRequests (sym (kept_inode_queue q other)) (driven.apart q))
         (same_or_not q number);
   }
 
@@ -456,11 +456,11 @@ module _ (works : Works) (requests : Requests) (sessions : Sessions) (number : �
     idle = driven.waiting_free number first first_waits;
     out = λ q waiting_step there same. ⊎_elim
         (λ (own : q ≡ number).
-        apart_there.0 waiting_step (subst (λ (list : List lines.Waiting). Contains list waiting_step) (left_line_of q own) there) same)
+        apart_there.0 waiting_step (subst (λ (list : List lines.Waiting). Contains list waiting_step) (left_inode_queue_of q own) there) same)
         (λ (other : q ≢ number).
         other (one_session q (tree.get requests first.req)
         (ap (λ (req : ℕ). may_work_of q (tree.get requests req)) (sym same)
-        ∙ driven.waiting_works q waiting_step (subst (λ (list : List lines.Waiting). Contains list waiting_step) (kept_line q other) there))
+        ∙ driven.waiting_works q waiting_step (subst (λ (list : List lines.Waiting). Contains list waiting_step) (kept_inode_queue q other) there))
         (driven.waiting_works number first first_waits)))
         (same_or_not q number);
   }
@@ -470,17 +470,17 @@ abbrev Next : Node → ℕ → StepState → Option lines.Waiting → InodeQueue
 Next old number so_far None taken = IsGood old so_far
 Next old number so_far (Some next) taken = IsGood old (work_begun number next.req next.work (with_inode_queue number taken so_far))
 
-next_begun_good : (old : Node) (number : ℕ) (so_far : StepState) → IsGood old so_far → IsGood old (next_begun number (next_work (session_in number so_far).line) so_far)
+next_begun_good : (old : Node) (number : ℕ) (so_far : StepState) → IsGood old so_far → IsGood old (next_begun number (next_work (session_in number so_far).inode_queue) so_far)
 next_begun_good old number so_far good =
-    as_begun (next_work (session_in number so_far).line)
-    (by_current (is_none (session_in number so_far).line.current) (session_in number so_far).line.waiting refl)
+    as_begun (next_work (session_in number so_far).inode_queue)
+    (by_current (is_none (session_in number so_far).inode_queue.current) (session_in number so_far).inode_queue.waiting refl)
   where
-    by_current : (b : Bool) (list : List lines.Waiting) → (session_in number so_far).line.waiting ≡ list
-        → Next old number so_far (cond b (first_waiting list) None) (cond b (taken_from (session_in number so_far).line list) (session_in number so_far).line)
+    by_current : (b : Bool) (list : List lines.Waiting) → (session_in number so_far).inode_queue.waiting ≡ list
+        → Next old number so_far (cond b (first_waiting list) None) (cond b (taken_from (session_in number so_far).inode_queue list) (session_in number so_far).inode_queue)
     by_current true [] is = good
     by_current true (first ∷ later) is =
         let taken : InodeQueue = record { current = Some first.req; waiting = later } in
-        let session = record (session_in number so_far) { line = taken } in
+        let session = record (session_in number so_far) { inode_queue = taken } in
         work_begun_good old number first.req first.work (with_inode_queue number taken so_far)
         (free_taken so_far.node.gateway.works so_far.node.requests so_far.node.sessions number session first later is refl good.driven)
         (good.driven.waiting_works number first (subst (λ (list : List lines.Waiting). Contains list first) (sym is) (has-here first first later refl)))
@@ -490,7 +490,7 @@ next_begun_good old number so_far good =
         })
     by_current false list is = good
 
-    as_begun : (next : Option lines.Waiting) → Next old number so_far next (queue_after_start (session_in number so_far).line)
+    as_begun : (next : Option lines.Waiting) → Next old number so_far next (queue_after_start (session_in number so_far).inode_queue)
         → IsGood old (next_begun number next so_far)
     as_begun None is = is
     as_begun (Some next) is = is
@@ -498,7 +498,7 @@ next_begun_good old number so_far good =
 pub let_begin_good : (old : Node) (number : ℕ) (so_far : StepState) → IsGood old so_far → IsGood old (let_begin number so_far)
 unfolding let_begin passed_over
 let_begin_good old number so_far good =
-    all_begun_good old number (tree.keys so_far.node.requests) (next_begun number (next_work (session_in number so_far).line) so_far)
+    all_begun_good old number (tree.keys so_far.node.requests) (next_begun number (next_work (session_in number so_far).inode_queue) so_far)
     (next_begun_good old number so_far good)
 
 pub left_by_good : (old : Node) (number : ℕ) (work : Option Work) (so_far : StepState) → IsGood old so_far → IsGood old (queue_left_by number work so_far)

@@ -330,10 +330,10 @@ module _ (statements : List Statement) (number : ℕ) (world : World) (session :
       (guest_good host.node req of ask (driven session.node host at) (new session req host found next at))
       (ap (λ (place : Place). place.epochs) (stepped_place (inputs.Guest req of ask) host.node)) (range session.node host at)
 
-  range_at : (req : ℕ) → next_request statements number world ≡ Some req → (line : Option Statement)
-      → StepsInRange session.node (option_and_then (λ s. input_by req (session_of s) (ask_of_statement s)) line) world
+  range_at : (req : ℕ) → next_request statements number world ≡ Some req → (inode_queue : Option Statement)
+      → StepsInRange session.node (option_and_then (λ s. input_by req (session_of s) (ask_of_statement s)) inode_queue) world
   range_at req next None = tt
-  range_at req next (Some line) = range_by req next (session_of line) (ask_of_statement line)
+  range_at req next (Some inode_queue) = range_by req next (session_of inode_queue) (ask_of_statement inode_queue)
 
   range_on : (o : Option ℕ) → next_request statements number world ≡ o → StepsInRange session.node (option_and_then (input_of statements) o) world
   range_on None next = tt

@@ -125,10 +125,10 @@ module _ (P : ℕ → Type 0) where
   work_asked_are : (number req : ℕ) (work : ObjWork) (so_far : StepState) → AreIn so_far → AreIn (work_asked number req work so_far)
   unfolding work_asked
   work_asked_are number req work so_far all =
-      either AreIn (may_open_work (session_in number so_far).line work)
-      (work_begun number req work (with_inode_queue number (queue_with_open (session_in number so_far).line req work) so_far))
-      (with_inode_queue number (queue_with_waiting (session_in number so_far).line req work) so_far)
-      (work_begun_are number req work (with_inode_queue number (queue_with_open (session_in number so_far).line req work) so_far) all) all
+      either AreIn (may_open_work (session_in number so_far).inode_queue work)
+      (work_begun number req work (with_inode_queue number (queue_with_open (session_in number so_far).inode_queue req work) so_far))
+      (with_inode_queue number (queue_with_waiting (session_in number so_far).inode_queue req work) so_far)
+      (work_begun_are number req work (with_inode_queue number (queue_with_open (session_in number so_far).inode_queue req work) so_far) all) all
 
   -- ---- a request goes on
 
@@ -219,13 +219,13 @@ module _ (P : ℕ → Type 0) where
   next_begun_are : (number : ℕ) (next : Option lines.Waiting) (so_far : StepState) → AreIn so_far → AreIn (next_begun number next so_far)
   next_begun_are number None so_far all = all
   next_begun_are number (Some next) so_far all =
-      work_begun_are number next.req next.work (with_inode_queue number (queue_after_start (session_in number so_far).line) so_far) all
+      work_begun_are number next.req next.work (with_inode_queue number (queue_after_start (session_in number so_far).inode_queue) so_far) all
 
   let_begin_are : (number : ℕ) (so_far : StepState) → AreIn so_far → AreIn (let_begin number so_far)
   unfolding let_begin passed_over
   let_begin_are number so_far all =
-      all_begun_are number (tree.keys so_far.node.requests) (next_begun number (next_work (session_in number so_far).line) so_far)
-      (next_begun_are number (next_work (session_in number so_far).line) so_far all)
+      all_begun_are number (tree.keys so_far.node.requests) (next_begun number (next_work (session_in number so_far).inode_queue) so_far)
+      (next_begun_are number (next_work (session_in number so_far).inode_queue) so_far all)
 
   left_by_are : (number : ℕ) (work : Option gateways.Work) (so_far : StepState) → AreIn so_far → AreIn (queue_left_by number work so_far)
   left_by_are number None so_far all = all

@@ -1,7 +1,7 @@
 -- What an entry adds to the history, where the log first holds it: the disks that it makes, copies and deletes.
 use Rattle.std.specs.Prelude.{◌/◌, List, [], ◌∷◌, Option}
 use Rattle.std.specs.Option.{option_map_or}
-use Rattle.object_id.specs.declared.piece.TheConstants.{BLOCK_BYTES}
+use Rattle.object_id.specs.declared.limits.TheConstants.{BLOCK_BYTES}
 use Rattle.object_id.specs.declared.oid.Vid.{Vid}
 use Rattle.object_id.specs.declared.entry.Entry.{Entry}
 use Rattle.object_id.specs.declared.entry.Entry.TheVariants as entries

@@ -1,0 +1,218 @@
+//! Whether two entries are the same, and what they are made of.
+ghost use Rattle.std.specs.Prelude.{◌≡◌, ◌↔◌, IsTrue};
+ghost use Rattle.std.specs.Cmp.Lexicographic.{pointwise};
+ghost use Rattle.object_id.specs.Same.{is_same_tag, is_same_origin, is_same_member, is_same_entry};
+
+use crate::bytes::Bytes;
+use crate::entry::{Entry, MemberList, Origin};
+
+/// Whether both lists have the same members in the same order.
+fn same_members(one: &MemberList, other: &MemberList) -> bool
+    ensures value { result ≡ pointwise is_same_member one.now other.now }
+    ensures exact { IsTrue result ↔ (one.now ≡ other.now) }
+{
+    one.as_slice() == other.as_slice()
+}
+
+impl Bytes {
+    /// Whether both hold the same bytes, or neither any.
+    #[tactic(auto, using(crate::proofs::SameLemmas::tags_decided))]
+    pub fn same_option(one: &Option<Bytes>, other: &Option<Bytes>) -> bool
+        ensures value { result ≡ is_same_tag one.now other.now }
+        ensures exact { IsTrue result ↔ (one.now ≡ other.now) }
+    {
+        match (one, other) {
+            (Some(bytes), Some(others)) => bytes.same(others),
+            (None, None) => true,
+            _ => false,
+        }
+    }
+}
+
+impl Origin {
+    /// Whether both are the same.
+    #[tactic(auto, using(crate::proofs::SameLemmas::origins_decided))]
+    pub fn same(&self, other: &Origin) -> bool
+        ensures value { result ≡ is_same_origin self.now other.now }
+        ensures exact { IsTrue result ↔ (self.now ≡ other.now) }
+    {
+        match (self, other) {
+            (Origin::Fresh { spec }, Origin::Fresh { spec: wanted }) => spec == wanted,
+            (Origin::SnapshotOf { tag }, Origin::SnapshotOf { tag: label }) => tag.same(label),
+            (
+                Origin::CloneOf { base, tag },
+                Origin::CloneOf {
+                    base: name,
+                    tag: label,
+                },
+            ) => { base.same(name) && tag.same(label) }
+            _ => false,
+        }
+    }
+}
+
+impl Entry {
+    /// Whether both are the same entry.
+    #[tactic(auto, using(crate::proofs::SameLemmas::entries_decided))]
+    pub fn same(&self, other: &Entry) -> bool
+        ensures value { result ≡ is_same_entry self.now other.now }
+        ensures exact { IsTrue result ↔ (self.now ≡ other.now) }
+    {
+        match (self, other) {
+            (Entry::Format { members }, Entry::Format { members: others }) => same_members(
+                members, others,
+            ),
+            (
+                Entry::Join { node, zone, vnodes },
+                Entry::Join {
+                    node: other,
+                    zone: place,
+                    vnodes: weight,
+                },
+            ) => node == other && zone == place && vnodes == weight,
+            (Entry::Leave { node }, Entry::Leave { node: other }) => node == other,
+            (
+                Entry::Reweight { node, vnodes },
+                Entry::Reweight {
+                    node: other,
+                    vnodes: weight,
+                },
+            ) => { node == other && vnodes == weight }
+            (
+                Entry::Recovered { node, epoch },
+                Entry::Recovered {
+                    node: other,
+                    epoch: level,
+                },
+            ) => { node == other && epoch == level }
+            (
+                Entry::Reserve {
+                    by,
+                    session,
+                    name,
+                    origin,
+                },
+                Entry::Reserve {
+                    by: node,
+                    session: number,
+                    name: text,
+                    origin: source,
+                },
+            ) => by == node && session == number && name.same(text) && origin.same(source),
+            (Entry::Publish { by, vid }, Entry::Publish { by: node, vid: id }) => by == node
+                && vid == id,
+            (Entry::Clone { by, vid }, Entry::Clone { by: node, vid: id }) => by == node
+                && vid == id,
+            (
+                Entry::Snapshot { by, old, vid },
+                Entry::Snapshot {
+                    by: node,
+                    old: before,
+                    vid: id,
+                },
+            ) => by == node && old == before && vid == id,
+            (
+                Entry::Delete {
+                    by,
+                    session,
+                    name,
+                    tag,
+                },
+                Entry::Delete {
+                    by: node,
+                    session: number,
+                    name: text,
+                    tag: label,
+                },
+            ) => by == node
+                && session == number
+                && name.same(text)
+                && Bytes::same_option(tag, label),
+            (
+                Entry::Lock {
+                    by,
+                    session,
+                    name,
+                    tag,
+                },
+                Entry::Lock {
+                    by: node,
+                    session: number,
+                    name: text,
+                    tag: label,
+                },
+            ) => by == node
+                && session == number
+                && name.same(text)
+                && Bytes::same_option(tag, label),
+            (
+                Entry::Unlock { by, session, vid },
+                Entry::Unlock {
+                    by: node,
+                    session: number,
+                    vid: id,
+                },
+            ) => by == node && session == number && vid == id,
+            _ => false,
+        }
+    }
+}
+
+#[cfg(test)]
+mod tests {
+    use super::*;
+    use crate::entry::VdiSpec;
+    use crate::memory::NoMemory;
+    use crate::node::NodeId;
+    use crate::oid::Vid;
+    use crate::policy::Policy;
+    use std::alloc::Global;
+    use std::test::Fail;
+
+    fn spec(size: u64, shift: u8) -> VdiSpec {
+        VdiSpec {
+            size,
+            policy: Policy::Copies(3),
+            shift,
+        }
+    }
+
+    fn lock(
+        alloc: Global,
+        session: u32,
+        name: &[u8],
+        tag: Option<Bytes>,
+    ) -> Result<Entry, NoMemory> {
+        Ok(Entry::Lock {
+            by: NodeId(3),
+            session,
+            name: Bytes::from_slice(alloc, name)?,
+            tag,
+        })
+    }
+
+    #[test]
+    fn entries_are_the_same_in_every_field(rt: HostRuntime) -> Result<(), Fail> {
+        let alloc = rt.alloc();
+        let entry = lock(alloc, 7, b"vm", None)?;
+        assert!(rt; entry.same(&entry.copy(alloc)?));
+        assert!(rt; !entry.same(&lock(alloc, 8, b"vm", None)?));
+        assert!(rt; !entry.same(&lock(alloc, 7, b"vn", None)?));
+        assert!(rt; !entry.same(&lock(alloc, 7, b"vm", Some(Bytes::new(alloc)))?));
+        let vid = Vid(5);
+        assert!(rt;
+            !Entry::Publish { by: NodeId(3), vid }.same(&Entry::Clone { by: NodeId(3), vid })
+        );
+
+        let fresh = Origin::Fresh {
+            spec: spec(512, 22),
+        };
+        assert!(rt; fresh.same(&fresh.copy(alloc)?));
+        assert!(rt;
+            !fresh.same(&Origin::Fresh {
+                spec: spec(512, 12)
+            })
+        );
+        Ok(())
+    }
+}

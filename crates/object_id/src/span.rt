@@ -1,0 +1,28 @@
+ghost use Rattle.std.specs.Prelude.{◌↔◌, IsTrue};
+ghost use Rattle.object_id.specs.Span.{IsSpan};
+
+use crate::limits::{BLOCK_BYTES, LENGTH_MAX};
+
+/// Whether a read or a write may ask for so many bytes from this offset on: whole blocks from a block's start on,
+/// [`LENGTH_MAX`] bytes at most. Whether they end on the disk is another question.
+pub fn is_span(offset: u64, bytes: u32) -> bool
+    ensures { IsTrue result ↔ IsSpan offset bytes }
+{
+    if offset % u64::from(BLOCK_BYTES) != 0 || bytes % BLOCK_BYTES != 0 {
+        return false;
+    }
+    BLOCK_BYTES <= bytes && u64::from(bytes) <= LENGTH_MAX
+}
+
+#[cfg(test)]
+mod tests {
+    use super::*;
+
+    #[test]
+    fn spans_are_whole_blocks(rt: HostRuntime) {
+        assert!(rt; is_span(0, 512) && is_span(512, 1_048_576));
+        assert!(rt; is_span(0xffff_ffff_ffff_fe00, 1_024));
+        assert!(rt; !is_span(256, 512) && !is_span(0, 768));
+        assert!(rt; !is_span(0, 0) && !is_span(0, 1_049_088));
+    }
+}
