@@ -28,6 +28,7 @@ use Rattle.sheep_node.specs.OneWork.{HasOneWorkPerRequest}
 use Rattle.sheep_node.specs.Changes.{input_received}
 use Rattle.sheep_node.proofs.Cases.{either}
 use Rattle.sheep_node.proofs.PeerLog.{Log, served_same}
+use Rattle.sheep_node.proofs.StepChain.{needs_by_may}
 use Rattle.sheep_node.proofs.StepResults.{step_peer, step_epochs}
 
 -- the epochs of entries, with one more
@@ -273,10 +274,11 @@ pub step_follows : (input : Input) (node : Node) → May input node → HasOneWo
     → IsByTheLog (node_step input node).node
 step_follows input node may one_work h =
     let start = (input_received input (at_first node)).node in
+    let needs = needs_by_may input node may one_work in
     subst (λ (peer : Peer). FollowsLog peer.epoch peer.settled (node_step input node).node.epochs peer.entries)
-    (sym (step_peer input node may one_work))
+    (sym (step_peer input node needs one_work))
     (subst (λ (epochs : List EpochMembers). FollowsLog start.peer.epoch start.peer.settled epochs start.peer.entries)
-    (sym (step_epochs input node may one_work)) (received_follows input node may.condition h))
+    (sym (step_epochs input node needs one_work)) (received_follows input node may.condition h))
 
 -- so it opens
 pub opening_follows : (me : NodeId) (tries : ℕ) → IsByTheLog (initial_node me tries)

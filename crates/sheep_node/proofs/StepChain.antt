@@ -62,7 +62,7 @@ use Rattle.sheep_node.specs.Same.{waits_for_entry}
 use Rattle.sheep_node.specs.LogReading.{entry_read, asker_of, decision_told, on_log_entry}
 use Rattle.sheep_node.specs.Step as steps
 use Rattle.sheep_node.specs.Step.{recovery_stepped, on_put, on_input, is_due, with_recovered, recovered_put, node_step}
-use Rattle.sheep_node.specs.May.{fits_node, has_entry_to_put, MayGuest, May}
+use Rattle.sheep_node.specs.May.{fits_node, May}
 use Rattle.sheep_node.specs.OneWork.{may_work_at, HasOneWorkPerRequest}
 use Rattle.sheep_node.specs.Changes as changes
 use Rattle.sheep_node.specs.Changes.{IsTold, input_received, IsOverWith, HasRequest, LearnsStatus, EndsAttempt, EndsWork, Arrival, gateway_with_touch, without_ended_work, refusal_of, ToWork, outcome_of_driver, outcome_of_command, after_driver_step, after_command_step, RequestSteps, DiskBegins, DiskGoesOn, CommandBegins, CommandGoesOn, CommandDecided, new_work, WorkIsNext, AtOnce, InTurn, Again, has_too_few_zones, zones_of_members, without_denied_work, Change, Leads, Still, Then}
@@ -406,11 +406,11 @@ module _ (input : Input) (node : Node) (first : StepState) where
 
     -- ---- a guest's request
 
-    module _ (session req : ℕ) (ask : Ask) (from : input ≡ inputs.Guest req session ask) (guest : MayGuest req session ask so_far.node)
+    module _ (session req : ℕ) (ask : Ask) (start : so_far ≡ at_first node) (from : input ≡ inputs.Guest req session ask)
         (none : tree.get so_far.node.requests req ≡ None) where
       arrival : (refusal : Option Cause) → request_refusal so_far.node.peer (session_in session so_far).disk ask ≡ refusal
           → Arrival input node so_far session req ask refusal
-      arrival refusal is = record { from = from; guest = guest; none = none; refused = is }
+      arrival refusal is = record { first = start; from = from; none = none; refused = is }
 
     arrives_walk : (session req : ℕ) (ask : DiskAsk) → Arrival input node so_far session req (asks.Disk ask) None → (disk : Option Disk)
         → (session_in session so_far).disk ≡ disk
@@ -437,16 +437,16 @@ module _ (input : Input) (node : Node) (first : StepState) where
     taken_walk session req (asks.Vdi ask) arrival =
         command_begun_walk session req ask arrival (begin_command so_far.node.me session ask (inode_open (session_in session so_far).disk)) refl
 
-    pub guest_walk : (session req : ℕ) (ask : Ask) → input ≡ inputs.Guest req session ask → MayGuest req session ask so_far.node
+    pub guest_walk : (session req : ℕ) (ask : Ask) → so_far ≡ at_first node → input ≡ inputs.Guest req session ask
         → tree.get so_far.node.requests req ≡ None → IsReached input node first (on_guest req session ask so_far)
     unfolding on_guest
-    guest_walk session req ask from guest none = by_cause (request_refusal so_far.node.peer (session_in session so_far).disk ask) refl
+    guest_walk session req ask start from none = by_cause (request_refusal so_far.node.peer (session_in session so_far).disk ask) refl
       where
         by_cause : (cause : Option Cause) → request_refusal so_far.node.peer (session_in session so_far).disk ask ≡ cause
             → IsReached input node first (request_taken_unless cause session req ask so_far)
-        by_cause None allowed = taken_walk session req ask (arrival session req ask from guest none None allowed)
+        by_cause None allowed = taken_walk session req ask (arrival session req ask start from none None allowed)
         by_cause (Some cause) refuses =
-            reached_by walk (changes.Rejects session req ask cause (arrival session req ask from guest none (Some cause) refuses))
+            reached_by walk (changes.Rejects session req ask cause (arrival session req ask start from none (Some cause) refuses))
 
   -- ---- an entry of the log
 
@@ -517,17 +517,40 @@ untaken node req free = by_got (tree.get node.requests req) refl free
     by_got None is free = is
     by_got (Some request) is free = absurd (cc (free))
 
--- what a chain needs of the node at first: works are with their requests, and no number is waited for twice
-pub input_chain : (input : Input) (node : Node) → May input node → StepHasOneWork (at_first node)
-    → ((number : ℕ) → gateways.gateway_awaits number node.gateway ≡ true → recoveries.recovery_awaits number node.recovery ≡ false)
+-- what a chain needs of its input: a guest's request has a free number, and a reply to a work's message says what came of it
+abbrev pub ChainNeeds : Input → Node → Type 0
+ChainNeeds (inputs.Guest req session ask) node = tree.get node.requests req ≡ None
+ChainNeeds (inputs.Request request) node = Unit {0}
+ChainNeeds (inputs.Reply rsp) node = gateways.gateway_awaits rsp.number node.gateway ≡ true → is_unanswered (status_by rsp.say) ≡ false
+ChainNeeds (inputs.Lost number) node = Unit {0}
+ChainNeeds (inputs.LogEntry entry) node = Unit {0}
+ChainNeeds inputs.Put node = Unit {0}
+ChainNeeds inputs.RecoverTick node = Unit {0}
+ChainNeeds inputs.RetryTick node = Unit {0}
+ChainNeeds (inputs.Back entries) node = Unit {0}
+
+-- a node that may step on it has that
+pub needs_by_may : (input : Input) (node : Node) → May input node → HasOneWorkPerRequest node → ChainNeeds input node
+needs_by_may (inputs.Guest req session ask) node may one_work = untaken node req may.condition.number
+needs_by_may (inputs.Request request) node may one_work = tt
+needs_by_may (inputs.Reply rsp) node may one_work =
+    λ waits. fits_settled node rsp (one_work.recovers rsp.number waits) may.condition
+needs_by_may (inputs.Lost number) node may one_work = tt
+needs_by_may (inputs.LogEntry entry) node may one_work = tt
+needs_by_may inputs.Put node may one_work = tt
+needs_by_may inputs.RecoverTick node may one_work = tt
+needs_by_may inputs.RetryTick node may one_work = tt
+needs_by_may (inputs.Back entries) node may one_work = tt
+
+pub input_chain : (input : Input) (node : Node) → ChainNeeds input node → StepHasOneWork (at_first node)
     → IsReached input node (input_received input (at_first node)) (on_input input (at_first node))
 unfolding on_input steps.on_reply steps.on_loss on_log_entry recovery_steps.recovery_on_reply recovery_steps.recovery_on_loss
-input_chain (inputs.Guest req session ask) node may good apart =
-    guest_walk (inputs.Guest req session ask) node (at_first node) (at_first node) (record { leads = Still; good = good }) session req ask refl
-    may.condition (untaken node req may.condition.number)
-input_chain (inputs.Request request) node may good apart =
+input_chain (inputs.Guest req session ask) node needs good =
+    guest_walk (inputs.Guest req session ask) node (at_first node) (at_first node) (record { leads = Still; good = good }) session req ask refl refl
+    needs
+input_chain (inputs.Request request) node needs good =
     record { leads = Still; good = received_one_work (inputs.Request request) node good }
-input_chain (inputs.Reply rsp) node may good apart = by_waits (gateways.gateway_awaits rsp.number node.gateway) refl
+input_chain (inputs.Reply rsp) node needs good = by_waits (gateways.gateway_awaits rsp.number node.gateway) refl
   where
     by_waits : (b : Bool) → gateways.gateway_awaits rsp.number node.gateway ≡ b
         → IsReached (inputs.Reply rsp) node (cond b (at_first node) (recovery_stepped (recovery_steps.message_end rsp.number (Some rsp.say) (recovery_state_of node)) (at_first node)))
@@ -535,9 +558,9 @@ input_chain (inputs.Reply rsp) node may good apart = by_waits (gateways.gateway_
         (recovery_stepped (recovery_steps.message_end rsp.number (Some rsp.say) (recovery_state_of node)) (at_first node)))
     by_waits true waits =
         answered_walk (inputs.Reply rsp) node (at_first node) (at_first node) (record { leads = Still; good = good }) rsp.number (status_by rsp.say)
-        (fits_settled node rsp (apart rsp.number waits) may.condition) (refl, refl)
+        (needs waits) (refl, refl)
     by_waits false none = record { leads = Still; good = good }
-input_chain (inputs.Lost number) node may good apart = by_waits (gateways.gateway_awaits number node.gateway) refl
+input_chain (inputs.Lost number) node needs good = by_waits (gateways.gateway_awaits number node.gateway) refl
   where
     by_waits : (b : Bool) → gateways.gateway_awaits number node.gateway ≡ b
         → IsReached (inputs.Lost number) node (cond b (at_first node) (recovery_stepped (recovery_steps.message_end number None (recovery_state_of node)) (at_first node)))
@@ -546,34 +569,38 @@ input_chain (inputs.Lost number) node may good apart = by_waits (gateways.gatewa
     by_waits true waits =
         answered_walk (inputs.Lost number) node (at_first node) (at_first node) (record { leads = Still; good = good }) number Lost refl (refl, refl)
     by_waits false none = record { leads = Still; good = good }
-input_chain (inputs.LogEntry entry) node may good apart =
+input_chain (inputs.LogEntry entry) node needs good =
     let start = with_node (entry_read entry node) (at_first node) in
     told_walk (inputs.LogEntry entry) node start entry refl start refl (read_keeps entry node).requests_so
     (record { leads = Still; good = received_one_work (inputs.LogEntry entry) node good }) (asker_of entry node) refl
-input_chain inputs.Put node may good apart = record { leads = Still; good = received_one_work inputs.Put node good }
-input_chain inputs.RecoverTick node may good apart = record { leads = Still; good = received_one_work inputs.RecoverTick node good }
-input_chain inputs.RetryTick node may good apart =
+input_chain inputs.Put node needs good = record { leads = Still; good = received_one_work inputs.Put node good }
+input_chain inputs.RecoverTick node needs good = record { leads = Still; good = received_one_work inputs.RecoverTick node good }
+input_chain inputs.RetryTick node needs good =
     retry_walk inputs.RetryTick node (at_first node) (at_first node) (record { leads = Still; good = good }) refl
-input_chain (inputs.Back entries) node may good apart =
+input_chain (inputs.Back entries) node needs good =
     record { leads = Still; good = received_one_work (inputs.Back entries) node good }
 
 -- and so is the step whole
-reached_step : (input : Input) (node : Node) → May input node → HasOneWorkPerRequest node
+reached_step : (input : Input) (node : Node) → ChainNeeds input node → HasOneWorkPerRequest node
     → IsReached input node (input_received input (at_first node)) (node_step input node)
 unfolding node_step recovered_put
-reached_step input node may driven = by_due (is_due (on_input input (at_first node)).node) refl
+reached_step input node needs driven = by_due (is_due (on_input input (at_first node)).node) refl
   where
     walk : IsReached input node (input_received input (at_first node)) (on_input input (at_first node))
-    walk = input_chain input node may driven.driven driven.recovers
+    walk = input_chain input node needs driven.driven
 
     by_due : (b : Bool) → is_due (on_input input (at_first node)).node ≡ b
         → IsReached input node (input_received input (at_first node)) (cond b (with_recovered (on_input input (at_first node))) (on_input input (at_first node)))
     by_due true due = reached_by walk (changes.Recovers due)
     by_due false none = walk
 
+pub chain_of_step : (input : Input) (node : Node) → ChainNeeds input node → HasOneWorkPerRequest node
+    → Leads input node (input_received input (at_first node)) (node_step input node)
+chain_of_step input node needs one_work = (reached_step input node needs one_work).leads
+
 pub step_chain : (input : Input) (node : Node) → May input node → HasOneWorkPerRequest node
     → Leads input node (input_received input (at_first node)) (node_step input node)
-step_chain input node may driven = (reached_step input node may driven).leads
+step_chain input node may one_work = chain_of_step input node (needs_by_may input node may one_work) one_work
 
 -- what every change keeps a chain keeps
 pub kept_by_chain : {input : Input} {node : Node} (P : StepState → Type 0)

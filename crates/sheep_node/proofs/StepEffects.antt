@@ -38,14 +38,13 @@ use Rattle.sheep_node.specs.RequestWorks.{command_refused, course_refused}
 use Rattle.sheep_node.specs.LogReading.{entry_read, on_back}
 use Rattle.sheep_node.specs.Step.{on_request, recovery_stepped, on_put, on_recover_tick, node_step}
 use Rattle.sheep_node.specs.StepFacts.{AscendFrom, Ascend}
-use Rattle.sheep_node.specs.May.{May}
 use Rattle.sheep_node.specs.OneWork.{HasOneWorkPerRequest}
 use Rattle.sheep_node.specs.Changes as changes
 use Rattle.sheep_node.specs.Changes.{Outcome, ToWork, ToEntry, ToReply, without_ended_work, zones_of_members, without_denied_work, attempt_in, RequestSteps, DiskBegins, DiskGoesOn, CommandBegins, CommandGoesOn, CommandDecided, after_command_step, WorkIsNext, AtOnce, InTurn, Again, input_received, Change}
 use Rattle.sheep_node.proofs.Numbers.{tick_numbers, numbers_joined}
 use Rattle.sheep_node.proofs.Cases.{either}
 use Rattle.sheep_node.proofs.ReadParts.{read_keeps}
-use Rattle.sheep_node.proofs.StepChain.{kept_by_chain, step_chain}
+use Rattle.sheep_node.proofs.StepChain.{ChainNeeds, kept_by_chain, chain_of_step}
 
 -- what the changes of a step leave alone
 pub record Untouched : Type 0 where
@@ -246,11 +245,11 @@ received_in_order (inputs.Back entries) node =
     record { numbers = refl; counted = omega arith; ascend = tt; recovered_stays = λ was. was; same = refl }
 
 -- a step is in order
-pub step_in_order : (input : Input) (node : Node) → May input node → HasOneWorkPerRequest node
+pub step_in_order : (input : Input) (node : Node) → ChainNeeds input node → HasOneWorkPerRequest node
     → IsInOrder node.sends (input_received input (at_first node)).node.recovered (untouched_in (input_received input (at_first node)))
     (node_step input node)
-step_in_order input node may one_work =
+step_in_order input node needs one_work =
     let start = input_received input (at_first node) in
     kept_by_chain (IsInOrder node.sends start.node.recovered (untouched_in start))
-    (change_keeps_order node.sends start.node.recovered (untouched_in start)) (step_chain input node may one_work)
+    (change_keeps_order node.sends start.node.recovered (untouched_in start)) (chain_of_step input node needs one_work)
     (received_in_order input node)

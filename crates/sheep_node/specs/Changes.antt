@@ -39,7 +39,7 @@ use Rattle.vdi_ops.specs.Steps.{begin_command, op_on_done, on_decision}
 use Rattle.recovery.specs.Steps as recovery_steps
 use Rattle.sheep_node.specs.State.{Course, Waiting, Driving, Commanding, Node}
 use Rattle.sheep_node.specs.RecoveryView.{recovery_state_of}
-use Rattle.sheep_node.specs.StepState.{StepState, with_node, with_sends, with_guest_reply, with_outbox_entry, with_gateway, with_session, session_in, with_inode_queue, with_disk, with_course, request_ended}
+use Rattle.sheep_node.specs.StepState.{StepState, at_first, with_node, with_sends, with_guest_reply, with_outbox_entry, with_gateway, with_session, session_in, with_inode_queue, with_disk, with_course, request_ended}
 use Rattle.sheep_node.specs.RequestWorks.{course_refused, queue_left}
 use Rattle.sheep_node.specs.Courses.{disk_after}
 use Rattle.sheep_node.specs.declared.ask.Ask.{Ask}
@@ -50,7 +50,6 @@ use Rattle.sheep_node.specs.Guests.{request_refusal, inode_open, queued_as}
 use Rattle.sheep_node.specs.Same.{waits_for_entry}
 use Rattle.sheep_node.specs.LogReading.{entry_read, on_back}
 use Rattle.sheep_node.specs.Step.{on_request, recovery_stepped, on_put, on_recover_tick, is_due, with_recovered}
-use Rattle.sheep_node.specs.May.{MayGuest}
 
 -- a request of a session is there, and has come so far
 abbrev pub HasRequest : ℕ → ℕ → Course → StepState → Type 0
@@ -184,10 +183,10 @@ module _ (input : Input) (node : Node) where
     pub done : is_done work.work (messages_with_status number status attempt.messages) ≡ true
     pub given : bytes_given work.work (messages_with_status number status attempt.messages) ≡ bytes
 
-  -- a guest's request comes, whose number is free; it is refused, or isn't
+  -- the step begins with a guest's request, whose number is free; it is refused, or isn't
   pub record Arrival (so_far : StepState) (session req : ℕ) (ask : Ask) (refusal : Option Cause) : Type 0 where
+    pub first : so_far ≡ at_first node
     pub from : input ≡ inputs.Guest req session ask
-    pub guest : MayGuest req session ask so_far.node
     pub none : tree.get so_far.node.requests req ≡ None
     pub refused : request_refusal so_far.node.peer (session_in session so_far).disk ask ≡ refusal
 

@@ -162,7 +162,7 @@ module _ (statements : List Statement) (number : ℕ) (world : World) (session :
   well_by req next (Some of) (Some ask) =
       λ host at. (
         is_served host at,
-        good_well (inputs.Guest req of ask) host.node (driven session.node host at)
+        good_well (inputs.Guest req of ask) host.node (new session req host found next at) (driven session.node host at)
             (guest_good host.node req of ask (driven session.node host at) (new session req host found next at)),
       )
 

@@ -56,8 +56,8 @@ use Rattle.sheep_node.specs.Courses.{course_decided}
 use Rattle.sheep_node.specs.LogReading as nodes
 use Rattle.sheep_node.specs.LogReading.{is_epoch_member, epoch_members, with_peer, with_epoch_members, peer_entered, recovery_begun, recovery_begun_if, epoch_entered, entered_by, settled_by, asker_of, decision_told, on_log_entry}
 use Rattle.sheep_node.specs.Step.{on_input, node_step}
-use Rattle.sheep_node.proofs.SoundReading.{entries_reading}
-use Rattle.sheep_node.proofs.SoundSteps.{stepped_numbers, stepped_counts}
+use Rattle.sheep_node.proofs.PeerLog.{entries_reading}
+use Rattle.sheep_node.proofs.StepResults.{step_numbers, step_counts}
 use Rattle.sheep_world.specs.World.{Host, World, host_at, node_at, is_host_up}
 use Rattle.sheep_world.specs.Conditions.{may_log_next}
 use Rattle.sheep_world.specs.NodeSteps.{node_stepped, node_stepped_if, at_rest}
@@ -333,8 +333,8 @@ reads_well entry node driven =
       asks = λ requests.
           asks_after Any node after so_far.node so_far.outputs.sends (read_asks entry node)
           (good_so_far_asks after so_far
-          (subst (λ (n : ℕ). AreNumberedFrom n so_far.outputs.sends) (sym same) (stepped_numbers (inputs.LogEntry entry) node))
-          (stepped_counts (inputs.LogEntry entry) node ∙ ap (λ (n : ℕ). n + length so_far.outputs.sends) (sym same))
+          (subst (λ (n : ℕ). AreNumberedFrom n so_far.outputs.sends) (sym same) (step_numbers (inputs.LogEntry entry) node tt driven))
+          (step_counts (inputs.LogEntry entry) node tt driven ∙ ap (λ (n : ℕ). n + length so_far.outputs.sends) (sym same))
           good requests);
       driven = good_driven after so_far (read_driven entry node driven) good;
     }
