@@ -94,10 +94,10 @@ two_zones = refl
 abbrev create : ℕ → Work
 create copies = record { work = Create inode (Copies copies) 4198968 0 []; ended = 0; stage = Ended }
 
-too_few_zones : (attempt_step four (initial_gateway (node 0) 4) 1 (create 3) 0 (epoch 1)).act ≡ acts.Refused 1 (causes.Halt 2 3)
+too_few_zones : (attempt_step four (initial_gateway (node 0) 4) 1 (create 3) 0 (epoch 1)).act ≡ acts.Refused (create 3).work 1 (causes.Halt 2 3)
 unfolding attempt_step zone_count
 too_few_zones =
     ap (λ touched. (cond touched
     (waiting_step (with_work 1 (record (create 3) { stage = WaitsForMembers (epoch 1) }) (initial_gateway (node 0) 4)))
-    (refusal_step (initial_gateway (node 0) 4) 1 (causes.Halt 2 3))).act)
+    (refusal_step (initial_gateway (node 0) 4) 1 (create 3).work (causes.Halt 2 3))).act)
     (contains-empty nat_cmp 1)

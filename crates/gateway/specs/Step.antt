@@ -38,20 +38,20 @@ abbrev pub waiting_step : Gateway → GatewayStep
 waiting_step gateway = record { gateway = gateway; act = acts.Wait }
 
 -- the request's work ends, and the request is refused for a cause
-abbrev pub refusal_step : Gateway → ℕ → Cause → GatewayStep
-refusal_step gateway req cause = record { gateway = without_work req gateway; act = acts.Refused req cause }
+abbrev pub refusal_step : Gateway → ℕ → ObjWork → Cause → GatewayStep
+refusal_step gateway req work cause = record { gateway = without_work req gateway; act = acts.Refused work req cause }
 
 -- the request's work is done, and gave these bytes
-abbrev pub done_step : Gateway → ℕ → List ℕ → GatewayStep
-done_step gateway req bytes =
-    record { gateway = without_work req gateway; act = acts.Done (record { req = req; bytes = bytes }) }
+abbrev pub done_step : Gateway → ℕ → ObjWork → List ℕ → GatewayStep
+done_step gateway req work bytes =
+    record { gateway = without_work req gateway; act = acts.Done work (record { req = req; bytes = bytes }) }
 
 -- for want of members an untouched request is refused, and a touched one waits for a later epoch
 abbrev pub halt_step : Gateway → ℕ → Work → Epoch → ℕ → GatewayStep
 halt_step gateway req work epoch zones =
     if is_touched req gateway
     then waiting_step (with_work req (record work { stage = WaitsForMembers epoch }) gateway)
-    else refusal_step gateway req (Halt zones (zones_for work.work))
+    else refusal_step gateway req work.work (Halt zones (zones_for work.work))
 
 -- an attempt of these messages is open, and they are sent
 abbrev pub open_step : Gateway → ℕ → Work → Attempt → GatewayStep
@@ -90,8 +90,9 @@ retry_step epochs gateway first epoch = retry_step_of epochs gateway first epoch
 
 -- a message of the request's work that may have been made touches the request, where the work makes something
 abbrev pub touched_by : ℕ → ObjWork → Status → Gateway → Gateway
-touched_by req work status gateway =
-    if is_making work && may_be_made status then (record gateway { touched = set.insert gateway.touched req }) else gateway
+touched_by req work status gateway = record gateway {
+  touched = if is_making work && may_be_made status then set.insert gateway.touched req else gateway.touched;
+}
 
 -- why a request is refused when an attempt has ended, not done, as the work's attempt of this number: it is untouched,
 -- and has been tried as often as it may
@@ -104,13 +105,13 @@ refusal_after_attempt gateway req work number attempt =
 -- the request is refused, or its work waits for its next attempt
 abbrev pub failure_step : Gateway → ℕ → Work → Option Cause → GatewayStep
 failure_step gateway req work None = waiting_step (with_work req (record work { ended = work.ended + 1; stage = Ended }) gateway)
-failure_step gateway req work (Some cause) = refusal_step gateway req cause
+failure_step gateway req work (Some cause) = refusal_step gateway req work.work cause
 
 -- an attempt has ended
 unfoldable pub attempt_ended : Gateway → ℕ → Work → Attempt → GatewayStep
 attempt_ended gateway req work attempt =
     if is_done work.work attempt.messages
-    then done_step gateway req (bytes_given work.work attempt.messages)
+    then done_step gateway req work.work (bytes_given work.work attempt.messages)
     else failure_step gateway req work (refusal_after_attempt gateway req work.work (work.ended + 1) attempt)
 
 -- an attempt goes on as long as one of its messages is unanswered

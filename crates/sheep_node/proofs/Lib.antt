@@ -1,4 +1,3 @@
-pub mod Cases
 pub mod Numbers
 pub mod StepLaws
 pub mod SameLaws
@@ -7,7 +6,6 @@ pub mod NumberTools
 pub mod ListTools
 pub mod EntryTools
 pub mod OneWorkParts
-pub mod ReadParts
 pub mod OneWorkChanges
 pub mod StepChain
 pub mod MessageNumbers

@@ -7,6 +7,8 @@ use Rattle.std.proofs.lemmas.List.{append-nil}
 use Rattle.std.proofs.lemmas.List.Elements.{filter-append}
 use Rattle.object_id.specs.declared.node.Epoch.{Epoch}
 use Rattle.object_id.specs.declared.node.NodeId.{NodeId}
+use Rattle.object_id.specs.declared.entry.Entry.{Entry}
+use Rattle.object_id.specs.declared.entry.Member.{Member}
 use Rattle.peer_proto.specs.declared.ask.PeerReq.{PeerReq}
 use Rattle.peer_proto.specs.declared.say.PeerSay.{PeerSay}
 use Rattle.peer_proto.specs.declared.work.ObjWork.{ObjWork}
@@ -20,6 +22,11 @@ use Rattle.recovery.specs.Steps as recovery_steps
 use Rattle.recovery.specs.Steps.{messages_without, message_end}
 use Rattle.recovery.specs.Tick.{tick_messages, tick_sends, state_after_tick}
 use Rattle.recovery.proofs.StepLemmas.{frame_of_end, frame_of_tick}
+use Rattle.recovery.specs.Shown.{shown_with_pending}
+use Rattle.recovery.proofs.StepLemmas.{either}
+use Rattle.sheep_node.specs.State.{Node}
+use Rattle.sheep_node.specs.RecoveryView.{recovery_state_of}
+use Rattle.sheep_node.specs.LogReading.{epoch_members, with_entry, recovery_in_epoch, begins_recovery, entry_read}
 use Rattle.sheep_node.proofs.Numbers.{tick_numbers}
 use Rattle.sheep_node.proofs.ListTools.{has-here, has-none, has-later, has_cases}
 
@@ -163,6 +170,21 @@ left_before number q said state waits =
     ∙ sym (filter-append (λ message. not (recoveries.has_number number message)) state.recovery.unanswered state.recovery.older) in
     found_before number q (recoveries.all_unanswered state.recovery)
     (sym (ap (λ (messages : List Message). is_some (recoveries.message_of q messages)) now) ∙ waits)
+
+-- once it began, it waits for what it waited for before
+pub unanswered_in_epoch : (node : Node) → recoveries.all_unanswered (recovery_in_epoch node).recovery ≡ recoveries.all_unanswered node.recovery
+unfolding recovery_steps.recovery_from_epoch
+unanswered_in_epoch node =
+    let start = recovery_steps.at_start node.peer.epoch (map (λ (member : Member). member.node) (epoch_members node)) (recovery_state_of node) in
+    either (λ (after : RecoveryState). recoveries.all_unanswered after.recovery ≡ recoveries.all_unanswered node.recovery)
+    (recoveries.is_listed start.recovery) (record start { shown = shown_with_pending (recovery_steps.to_recover start) start.shown }) start refl refl
+
+pub unanswered_reading : (entry : Entry) (node : Node) → recoveries.all_unanswered (entry_read entry node).recovery ≡ recoveries.all_unanswered node.recovery
+unfolding entry_read
+unanswered_reading entry node =
+    either (λ (after : RecoveryState). recoveries.all_unanswered after.recovery ≡ recoveries.all_unanswered node.recovery)
+    (begins_recovery entry node) (recovery_in_epoch (with_entry entry node)) (recovery_state_of (with_entry entry node))
+    (unanswered_in_epoch (with_entry entry node)) refl
 
 -- and once it had a tick
 module _ (state : RecoveryState) (first : ℕ) (may : can_tick state ≡ true) where

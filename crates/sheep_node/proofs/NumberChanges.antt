@@ -43,14 +43,13 @@ use Rattle.sheep_node.specs.Step.{on_request, recovery_stepped, on_put, on_recov
 use Rattle.sheep_node.specs.May.{Meets, May}
 use Rattle.sheep_node.specs.OneWork.{NumbersAreOfOneWork, NumbersAreBelow, HasOneWorkPerRequest}
 use Rattle.sheep_node.specs.Changes as changes
-use Rattle.sheep_node.specs.Changes.{LearnsStatus, gateway_with_touch, without_ended_work, Outcome, ToWork, ToEntry, ToReply, after_command_step, RequestSteps, DiskBegins, DiskGoesOn, CommandBegins, CommandGoesOn, CommandDecided, WorkIsNext, AtOnce, InTurn, Again, attempt_in, input_received, Change}
+use Rattle.sheep_node.specs.Changes.{LearnsStatus, gateway_with_touch, without_ended_work, Outcome, ToWork, ToEntry, ToReply, RequestSteps, DiskBegins, DiskGoesOn, CommandBegins, CommandGoesOn, CommandDecided, WorkIsNext, AtOnce, InTurn, Again, attempt_in, input_received, Change}
 use Rattle.sheep_node.proofs.NumberTools.{same_or_not, below_or_not, got_own, got_other, got_removed, got_left}
 use Rattle.sheep_node.proofs.EntryTools.{Works, found_by, found_got, got_found, some_of}
-use Rattle.sheep_node.proofs.MessageNumbers.{all_before, fresh_apart, fresh_below, left_before, ticked_within}
-use Rattle.sheep_node.proofs.ReadParts.{read_keeps, begun_same}
-use Rattle.sheep_node.proofs.OneWorkChanges.{StepHasOneWork, by_touch, none_good, change_keeps_one_work, received_one_work}
+use Rattle.sheep_node.proofs.MessageNumbers.{all_before, fresh_apart, fresh_below, left_before, ticked_within, unanswered_in_epoch, unanswered_reading}
+use Rattle.sheep_node.proofs.OneWorkChanges.{StepHasOneWork, none_good, change_keeps_one_work, received_one_work}
 use Rattle.sheep_node.proofs.StepChain.{kept_by_chain, step_chain}
-use Rattle.sheep_node.proofs.Cases.{either}
+use Rattle.recovery.proofs.StepLemmas.{either}
 
 -- a number is of one work or of the recovery, and was given; the gateway asks in the node's name
 pub record HaveOneNumberEach (me own : NodeId) (works : Works) (count : ℕ) (recovery : Recovery) : Type 0 where
@@ -107,26 +106,19 @@ gone_fewer works req number q work got awaits = ⊎_elim
 freed_numbered : {input : Input} {node : Node} → (session req number : ℕ) (work : Work) (attempt : Attempt) (status : Status) (so_far : StepState) → LearnsStatus input node so_far req number work attempt status
     → StepHasOneNumber so_far → StepHasOneNumber (without_ended_work session req work status so_far)
 freed_numbered session req number work attempt status so_far learns numbered =
-    by_touch (λ (gateway : Gateway). StepHasOneNumber (queue_left session work.work (with_gateway (without_work req gateway) so_far))) req work.work status so_far.node.gateway
-    (λ touched. fewer so_far.node.me so_far.node.gateway.me so_far.node.gateway.works (tree.remove so_far.node.gateway.works req) so_far.node.sends so_far.node.recovery
-    (gone_fewer so_far.node.gateway.works req) numbered)
-
-ordered_numbered : (session req : ℕ) (ask : VdiAsk) (op : Op) (act : OpAct) (so_far : StepState) → StepHasOneNumber so_far → StepHasOneNumber (after_command_step session req ask op act so_far)
-ordered_numbered session req ask op (op_acts.Append entry) so_far numbered = numbered
-ordered_numbered session req ask op (op_acts.Work work) so_far numbered = numbered
-ordered_numbered session req ask op (op_acts.Reply reply) so_far numbered = numbered
+    fewer so_far.node.me so_far.node.gateway.me so_far.node.gateway.works (tree.remove so_far.node.gateway.works req) so_far.node.sends so_far.node.recovery
+    (gone_fewer so_far.node.gateway.works req) numbered
 
 steps_numbered : {input : Input} {node : Node} → (so_far : StepState) (session req : ℕ) (next : Outcome) (moved : StepState) → RequestSteps input node so_far session req next moved → StepHasOneNumber so_far → StepHasOneNumber moved
 steps_numbered so_far session req next moved (DiskBegins ask disk there on may) numbered = numbered
 steps_numbered so_far session req next moved (DiskGoesOn number work attempt status bytes driver disk step ends on is) numbered =
     freed_numbered session req number work attempt status so_far ends.ends.learns numbered
 steps_numbered so_far session req next moved (CommandBegins ask step arrival is) numbered =
-    ordered_numbered session req ask step.op step.act so_far numbered
+    numbered
 steps_numbered so_far session req next moved (CommandGoesOn number work attempt status bytes ask op step ends is) numbered =
-    ordered_numbered session req ask step.op step.act (without_ended_work session req work status so_far)
-    (freed_numbered session req number work attempt status so_far ends.ends.learns numbered)
+    freed_numbered session req number work attempt status so_far ends.ends.learns numbered
 steps_numbered so_far session req next moved (CommandDecided entry ask op step from read there waits is) numbered =
-    ordered_numbered session req ask step.op step.act so_far numbered
+    numbered
 
 pub comes_numbered : {input : Input} {node : Node} → (so_far : StepState) (session req : ℕ) (asked : Work) (lined : StepState) → WorkIsNext input node so_far session req asked lined → StepHasOneNumber so_far → StepHasOneNumber lined
 comes_numbered so_far session req asked lined (AtOnce work moved steps begins) numbered = steps_numbered so_far session req (ToWork work) moved steps numbered
@@ -143,13 +135,9 @@ refused_numbered session req cause (Waiting ask) so_far numbered = numbered
 refused_numbered session req cause (Driving driver) so_far numbered = numbered
 refused_numbered session req cause (Commanding ask op) so_far numbered = by_end (on_refusal cause op)
   where
-    by_unlock : (end : OpEnd) (unlock : Option Entry) → StepHasOneNumber (request_ended session req end.reply (with_optional_entry unlock so_far))
-    by_unlock end None = numbered
-    by_unlock end (Some entry) = numbered
-
     by_end : (end : Option OpEnd) → StepHasOneNumber (command_refused session req end so_far)
     by_end None = numbered
-    by_end (Some end) = by_unlock end end.unlock
+    by_end (Some end) = numbered
 
 -- ---- an attempt begins
 
@@ -224,9 +212,8 @@ learned_numbered : (req : ℕ) (work now : Work) (status : Status) (so_far : Ste
     → ((number : ℕ) → is_awaited_in number now ≡ true → is_awaited_in number work ≡ true) → StepHasOneNumber so_far
     → StepHasOneNumber (with_gateway (with_work req now (gateway_with_touch req work status so_far)) so_far)
 learned_numbered req work now status so_far there less numbered =
-    by_touch (λ (gateway : Gateway). StepHasOneNumber (with_gateway (with_work req now gateway) so_far)) req work.work status so_far.node.gateway
-    (λ touched. fewer so_far.node.me so_far.node.gateway.me so_far.node.gateway.works (tree.insert so_far.node.gateway.works req now) so_far.node.sends so_far.node.recovery
-    (put_fewer so_far.node.gateway.works req now (λ number awaits. (work, there, less number awaits))) numbered)
+    fewer so_far.node.me so_far.node.gateway.me so_far.node.gateway.works (tree.insert so_far.node.gateway.works req now) so_far.node.sends so_far.node.recovery
+    (put_fewer so_far.node.gateway.works req now (λ number awaits. (work, there, less number awaits))) numbered
 
 pub change_keeps_numbers : {input : Input} {node : Node} → (so_far next : StepState) → Change input node so_far next → StepHasOneNumber so_far → StepHasOneNumber next
 change_keeps_numbers so_far next (changes.Marks req number work attempt status learns over) numbered =
@@ -285,7 +272,7 @@ none_got req work got = let none = tree.get-empty {X = Work} nat_cmp req in absu
 
 pub received_numbers : (input : Input) (node : Node) → Meets input node → StepHasOneNumber (at_first node)
     → StepHasOneNumber (input_received input (at_first node))
-unfolding on_request on_recover_tick on_back recovery_steps.recovery_on_reply recovery_steps.recovery_on_loss
+unfolding entry_read on_request on_recover_tick on_back recovery_steps.recovery_on_reply recovery_steps.recovery_on_loss
 received_numbers (inputs.Guest req session ask) node may numbered = numbered
 received_numbers (inputs.Request request) node may numbered = numbered
 received_numbers (inputs.Reply rsp) node may numbered =
@@ -297,20 +284,14 @@ received_numbers (inputs.Lost number) node may numbered =
     (recovery_stepped (recovery_steps.message_end number None (recovery_state_of node)) (at_first node))
     numbered (heard_numbered number None node numbered)
 received_numbers (inputs.LogEntry entry) node may numbered =
-    let kept = read_keeps entry node in
-    let after = entry_read entry node in
-    let recovery : (q : ℕ) → recoveries.recovery_awaits q after.recovery ≡ recoveries.recovery_awaits q node.recovery
-    = λ q. ap (λ (messages : List Message). is_some (recoveries.message_of q messages)) kept.messages_so in
-    let works_so : after.gateway.works ≡ node.gateway.works = ap (λ (gateway : Gateway). gateway.works) kept.gateway_so in
+    let waits_as : (q : ℕ) → recoveries.recovery_awaits q (entry_read entry node).recovery ≡ recoveries.recovery_awaits q node.recovery
+    = λ q. ap (λ (messages : List Message). is_some (recoveries.message_of q messages)) (unanswered_reading entry node) in
     record {
-      own_so = ap (λ (gateway : Gateway). gateway.me) kept.gateway_so ∙ numbered.own_so ∙ sym kept.me_so;
-      once = subst NumbersAreOfOneWork (sym works_so) numbered.once;
-      given = subst (λ (works : Works). NumbersAreBelow after.sends works) (sym works_so)
-          (subst (λ (count : ℕ). NumbersAreBelow count node.gateway.works) (sym kept.sends_so) numbered.given);
-      recovers = λ number req work got awaits.
-          recovery number ∙ numbered.recovers number req work (sym (ap (λ (works : Works). tree.get works req) works_so) ∙ got) awaits;
-      recovering = λ number waits.
-          subst (λ (count : ℕ). number < count) (sym kept.sends_so) (numbered.recovering number (sym (recovery number) ∙ waits));
+      own_so = numbered.own_so;
+      once = numbered.once;
+      given = numbered.given;
+      recovers = λ number req work got awaits. waits_as number ∙ numbered.recovers number req work got awaits;
+      recovering = λ number waits. numbered.recovering number (sym (waits_as number) ∙ waits);
     }
 received_numbers inputs.Put node may numbered = by_outbox node.outbox
   where
@@ -337,7 +318,7 @@ received_numbers (inputs.Back entries) node may numbered =
     let lone = come_back_with entries node in
     let none : (q : ℕ) → recoveries.recovery_awaits q (on_back entries node).recovery ≡ false
     = λ q. ap (λ (messages : List Message). is_some (recoveries.message_of q messages))
-    (begun_same lone.peer.epoch (map (λ (member : Member). member.node) (epoch_members lone)) (recovery_state_of lone)) in
+    (unanswered_in_epoch lone) in
     record {
       own_so = refl;
       once = λ number one other work later got_one got_two awaits_one awaits_two. none_got one work got_one;

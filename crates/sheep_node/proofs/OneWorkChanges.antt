@@ -40,7 +40,7 @@ use Rattle.sheep_node.specs.State.{Course, Waiting, Driving, Commanding, Request
 use Rattle.sheep_node.specs.RecoveryView.{recovery_state_of}
 use Rattle.sheep_node.specs.StepState.{StepState, at_first, with_optional_entry, with_gateway, session_in, with_inode_queue, with_course, request_ended}
 use Rattle.sheep_node.specs.RequestWorks.{command_refused, course_refused, queue_left}
-use Rattle.sheep_node.specs.Courses.{disk_after}
+use Rattle.sheep_node.specs.Courses.{after_driver_step, disk_with_act, after_command_step}
 use Rattle.sheep_node.specs.Guests.{inode_open, queued_as}
 use Rattle.sheep_node.specs.Same.{is_wanted, waits_for_entry}
 use Rattle.sheep_node.specs.LogReading.{entry_read, on_back}
@@ -48,12 +48,11 @@ use Rattle.sheep_node.specs.Step.{on_request, recovery_stepped, on_put, on_recov
 use Rattle.std.proofs.lemmas.Bool.{eq-eqb, eqb-true, and_parts}
 use Rattle.sheep_node.specs.OneWork.{may_work, may_work_at, may_work_of, waiting_in, AreOfDifferentRequests, HaveOneWorkPerRequest, HasNoWork}
 use Rattle.sheep_node.specs.Changes as changes
-use Rattle.sheep_node.specs.Changes.{HasRequest, LearnsStatus, EndsAttempt, gateway_with_touch, without_ended_work, Outcome, ToWork, ToEntry, ToReply, outcome_of_driver, outcome_of_command, after_driver_step, after_command_step, RequestSteps, DiskBegins, DiskGoesOn, CommandBegins, CommandGoesOn, CommandDecided, new_work, WorkIsNext, AtOnce, InTurn, Again, with_open_attempt, with_work_held, without_denied_work, attempt_in, zones_of_members, input_received, Change}
+use Rattle.sheep_node.specs.Changes.{HasRequest, LearnsStatus, EndsAttempt, gateway_with_touch, without_ended_work, Outcome, ToWork, ToEntry, ToReply, outcome_of_driver, outcome_of_command, RequestSteps, DiskBegins, DiskGoesOn, CommandBegins, CommandGoesOn, CommandDecided, new_work, WorkIsNext, AtOnce, InTurn, Again, with_open_attempt, with_work_held, without_denied_work, attempt_in, zones_of_members, input_received, Change}
 use Rattle.sheep_node.proofs.NumberTools.{got_own, got_removed}
 use Rattle.sheep_node.proofs.ListTools.{has-here, has-none}
-use Rattle.sheep_node.proofs.OneWorkParts.{Requests, Sessions, driven_session, free_session, finished_waiting, may_at, driven_insert, driven_queued, began_waiting, driven_taken, free_taken, driven_removed, driven_course, driven_gone, free_at, free_removed}
-use Rattle.sheep_node.proofs.ReadParts.{read_keeps}
-use Rattle.sheep_node.proofs.Cases.{either}
+use Rattle.sheep_node.proofs.OneWorkParts.{Requests, Sessions, driven_session, free_session, may_at, driven_insert, driven_queued, driven_taken, free_taken, driven_removed, driven_course, driven_gone, free_at, free_removed}
+use Rattle.recovery.proofs.StepLemmas.{either}
 
 abbrev pub StepHasOneWork : StepState → Type 0
 StepHasOneWork so_far = HaveOneWorkPerRequest so_far.node.gateway.works so_far.node.requests so_far.node.sessions
@@ -104,65 +103,41 @@ no_entry work (Working vid task) awaited = refl
 no_entry work (Publishing entry opened_inode) awaited = absurd (cc (awaited))
 no_entry work (Answered opened_inode) awaited = refl
 
-ordered_moved : (session req : ℕ) (ask : VdiAsk) (op : Op) (act : OpAct) (so_far : StepState) → IsAwaitedAtOpStage act op.stage → HasNoWorkIn req so_far → StepHasOneWork so_far
-    → HasSteppedFree session req (outcome_of_command act) (after_command_step session req ask op act so_far)
-ordered_moved session req ask op (op_acts.Append entry) so_far awaited free good =
-    let request : Request = record { session = session; course = Commanding ask op } in
-    record {
-      good = driven_course so_far.node.gateway.works so_far.node.requests so_far.node.sessions req free good request;
-      free = free;
-      course = Commanding ask op;
-      there = got_own so_far.node.requests req request;
-      may = tt;
-    }
-ordered_moved session req ask op (op_acts.Work work) so_far awaited free good =
-    let request : Request = record { session = session; course = Commanding ask op } in
-    record {
-      good = driven_course so_far.node.gateway.works so_far.node.requests so_far.node.sessions req free good request;
-      free = free;
-      course = Commanding ask op;
-      there = got_own so_far.node.requests req request;
-      may = no_entry work op.stage awaited;
-    }
-ordered_moved session req ask op (op_acts.Reply reply) so_far awaited free good =
+may_command : (act : OpAct) (op : Op) (ask : VdiAsk) → IsAwaitedAtOpStage act op.stage → MayComeTo (outcome_of_command act) (Commanding ask op)
+may_command (op_acts.Append entry) op ask awaited = tt
+may_command (op_acts.Work work) op ask awaited = no_entry work op.stage awaited
+may_command (op_acts.Reply reply) op ask awaited = tt
+
+command_moved : (session req : ℕ) (ask : VdiAsk) (step : ops.OpStep) (so_far : StepState) → IsAwaitedByCommand step → HasNoWorkIn req so_far
+    → StepHasOneWork so_far → HasSteppedFree session req (outcome_of_command step.act) (after_command_step session req ask step so_far)
+command_moved session req ask step so_far awaited free good =
     let works = so_far.node.gateway.works in
-    let request : Request = record { session = session; course = Commanding ask op } in
-    let after = record (session_in session so_far) { disk = disk_after ask (opened_inode op) (session_in session so_far).disk } in
+    let request : Request = record { session = session; course = Commanding ask step.op } in
+    let after = record (session_in session so_far) {
+      disk = disk_with_act ask step.op step.act (session_in session so_far).disk;
+      command = Some req;
+    } in
     record {
       good = driven_session works (tree.insert so_far.node.requests req request) so_far.node.sessions session after refl
           (driven_course works so_far.node.requests so_far.node.sessions req free good request);
       free = free_session req works so_far.node.sessions session after refl free;
-      course = Commanding ask op;
+      course = Commanding ask step.op;
       there = got_own so_far.node.requests req request;
-      may = tt;
+      may = may_command step.act step.op ask awaited;
     }
-
--- what holds whatever is touched
-pub by_touch : (P : Gateway → Type 0) (req : ℕ) (work : ObjWork) (status : Status) (gateway : Gateway)
-    → ((touched : set.FinSet nat_cmp) → P (record gateway { touched = touched })) → P (touched_by req work status gateway)
-by_touch P req work status gateway all =
-    either P (is_making work && may_be_made status) (record gateway { touched = set.insert gateway.touched req }) gateway
-    (all (set.insert gateway.touched req)) (all gateway.touched)
 
 -- a request whose work is no more
 pub freed_good : {input : Input} {node : Node} → (session req number : ℕ) (work : Work) (attempt : Attempt) (status : Status) (so_far : StepState)
     → LearnsStatus input node so_far req number work attempt status → StepHasOneWork so_far
     → StepHasOneWork (without_ended_work session req work status so_far) × HasNoWorkIn req (without_ended_work session req work status so_far)
 freed_good session req number work attempt status so_far learns good =
-    by_touch
-    (λ (gateway : Gateway).
-    StepHasOneWork (queue_left session work.work (with_gateway (without_work req gateway) so_far))
-    × HasNoWorkIn req (queue_left session work.work (with_gateway (without_work req gateway) so_far)))
-    req work.work status so_far.node.gateway
-    (λ touched.
     let works = tree.remove so_far.node.gateway.works req in
-    let after = record (session_in session so_far) { inode_queue = queue_after_end (session_in session so_far).inode_queue work.work } in
-    let same = finished_waiting (session_in session so_far).inode_queue work.work in (
-      driven_session works so_far.node.requests so_far.node.sessions session after same
+    let after = record (session_in session so_far) { inode_queue = queue_after_end (session_in session so_far).inode_queue work.work } in (
+      driven_session works so_far.node.requests so_far.node.sessions session after refl
           (driven_removed so_far.node.gateway.works so_far.node.requests so_far.node.sessions req good),
-      free_session req works so_far.node.sessions session after same
+      free_session req works so_far.node.sessions session after refl
           (free_removed so_far.node.gateway.works so_far.node.requests so_far.node.sessions req work learns.there good),
-    ))
+    )
 
 pub wanted_never : (entry : Entry) (course : Course) → waits_for_entry entry course ≡ true → may_work course ≡ false
 wanted_never entry (Waiting ask) waits = refl
@@ -187,15 +162,15 @@ steps_free so_far session req next moved (DiskGoesOn number work attempt status 
     driven_moved session req disk step (without_ended_work session req work status so_far) free now
 steps_free so_far session req next moved (CommandBegins ask step arrival is) good =
     let disk = inode_open (session_in session so_far).disk in
-    ordered_moved session req ask step.op step.act so_far
+    command_moved session req ask step so_far
     (awaited_of (begin_command so_far.node.me session ask disk) step (begin_awaited so_far.node.me session ask disk) is)
     (free_in req so_far (ap may_work_at arrival.none) good) good
 steps_free so_far session req next moved (CommandGoesOn number work attempt status bytes ask op step ends is) good =
     let (now, free) = freed_good session req number work attempt status so_far ends.ends.learns good in
-    ordered_moved session req ask step.op step.act (without_ended_work session req work status so_far)
+    command_moved session req ask step (without_ended_work session req work status so_far)
     (awaited_of (op_on_done bytes op) step (done_awaited bytes op) is) free now
 steps_free {input} {node} so_far session req next moved (CommandDecided entry ask op step from read there waits is) good =
-    ordered_moved session req ask step.op step.act so_far
+    command_moved session req ask step so_far
     (awaited_of (on_decision (effects_of so_far.node.peer) (decision_on entry node.peer) op) step
     (decision_awaited (effects_of so_far.node.peer) (decision_on entry node.peer) op) is)
     (free_in req so_far (ap may_work_at there ∙ wanted_never entry (Commanding ask op) waits) good) good
@@ -238,8 +213,8 @@ comes_free so_far session req asked lined (AtOnce work moved steps begins) good 
     let inode_queue = (session_in session moved).inode_queue in
     let after = record (session_in session moved) { inode_queue = queue_with_open inode_queue req work } in
     record {
-      good = driven_session moved.node.gateway.works moved.node.requests moved.node.sessions session after (began_waiting inode_queue req work) m.good;
-      out = (free_session req moved.node.gateway.works moved.node.sessions session after (began_waiting inode_queue req work) m.free).out;
+      good = driven_session moved.node.gateway.works moved.node.requests moved.node.sessions session after refl m.good;
+      out = (free_session req moved.node.gateway.works moved.node.sessions session after refl m.free).out;
       course = m.course;
       there = m.there;
       may = m.may;
@@ -271,16 +246,12 @@ pub ended_good : (session req : ℕ) (reply : GuestRsp) (so_far : StepState) →
 unfolding request_ended
 ended_good session req reply so_far free good =
     driven_session so_far.node.gateway.works (tree.remove so_far.node.requests req) so_far.node.sessions session
-    (record (session_in session so_far) { queue = queue_without req (session_in session so_far).queue }) refl
+    (record (session_in session so_far) { queue = queue_without req (session_in session so_far).queue; command = None }) refl
     (driven_gone so_far.node.gateway.works so_far.node.requests so_far.node.sessions req free good)
 
 command_refused_good : (session req : ℕ) (end : Option OpEnd) (so_far : StepState) → HasNoWorkIn req so_far → StepHasOneWork so_far → StepHasOneWork (command_refused session req end so_far)
 command_refused_good session req None so_far free good = good
-command_refused_good session req (Some end) so_far free good = by_unlock end.unlock
-  where
-    by_unlock : (unlock : Option Entry) → StepHasOneWork (request_ended session req end.reply (with_optional_entry unlock so_far))
-    by_unlock None = ended_good session req end.reply so_far free good
-    by_unlock (Some entry) = ended_good session req end.reply (with_optional_entry (Some entry) so_far) free good
+command_refused_good session req (Some end) so_far free good = ended_good session req end.reply (with_optional_entry end.unlock so_far) free good
 
 pub course_refused_good : (session req : ℕ) (cause : Cause) (course : Course) (so_far : StepState) → HasNoWorkIn req so_far → StepHasOneWork so_far
     → StepHasOneWork (course_refused session req cause course so_far)
@@ -292,11 +263,10 @@ denied_good : (session req : ℕ) (asked : Work) (so_far : StepState) → MayOpe
     → StepHasOneWork (without_denied_work session req asked so_far) × HasNoWorkIn req (without_denied_work session req asked so_far)
 denied_good session req asked so_far lined =
     let works = tree.remove so_far.node.gateway.works req in
-    let after = record (session_in session so_far) { inode_queue = queue_after_end (session_in session so_far).inode_queue asked.work } in
-    let same = finished_waiting (session_in session so_far).inode_queue asked.work in (
-      driven_session works so_far.node.requests so_far.node.sessions session after same
+    let after = record (session_in session so_far) { inode_queue = queue_after_end (session_in session so_far).inode_queue asked.work } in (
+      driven_session works so_far.node.requests so_far.node.sessions session after refl
           (driven_removed so_far.node.gateway.works so_far.node.requests so_far.node.sessions req lined.good),
-      free_session req works so_far.node.sessions session after same
+      free_session req works so_far.node.sessions session after refl
           (record { idle = got_removed so_far.node.gateway.works req; out = lined.out }),
     )
 
@@ -306,9 +276,8 @@ denied_good session req asked so_far lined =
 open_still : (req : ℕ) (work now : Work) (status : Status) (so_far : StepState) → tree.get so_far.node.gateway.works req ≡ Some work → StepHasOneWork so_far
     → StepHasOneWork (with_gateway (with_work req now (gateway_with_touch req work status so_far)) so_far)
 open_still req work now status so_far there good =
-    by_touch (λ (gateway : Gateway). StepHasOneWork (with_gateway (with_work req now gateway) so_far)) req work.work status so_far.node.gateway
-    (λ touched. driven_insert so_far.node.gateway.works so_far.node.requests so_far.node.sessions req now (good.open_works req work there)
-    (open_out req work so_far there good) good)
+    driven_insert so_far.node.gateway.works so_far.node.requests so_far.node.sessions req now (good.open_works req work there)
+    (open_out req work so_far there good) good
 
 none_there : (q : ℕ) → waiting_in q tree.empty ≡ []
 none_there q = ap (λ (o : Option Session). (unwrap_or o new_session).inode_queue.waiting) (tree.get-empty {X = Session} nat_cmp q)
@@ -362,7 +331,7 @@ change_keeps_one_work so_far next (changes.Recovers due) good = good
 
 -- a step begins so, on whatever input
 pub received_one_work : (input : Input) (node : Node) → StepHasOneWork (at_first node) → StepHasOneWork (input_received input (at_first node))
-unfolding on_request on_recover_tick on_back
+unfolding entry_read on_request on_recover_tick on_back
 received_one_work (inputs.Guest req session ask) node good = good
 received_one_work (inputs.Request request) node good = good
 received_one_work (inputs.Reply rsp) node good =
@@ -371,12 +340,7 @@ received_one_work (inputs.Reply rsp) node good =
 received_one_work (inputs.Lost number) node good =
     either StepHasOneWork (gateways.gateway_awaits number node.gateway) (at_first node)
     (recovery_stepped (recovery_steps.recovery_on_loss number (recovery_state_of node)) (at_first node)) good good
-received_one_work (inputs.LogEntry entry) node good =
-    let kept = read_keeps entry node in
-    let after = entry_read entry node in
-    subst (λ (gateway : Gateway). HaveOneWorkPerRequest gateway.works after.requests after.sessions) (sym kept.gateway_so)
-    (subst (λ (requests : Requests). HaveOneWorkPerRequest node.gateway.works requests after.sessions) (sym kept.requests_so)
-    (subst (λ (sessions : Sessions). HaveOneWorkPerRequest node.gateway.works node.requests sessions) (sym kept.sessions_so) good))
+received_one_work (inputs.LogEntry entry) node good = good
 received_one_work inputs.Put node good = by_outbox node.outbox
   where
     by_outbox : (outbox : List Entry) → StepHasOneWork (on_put outbox (at_first node))

@@ -4,16 +4,13 @@ use Rattle.std.specs.Ordering.{nat_cmp}
 use Rattle.std.specs.FinMap as tree
 use Rattle.std.proofs.lemmas.Bool.{eqb-true, eq-eqb, and_parts}
 use Rattle.std.proofs.lemmas.List.Elements.{Contains-push_cases}
-use Rattle.peer_proto.specs.declared.work.ObjWork.{ObjWork}
 use Rattle.gateway.specs.State.{Work}
 use Rattle.guest_driver.specs.InodeQueue as lines
-use Rattle.guest_driver.specs.InodeQueue.{InodeQueue, queue_with_open, queue_with_waiting, queue_after_end, is_on_inode}
 use Rattle.sheep_node.specs.State.{Course, Request, Session, new_session}
 use Rattle.sheep_node.specs.OneWork.{may_work, may_work_at, may_work_of, waiting_in, AreOfDifferentRequests, HaveOneWorkPerRequest, HasNoWork}
 use Rattle.sheep_node.proofs.NumberTools.{same_or_not, got_own, got_other, got_removed, got_left, removed_none}
 use Rattle.sheep_node.proofs.ListTools.{has-here, has-later, has-none}
 use Rattle.sheep_node.proofs.EntryTools.{Works}
-use Rattle.sheep_node.proofs.Cases.{either}
 
 abbrev pub Requests : Type 0
 Requests = tree.FinMap nat_cmp Request
@@ -50,11 +47,6 @@ free_session req works sessions number session same free = record {
   out = λ q waiting there.
       free.out q waiting (subst (λ (list : List lines.Waiting). Contains list waiting) (same_waiting sessions number session same q) there);
 }
-
--- a work has left the line, in which the same wait
-pub finished_waiting : (inode_queue : InodeQueue) (work : ObjWork) → (queue_after_end inode_queue work).waiting ≡ inode_queue.waiting
-finished_waiting inode_queue work =
-    either (λ (after : InodeQueue). after.waiting ≡ inode_queue.waiting) (is_on_inode work) (record inode_queue { current = None }) inode_queue refl refl
 
 pub may_at : (number : ℕ) (request : Option Request) → may_work_of number request ≡ true → may_work_at request ≡ true
 may_at number None may = absurd (cc (may))
@@ -131,10 +123,6 @@ module _ (works : Works) (requests : Requests) (sessions : Sessions) (number : �
         (λ (other : q ≢ number). subst AreOfDifferentRequests (sym (other_inode_queue q other)) (driven.apart q))
         (same_or_not q number);
   }
-
-pub began_waiting : (inode_queue : InodeQueue) (req : ℕ) (work : ObjWork) → (queue_with_open inode_queue req work).waiting ≡ inode_queue.waiting
-began_waiting inode_queue req work =
-    either (λ (after : InodeQueue). after.waiting ≡ inode_queue.waiting) (is_on_inode work) (record inode_queue { current = Some req }) inode_queue refl refl
 
 -- the first work that waits leaves its line
 module _ (works : Works) (requests : Requests) (sessions : Sessions) (number : ℕ) (session : Session) (first : lines.Waiting) (later : List lines.Waiting)

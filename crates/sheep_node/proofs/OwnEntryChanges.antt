@@ -1,7 +1,8 @@
 -- Every change leaves the outbox to this node's entries.
-use Rattle.std.proofs.Common.{◌≡◌, ◌≢◌, ℕ, Bool, true, false, List, [], ◌∷◌, ◌++◌, All, Option, Some, None, option_map, IfSome, refl, sym, ap, subst, ◌∙◌, ⊎_elim}
+use Rattle.std.proofs.Common.{◌≡◌, ◌≢◌, ℕ, Bool, true, false, List, [], ◌∷◌, ◌++◌, All, option_to_list, Option, Some, None, option_map, IfSome, refl, sym, ap, subst, ◌∙◌, ⊎_elim}
 use Rattle.std.specs.Ordering.{nat_cmp}
 use Rattle.std.specs.FinMap as tree
+use Rattle.std.proofs.lemmas.List.{append-nil}
 use Rattle.std.proofs.lemmas.List.Elements.{All-nil, All-push, All-tail}
 use Rattle.object_id.specs.declared.oid.Vid.{Vid}
 use Rattle.object_id.specs.declared.cause.Cause.{Cause}
@@ -34,7 +35,7 @@ use Rattle.vdi_ops.specs.declared.end.OpEnd.{OpEnd}
 use Rattle.vdi_ops.specs.Entries.{first_entry}
 use Rattle.vdi_ops.specs.Tables.{chain_of}
 use Rattle.vdi_ops.specs.Op as ops
-use Rattle.vdi_ops.specs.Op.{Task, Opening, WritingBack, Tagging, Copying, Making, OpStage, Asked, Working, Publishing, Answered, Op, IsAwaitedAtOpStage}
+use Rattle.vdi_ops.specs.Op.{Task, Opening, WritingBack, Tagging, Copying, Making, OpStage, Asked, Working, Publishing, Answered, Op, IsAwaitedAtOpStage, IsAwaitedByCommand}
 use Rattle.vdi_ops.specs.Steps.{begun_with_entry, begin_command, taken_over, copied_from, step_after_grant, step_after_known_grant, step_after_decision, decided_at, on_decision, task_done, done_at, op_on_done, refused_at, on_refusal}
 use Rattle.vdi_ops.proofs.StepLemmas.{begin_awaited, done_awaited, decision_awaited}
 use Rattle.sheep_node.specs.declared.input.Input.{Input}
@@ -45,18 +46,18 @@ use Rattle.sheep_node.specs.OneWork.{HasOneWorkPerRequest}
 use Rattle.sheep_node.specs.RecoveryView.{recovery_state_of}
 use Rattle.sheep_node.specs.StepState.{StepState, at_first, with_optional_entry, session_in, request_ended}
 use Rattle.sheep_node.specs.RequestWorks.{command_refused, course_refused}
+use Rattle.sheep_node.specs.Courses.{after_command_step}
 use Rattle.sheep_node.specs.Guests.{inode_open}
 use Rattle.sheep_node.specs.LogReading.{entry_read, on_back}
 use Rattle.sheep_node.specs.Step.{on_request, recovery_stepped, on_put, on_recover_tick, node_step}
 use Rattle.sheep_node.specs.OwnEntries.{IsEntryOf, IsTaskOf, IsStageOf, IsCommandOf, IsCourseOf, AreOwnEntries, HasOnlyOwnEntries}
 use Rattle.sheep_node.specs.Changes as changes
-use Rattle.sheep_node.specs.Changes.{HasRequest, Outcome, ToWork, ToEntry, ToReply, outcome_of_driver, outcome_of_command, without_ended_work, after_command_step, RequestSteps, DiskBegins, DiskGoesOn, CommandBegins, CommandGoesOn, CommandDecided, WorkIsNext, AtOnce, InTurn, Again, input_received, Change}
+use Rattle.sheep_node.specs.Changes.{HasRequest, Outcome, ToWork, ToEntry, ToReply, outcome_of_driver, outcome_of_command, without_ended_work, RequestSteps, DiskBegins, DiskGoesOn, CommandBegins, CommandGoesOn, CommandDecided, WorkIsNext, AtOnce, InTurn, Again, input_received, Change}
 use Rattle.sheep_node.proofs.NumberTools.{same_or_not, got_removed, got_left}
 use Rattle.sheep_node.proofs.EntryTools.{got_insert}
-use Rattle.sheep_node.proofs.ReadParts.{read_keeps}
 use Rattle.sheep_node.proofs.OneWorkChanges.{awaited_of}
 use Rattle.sheep_node.proofs.StepChain.{kept_by_chain, step_chain}
-use Rattle.sheep_node.proofs.Cases.{either}
+use Rattle.recovery.proofs.StepLemmas.{either}
 
 -- ---- the steps of a command
 
@@ -185,31 +186,20 @@ module _ (me : NodeId) where
   append_of entry (Publishing wanted opened) awaited of = let same : entry ≡ wanted = cc (awaited) in subst (IsEntryOf me) (sym same) of
   append_of entry (Answered opened) awaited of = absurd (cc (awaited.1))
 
-  ordered_own : (session req : ℕ) (ask : VdiAsk) (op : Op) (act : OpAct) (so_far : StepState) → IsAwaitedAtOpStage act op.stage → IsCommandOf me op → OnlyOwn so_far
-      → OnlyOwn (after_command_step session req ask op act so_far) × NextOf (outcome_of_command act)
-  ordered_own session req ask op (op_acts.Append entry) so_far awaited of own = (
+  command_next : (act : OpAct) (stage : OpStage) → IsAwaitedAtOpStage act stage → IsStageOf me stage → NextOf (outcome_of_command act)
+  command_next (op_acts.Append entry) stage awaited of = append_of entry stage awaited of
+  command_next (op_acts.Work work) stage awaited of = tt
+  command_next (op_acts.Reply reply) stage awaited of = tt
+
+  command_own : (session req : ℕ) (ask : VdiAsk) (step : ops.OpStep) (so_far : StepState) → IsAwaitedByCommand step → IsCommandOf me step.op → OnlyOwn so_far
+      → OnlyOwn (after_command_step session req ask step so_far) × NextOf (outcome_of_command step.act)
+  command_own session req ask step so_far awaited of own = (
     record {
       own_so = own.own_so;
-      commands = all_put At so_far.node.requests own.commands req (record { session = session; course = Commanding ask op }) of;
+      commands = all_put At so_far.node.requests own.commands req (record { session = session; course = Commanding ask step.op }) of;
       entries = own.entries;
     },
-    append_of entry op.stage awaited of.1,
-  )
-  ordered_own session req ask op (op_acts.Work work) so_far awaited of own = (
-    record {
-      own_so = own.own_so;
-      commands = all_put At so_far.node.requests own.commands req (record { session = session; course = Commanding ask op }) of;
-      entries = own.entries;
-    },
-    tt,
-  )
-  ordered_own session req ask op (op_acts.Reply reply) so_far awaited of own = (
-    record {
-      own_so = own.own_so;
-      commands = all_put At so_far.node.requests own.commands req (record { session = session; course = Commanding ask op }) of;
-      entries = own.entries;
-    },
-    tt,
+    command_next step.act step.op.stage awaited of.1,
   )
 
   driver_next : (act : DriverAct) → NextOf (outcome_of_driver act)
@@ -235,18 +225,18 @@ module _ (me : NodeId) where
   )
   steps_own so_far session req next moved (CommandBegins ask step arrival is) own =
       let disk = inode_open (session_in session so_far).disk in
-      ordered_own session req ask step.op step.act so_far
+      command_own session req ask step so_far
       (awaited_of (begin_command so_far.node.me session ask disk) step (begin_awaited so_far.node.me session ask disk) is)
       (subst (λ (by : NodeId). IsCommandOf by step.op) own.own_so
       (step_of so_far.node.me (begin_command so_far.node.me session ask disk) step (begin_of so_far.node.me session ask disk) is)) own
   steps_own so_far session req next moved (CommandGoesOn number work attempt status bytes ask op step ends is) own =
       let of = own.commands req (record { session = session; course = Commanding ask op }) ends.ends.request in
-      ordered_own session req ask step.op step.act (without_ended_work session req work status so_far)
+      command_own session req ask step (without_ended_work session req work status so_far)
       (awaited_of (op_on_done bytes op) step (done_awaited bytes op) is) (step_of me (op_on_done bytes op) step (done_of me op of.0 bytes of.1) is)
       (record { own_so = own.own_so; commands = own.commands; entries = own.entries })
   steps_own {input} {node} so_far session req next moved (CommandDecided entry ask op step from read there waits is) own =
       let of = own.commands req (record { session = session; course = Commanding ask op }) there in
-      ordered_own session req ask step.op step.act so_far
+      command_own session req ask step so_far
       (awaited_of (on_decision (effects_of so_far.node.peer) (decision_on entry node.peer) op) step
       (decision_awaited (effects_of so_far.node.peer) (decision_on entry node.peer) op) is)
       (step_of me (on_decision (effects_of so_far.node.peer) (decision_on entry node.peer) op) step
@@ -273,15 +263,15 @@ module _ (me : NodeId) where
   refused_own session req cause (Driving driver) so_far of own = ended_own session req (Refused cause) so_far own
   refused_own session req cause (Commanding ask op) so_far of own = by_end (on_refusal cause op) (refusal_of me op of.0 cause)
     where
-      by_unlock : (end : OpEnd) (unlock : Option Entry) → IfSome unlock (IsEntryOf me) → OnlyOwn (request_ended session req end.reply (with_optional_entry unlock so_far))
-      by_unlock end None of = ended_own session req end.reply so_far own
-      by_unlock end (Some entry) of =
-          ended_own session req end.reply (with_optional_entry (Some entry) so_far)
-          (record { own_so = own.own_so; commands = own.commands; entries = more_own so_far.node.outbox entry own.entries of })
+      more : (unlock : Option Entry) → IfSome unlock (IsEntryOf me) → All (IsEntryOf me) (so_far.node.outbox ++ option_to_list unlock)
+      more None of = subst (All (IsEntryOf me)) (sym (append-nil so_far.node.outbox)) own.entries
+      more (Some entry) of = more_own so_far.node.outbox entry own.entries of
 
       by_end : (end : Option OpEnd) → IfSome end (λ (end : OpEnd). IfSome end.unlock (IsEntryOf me)) → OnlyOwn (command_refused session req end so_far)
       by_end None of = own
-      by_end (Some end) of = by_unlock end end.unlock of
+      by_end (Some end) of =
+          ended_own session req end.reply (with_optional_entry end.unlock so_far)
+          (record { own_so = own.own_so; commands = own.commands; entries = more end.unlock of })
 
   pub change_keeps_own_entries : {input : Input} {node : Node} → (so_far next : StepState) → Change input node so_far next → OnlyOwn so_far → OnlyOwn next
   change_keeps_own_entries so_far next (changes.Marks req number work attempt status learns over) own = own
@@ -313,7 +303,7 @@ module _ (me : NodeId) where
   }
 
   received_own_entries : (input : Input) (node : Node) → OnlyOwn (at_first node) → OnlyOwn (input_received input (at_first node))
-  unfolding on_request on_recover_tick on_back
+  unfolding entry_read on_request on_recover_tick on_back
   received_own_entries (inputs.Guest req session ask) node own = own
   received_own_entries (inputs.Request request) node own = own
   received_own_entries (inputs.Reply rsp) node own =
@@ -322,13 +312,7 @@ module _ (me : NodeId) where
   received_own_entries (inputs.Lost number) node own =
       either OnlyOwn (gateways.gateway_awaits number node.gateway) (at_first node)
       (recovery_stepped (recovery_steps.recovery_on_loss number (recovery_state_of node)) (at_first node)) own own
-  received_own_entries (inputs.LogEntry entry) node own =
-      let kept = read_keeps entry node in
-      record {
-        own_so = kept.me_so ∙ own.own_so;
-        commands = λ req request got. own.commands req request (sym (ap (λ (requests : tree.FinMap nat_cmp Request). tree.get requests req) kept.requests_so) ∙ got);
-        entries = subst (λ (outbox : List Entry). All (IsEntryOf me) outbox) (sym kept.outbox_so) own.entries;
-      }
+  received_own_entries (inputs.LogEntry entry) node own = own
   received_own_entries inputs.Put node own = by_outbox node.outbox own.entries
     where
       by_outbox : (outbox : List Entry) → All (IsEntryOf me) outbox → OnlyOwn (on_put outbox (at_first node))

@@ -1,11 +1,10 @@
 -- What a served request, an entry that is read, and coming back leave of the entries that a node has read.
-use Rattle.std.proofs.Common.{◌≡◌, ℕ, nat_lt, Bool, true, false, cond, List, [], ◌∷◌, ◌++◌, Option, Some, None, Result, Ok, Err, refl}
-use Rattle.object_id.specs.declared.node.NodeId.{NodeId}
+use Rattle.std.proofs.Common.{◌≡◌, ℕ, nat_lt, Bool, true, false, cond, List, [], ◌∷◌, ◌++◌, Option, Some, None, Result, Ok, Err, refl, ◌∙◌}
 use Rattle.object_id.specs.declared.entry.Entry.{Entry}
 use Rattle.object_store.specs.declared.fault.StoreFault.{StoreFault}
 use Rattle.object_store.specs.Store.{AllRows, read_at, write_at}
-use Rattle.epoch_log.specs.Epochs.{begins_epoch, epoch_of, settled_of}
-use Rattle.epoch_log.specs.Appending.{is_format}
+use Rattle.epoch_log.specs.Epochs.{begins_epoch, settled_of}
+use Rattle.vnode_table.specs.Targets.{targets_in}
 use Rattle.peer_proto.specs.declared.ask.PeerAsk.{PeerAsk}
 use Rattle.peer_proto.specs.declared.ask.PeerAsk.TheVariants as asks
 use Rattle.peer_proto.specs.declared.ask.PeerReq.{PeerReq}
@@ -19,8 +18,9 @@ use Rattle.peer_service.specs.Serve as serve
 use Rattle.peer_service.specs.LogReading.{without_objects, read_entry}
 use Rattle.peer_service.specs.Back.{closed_at_end, come_back}
 use Rattle.sheep_node.specs.State.{Node}
-use Rattle.sheep_node.specs.LogReading.{is_epoch_member, with_peer, with_epoch_members, peer_entered, recovery_begun_if, epoch_entered, entered_by, settled_by, entry_read, on_back}
-use Rattle.sheep_node.proofs.Cases.{either}
+use Rattle.sheep_node.specs.RecoveryView.{with_recovered_rows}
+use Rattle.sheep_node.specs.LogReading.{epochs_with_entry, peer_with_entry, recovery_with_entry, with_settled, entry_read, on_back}
+use Rattle.recovery.proofs.StepLemmas.{either}
 
 -- ---- a served request reads nothing of the log
 
@@ -66,58 +66,19 @@ served_same peer request = by_fence (epoch_refusal peer.epoch request.epoch.0)
 
 -- ---- an entry is read, and a node comes back
 
--- the node is this one, has read these entries, and sent so many requests
-pub record HasRead (me : NodeId) (entries : List Entry) (count : ℕ) (own : NodeId) (read : List Entry) (sends : ℕ) : Type 0 where
-  pub own_so : own ≡ me
-  pub read_so : read ≡ entries
-  pub sent_so : sends ≡ count
-
-abbrev IsAt : NodeId → List Entry → ℕ → Node → Type 0
-IsAt me entries count node = HasRead me entries count node.me node.peer.entries node.sends
-
-recovery_begun_at : (me : NodeId) (entries : List Entry) (count : ℕ) (member : Bool) (node : Node) → IsAt me entries count node
-    → IsAt me entries count (recovery_begun_if member node)
-recovery_begun_at me entries count true node h = record { own_so = h.own_so; read_so = h.read_so; sent_so = h.sent_so }
-recovery_begun_at me entries count false node h = h
-
-peer_entered_at : (me : NodeId) (entries : List Entry) (count : ℕ) (node : Node) → IsAt me entries count node → IsAt me entries count (peer_entered node)
-unfolding peers.peer_in_next_epoch
-peer_entered_at me entries count node h = record { own_so = h.own_so; read_so = h.read_so; sent_so = h.sent_so }
-
-epoch_entered_at : (me : NodeId) (entries : List Entry) (count : ℕ) (node : Node) → IsAt me entries count node → IsAt me entries count (epoch_entered node)
-epoch_entered_at me entries count node h =
-    recovery_begun_at me entries count (is_epoch_member (peer_entered (with_epoch_members (epoch_of node.peer.entries) node)))
-    (peer_entered (with_epoch_members (epoch_of node.peer.entries) node))
-    (peer_entered_at me entries count (with_epoch_members (epoch_of node.peer.entries) node) h)
-
-entered_by_at : (me : NodeId) (entries : List Entry) (count : ℕ) (entry : Entry) (node : Node) → IsAt me entries count node
-    → IsAt me entries count (entered_by entry node)
-entered_by_at me entries count entry node h =
-    either (IsAt me entries count) (begins_epoch entry) (epoch_entered node) (cond (is_format entry) (with_epoch_members 1 node) node)
-    (epoch_entered_at me entries count node h)
-    (either (IsAt me entries count) (is_format entry) (with_epoch_members 1 node) node h h)
-
-settled_by_at : (me : NodeId) (entries : List Entry) (count settled : ℕ) (node : Node) → IsAt me entries count node
-    → IsAt me entries count (settled_by settled node)
+-- what holds of a peer that has read an entry and may be in the next epoch, holds of it when an epoch is settled
+settled_entries : (settled : ℕ) (peer : Peer) → (with_settled settled peer).entries ≡ peer.entries
 unfolding peer_settled_to
-settled_by_at me entries count settled node h =
-    either (IsAt me entries count) (nat_lt node.peer.settled settled) (with_peer (peer_settled_to settled node.peer) node) node h h
-
-peer_read_at : (entry : Entry) (node : Node)
-    → IsAt node.me (node.peer.entries ++ entry ∷ []) node.sends (with_peer (read_entry entry node.peer) node)
-unfolding read_entry without_objects
-peer_read_at entry node = record { own_so = refl; read_so = refl; sent_so = refl }
-
-entry_read_at : (entry : Entry) (node : Node) → IsAt node.me (node.peer.entries ++ entry ∷ []) node.sends (entry_read entry node)
-unfolding entry_read
-entry_read_at entry node =
-    settled_by_at node.me (node.peer.entries ++ entry ∷ []) node.sends (settled_of (read_entry entry node.peer).entries)
-    (entered_by entry (with_peer (read_entry entry node.peer) node))
-    (entered_by_at node.me (node.peer.entries ++ entry ∷ []) node.sends entry (with_peer (read_entry entry node.peer) node) (peer_read_at entry node))
+settled_entries settled peer =
+    either (λ (after : Peer). after.entries ≡ peer.entries) (nat_lt peer.settled settled) (peer_settled_to settled peer) peer refl refl
 
 -- the entries that were read, after one more and after coming back
 pub entries_reading : (entry : Entry) (node : Node) → (entry_read entry node).peer.entries ≡ node.peer.entries ++ entry ∷ []
-entries_reading entry node = (entry_read_at entry node).read_so
+unfolding entry_read peers.peer_in_next_epoch read_entry without_objects
+entries_reading entry node =
+    settled_entries (settled_of (read_entry entry node.peer).entries) (with_recovered_rows (recovery_with_entry entry node) (peer_with_entry entry node))
+    ∙ either (λ (after : Peer). after.entries ≡ node.peer.entries ++ entry ∷ []) (begins_epoch entry)
+    (peers.peer_in_next_epoch node.me (targets_in (epochs_with_entry entry node)) (read_entry entry node.peer)) (read_entry entry node.peer) refl refl
 
 pub entries_back : (entries : List Entry) (node : Node) → (on_back entries node).peer.entries ≡ entries
 unfolding on_back come_back closed_at_end peer_settled_to without_objects

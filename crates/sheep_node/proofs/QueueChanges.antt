@@ -23,10 +23,9 @@ use Rattle.guest_driver.specs.declared.disk.Disk.{Disk}
 use Rattle.guest_driver.specs.Driver as drivers
 use Rattle.guest_driver.specs.InodeQueue as lines
 use Rattle.guest_driver.specs.InodeQueue.{queue_with_open, queue_after_end}
-use Rattle.vdi_ops.specs.declared.act.OpAct.{OpAct}
-use Rattle.vdi_ops.specs.declared.act.OpAct.TheVariants as op_acts
 use Rattle.vdi_ops.specs.declared.end.OpEnd.{OpEnd}
-use Rattle.vdi_ops.specs.Op.{Op, opened_inode}
+use Rattle.vdi_ops.specs.Op as ops
+use Rattle.vdi_ops.specs.Op.{Op}
 use Rattle.vdi_ops.specs.Steps.{on_refusal}
 use Rattle.sheep_node.specs.declared.input.Input.{Input}
 use Rattle.sheep_node.specs.declared.input.Input.TheVariants as inputs
@@ -34,7 +33,7 @@ use Rattle.sheep_node.specs.State.{Course, Waiting, Driving, Commanding, Request
 use Rattle.sheep_node.specs.RecoveryView.{recovery_state_of}
 use Rattle.sheep_node.specs.StepState.{StepState, at_first, with_optional_entry, session_in, with_course, request_ended}
 use Rattle.sheep_node.specs.RequestWorks.{command_refused, course_refused}
-use Rattle.sheep_node.specs.Courses.{disk_after}
+use Rattle.sheep_node.specs.Courses.{after_driver_step, disk_with_act, after_command_step}
 use Rattle.sheep_node.specs.Guests.{queued_as}
 use Rattle.sheep_node.specs.LogReading.{entry_read, on_back}
 use Rattle.sheep_node.specs.Step.{on_request, recovery_stepped, on_put, on_recover_tick, node_step}
@@ -42,13 +41,12 @@ use Rattle.sheep_node.specs.May.{is_disk_course, May}
 use Rattle.sheep_node.specs.OneWork.{HasOneWorkPerRequest}
 use Rattle.sheep_node.specs.SessionQueues.{is_disk_request_of, session_among, queue_in, IsQueued, AreDiskRequests, QueuesAreDiskRequests}
 use Rattle.sheep_node.specs.Changes as changes
-use Rattle.sheep_node.specs.Changes.{HasRequest, Outcome, ToWork, ToEntry, ToReply, without_ended_work, after_command_step, RequestSteps, DiskBegins, DiskGoesOn, CommandBegins, CommandGoesOn, CommandDecided, WorkIsNext, AtOnce, InTurn, Again, input_received, Change}
+use Rattle.sheep_node.specs.Changes.{HasRequest, Outcome, ToWork, ToEntry, ToReply, without_ended_work, RequestSteps, DiskBegins, DiskGoesOn, CommandBegins, CommandGoesOn, CommandDecided, WorkIsNext, AtOnce, InTurn, Again, input_received, Change}
 use Rattle.sheep_node.proofs.NumberTools.{same_or_not, got_own, got_other, got_removed, got_left}
 use Rattle.sheep_node.proofs.ListTools.{has-here, has-later, has-none, has_cases, has-filter}
 use Rattle.sheep_node.proofs.OneWorkParts.{Requests, Sessions}
-use Rattle.sheep_node.proofs.ReadParts.{read_keeps}
 use Rattle.sheep_node.proofs.StepChain.{kept_by_chain, step_chain}
-use Rattle.sheep_node.proofs.Cases.{either}
+use Rattle.recovery.proofs.StepLemmas.{either}
 
 -- ---- a session among others
 
@@ -159,7 +157,7 @@ ended_queued session req course reply so_far is_there queued = record {
     sessions = so_far.node.sessions
 
     after : Session
-    after = record (session_in session so_far) { queue = queue_without req (session_in session so_far).queue }
+    after = record (session_in session so_far) { queue = queue_without req (session_in session so_far).queue; command = None }
 
     kept : (number q : ℕ) → q ≢ req → is_disk_request_of number (tree.get (tree.remove requests req) q) ≡ is_disk_request_of number (tree.get requests q)
     kept number q apart = ap (is_disk_request_of number) (got_left requests req q apart)
@@ -178,13 +176,9 @@ refused_queued session req cause (Waiting ask) so_far there queued = queued
 refused_queued session req cause (Driving driver) so_far there queued = ended_queued session req (Driving driver) (Refused cause) so_far there queued
 refused_queued session req cause (Commanding ask op) so_far there queued = by_end (on_refusal cause op)
   where
-    by_unlock : (end : OpEnd) (unlock : Option Entry) → QueuesAre (request_ended session req end.reply (with_optional_entry unlock so_far))
-    by_unlock end None = ended_queued session req (Commanding ask op) end.reply so_far there queued
-    by_unlock end (Some entry) = ended_queued session req (Commanding ask op) end.reply (with_optional_entry (Some entry) so_far) there queued
-
     by_end : (end : Option OpEnd) → QueuesAre (command_refused session req end so_far)
     by_end None = queued
-    by_end (Some end) = by_unlock end end.unlock
+    by_end (Some end) = ended_queued session req (Commanding ask op) end.reply (with_optional_entry end.unlock so_far) there queued
 
 -- ---- a step that a request takes
 
@@ -201,7 +195,7 @@ freed_queued session req work status so_far queued =
 
 driven_took : (session req : ℕ) (disk : Disk) (step : drivers.DriverStep) (so_far : StepState)
     → ((number : ℕ) → is_disk_request_of number (Some (record { session = session; course = Driving step.driver })) ≡ is_disk_request_of number (tree.get so_far.node.requests req))
-    → QueuesAre so_far → HasSteppedQueued session req (changes.after_driver_step session req disk step so_far)
+    → QueuesAre so_far → HasSteppedQueued session req (after_driver_step session req disk step so_far)
 driven_took session req disk step so_far same queued =
     let request : Request = record { session = session; course = Driving step.driver } in
     let after = record (session_in session so_far) { disk = Some (record disk { inode = step.inode }) } in
@@ -212,25 +206,20 @@ driven_took session req disk step so_far same queued =
           (queued_session so_far.node.requests so_far.node.sessions session after refl queued);
     }
 
-ordered_took : (session req : ℕ) (ask : VdiAsk) (op : Op) (act : OpAct) (so_far : StepState)
-    → ((number : ℕ) → is_disk_request_of number (Some (record { session = session; course = Commanding ask op })) ≡ is_disk_request_of number (tree.get so_far.node.requests req))
-    → QueuesAre so_far → HasSteppedQueued session req (after_command_step session req ask op act so_far)
-ordered_took session req ask op act so_far same queued = by_act act
-  where
-    request : Request
-    request = record { session = session; course = Commanding ask op }
-
-    with_it : QueuesAre (with_course session req (Commanding ask op) so_far)
-    with_it = queued_course so_far.node.requests so_far.node.sessions req request same queued
-
-    by_act : (act : OpAct) → HasSteppedQueued session req (after_command_step session req ask op act so_far)
-    by_act (op_acts.Append entry) = record { course = Commanding ask op; there = got_own so_far.node.requests req request; queued = with_it }
-    by_act (op_acts.Work work) = record { course = Commanding ask op; there = got_own so_far.node.requests req request; queued = with_it }
-    by_act (op_acts.Reply reply) = record {
-      course = Commanding ask op;
+command_took : (session req : ℕ) (ask : VdiAsk) (step : ops.OpStep) (so_far : StepState)
+    → ((number : ℕ) → is_disk_request_of number (Some (record { session = session; course = Commanding ask step.op })) ≡ is_disk_request_of number (tree.get so_far.node.requests req))
+    → QueuesAre so_far → HasSteppedQueued session req (after_command_step session req ask step so_far)
+command_took session req ask step so_far same queued =
+    let request : Request = record { session = session; course = Commanding ask step.op } in
+    record {
+      course = Commanding ask step.op;
       there = got_own so_far.node.requests req request;
       queued = queued_session (tree.insert so_far.node.requests req request) so_far.node.sessions session
-          (record (session_in session so_far) { disk = disk_after ask (opened_inode op) (session_in session so_far).disk }) refl with_it;
+          (record (session_in session so_far) {
+            disk = disk_with_act ask step.op step.act (session_in session so_far).disk;
+            command = Some req;
+          }) refl
+          (queued_course so_far.node.requests so_far.node.sessions req request same queued);
     }
 
 -- a command is no read or write
@@ -249,12 +238,12 @@ steps_took so_far session req next moved (DiskGoesOn number work attempt status 
     driven_took session req disk step (without_ended_work session req work status so_far)
     (same_there session req (Driving step.driver) (Driving driver) so_far ends.ends.request refl) (freed_queued session req work status so_far queued)
 steps_took so_far session req next moved (CommandBegins ask step arrival is) queued =
-    ordered_took session req ask step.op step.act so_far (λ number. off_disk session number ask step.op ∙ ap (is_disk_request_of number) (sym arrival.none)) queued
+    command_took session req ask step so_far (λ number. off_disk session number ask step.op ∙ ap (is_disk_request_of number) (sym arrival.none)) queued
 steps_took so_far session req next moved (CommandGoesOn number work attempt status bytes ask op step ends is) queued =
-    ordered_took session req ask step.op step.act (without_ended_work session req work status so_far)
+    command_took session req ask step (without_ended_work session req work status so_far)
     (same_there session req (Commanding ask step.op) (Commanding ask op) so_far ends.ends.request refl) (freed_queued session req work status so_far queued)
 steps_took so_far session req next moved (CommandDecided entry ask op step from read there waits is) queued =
-    ordered_took session req ask step.op step.act so_far (same_there session req (Commanding ask step.op) (Commanding ask op) so_far there refl) queued
+    command_took session req ask step so_far (same_there session req (Commanding ask step.op) (Commanding ask op) so_far there refl) queued
 
 comes_queued : {input : Input} {node : Node} → (so_far : StepState) (session req : ℕ) (asked : Work) (lined : StepState) → WorkIsNext input node so_far session req asked lined → QueuesAre so_far → QueuesAre lined
 comes_queued so_far session req asked lined (AtOnce work moved steps begins) queued =
@@ -371,7 +360,7 @@ none_queued = record {
 }
 
 received_queues : (input : Input) (node : Node) → QueuesAre (at_first node) → QueuesAre (input_received input (at_first node))
-unfolding on_request on_recover_tick on_back
+unfolding entry_read on_request on_recover_tick on_back
 received_queues (inputs.Guest req session ask) node queued = queued
 received_queues (inputs.Request request) node queued = queued
 received_queues (inputs.Reply rsp) node queued =
@@ -380,10 +369,7 @@ received_queues (inputs.Reply rsp) node queued =
 received_queues (inputs.Lost number) node queued =
     either QueuesAre (gateways.gateway_awaits number node.gateway) (at_first node)
     (recovery_stepped (recovery_steps.recovery_on_loss number (recovery_state_of node)) (at_first node)) queued queued
-received_queues (inputs.LogEntry entry) node queued =
-    let kept = read_keeps entry node in
-    subst (λ (requests : Requests). AreDiskRequests requests (entry_read entry node).sessions) (sym kept.requests_so)
-    (subst (λ (sessions : Sessions). AreDiskRequests node.requests sessions) (sym kept.sessions_so) queued)
+received_queues (inputs.LogEntry entry) node queued = queued
 received_queues inputs.Put node queued = by_outbox node.outbox
   where
     by_outbox : (outbox : List Entry) → QueuesAre (on_put outbox (at_first node))

@@ -14,7 +14,7 @@ use Rattle.guest_driver.specs.Driver as drivers
 use Rattle.vdi_ops.specs.declared.act.OpAct.{OpAct}
 use Rattle.vdi_ops.specs.declared.act.OpAct.TheVariants as op_acts
 use Rattle.vdi_ops.specs.declared.end.OpEnd.{OpEnd}
-use Rattle.vdi_ops.specs.Op.{Op}
+use Rattle.vdi_ops.specs.Op as ops
 use Rattle.vdi_ops.specs.Steps.{on_refusal}
 use Rattle.sheep_node.specs.declared.ask.Ask.{Ask}
 use Rattle.sheep_node.specs.declared.ask.Ask.TheVariants as asks
@@ -24,18 +24,18 @@ use Rattle.sheep_node.specs.State.{Course, Waiting, Driving, Commanding, Request
 use Rattle.sheep_node.specs.RecoveryView.{recovery_state_of}
 use Rattle.sheep_node.specs.StepState.{StepState, at_first, with_optional_entry, request_ended}
 use Rattle.sheep_node.specs.RequestWorks.{command_refused, course_refused}
+use Rattle.sheep_node.specs.Courses.{after_command_step}
 use Rattle.sheep_node.specs.LogReading.{entry_read, on_back}
 use Rattle.sheep_node.specs.Step.{on_request, recovery_stepped, on_put, on_recover_tick, node_step}
 use Rattle.sheep_node.specs.May.{May}
 use Rattle.sheep_node.specs.OneWork.{HasOneWorkPerRequest}
 use Rattle.sheep_node.specs.Changes as changes
-use Rattle.sheep_node.specs.Changes.{Outcome, ToWork, ToEntry, ToReply, after_command_step, RequestSteps, DiskBegins, DiskGoesOn, CommandBegins, CommandGoesOn, CommandDecided, WorkIsNext, AtOnce, InTurn, Again, input_received, Change}
+use Rattle.sheep_node.specs.Changes.{Outcome, ToWork, ToEntry, ToReply, RequestSteps, DiskBegins, DiskGoesOn, CommandBegins, CommandGoesOn, CommandDecided, WorkIsNext, AtOnce, InTurn, Again, input_received, Change}
 use Rattle.sheep_node.proofs.NumberTools.{same_or_not, got_removed, got_left}
 use Rattle.sheep_node.proofs.EntryTools.{got_insert}
 use Rattle.sheep_node.proofs.OneWorkParts.{Requests}
-use Rattle.sheep_node.proofs.ReadParts.{read_keeps}
 use Rattle.sheep_node.proofs.StepChain.{kept_by_chain, step_chain}
-use Rattle.sheep_node.proofs.Cases.{either}
+use Rattle.recovery.proofs.StepLemmas.{either}
 
 -- each number of a request is so
 abbrev pub AllAre : (ℕ → Type 0) → Requests → Type 0
@@ -59,10 +59,8 @@ module _ (P : ℕ → Type 0) where
       (λ (other : q ≢ req). all q at (sym (got_left requests req q other) ∙ got))
       (same_or_not q req)
 
-  ordered_are : (session req : ℕ) (ask : VdiAsk) (op : Op) (act : OpAct) (so_far : StepState) → P req → In so_far → In (after_command_step session req ask op act so_far)
-  ordered_are session req ask op (op_acts.Append entry) so_far so all = put_are so_far.node.requests req (record { session = session; course = Commanding ask op }) so all
-  ordered_are session req ask op (op_acts.Work work) so_far so all = put_are so_far.node.requests req (record { session = session; course = Commanding ask op }) so all
-  ordered_are session req ask op (op_acts.Reply reply) so_far so all = put_are so_far.node.requests req (record { session = session; course = Commanding ask op }) so all
+  command_are : (session req : ℕ) (ask : VdiAsk) (step : ops.OpStep) (so_far : StepState) → P req → In so_far → In (after_command_step session req ask step so_far)
+  command_are session req ask step so_far so all = put_are so_far.node.requests req (record { session = session; course = Commanding ask step.op }) so all
 
   refused_are : (session req : ℕ) (cause : Cause) (course : Course) (so_far : StepState) → In so_far → In (course_refused session req cause course so_far)
   unfolding request_ended
@@ -70,16 +68,12 @@ module _ (P : ℕ → Type 0) where
   refused_are session req cause (Driving driver) so_far all = gone_are so_far.node.requests req all
   refused_are session req cause (Commanding ask op) so_far all = by_end (on_refusal cause op)
     where
-      by_unlock : (end : OpEnd) (unlock : Option Entry) → In (request_ended session req end.reply (with_optional_entry unlock so_far))
-      by_unlock end None = gone_are so_far.node.requests req all
-      by_unlock end (Some entry) = gone_are so_far.node.requests req all
-
       by_end : (end : Option OpEnd) → In (command_refused session req end so_far)
       by_end None = all
-      by_end (Some end) = by_unlock end end.unlock
+      by_end (Some end) = gone_are so_far.node.requests req all
 
   received_requests : (input : Input) (node : Node) → In (at_first node) → In (input_received input (at_first node))
-  unfolding on_request on_recover_tick on_back
+  unfolding entry_read on_request on_recover_tick on_back
   received_requests (inputs.Guest req session ask) node all = all
   received_requests (inputs.Request request) node all = all
   received_requests (inputs.Reply rsp) node all =
@@ -88,7 +82,7 @@ module _ (P : ℕ → Type 0) where
   received_requests (inputs.Lost number) node all =
       either In (gateways.gateway_awaits number node.gateway) (at_first node)
       (recovery_stepped (recovery_steps.recovery_on_loss number (recovery_state_of node)) (at_first node)) all all
-  received_requests (inputs.LogEntry entry) node all = subst (AllAre P) (sym (read_keeps entry node).requests_so) all
+  received_requests (inputs.LogEntry entry) node all = all
   received_requests inputs.Put node all = by_outbox node.outbox
     where
       by_outbox : (outbox : List Entry) → In (on_put outbox (at_first node))
@@ -106,11 +100,11 @@ module _ (P : ℕ → Type 0) where
     steps_are so_far session req next moved (DiskGoesOn number work attempt status bytes driver disk step ends on is) all =
         put_are so_far.node.requests req (record { session = session; course = Driving step.driver }) (all req (record { session = session; course = Driving driver }) ends.ends.request) all
     steps_are so_far session req next moved (CommandBegins ask step arrival is) all =
-        ordered_are session req ask step.op step.act so_far (asked req session (asks.Vdi ask) arrival.from) all
+        command_are session req ask step so_far (asked req session (asks.Vdi ask) arrival.from) all
     steps_are so_far session req next moved (CommandGoesOn number work attempt status bytes ask op step ends is) all =
-        ordered_are session req ask step.op step.act (changes.without_ended_work session req work status so_far) (all req (record { session = session; course = Commanding ask op }) ends.ends.request) all
+        command_are session req ask step (changes.without_ended_work session req work status so_far) (all req (record { session = session; course = Commanding ask op }) ends.ends.request) all
     steps_are so_far session req next moved (CommandDecided entry ask op step from read there waits is) all =
-        ordered_are session req ask step.op step.act so_far (all req (record { session = session; course = Commanding ask op }) there) all
+        command_are session req ask step so_far (all req (record { session = session; course = Commanding ask op }) there) all
 
     comes_are : (so_far : StepState) (session req : ℕ) (tried : Work) (lined : StepState) → WorkIsNext input node so_far session req tried lined → In so_far → In lined
     comes_are so_far session req tried lined (AtOnce work moved steps begins) all = steps_are so_far session req (ToWork work) moved steps all

@@ -55,8 +55,8 @@ use Rattle.sheep_node.specs.State.{Course, Waiting, Driving, Commanding, Request
 use Rattle.sheep_node.specs.RecoveryView.{recovery_state_of}
 use Rattle.sheep_node.specs.StepState.{StepState, at_first, with_node, with_gateway, session_in, with_inode_queue, with_course}
 use Rattle.sheep_node.specs.RequestWorks.{request_refused, queue_left, after_start, work_begun, work_asked}
-use Rattle.sheep_node.specs.Courses.{driver_acted, driver_stepped, driver_went_on, disk_went_on, disk_begun, command_acted, command_stepped, command_went_on, course_went_on, course_decided}
-use Rattle.sheep_node.specs.Waiting.{next_begun, course_begun, found_request_begun, begun_if_may, passed_over, let_begin, queue_left_by, work_done, work_refused, after_act, after_gateway_step}
+use Rattle.sheep_node.specs.Courses.{after_driver_step, driver_acted, driver_stepped, driver_went_on, disk_went_on, disk_begun, after_command_step, command_acted, command_stepped, command_went_on, course_went_on, course_decided}
+use Rattle.sheep_node.specs.Waiting.{next_begun, course_begun, found_request_begun, begun_if_may, passed_over, queued_requests, let_begin, work_done, work_refused, after_act, after_gateway_step}
 use Rattle.sheep_node.specs.Guests.{request_refusal, inode_open, with_queued_request, request_taken, request_taken_unless, on_guest}
 use Rattle.sheep_node.specs.Same.{waits_for_entry}
 use Rattle.sheep_node.specs.LogReading.{entry_read, asker_of, decision_told, on_log_entry}
@@ -65,11 +65,10 @@ use Rattle.sheep_node.specs.Step.{recovery_stepped, on_put, on_input, is_due, wi
 use Rattle.sheep_node.specs.May.{fits_node, May}
 use Rattle.sheep_node.specs.OneWork.{may_work_at, HasOneWorkPerRequest}
 use Rattle.sheep_node.specs.Changes as changes
-use Rattle.sheep_node.specs.Changes.{IsTold, input_received, IsOverWith, HasRequest, LearnsStatus, EndsAttempt, EndsWork, Arrival, gateway_with_touch, without_ended_work, refusal_of, ToWork, outcome_of_driver, outcome_of_command, after_driver_step, after_command_step, RequestSteps, DiskBegins, DiskGoesOn, CommandBegins, CommandGoesOn, CommandDecided, new_work, WorkIsNext, AtOnce, InTurn, Again, has_too_few_zones, zones_of_members, without_denied_work, Change, Leads, Still, Then}
+use Rattle.sheep_node.specs.Changes.{IsTold, input_received, IsOverWith, HasRequest, LearnsStatus, EndsAttempt, EndsWork, Arrival, gateway_with_touch, without_ended_work, refusal_of, ToWork, outcome_of_driver, outcome_of_command, RequestSteps, DiskBegins, DiskGoesOn, CommandBegins, CommandGoesOn, CommandDecided, new_work, WorkIsNext, AtOnce, InTurn, Again, has_too_few_zones, zones_of_members, without_denied_work, Change, Leads, Still, Then}
 use Rattle.sheep_node.proofs.NumberTools.{got_own}
 use Rattle.sheep_node.proofs.ListTools.{has-found}
 use Rattle.sheep_node.proofs.EntryTools.{found_got, got_entry, some_of}
-use Rattle.sheep_node.proofs.ReadParts.{read_keeps}
 use Rattle.sheep_node.proofs.OneWorkChanges.{StepHasOneWork, comes_free, change_keeps_one_work, received_one_work}
 
 -- a chain of changes to a turn, in which works are with their requests
@@ -102,14 +101,14 @@ module _ (input : Input) (node : Node) (first : StepState) where
   begun_walk so_far session req work lined comes walk = by_zones (has_too_few_zones (new_work work) lined.node) refl
     where
       Begins : gateway_steps.GatewayStep → Type 0
-      Begins step = IsReached input node first (after_start session req work step.act (with_gateway step.gateway lined))
+      Begins step = IsReached input node first (after_start session step.act (with_gateway step.gateway lined))
 
       epoch : Epoch
       epoch = record { 0 = lined.node.peer.epoch }
 
       by_touched : has_too_few_zones (new_work work) lined.node ≡ true → (b : Bool) → is_touched req lined.node.gateway ≡ b
           → Begins (cond b (waiting_step (with_work req (record (new_work work) { stage = WaitsForMembers epoch }) lined.node.gateway))
-          (refusal_step lined.node.gateway req (Halt (zones_of_members lined.node) (zones_for work))))
+          (refusal_step lined.node.gateway req work (Halt (zones_of_members lined.node) (zones_for work))))
       by_touched short true touched = reached_by walk (changes.Holds session req (new_work work) lined comes short touched)
       by_touched short false untouched =
           let cause = Halt (zones_of_members lined.node) (zones_for work) in
@@ -148,21 +147,18 @@ module _ (input : Input) (node : Node) (first : StepState) where
   unfolding driver_stepped
   driver_stepped_walk so_far session req disk step freed steps walk = driver_walk so_far session req step.act (after_driver_step session req disk step freed) steps walk
 
-  command_walk : (so_far : StepState) (session req : ℕ) (ask : VdiAsk) (op : Op) (act : OpAct) (freed : StepState)
-      → RequestSteps input node so_far session req (outcome_of_command act) (after_command_step session req ask op act freed) → IsReached input node first so_far
-      → IsReached input node first (command_acted session req ask op act (with_course session req (Commanding ask op) freed))
-  command_walk so_far session req ask op (op_acts.Append entry) freed steps walk =
-      reached_by walk (changes.Appends session req entry (after_command_step session req ask op (op_acts.Append entry) freed) steps)
-  command_walk so_far session req ask op (op_acts.Work work) freed steps walk =
-      asked_walk so_far session req work (after_command_step session req ask op (op_acts.Work work) freed) steps walk
-  command_walk so_far session req ask op (op_acts.Reply reply) freed steps walk =
-      reached_by walk (changes.Replies session req reply (after_command_step session req ask op (op_acts.Reply reply) freed) steps)
+  command_walk : (so_far : StepState) (session req : ℕ) (act : OpAct) (moved : StepState) → RequestSteps input node so_far session req (outcome_of_command act) moved
+      → IsReached input node first so_far → IsReached input node first (command_acted session req act moved)
+  command_walk so_far session req (op_acts.Append entry) moved steps walk = reached_by walk (changes.Appends session req entry moved steps)
+  command_walk so_far session req (op_acts.Work work) moved steps walk = asked_walk so_far session req work moved steps walk
+  command_walk so_far session req (op_acts.Reply reply) moved steps walk = reached_by walk (changes.Replies session req reply moved steps)
 
   command_stepped_walk : (so_far : StepState) (session req : ℕ) (ask : VdiAsk) (step : ops.OpStep) (freed : StepState)
-      → RequestSteps input node so_far session req (outcome_of_command step.act) (after_command_step session req ask step.op step.act freed) → IsReached input node first so_far
+      → RequestSteps input node so_far session req (outcome_of_command step.act) (after_command_step session req ask step freed) → IsReached input node first so_far
       → IsReached input node first (command_stepped session req ask step freed)
   unfolding command_stepped
-  command_stepped_walk so_far session req ask step freed steps walk = command_walk so_far session req ask step.op step.act freed steps walk
+  command_stepped_walk so_far session req ask step freed steps walk =
+      command_walk so_far session req step.act (after_command_step session req ask step freed) steps walk
 
   -- ---- what waited begins
 
@@ -184,22 +180,15 @@ module _ (input : Input) (node : Node) (first : StepState) where
   course_begun_walk so_far session req (Driving driver) there walk = walk
   course_begun_walk so_far session req (Commanding ask op) there walk = walk
 
-  request_begun_walk : (so_far : StepState) (session req : ℕ) (request : Option Request) → tree.get so_far.node.requests req ≡ request → IsReached input node first so_far
-      → IsReached input node first (found_request_begun session req request so_far)
-  request_begun_walk so_far session req None there walk = walk
-  request_begun_walk so_far session req (Some request) there walk = by_session (request.session == session) refl
-    where
-      by_session : (b : Bool) → (request.session == session) ≡ b → IsReached input node first (cond b (course_begun session req request.course so_far) so_far)
-      by_session true own =
-          let same : request.session ≡ session = eqb-true request.session session own in
-          course_begun_walk so_far session req request.course (there ∙ (λ i. Some (record { session = same i; course = request.course }))) walk
-      by_session false other = walk
+  request_begun_walk : (so_far : StepState) (req : ℕ) (request : Option Request) → tree.get so_far.node.requests req ≡ request → IsReached input node first so_far
+      → IsReached input node first (found_request_begun req request so_far)
+  request_begun_walk so_far req None there walk = walk
+  request_begun_walk so_far req (Some request) there walk = course_begun_walk so_far request.session req request.course there walk
 
-  all_begun_walk : (session : ℕ) (reqs : List ℕ) (so_far : StepState) → IsReached input node first so_far → IsReached input node first (fold (begun_if_may session) so_far reqs)
-  all_begun_walk session [] so_far walk = walk
-  all_begun_walk session (req ∷ reqs) so_far walk =
-      all_begun_walk session reqs (begun_if_may session so_far req)
-      (request_begun_walk so_far session req (tree.get so_far.node.requests req) refl walk)
+  all_begun_walk : (reqs : List ℕ) (so_far : StepState) → IsReached input node first so_far → IsReached input node first (fold begun_if_may so_far reqs)
+  all_begun_walk [] so_far walk = walk
+  all_begun_walk (req ∷ reqs) so_far walk =
+      all_begun_walk reqs (begun_if_may so_far req) (request_begun_walk so_far req (tree.get so_far.node.requests req) refl walk)
 
   next_begun_walk : (session : ℕ) (so_far : StepState) → IsReached input node first so_far → IsReached input node first (next_begun session (next_work (session_in session so_far).inode_queue) so_far)
   next_begun_walk session so_far walk =
@@ -225,13 +214,16 @@ module _ (input : Input) (node : Node) (first : StepState) where
   pub let_begin_walk : (session : ℕ) (so_far : StepState) → IsReached input node first so_far → IsReached input node first (let_begin session so_far)
   unfolding let_begin passed_over
   let_begin_walk session so_far walk =
-      all_begun_walk session (tree.keys so_far.node.requests) (next_begun session (next_work (session_in session so_far).inode_queue) so_far)
+      all_begun_walk (queued_requests (session_in session so_far)) (next_begun session (next_work (session_in session so_far).inode_queue) so_far)
       (next_begun_walk session so_far walk)
 
   -- ---- a work is done or refused
 
   module _ (so_far : StepState) (session req number : ℕ) (work : Work) (attempt : Attempt) (status : Status) (course : Course)
       (ends : EndsAttempt input node so_far session req number work attempt status course) (walk : IsReached input node first so_far) where
+    abbrev pub after_gateway_act : gateway_steps.GatewayStep → StepState
+    after_gateway_act step = after_act step.act (with_gateway step.gateway so_far)
+
     abbrev pub bytes_now : List ℕ
     bytes_now = bytes_given work.work (messages_with_status number status attempt.messages)
 
@@ -277,30 +269,26 @@ module _ (input : Input) (node : Node) (first : StepState) where
       went_on_walk (Driving driver) same = disk_walk driver same (session_in session freed).disk refl
       went_on_walk (Commanding ask op) same = command_done_walk ask op same (op_on_done bytes_now op) refl
 
-      pub done_walk : IsReached input node first (after_act so_far.node.gateway (done_step (gateway_with_touch req work status so_far) req bytes_now).act (with_gateway (done_step (gateway_with_touch req work status so_far) req bytes_now).gateway so_far))
+      pub done_walk : IsReached input node first (after_gateway_act (done_step (gateway_with_touch req work status so_far) req work.work bytes_now))
       done_walk =
-          subst (λ (o : Option Work). IsReached input node first (work_done o req bytes_now (tree.get so_far.node.requests req) (with_gateway (without_work req (gateway_with_touch req work status so_far)) so_far)))
-          (sym ends.learns.there)
-          (subst (λ (o : Option Request). IsReached input node first (work_done (Some work) req bytes_now o (with_gateway (without_work req (gateway_with_touch req work status so_far)) so_far)))
+          subst (λ (o : Option Request). IsReached input node first (work_done work.work req bytes_now o (with_gateway (without_work req (gateway_with_touch req work status so_far)) so_far)))
           (sym ends.request)
-          (let_begin_walk session (course_went_on session req bytes_now course (without_ended_work session req work status so_far)) (went_on_walk course refl)))
+          (let_begin_walk session (course_went_on session req bytes_now course freed) (went_on_walk course refl))
 
     pub refused_walk : (cause : Cause) → is_done work.work (messages_with_status number status attempt.messages) ≡ false
         → refusal_of req number work attempt status so_far ≡ Some cause
-        → IsReached input node first (after_act so_far.node.gateway (refusal_step (gateway_with_touch req work status so_far) req cause).act (with_gateway (refusal_step (gateway_with_touch req work status so_far) req cause).gateway so_far))
+        → IsReached input node first (after_gateway_act (refusal_step (gateway_with_touch req work status so_far) req work.work cause))
     refused_walk cause never why =
-        subst (λ (o : Option Work). IsReached input node first (work_refused o req cause (tree.get so_far.node.requests req) (with_gateway (without_work req (gateway_with_touch req work status so_far)) so_far)))
-        (sym ends.learns.there)
-        (subst (λ (o : Option Request). IsReached input node first (work_refused (Some work) req cause o (with_gateway (without_work req (gateway_with_touch req work status so_far)) so_far)))
+        subst (λ (o : Option Request). IsReached input node first (work_refused work.work req cause o (with_gateway (without_work req (gateway_with_touch req work status so_far)) so_far)))
         (sym ends.request)
         (let_begin_walk session (request_refused req cause (Some (record { session = session; course = course })) (without_ended_work session req work status so_far))
-        (reached_by walk (changes.Refuses session req number work attempt status course cause ends never why))))
+        (reached_by walk (changes.Refuses session req number work attempt status course cause ends never why)))
 
   -- ---- a message is known
 
   module _ (so_far : StepState) (walk : IsReached input node first so_far) where
     abbrev pub Settled : gateway_steps.GatewayStep → Type 0
-    Settled step = IsReached input node first (after_act so_far.node.gateway step.act (with_gateway step.gateway so_far))
+    Settled step = IsReached input node first (after_act step.act (with_gateway step.gateway so_far))
 
     module _ (number : ℕ) (status : Status) (settled : is_unanswered status ≡ false) (told : IsTold input number status) (req : ℕ) (work : Work)
         (there : tree.get so_far.node.gateway.works req ≡ Some work) (awaited : is_awaited_in number work ≡ true) where
@@ -323,7 +311,7 @@ module _ (input : Input) (node : Node) (first : StepState) where
               refused_walk so_far asker_now.session req number work attempt status asker_now.course ends walk cause never why
 
           over_walk : (b : Bool) → is_done work.work (messages_with_status number status attempt.messages) ≡ b
-              → Settled (cond b (done_step (gateway_with_touch req work status so_far) req (bytes_given work.work (messages_with_status number status attempt.messages)))
+              → Settled (cond b (done_step (gateway_with_touch req work status so_far) req work.work (bytes_given work.work (messages_with_status number status attempt.messages)))
               (failure_step (gateway_with_touch req work status so_far) req work (refusal_of req number work attempt status so_far)))
           over_walk true is = done_walk so_far asker_now.session req number work attempt status asker_now.course ends walk is
           over_walk false never = not_done_walk never (refusal_of req number work attempt status so_far) refl
@@ -371,16 +359,15 @@ module _ (input : Input) (node : Node) (first : StepState) where
 
       by_touched : has_too_few_zones asked so_far.node ≡ true → (b : Bool) → is_touched req so_far.node.gateway ≡ b
           → Settled (cond b (waiting_step (with_work req (record asked { stage = WaitsForMembers here }) so_far.node.gateway))
-          (refusal_step so_far.node.gateway req (Halt (zones_of_members so_far.node) (zones_for asked.work))))
+          (refusal_step so_far.node.gateway req asked.work (Halt (zones_of_members so_far.node) (zones_for asked.work))))
       by_touched short true touched = reached_by walk (changes.Holds asker_here.session req asked so_far again short touched)
       by_touched short false untouched =
           let cause = Halt (zones_of_members so_far.node) (zones_for asked.work) in
           let gone = with_gateway (without_work req so_far.node.gateway) so_far in
-          subst (λ (o : Option Work). IsReached input node first (work_refused o req cause (tree.get so_far.node.requests req) gone)) (sym there)
-          (subst (λ (o : Option Request). IsReached input node first (work_refused (Some asked) req cause o gone)) (sym asker_here.there)
+          subst (λ (o : Option Request). IsReached input node first (work_refused asked.work req cause o gone)) (sym asker_here.there)
           (let_begin_walk asker_here.session
           (request_refused req cause (Some (record { session = asker_here.session; course = asker_here.course })) (without_denied_work asker_here.session req asked so_far))
-          (reached_by walk (changes.Denies asker_here.session req asked so_far asker_here.course again short untouched asker_here.there))))
+          (reached_by walk (changes.Denies asker_here.session req asked so_far asker_here.course again short untouched asker_here.there)))
 
       tried_walk : Settled (attempt_step so_far.node.epochs so_far.node.gateway req asked so_far.node.sends here)
       unfolding attempt_step
@@ -544,7 +531,7 @@ needs_by_may (inputs.Back entries) node may one_work = tt
 
 pub input_chain : (input : Input) (node : Node) → ChainNeeds input node → StepHasOneWork (at_first node)
     → IsReached input node (input_received input (at_first node)) (on_input input (at_first node))
-unfolding on_input steps.on_reply steps.on_loss on_log_entry recovery_steps.recovery_on_reply recovery_steps.recovery_on_loss
+unfolding entry_read on_input steps.on_reply steps.on_loss on_log_entry recovery_steps.recovery_on_reply recovery_steps.recovery_on_loss
 input_chain (inputs.Guest req session ask) node needs good =
     guest_walk (inputs.Guest req session ask) node (at_first node) (at_first node) (record { leads = Still; good = good }) session req ask refl refl
     needs
@@ -571,7 +558,7 @@ input_chain (inputs.Lost number) node needs good = by_waits (gateways.gateway_aw
     by_waits false none = record { leads = Still; good = good }
 input_chain (inputs.LogEntry entry) node needs good =
     let start = with_node (entry_read entry node) (at_first node) in
-    told_walk (inputs.LogEntry entry) node start entry refl start refl (read_keeps entry node).requests_so
+    told_walk (inputs.LogEntry entry) node start entry refl start refl refl
     (record { leads = Still; good = received_one_work (inputs.LogEntry entry) node good }) (asker_of entry node) refl
 input_chain inputs.Put node needs good = record { leads = Still; good = received_one_work inputs.Put node good }
 input_chain inputs.RecoverTick node needs good = record { leads = Still; good = received_one_work inputs.RecoverTick node good }

@@ -25,8 +25,6 @@ use Rattle.gateway.proofs.SendLaws.{sends-numbers}
 use Rattle.recovery.specs.State.{Recovery, RecoveryState}
 use Rattle.recovery.specs.Steps as recovery_steps
 use Rattle.recovery.specs.Tick.{tick_sends, state_after_tick}
-use Rattle.vdi_ops.specs.declared.act.OpAct.{OpAct}
-use Rattle.vdi_ops.specs.declared.act.OpAct.TheVariants as op_acts
 use Rattle.vdi_ops.specs.declared.end.OpEnd.{OpEnd}
 use Rattle.vdi_ops.specs.Steps.{on_refusal}
 use Rattle.sheep_node.specs.declared.input.Input.{Input}
@@ -40,10 +38,9 @@ use Rattle.sheep_node.specs.Step.{on_request, recovery_stepped, on_put, on_recov
 use Rattle.sheep_node.specs.StepFacts.{AscendFrom, Ascend}
 use Rattle.sheep_node.specs.OneWork.{HasOneWorkPerRequest}
 use Rattle.sheep_node.specs.Changes as changes
-use Rattle.sheep_node.specs.Changes.{Outcome, ToWork, ToEntry, ToReply, without_ended_work, zones_of_members, without_denied_work, attempt_in, RequestSteps, DiskBegins, DiskGoesOn, CommandBegins, CommandGoesOn, CommandDecided, after_command_step, WorkIsNext, AtOnce, InTurn, Again, input_received, Change}
+use Rattle.sheep_node.specs.Changes.{Outcome, ToWork, ToEntry, ToReply, without_ended_work, zones_of_members, without_denied_work, attempt_in, RequestSteps, DiskBegins, DiskGoesOn, CommandBegins, CommandGoesOn, CommandDecided, WorkIsNext, AtOnce, InTurn, Again, input_received, Change}
 use Rattle.sheep_node.proofs.Numbers.{tick_numbers, numbers_joined}
-use Rattle.sheep_node.proofs.Cases.{either}
-use Rattle.sheep_node.proofs.ReadParts.{read_keeps}
+use Rattle.recovery.proofs.StepLemmas.{either}
 use Rattle.sheep_node.proofs.StepChain.{ChainNeeds, kept_by_chain, chain_of_step}
 
 -- what the changes of a step leave alone
@@ -129,36 +126,17 @@ module _ (first : ℕ) (was_recovered : Bool) (old : Untouched) where
   refused_in_order session req cause (Driving driver) so_far s = ended_in_order session req (Refused cause) so_far s
   refused_in_order session req cause (Commanding ask op) so_far s = by_end (on_refusal cause op)
     where
-      by_unlock : (end : OpEnd) (unlock : Option Entry) → IsInOrder (request_ended session req end.reply (with_optional_entry unlock so_far))
-      by_unlock end None = ended_in_order session req end.reply so_far s
-      by_unlock end (Some entry) = ended_in_order session req end.reply (with_optional_entry (Some entry) so_far) s
-
       by_end : (end : Option OpEnd) → IsInOrder (command_refused session req end so_far)
       by_end None = s
-      by_end (Some end) = by_unlock end end.unlock
+      by_end (Some end) = ended_in_order session req end.reply (with_optional_entry end.unlock so_far) s
 
   steps_in_order : {input : Input} {node : Node} → (so_far : StepState) (session req : ℕ) (outcome : Outcome) (moved : StepState)
       → RequestSteps input node so_far session req outcome moved → IsInOrder so_far → IsInOrder moved
   steps_in_order so_far session req outcome moved (DiskBegins ask disk there on may) s = s
   steps_in_order so_far session req outcome moved (DiskGoesOn number work attempt status bytes driver disk step ends on is) s = s
-  steps_in_order so_far session req outcome moved (CommandBegins ask step arrival is) s = by_act step.act
-    where
-      by_act : (act : OpAct) → IsInOrder (after_command_step session req ask step.op act so_far)
-      by_act (op_acts.Append entry) = s
-      by_act (op_acts.Work work) = s
-      by_act (op_acts.Reply reply) = s
-  steps_in_order so_far session req outcome moved (CommandGoesOn number work attempt status bytes ask op step ends is) s = by_act step.act
-    where
-      by_act : (act : OpAct) → IsInOrder (after_command_step session req ask step.op act (without_ended_work session req work status so_far))
-      by_act (op_acts.Append entry) = s
-      by_act (op_acts.Work work) = s
-      by_act (op_acts.Reply reply) = s
-  steps_in_order so_far session req outcome moved (CommandDecided entry ask op step from read there waits is) s = by_act step.act
-    where
-      by_act : (act : OpAct) → IsInOrder (after_command_step session req ask step.op act so_far)
-      by_act (op_acts.Append entry) = s
-      by_act (op_acts.Work work) = s
-      by_act (op_acts.Reply reply) = s
+  steps_in_order so_far session req outcome moved (CommandBegins ask step arrival is) s = s
+  steps_in_order so_far session req outcome moved (CommandGoesOn number work attempt status bytes ask op step ends is) s = s
+  steps_in_order so_far session req outcome moved (CommandDecided entry ask op step from read there waits is) s = s
 
   next_in_order : {input : Input} {node : Node} → (so_far : StepState) (session req : ℕ) (asked : Work) (lined : StepState)
       → WorkIsNext input node so_far session req asked lined → IsInOrder so_far → IsInOrder lined
@@ -208,7 +186,7 @@ module _ (node : Node) where
   heard state = record { numbers = refl; counted = omega arith; ascend = tt; recovered_stays = λ was. was; same = refl }
 
 received_in_order : (input : Input) (node : Node) → BeginsInOrder node.sends (input_received input (at_first node))
-unfolding on_request on_recover_tick on_back
+unfolding entry_read on_request on_recover_tick on_back
 received_in_order (inputs.Guest req session ask) node = idle node
 received_in_order (inputs.Request request) node =
     record { numbers = refl; counted = omega arith; ascend = tt; recovered_stays = λ was. was; same = refl }
@@ -222,7 +200,7 @@ received_in_order (inputs.Lost number) node =
     (heard node (recovery_steps.recovery_on_loss number (recovery_state_of node)))
 received_in_order (inputs.LogEntry entry) node = record {
   numbers = refl;
-  counted = (read_keeps entry node).sends_so ∙ omega arith;
+  counted = omega arith;
   ascend = tt;
   recovered_stays = λ was. was;
   same = refl;

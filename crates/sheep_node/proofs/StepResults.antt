@@ -16,13 +16,12 @@ use Rattle.sheep_node.specs.declared.input.Input.TheVariants as inputs
 use Rattle.sheep_node.specs.State.{Node}
 use Rattle.sheep_node.specs.RecoveryView.{recovery_state_of}
 use Rattle.sheep_node.specs.StepState.{StepState, at_first}
-use Rattle.sheep_node.specs.LogReading.{on_back}
+use Rattle.sheep_node.specs.LogReading.{entry_read, on_back}
 use Rattle.sheep_node.specs.Step.{on_request, recovery_stepped, on_put, on_recover_tick, on_input, is_due, with_recovered, recovered_put, node_step}
 use Rattle.sheep_node.specs.StepFacts.{read_after, may_begin_recovery, said_on, first_entry_of, put_on, Ascend}
 use Rattle.sheep_node.specs.OneWork.{HasOneWorkPerRequest}
 use Rattle.sheep_node.specs.Changes.{input_received}
-use Rattle.sheep_node.proofs.Cases.{either}
-use Rattle.sheep_node.proofs.ReadParts.{read_keeps}
+use Rattle.recovery.proofs.StepLemmas.{either}
 use Rattle.sheep_node.proofs.PeerLog.{Log, log_of, served_same, entries_reading, entries_back}
 use Rattle.sheep_node.proofs.StepChain.{ChainNeeds}
 use Rattle.sheep_node.proofs.StepEffects.{Untouched, untouched_in, AreInOrder, step_in_order}
@@ -37,14 +36,14 @@ by_waiting P number state node first heard =
     either P (gateways.gateway_awaits number node.gateway) (at_first node) (recovery_stepped state (at_first node)) first heard
 
 me_received : (input : Input) (node : Node) → (input_received input (at_first node)).node.me ≡ node.me
-unfolding on_request on_recover_tick on_back
+unfolding entry_read on_request on_recover_tick on_back
 me_received (inputs.Guest req session ask) node = refl
 me_received (inputs.Request request) node = refl
 me_received (inputs.Reply rsp) node =
     by_waiting (λ (start : StepState). start.node.me ≡ node.me) rsp.number (recovery_steps.recovery_on_reply rsp (recovery_state_of node)) node refl refl
 me_received (inputs.Lost number) node =
     by_waiting (λ (start : StepState). start.node.me ≡ node.me) number (recovery_steps.recovery_on_loss number (recovery_state_of node)) node refl refl
-me_received (inputs.LogEntry entry) node = (read_keeps entry node).me_so
+me_received (inputs.LogEntry entry) node = refl
 me_received inputs.Put node = by_outbox node.outbox
   where
     by_outbox : (outbox : List Entry) → (on_put outbox (at_first node)).node.me ≡ node.me

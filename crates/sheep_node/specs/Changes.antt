@@ -34,14 +34,14 @@ use Rattle.guest_driver.specs.InodeQueue.{may_open_work, queue_with_open, queue_
 use Rattle.vdi_ops.specs.declared.act.OpAct.{OpAct}
 use Rattle.vdi_ops.specs.declared.act.OpAct.TheVariants as op_acts
 use Rattle.vdi_ops.specs.Op as ops
-use Rattle.vdi_ops.specs.Op.{Op, opened_inode}
+use Rattle.vdi_ops.specs.Op.{Op}
 use Rattle.vdi_ops.specs.Steps.{begin_command, op_on_done, on_decision}
 use Rattle.recovery.specs.Steps as recovery_steps
 use Rattle.sheep_node.specs.State.{Course, Waiting, Driving, Commanding, Node}
 use Rattle.sheep_node.specs.RecoveryView.{recovery_state_of}
 use Rattle.sheep_node.specs.StepState.{StepState, at_first, with_node, with_sends, with_guest_reply, with_outbox_entry, with_gateway, with_session, session_in, with_inode_queue, with_disk, with_course, request_ended}
 use Rattle.sheep_node.specs.RequestWorks.{course_refused, queue_left}
-use Rattle.sheep_node.specs.Courses.{disk_after}
+use Rattle.sheep_node.specs.Courses.{after_driver_step, after_command_step}
 use Rattle.sheep_node.specs.declared.ask.Ask.{Ask}
 use Rattle.sheep_node.specs.declared.ask.Ask.TheVariants as asks
 use Rattle.sheep_node.specs.declared.input.Input.{Input}
@@ -83,18 +83,6 @@ abbrev pub outcome_of_command : OpAct → Outcome
 outcome_of_command (op_acts.Append entry) = ToEntry entry
 outcome_of_command (op_acts.Work work) = ToWork work
 outcome_of_command (op_acts.Reply reply) = ToReply reply
-
--- a read or write has taken a step, with the inode that it leaves
-abbrev pub after_driver_step : ℕ → ℕ → Disk → drivers.DriverStep → StepState → StepState
-after_driver_step session req disk step so_far =
-    with_course session req (Driving step.driver) (with_disk session (Some (record disk { inode = step.inode })) so_far)
-
--- a command has, and with its reply what is open is another disk
-abbrev pub after_command_step : ℕ → ℕ → VdiAsk → Op → OpAct → StepState → StepState
-after_command_step session req ask op (op_acts.Append entry) so_far = with_course session req (Commanding ask op) so_far
-after_command_step session req ask op (op_acts.Work work) so_far = with_course session req (Commanding ask op) so_far
-after_command_step session req ask op (op_acts.Reply reply) so_far =
-    with_disk session (disk_after ask (opened_inode op) (session_in session so_far).disk) (with_course session req (Commanding ask op) so_far)
 
 -- a work that has had no attempt
 abbrev pub new_work : ObjWork → Work
@@ -204,18 +192,18 @@ module _ (input : Input) (node : Node) where
         (after_driver_step session req disk step (without_ended_work session req work status so_far))
     CommandBegins : (ask : VdiAsk) (step : ops.OpStep) → Arrival so_far session req (asks.Vdi ask) None
         → begin_command so_far.node.me session ask (inode_open (session_in session so_far).disk) ≡ Some step
-        → RequestSteps so_far session req (outcome_of_command step.act) (after_command_step session req ask step.op step.act so_far)
+        → RequestSteps so_far session req (outcome_of_command step.act) (after_command_step session req ask step so_far)
     CommandGoesOn : (number : ℕ) (work : Work) (attempt : Attempt) (status : Status) (bytes : List ℕ) (ask : VdiAsk) (op : Op)
         (step : ops.OpStep) → EndsWork so_far session req number work attempt status (Commanding ask op) bytes
         → op_on_done bytes op ≡ Some step
         → RequestSteps so_far session req (outcome_of_command step.act)
-        (after_command_step session req ask step.op step.act (without_ended_work session req work status so_far))
+        (after_command_step session req ask step (without_ended_work session req work status so_far))
     -- the entry is decided by the entries before it; by now the node has read it
     CommandDecided : (entry : Entry) (ask : VdiAsk) (op : Op) (step : ops.OpStep) → input ≡ inputs.LogEntry entry
         → so_far.node.peer ≡ (entry_read entry node).peer → HasRequest session req (Commanding ask op) so_far
         → waits_for_entry entry (Commanding ask op) ≡ true
         → on_decision (effects_of so_far.node.peer) (decision_on entry node.peer) op ≡ Some step
-        → RequestSteps so_far session req (outcome_of_command step.act) (after_command_step session req ask step.op step.act so_far)
+        → RequestSteps so_far session req (outcome_of_command step.act) (after_command_step session req ask step so_far)
 
   -- a work's turn has come: that of a step at once, the first that waits in its line, or the first that may be tried again
   pub data WorkIsNext (so_far : StepState) (session req : ℕ) : Work → StepState → Type 0 where

@@ -34,11 +34,11 @@ abbrev pub queue_left : ℕ → ObjWork → StepState → StepState
 queue_left number work so_far = with_inode_queue number (queue_after_end (session_in number so_far).inode_queue work) so_far
 
 -- what the start of a work comes to: it is sent, or for want of members waits or is refused; it isn't done at once
-abbrev pub after_start : ℕ → ℕ → ObjWork → Act → StepState → StepState
-after_start number req work (acts.Send sends) so_far = with_sends sends.list so_far
-after_start number req work acts.Wait so_far = so_far
-after_start number req work (acts.Done done) so_far = so_far
-after_start number req work (acts.Refused of cause) so_far =
+abbrev pub after_start : ℕ → Act → StepState → StepState
+after_start number (acts.Send sends) so_far = with_sends sends.list so_far
+after_start number acts.Wait so_far = so_far
+after_start number (acts.Done work done) so_far = so_far
+after_start number (acts.Refused work req cause) so_far =
     request_refused req cause (tree.get so_far.node.requests req) (queue_left number work so_far)
 
 -- how the gateway starts a work: in the node's epoch, its messages numbered from the count of sends
@@ -49,7 +49,7 @@ start_of req work node =
 -- a request's work begins
 unfoldable pub work_begun : ℕ → ℕ → ObjWork → StepState → StepState
 work_begun number req work so_far =
-    after_start number req work (start_of req work so_far.node).act (with_gateway (start_of req work so_far.node).gateway so_far)
+    after_start number (start_of req work so_far.node).act (with_gateway (start_of req work so_far.node).gateway so_far)
 
 -- a request comes to a work: that begins, or waits in the session's line
 unfoldable pub work_asked : ℕ → ℕ → ObjWork → StepState → StepState

@@ -38,7 +38,8 @@ use Rattle.sheep_node.specs.RecoveryView.{recovery_state_of}
 use Rattle.sheep_node.specs.May.{fits_node}
 use Rattle.sheep_node.specs.StepState.{StepState, at_first, session_in, with_gateway}
 use Rattle.sheep_node.specs.Courses.{driver_went_on, disk_went_on, course_went_on}
-use Rattle.sheep_node.specs.Waiting.{queue_left_by, work_done, after_act, after_gateway_step}
+use Rattle.sheep_node.specs.RequestWorks.{queue_left}
+use Rattle.sheep_node.specs.Waiting.{work_done, after_act, after_gateway_step}
 use Rattle.sheep_node.specs.Step as steps
 use Rattle.sheep_node.specs.Step.{recovery_stepped, on_input, is_due, with_recovered, recovered_put, node_step}
 use Rattle.sheep_node.proofs.StepChain.{ChainNeeds}
@@ -47,7 +48,7 @@ use Rattle.sheep_node.specs.OneWork.{HasOneWorkPerRequest}
 use Rattle.sheep_world.proofs.InFlightSends.{Asking}
 use Rattle.sheep_world.proofs.InFlightRecoveryAnswer.{Other, left_now, lost_asks, replied_asks}
 use Rattle.sheep_world.proofs.NumberTools.{got_removed}
-use Rattle.sheep_world.proofs.OneWorkLaws.{IsGood, IsFree, IsFreeIn, driver_stepped_good, let_begin_good, left_by_good, left_by_free, work_refused_good}
+use Rattle.sheep_world.proofs.OneWorkLaws.{IsGood, IsFree, IsFreeIn, driver_stepped_good, let_begin_good, left_good, left_free, work_refused_good}
 use Rattle.sheep_world.proofs.InFlightRetryTick.{found_got, some_of, good_first, good_at_end, good_so_far_asks, good_driven, asks_after}
 use Rattle.sheep_world.proofs.InFlightGuest.{command_went_on_good}
 use Rattle.sheep_world.proofs.MarkedMessages.{Marks, marks_open, marks_ended, marks_removed, marked_asks, marked_driven}
@@ -74,13 +75,13 @@ course_went_on_good old number req bytes (Driving driver) so_far free good =
 course_went_on_good old number req bytes (Commanding ask op) so_far free good =
     command_went_on_good old number req ask (op_on_done bytes op) so_far (done_awaited bytes op) free good
 
-work_done_good : (old : Node) (work : Option Work) (req : ℕ) (bytes : List ℕ) (request : Option Request) (so_far : StepState) → IsFreeIn req so_far
+work_done_good : (old : Node) (work : ObjWork) (req : ℕ) (bytes : List ℕ) (request : Option Request) (so_far : StepState) → IsFreeIn req so_far
     → IsGood old so_far → IsGood old (work_done work req bytes request so_far)
 work_done_good old work req bytes None so_far free good = good
 work_done_good old work req bytes (Some request) so_far free good =
-    let_begin_good old request.session (course_went_on request.session req bytes request.course (queue_left_by request.session work so_far))
-    (course_went_on_good old request.session req bytes request.course (queue_left_by request.session work so_far)
-    (left_by_free req request.session work so_far free) (left_by_good old request.session work so_far good))
+    let_begin_good old request.session (course_went_on request.session req bytes request.course (queue_left request.session work so_far))
+    (course_went_on_good old request.session req bytes request.course (queue_left request.session work so_far)
+    (left_free req request.session work so_far free) (left_good old request.session work so_far good))
 
 -- ---- what a known message comes to
 
@@ -89,7 +90,7 @@ record Settles (node : Node) (number : ℕ) (step : gateway_steps.GatewayStep) :
   marks : Marks number node.gateway.works step.gateway.works
   me_so : step.gateway.me ≡ node.gateway.me
   good : HasOneWorkPerRequest (record node { gateway = step.gateway })
-      → IsGood (record node { gateway = step.gateway }) (after_act node.gateway step.act (with_gateway step.gateway (at_first node)))
+      → IsGood (record node { gateway = step.gateway }) (after_act step.act (with_gateway step.gateway (at_first node)))
 
 module _ (node : Node) (driven : HasOneWorkPerRequest node) (number : ℕ) (status : Status) (settled : is_unanswered status ≡ false)
     (req : ℕ) (work : Work) (there : tree.get node.gateway.works req ≡ Some work) (awaited : is_awaited_in number work ≡ true) where
@@ -120,7 +121,7 @@ module _ (node : Node) (driven : HasOneWorkPerRequest node) (number : ℕ) (stat
           marks = marks_removed node.gateway.works number status settled req work attempt there open_so one_work over;
           me_so = refl;
           good = λ now.
-              work_refused_good after (tree.get node.gateway.works req) req cause (tree.get node.requests req) (at_first after)
+              work_refused_good after work.work req cause (tree.get node.requests req) (at_first after)
               (free_without touched) (good_first after now);
         }
 
@@ -129,14 +130,14 @@ module _ (node : Node) (driven : HasOneWorkPerRequest node) (number : ℕ) (stat
     goes_so = by_over (is_over (messages_with_status number status attempt.messages)) refl
       where
         by_done : is_over (messages_with_status number status attempt.messages) ≡ true → (bytes : List ℕ) (cause : Option Cause) (b : Bool)
-            → Settles node number (cond b (done_step (record node.gateway { touched = touched }) req bytes) (failure_step (record node.gateway { touched = touched }) req work cause))
+            → Settles node number (cond b (done_step (record node.gateway { touched = touched }) req work.work bytes) (failure_step (record node.gateway { touched = touched }) req work cause))
         by_done over bytes cause true =
             let after = record node { gateway = without_work req (record node.gateway { touched = touched }) } in
             record {
               marks = marks_removed node.gateway.works number status settled req work attempt there open_so one_work over;
               me_so = refl;
               good = λ now.
-                  work_done_good after (tree.get node.gateway.works req) req bytes (tree.get node.requests req) (at_first after)
+                  work_done_good after work.work req bytes (tree.get node.requests req) (at_first after)
                   (free_without touched) (good_first after now);
             }
         by_done over bytes cause false = ends_so over cause
@@ -144,7 +145,7 @@ module _ (node : Node) (driven : HasOneWorkPerRequest node) (number : ℕ) (stat
         by_over : (b : Bool) → is_over (messages_with_status number status attempt.messages) ≡ b
             → Settles node number (cond b
             (cond (is_done work.work (messages_with_status number status attempt.messages))
-            (done_step (record node.gateway { touched = touched }) req (bytes_given work.work (messages_with_status number status attempt.messages)))
+            (done_step (record node.gateway { touched = touched }) req work.work (bytes_given work.work (messages_with_status number status attempt.messages)))
             (failure_step (record node.gateway { touched = touched }) req work
             (refusal_after_attempt (record node.gateway { touched = touched }) req work.work (work.ended + 1) (attempt_with_status number status attempt))))
             (waiting_step (with_work req (record work { stage = Open (attempt_with_status number status attempt) }) (record node.gateway { touched = touched }))))
@@ -162,10 +163,7 @@ module _ (node : Node) (driven : HasOneWorkPerRequest node) (number : ℕ) (stat
   known_so : (stage : WorkStage) → work.stage ≡ stage
       → Settles node number (status_step_in (touched_by req work.work status node.gateway) req work number status stage)
   known_so (Open attempt) is =
-      either (λ (gateway : Gateway). Settles node number (attempt_continued gateway req work (attempt_with_status number status attempt)))
-      (is_making work.work && may_be_made status)
-      (record node.gateway { touched = set.insert node.gateway.touched req }) node.gateway
-      (goes_so (set.insert node.gateway.touched req) attempt is) (goes_so node.gateway.touched attempt is)
+      goes_so (touched_by req work.work status node.gateway).touched attempt is
   known_so Ended is =
       let none : is_awaited_in number work ≡ false = ap (λ (stage : WorkStage). list_any (is_awaited_message number) (open_messages stage)) is in
       absurd (cc (awaited, none))

@@ -26,7 +26,7 @@ use Rattle.sheep_node.specs.declared.input.Input.{Input}
 use Rattle.sheep_node.specs.declared.input.Input.TheVariants as inputs
 use Rattle.sheep_node.specs.State.{Waiting, Commanding, Request, Node}
 use Rattle.sheep_node.specs.StepState.{StepState, at_first, session_in, with_disk, with_course}
-use Rattle.sheep_node.specs.Courses.{disk_after, command_acted, command_stepped, command_went_on}
+use Rattle.sheep_node.specs.Courses.{disk_with_act, after_command_step, command_acted, command_stepped, command_went_on}
 use Rattle.sheep_node.specs.Guests as nodes
 use Rattle.sheep_node.specs.Guests.{request_refusal, inode_open, queued_as, with_queued_request, request_taken, request_taken_unless}
 use Rattle.sheep_node.specs.LogReading.{is_epoch_member}
@@ -57,7 +57,7 @@ no_entry work (Answered opened_inode) awaited = refl
 
 command_acted_good : (old : Node) (number req : ℕ) (ask : VdiAsk) (op : Op) (act : OpAct) (so_far : StepState) → IsAwaitedAtOpStage act op.stage
     → tree.get so_far.node.requests req ≡ Some (record { session = number; course = Commanding ask op })
-    → IsFreeIn req so_far → IsGood old so_far → IsGood old (command_acted number req ask op act so_far)
+    → IsFreeIn req so_far → IsGood old so_far → IsGood old (command_acted number req act so_far)
 command_acted_good old number req ask op (op_acts.Append entry) so_far awaited there free good = record { going = good.going; driven = good.driven }
 command_acted_good old number req ask op (op_acts.Work work) so_far awaited there free good =
     work_asked_good old number req work so_far free
@@ -65,20 +65,22 @@ command_acted_good old number req ask op (op_acts.Work work) so_far awaited ther
     ∙ ap (λ (b : Bool). b && is_none (entry_wanted op)) (eq-eqb number number refl)
     ∙ no_entry work op.stage awaited)
     good
-command_acted_good old number req ask op (op_acts.Reply reply) so_far awaited there free good =
-    let disk = disk_after ask (opened_inode op) (session_in number so_far).disk in
-    let session = record (session_in number so_far) { disk = disk } in
-    ended_good old number req reply (with_disk number disk so_far)
-    (free_session req so_far.node.gateway.works so_far.node.sessions number session refl free)
-    (good_session old number session so_far refl good)
+command_acted_good old number req ask op (op_acts.Reply reply) so_far awaited there free good = ended_good old number req reply so_far free good
 
 command_stepped_good : (old : Node) (number req : ℕ) (ask : VdiAsk) (step : ops.OpStep) (so_far : StepState) → IsAwaitedByCommand step → IsFreeIn req so_far
     → IsGood old so_far → IsGood old (command_stepped number req ask step so_far)
 unfolding command_stepped
 command_stepped_good old number req ask step so_far awaited free good =
     let request : Request = record { session = number; course = Commanding ask step.op } in
-    command_acted_good old number req ask step.op step.act (with_course number req (Commanding ask step.op) so_far) awaited
-    (got_own so_far.node.requests req request) free (good_course old number req (Commanding ask step.op) so_far free good)
+    let course = with_course number req (Commanding ask step.op) so_far in
+    let session = record (session_in number so_far) {
+      disk = disk_with_act ask step.op step.act (session_in number so_far).disk;
+      command = Some req;
+    } in
+    command_acted_good old number req ask step.op step.act (after_command_step number req ask step so_far) awaited
+    (got_own so_far.node.requests req request)
+    (free_session req so_far.node.gateway.works so_far.node.sessions number session refl free)
+    (good_session old number session course refl (good_course old number req (Commanding ask step.op) so_far free good))
 
 pub command_went_on_good : (old : Node) (number req : ℕ) (ask : VdiAsk) (step : Option ops.OpStep) (so_far : StepState) → IfSome step IsAwaitedByCommand
     → IsFreeIn req so_far → IsGood old so_far → IsGood old (command_went_on number req ask step so_far)

@@ -18,11 +18,9 @@ use Rattle.sheep_node.specs.declared.input.Input.TheVariants as inputs
 use Rattle.sheep_node.specs.State as nodes
 use Rattle.sheep_node.specs.State.{Node, Request}
 use Rattle.sheep_node.specs.StepState.{StepState, at_first, with_node}
-use Rattle.sheep_node.specs.LogReading.{asker_of, decision_told, entry_read, on_log_entry, settled_by, entered_by, with_peer}
+use Rattle.sheep_node.specs.LogReading.{asker_of, decision_told, entry_read, on_log_entry}
 use Rattle.sheep_node.specs.Same.{waits_for_entry}
-use Rattle.peer_service.specs.Epochs.{peer_settled_to}
-use Rattle.peer_service.specs.LogReading.{read_entry, decision_on}
-use Rattle.epoch_log.specs.Epochs.{settled_of}
+use Rattle.peer_service.specs.LogReading.{decision_on}
 use Rattle.sheep_node.specs.Step.{on_input, is_due, with_recovered, recovered_put, node_step}
 use Rattle.sheep_node.proofs.NumberChanges.{one_work_at_opening}
 use Rattle.sheep_node.proofs.StepResults.{step_me}
@@ -48,19 +46,10 @@ either : {X : Type 0} (P : X → Type 0) (b : Bool) (x y : X) → P x → P y �
 either P true x y one other = one
 either P false x y one other = other
 
-settled_idle : (me : NodeId) (tries settled : ℕ) (node : Node) → Idle me tries node → Idle me tries (settled_by settled node)
-settled_idle me tries settled node idle =
-    either (Idle me tries) (nat_lt node.peer.settled settled) (with_peer (peer_settled_to settled node.peer) node) node
-    (record { me_so = idle.me_so; gateway_so = idle.gateway_so; recovery_so = idle.recovery_so }) idle
-
 -- the log's first entry leaves a new node's works and recovery as they are
 read_idle : (me : NodeId) (tries : ℕ) (members : List Member) → Idle me tries (entry_read (Format members) (nodes.initial_node me tries))
 unfolding entry_read
-read_idle me tries members =
-    let node = nodes.initial_node me tries in
-    let peer = read_entry (Format members) node.peer in
-    settled_idle me tries (settled_of peer.entries) (entered_by (Format members) (with_peer peer node))
-    (record { me_so = refl; gateway_so = refl; recovery_so = refl })
+read_idle me tries members = record { me_so = refl; gateway_so = refl; recovery_so = refl }
 
 put_idle : (me : NodeId) (tries : ℕ) (so_far : StepState) → Idle me tries so_far.node → Idle me tries (recovered_put so_far).node
 unfolding recovered_put

@@ -445,7 +445,7 @@ idle_stage epoch work (WaitsForMembers since) is may = ap gateways.open_messages
 
 -- what the next attempt of a work comes to is good
 abbrev Tries : Node → gateway_steps.GatewayStep → Type 0
-Tries node step = IsGood node (after_act node.gateway step.act (with_gateway step.gateway (at_first node)))
+Tries node step = IsGood node (after_act step.act (with_gateway step.gateway (at_first node)))
 
 tried_good : (node : Node) (driven : HasOneWorkPerRequest node) (found : ℕ × Work) → next_try (record { 0 = node.peer.epoch }) node.gateway ≡ Some found
     → Tries node (attempt_step node.epochs node.gateway found.0 found.1 node.sends (record { 0 = node.peer.epoch }))
@@ -461,7 +461,7 @@ tried_good node driven found is =
     either (Tries node) (nat_lt zones (zones_for work.work))
     (halt_step gateway req work epoch zones) (open_step gateway req work (next_attempt work node.sends epoch targets))
     (either (Tries node) (is_touched req gateway)
-    (waiting_step (with_work req (record work { stage = WaitsForMembers epoch }) gateway)) (refusal_step gateway req (Halt zones (zones_for work.work)))
+    (waiting_step (with_work req (record work { stage = WaitsForMembers epoch }) gateway)) (refusal_step gateway req work.work (Halt zones (zones_for work.work)))
     (record {
       going = going_short node node.me gateway.me gateway.works node.sends node.recovery node.peer [] req idle good.going work epoch;
       driven = driven_insert gateway.works node.requests node.sessions req (record work { stage = WaitsForMembers epoch }) may out driven.driven;
@@ -494,10 +494,10 @@ tried_good node driven found is =
         = ap (tree.get node.gateway.works) (sym same) ∙ driven.driven.waiting_free number waiting_step waits in
         absurd (cc (there, none))
 
-    refused_again : (cause : Cause) → Tries node (refusal_step node.gateway found.0 cause)
+    refused_again : (cause : Cause) → Tries node (refusal_step node.gateway found.0 found.1.work cause)
     refused_again cause =
         let after = with_gateway (without_work found.0 node.gateway) (at_first node) in
-        work_refused_good node (tree.get node.gateway.works found.0) found.0 cause (tree.get node.requests found.0) after
+        work_refused_good node found.1.work found.0 cause (tree.get node.requests found.0) after
         (record { idle = got_removed node.gateway.works found.0; out = out })
         (record {
           going = going_removed node.gateway.works found.0 idle node node.me node.gateway.me node.sends node.recovery node.peer [] (good_first node driven).going;
@@ -524,7 +524,7 @@ retried_well statements world n may driven wired =
     (λ host at.
     let (up, retries) = and_parts (is_host_up host) (has_work_to_retry host.node)
     (sym (ap (λ (o : Option Host). option_map_or (λ (host : Host). is_host_up host && has_work_to_retry host.node) o false) at) ∙ may) in
-    (up, good_well inputs.RetryTick host.node (driven n host at) (retry_good host.node (driven n host at))))
+    (up, good_well inputs.RetryTick host.node tt (driven n host at) (retry_good host.node (driven n host at))))
     driven wired
 
 pub wired-retry : (statements : List Statement) (world : World) (made : EventOutcome) (node : NodeId)
