@@ -1,7 +1,7 @@
 -- What an answer or a loss tells, by cases on the attempt.
 use Rattle.std.proofs.Common.{◌≡◌, inl, inr, ℕ, ◌+◌, nat_le, ◌==◌, ◌&&◌, ◌||◌, not, Bool, true, false, cond, List, [], ◌∷◌, Option, Some, None, refl, ap, ◌∙◌}
 use Rattle.std.specs.List.{list_any}
-use Rattle.std.proofs.lemmas.Bool.{and_parts, leb-true}
+use Rattle.std.proofs.lemmas.Bool.{and_parts, leb-true, not-true}
 use Rattle.std.proofs.lemmas.List.Sums.{AllPass-from_list_all}
 use Rattle.object_id.specs.declared.cause.Cause.{Cause}
 use Rattle.peer_proto.specs.declared.work.ObjWork.{ObjWork}
@@ -18,10 +18,6 @@ enough_from (Create oid policy size offset bytes) messages e = AllPass-from_list
 enough_from (Write oid policy offset bytes) messages e = AllPass-from_list_all (λ (message : Message). is_success message.status) messages e
 enough_from (Read oid policy offset size) messages e = leb-true _ _ e
 
-not_true : (b : Bool) → not b ≡ true → b ≡ false
-not_true true e = absurd (cc)
-not_true false e = refl
-
 some_from : (b : Bool) (o : Option Cause) (cause : Cause) → cond b o None ≡ Some cause → (b ≡ true) × (o ≡ Some cause)
 some_from true o cause e = (refl, e)
 some_from false o cause e = absurd (cc)
@@ -34,7 +30,7 @@ failure_step-tells gateway req work attempt over missing (Some cause) e =
     let parts = some_from (nat_le gateway.tries (work.ended + 1) && not (is_touched req gateway))
     (first_failure work.work attempt.epoch attempt.messages) cause e in
     let both = and_parts (nat_le gateway.tries (work.ended + 1)) (not (is_touched req gateway)) parts.0 in
-    (refl, refl, not_true (is_touched req gateway) both.1, (over, missing), leb-true _ _ both.0, parts.1)
+    (refl, refl, not-true (is_touched req gateway) both.1, (over, missing), leb-true _ _ both.0, parts.1)
 
 attempt_ended-tells : (gateway : Gateway) (req : ℕ) (work : Work) (attempt : Attempt) → is_over attempt.messages ≡ true
     → (b : Bool) → is_done work.work attempt.messages ≡ b

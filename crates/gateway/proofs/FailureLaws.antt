@@ -23,10 +23,8 @@ succeeded message = is_success message.status
 one_succeeded : (work : ObjWork) (epoch : Epoch) (node : NodeId) (status : Status) (any all : Bool) (later : Option Cause)
     → not (is_unanswered status || any) ≡ true → first_cause (failure work epoch node status) later ≡ None
     → (not any ≡ true → later ≡ None → all ≡ true) → (is_success status && all) ≡ true
-one_succeeded work epoch node Unanswered any all later over none rest = absurd (cc)
 one_succeeded work epoch node (Succeeded bytes) any all later over none rest = rest over none
-one_succeeded work epoch node (Refused refusal) any all later over none rest = absurd (cc)
-one_succeeded work epoch node Lost any all later over none rest = absurd (cc)
+one_succeeded work epoch node status any all later over none rest = absurd (cc)
 
 -- where all are answered and none has a cause, all succeeded
 all_succeeded : (work : ObjWork) (epoch : Epoch) (messages : List Message) → is_over messages ≡ true

@@ -150,13 +150,8 @@ inode-spelled bytes content fits e =
 
 -- a refusal that reading gives
 pub fails-as : (fault : InodeFault) (read : Result Content InodeFault) → read ≡ Err fault → FailsField fault read
-fails-as faults.ShortInode read e = e
-fails-as faults.NameNotEnded read e = e
-fails-as faults.BadShift read e = e
-fails-as faults.BadPolicy read e = e
-fails-as faults.BadSize read e = e
-fails-as faults.BadEntry read e = e
 fails-as faults.NoMemory read e = tt
+fails-as fault read e = e
 
 pub inode-is_spelled : (bytes : List ℕ) (r : Result Content InodeFault) → AreBytes bytes → GivesOrNoMemory (λ (i : Content). i) r (inode_of bytes)
     → IfOk r (λ (i : Content). IsContent i × SpellsInode bytes i)

@@ -1,6 +1,6 @@
 ghost use Rattle.std.specs.Prelude.{◌≡◌, IfOk};
 
-use object_id::{Bytes, Cause, NoMemory, VdiSpec, Vid};
+use object_id::{Bytes, Cause, Duplicate, NoMemory, VdiSpec, Vid};
 use std::alloc::Global;
 
 /// What a guest asks of its open disk.
@@ -105,5 +105,11 @@ impl GuestRsp {
             GuestRsp::Refused(cause) => GuestRsp::Refused(*cause),
             GuestRsp::Granted { vid } => GuestRsp::Granted { vid: *vid },
         })
+    }
+}
+
+impl Duplicate for GuestRsp {
+    fn duplicate(&self, alloc: Global) -> Result<Self, NoMemory> {
+        self.copy(alloc)
     }
 }

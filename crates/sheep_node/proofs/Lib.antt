@@ -2,9 +2,7 @@ pub mod Numbers
 pub mod StepLaws
 pub mod SameLaws
 pub mod StartLaws
-pub mod NumberTools
-pub mod ListTools
-pub mod EntryTools
+pub mod AwaitedWorks
 pub mod OneWorkParts
 pub mod OneWorkChanges
 pub mod StepChain

@@ -1,6 +1,7 @@
 -- A node's epoch, its settled epoch and the members of its epochs are those of the entries that it has read.
 use Rattle.std.proofs.Common.{◌≡◌, ℕ, zero, suc, ◌+◌, ◌<◌, ◌≤◌, nat_lt, Bool, true, false, cond, List, [], ◌∷◌, ◌++◌, length, filter, refl, ap, sym, subst, ◌∙◌, arith}
 use Rattle.std.proofs.lemmas.Bool.{ltb-false}
+use Rattle.proof_tools.proofs.Booleans.{cond_either}
 use Rattle.object_id.specs.declared.node.NodeId.{NodeId}
 use Rattle.object_id.specs.declared.entry.Entry.{Entry}
 use Rattle.object_id.specs.declared.entry.Entry.TheVariants.{Format, Join, Leave, Reweight, Recovered, Reserve, Publish, Clone, Snapshot, Delete, Lock, Unlock}
@@ -28,7 +29,6 @@ use Rattle.sheep_node.specs.May.{MayRead, Meets, May}
 use Rattle.sheep_node.specs.StepFacts.{epochs_of, FollowsLog, IsByTheLog}
 use Rattle.sheep_node.specs.OneWork.{HasOneWorkPerRequest}
 use Rattle.sheep_node.specs.Changes.{input_received}
-use Rattle.recovery.proofs.StepLemmas.{either}
 use Rattle.sheep_node.proofs.PeerLog.{Log, served_same}
 use Rattle.sheep_node.proofs.StepChain.{needs_by_may}
 use Rattle.sheep_node.proofs.StepResults.{step_peer, step_epochs}
@@ -234,11 +234,11 @@ reads_follow entry node may h =
 back_follows : (entries : List Entry) (node : Node) → 1 < epoch_of entries → IsByTheLog (on_back entries node)
 unfolding on_back come_back closed_at_end peer_settled_to without_objects
 back_follows entries node above =
-    record { epoch_so = refl; settled_so = refl; epochs_so = sym (epochs_there entries (some_of entries above)) }
+    record { epoch_so = refl; settled_so = refl; epochs_so = sym (epochs_there entries (has_value entries above)) }
   where
-    some_of : (entries : List Entry) → 1 < epoch_of entries → 1 ≤ length entries
-    some_of [] above = absurd (omega arith)
-    some_of (first ∷ later) above = omega arith
+    has_value : (entries : List Entry) → 1 < epoch_of entries → 1 ≤ length entries
+    has_value [] above = absurd (omega arith)
+    has_value (first ∷ later) above = omega arith
 
 -- each step
 
@@ -248,11 +248,11 @@ received_follows (inputs.Guest req session ask) node may h = h
 received_follows (inputs.Request request) node may h =
     subst (λ (log : Log). FollowsLog log.epoch log.settled node.epochs log.entries) (sym (served_same node.peer request)) h
 received_follows (inputs.Reply rsp) node may h =
-    either (λ (start : StepState). IsByTheLog start.node) (gateways.gateway_awaits rsp.number node.gateway) (at_first node)
+    cond_either (λ (start : StepState). IsByTheLog start.node) (gateways.gateway_awaits rsp.number node.gateway) (at_first node)
     (recovery_stepped (recovery_steps.recovery_on_reply rsp (recovery_state_of node)) (at_first node)) h
     (record { epoch_so = h.epoch_so; settled_so = h.settled_so; epochs_so = h.epochs_so })
 received_follows (inputs.Lost number) node may h =
-    either (λ (start : StepState). IsByTheLog start.node) (gateways.gateway_awaits number node.gateway) (at_first node)
+    cond_either (λ (start : StepState). IsByTheLog start.node) (gateways.gateway_awaits number node.gateway) (at_first node)
     (recovery_stepped (recovery_steps.recovery_on_loss number (recovery_state_of node)) (at_first node)) h
     (record { epoch_so = h.epoch_so; settled_so = h.settled_so; epochs_so = h.epochs_so })
 received_follows (inputs.LogEntry entry) node may h = reads_follow entry node may h

@@ -5,6 +5,8 @@ use Rattle.std.specs.List.{list_any, enumerate_from}
 use Rattle.std.proofs.lemmas.Bool.{eqb-true, eq-eqb, ne_eqb, or_left, or_right, or_cases, and_parts}
 use Rattle.std.proofs.lemmas.List.{append-nil}
 use Rattle.std.proofs.lemmas.List.Elements.{filter-append}
+use Rattle.proof_tools.proofs.Booleans.{cond_either}
+use Rattle.proof_tools.proofs.Lists.{Contains-cons, Contains-cons_cases, Contains-first, Contains-nil}
 use Rattle.object_id.specs.declared.node.Epoch.{Epoch}
 use Rattle.object_id.specs.declared.node.NodeId.{NodeId}
 use Rattle.object_id.specs.declared.entry.Entry.{Entry}
@@ -23,12 +25,10 @@ use Rattle.recovery.specs.Steps.{messages_without, message_end}
 use Rattle.recovery.specs.Tick.{tick_messages, tick_sends, state_after_tick}
 use Rattle.recovery.proofs.StepLemmas.{frame_of_end, frame_of_tick}
 use Rattle.recovery.specs.Shown.{shown_with_pending}
-use Rattle.recovery.proofs.StepLemmas.{either}
 use Rattle.sheep_node.specs.State.{Node}
 use Rattle.sheep_node.specs.RecoveryView.{recovery_state_of}
 use Rattle.sheep_node.specs.LogReading.{epoch_members, with_entry, recovery_in_epoch, begins_recovery, entry_read}
 use Rattle.sheep_node.proofs.Numbers.{tick_numbers}
-use Rattle.sheep_node.proofs.ListTools.{has-here, has-none, has-later, has_cases}
 
 abbrev pub Sends : Type 0
 Sends = List (NodeId × PeerReq)
@@ -122,7 +122,7 @@ later_numbers (n ∷ ns) = ns
 pub numbers_within : (first : ℕ) (sends : Sends) (send : NodeId × PeerReq) → AreNumberedFrom first sends → Contains sends send
     → (first ≤ send.1.number) × (send.1.number < first + length sends)
 unfolding first_number later_numbers
-numbers_within first [] send numbers there = has-none send there
+numbers_within first [] send numbers there = absurd (Contains-nil send there)
 numbers_within first (one ∷ rest) send numbers there = ⊎_elim
     (λ (same : one ≡ send).
     let own : send.1.number ≡ first = ap (λ (s : NodeId × PeerReq). s.1.number) (sym same) ∙ ap first_number numbers in
@@ -130,7 +130,7 @@ numbers_within first (one ∷ rest) send numbers there = ⊎_elim
     (λ (later : Contains rest send).
     let (low, high) = numbers_within (first + 1) rest send (ap later_numbers numbers) later in
     (omega (arith, low), omega (arith, high)))
-    (has_cases one send rest there)
+    (Contains-cons_cases one rest send there)
 
 -- the message of a number is one of those that are sent
 numbered_send : (q : ℕ) (messages : List Message) → is_some (recoveries.message_of q messages) ≡ true
@@ -145,12 +145,12 @@ numbered_send q (message ∷ messages) is = by_tie (message.request.number == q)
         → (send : NodeId × PeerReq) × Contains (map (λ (message : Message). (message.to, message.request)) (message ∷ messages)) send × (send.1.number ≡ q)
     by_tie true tie rest is = (
       (message.to, message.request),
-      has-here (message.to, message.request) (message.to, message.request) (map (λ (message : Message). (message.to, message.request)) messages) refl,
+      Contains-first (message.to, message.request) (message.to, message.request) (map (λ (message : Message). (message.to, message.request)) messages) refl,
       eqb-true message.request.number q tie,
     )
     by_tie false tie rest is =
         let (send, there, same) = rest is in
-        (send, has-later (message.to, message.request) send (map (λ (message : Message). (message.to, message.request)) messages) there, same)
+        (send, Contains-cons (message.to, message.request) (map (λ (message : Message). (message.to, message.request)) messages) send there, same)
 
 none_both : {X : Type 0} (xs ys : List X) → xs ++ ys ≡ [] → (xs ≡ []) × (ys ≡ [])
 none_both [] ys is = (refl, is)
@@ -176,13 +176,13 @@ pub unanswered_in_epoch : (node : Node) → recoveries.all_unanswered (recovery_
 unfolding recovery_steps.recovery_from_epoch
 unanswered_in_epoch node =
     let start = recovery_steps.at_start node.peer.epoch (map (λ (member : Member). member.node) (epoch_members node)) (recovery_state_of node) in
-    either (λ (after : RecoveryState). recoveries.all_unanswered after.recovery ≡ recoveries.all_unanswered node.recovery)
+    cond_either (λ (after : RecoveryState). recoveries.all_unanswered after.recovery ≡ recoveries.all_unanswered node.recovery)
     (recoveries.is_listed start.recovery) (record start { shown = shown_with_pending (recovery_steps.to_recover start) start.shown }) start refl refl
 
 pub unanswered_reading : (entry : Entry) (node : Node) → recoveries.all_unanswered (entry_read entry node).recovery ≡ recoveries.all_unanswered node.recovery
 unfolding entry_read
 unanswered_reading entry node =
-    either (λ (after : RecoveryState). recoveries.all_unanswered after.recovery ≡ recoveries.all_unanswered node.recovery)
+    cond_either (λ (after : RecoveryState). recoveries.all_unanswered after.recovery ≡ recoveries.all_unanswered node.recovery)
     (begins_recovery entry node) (recovery_in_epoch (with_entry entry node)) (recovery_state_of (with_entry entry node))
     (unanswered_in_epoch (with_entry entry node)) refl
 

@@ -6,6 +6,9 @@ use Rattle.std.specs.List.{list_any}
 use Rattle.std.specs.FinMap as tree
 use Rattle.std.specs.FinSet as set
 use Rattle.std.proofs.lemmas.Option.{same_Some}
+use Rattle.std.proofs.lemmas.Bool.{cases_eq, cases_lt}
+use Rattle.proof_tools.proofs.Booleans.{cond_either, has_value}
+use Rattle.proof_tools.proofs.FiniteMaps.{get-insert_other, get-insert_same, get-remove_other, get-remove_same}
 use Rattle.object_id.specs.declared.cause.Cause.{Cause}
 use Rattle.object_id.specs.declared.cause.Cause.TheVariants.{Halt}
 use Rattle.object_id.specs.declared.node.Epoch.{Epoch}
@@ -44,12 +47,10 @@ use Rattle.sheep_node.specs.May.{Meets, May}
 use Rattle.sheep_node.specs.OneWork.{NumbersAreOfOneWork, NumbersAreBelow, HasOneWorkPerRequest}
 use Rattle.sheep_node.specs.Changes as changes
 use Rattle.sheep_node.specs.Changes.{LearnsStatus, gateway_with_touch, without_ended_work, Outcome, ToWork, ToEntry, ToReply, RequestSteps, DiskBegins, DiskGoesOn, CommandBegins, CommandGoesOn, CommandDecided, WorkIsNext, AtOnce, InTurn, Again, attempt_in, input_received, Change}
-use Rattle.sheep_node.proofs.NumberTools.{same_or_not, below_or_not, got_own, got_other, got_removed, got_left}
-use Rattle.sheep_node.proofs.EntryTools.{Works, found_by, found_got, got_found, some_of}
+use Rattle.sheep_node.proofs.AwaitedWorks.{Works, found_by, found_got, got_found}
 use Rattle.sheep_node.proofs.MessageNumbers.{all_before, fresh_apart, fresh_below, left_before, ticked_within, unanswered_in_epoch, unanswered_reading}
 use Rattle.sheep_node.proofs.OneWorkChanges.{StepHasOneWork, none_good, change_keeps_one_work, received_one_work}
 use Rattle.sheep_node.proofs.StepChain.{kept_by_chain, step_chain}
-use Rattle.recovery.proofs.StepLemmas.{either}
 
 -- a number is of one work or of the recovery, and was given; the gateway asks in the node's name
 pub record HaveOneNumberEach (me own : NodeId) (works : Works) (count : ℕ) (recovery : Recovery) : Type 0 where
@@ -88,18 +89,18 @@ put_fewer : (works : Works) (req : ℕ) (now : Work) → ((number : ℕ) → is_
     → Fewer works (tree.insert works req now)
 put_fewer works req now so number q work got awaits = ⊎_elim
     (λ (own : q ≡ req).
-    let same : now ≡ work = same_Some now work (sym (ap (tree.get (tree.insert works req now)) own ∙ got_own works req now) ∙ got) in
+    let same : now ≡ work = same_Some now work (sym (ap (tree.get (tree.insert works req now)) own ∙ get-insert_same works req now) ∙ got) in
     subst (WaitedIn works number) (sym own) (so number (ap (is_awaited_in number) same ∙ awaits)))
-    (λ (other : q ≢ req). (work, sym (got_other works req now q other) ∙ got, awaits))
-    (same_or_not q req)
+    (λ (other : q ≢ req). (work, sym (get-insert_other works req now q other) ∙ got, awaits))
+    (cases_eq q req)
 
 gone_fewer : (works : Works) (req : ℕ) → Fewer works (tree.remove works req)
 gone_fewer works req number q work got awaits = ⊎_elim
     (λ (own : q ≡ req).
-    let none : tree.get (tree.remove works req) q ≡ None = ap (tree.get (tree.remove works req)) own ∙ got_removed works req in
+    let none : tree.get (tree.remove works req) q ≡ None = ap (tree.get (tree.remove works req)) own ∙ get-remove_same works req in
     absurd (cc (got, none)))
-    (λ (other : q ≢ req). (work, sym (got_left works req q other) ∙ got, awaits))
-    (same_or_not q req)
+    (λ (other : q ≢ req). (work, sym (get-remove_other works req q other) ∙ got, awaits))
+    (cases_eq q req)
 
 -- ---- a step that a request takes
 
@@ -154,11 +155,11 @@ opened_numbered req asked so_far numbered =
     = λ number awaits. ⊎_elim
     (λ (less : number < node.sends).
     let none = fresh_apart node.gateway.me epoch asked.work node.sends places number less in absurd (cc (awaits, none)))
-    (λ (so : node.sends ≤ number). so) (below_or_not number node.sends) in
+    (λ (so : node.sends ≤ number). so) (cases_lt number node.sends) in
     let own_now : (q : ℕ) (work : Work) → q ≡ req → tree.get after q ≡ Some work → now ≡ work
-    = λ q work own got. same_Some now work (sym (ap (tree.get after) own ∙ got_own node.gateway.works req now) ∙ got) in
+    = λ q work own got. same_Some now work (sym (ap (tree.get after) own ∙ get-insert_same node.gateway.works req now) ∙ got) in
     let was : (q : ℕ) (work : Work) → q ≢ req → tree.get after q ≡ Some work → tree.get node.gateway.works q ≡ Some work
-    = λ q work other got. sym (got_other node.gateway.works req now q other) ∙ got in
+    = λ q work other got. sym (get-insert_other node.gateway.works req now q other) ∙ got in
     record {
       own_so = numbered.own_so;
       once = λ number one other work later got_one got_two awaits_one awaits_two. ⊎_elim
@@ -167,7 +168,7 @@ opened_numbered req asked so_far numbered =
           let below : number < node.sends = numbered.given number other later (was other later apart got_two) awaits_two in
           let above : node.sends ≤ number = new number (ap (is_awaited_in number) (own_now one work own got_one) ∙ awaits_one) in
           absurd (omega (arith, below, above)))
-          (same_or_not other req))
+          (cases_eq other req))
           (λ (apart : one ≢ req). ⊎_elim
           (λ (own_too : other ≡ req).
           let below : number < node.sends = numbered.given number one work (was one work apart got_one) awaits_one in
@@ -175,21 +176,21 @@ opened_numbered req asked so_far numbered =
           absurd (omega (arith, below, above)))
           (λ (apart_too : other ≢ req).
           numbered.once number one other work later (was one work apart got_one) (was other later apart_too got_two) awaits_one awaits_two)
-          (same_or_not other req))
-          (same_or_not one req);
+          (cases_eq other req))
+          (cases_eq one req);
       given = λ number q work got awaits. ⊎_elim
           (λ (own : q ≡ req).
           fresh_below node.gateway.me epoch asked.work node.sends places number (ap (is_awaited_in number) (own_now q work own got) ∙ awaits))
           (λ (apart : q ≢ req).
           let below : number < node.sends = numbered.given number q work (was q work apart got) awaits in
           omega (arith, below))
-          (same_or_not q req);
+          (cases_eq q req);
       recovers = λ number q work got awaits. ⊎_elim
           (λ (own : q ≡ req).
           let above : node.sends ≤ number = new number (ap (is_awaited_in number) (own_now q work own got) ∙ awaits) in
           not_recovering number above (recoveries.recovery_awaits number node.recovery) refl)
           (λ (apart : q ≢ req). numbered.recovers number q work (was q work apart got) awaits)
-          (same_or_not q req);
+          (cases_eq q req);
       recovering = λ number waits. let below : number < node.sends = numbered.recovering number waits in omega (arith, below);
     }
   where
@@ -276,11 +277,11 @@ unfolding entry_read on_request on_recover_tick on_back recovery_steps.recovery_
 received_numbers (inputs.Guest req session ask) node may numbered = numbered
 received_numbers (inputs.Request request) node may numbered = numbered
 received_numbers (inputs.Reply rsp) node may numbered =
-    either StepHasOneNumber (gateways.gateway_awaits rsp.number node.gateway) (at_first node)
+    cond_either StepHasOneNumber (gateways.gateway_awaits rsp.number node.gateway) (at_first node)
     (recovery_stepped (recovery_steps.message_end rsp.number (Some rsp.say) (recovery_state_of node)) (at_first node))
     numbered (heard_numbered rsp.number (Some rsp.say) node numbered)
 received_numbers (inputs.Lost number) node may numbered =
-    either StepHasOneNumber (gateways.gateway_awaits number node.gateway) (at_first node)
+    cond_either StepHasOneNumber (gateways.gateway_awaits number node.gateway) (at_first node)
     (recovery_stepped (recovery_steps.message_end number None (recovery_state_of node)) (at_first node))
     numbered (heard_numbered number None node numbered)
 received_numbers (inputs.LogEntry entry) node may numbered =
@@ -355,7 +356,7 @@ one_work_after so_far both = record {
   once = both.1.once;
   given = both.1.given;
   recovers = λ number waits.
-      let (found, is) = some_of (found_by (is_awaited_in number) (tree.entries so_far.node.gateway.works)) waits in
+      let (found, is) = has_value (found_by (is_awaited_in number) (tree.entries so_far.node.gateway.works)) waits in
       let (got, awaits) = found_got number so_far.node.gateway.works found is in
       both.1.recovers number found.0 found.1 got awaits;
   recovering = both.1.recovering;

@@ -46,13 +46,13 @@ use Rattle.sheep_node.specs.Same.{is_wanted, waits_for_entry}
 use Rattle.sheep_node.specs.LogReading.{entry_read, on_back}
 use Rattle.sheep_node.specs.Step.{on_request, recovery_stepped, on_put, on_recover_tick}
 use Rattle.std.proofs.lemmas.Bool.{eq-eqb, eqb-true, and_parts}
+use Rattle.proof_tools.proofs.Booleans.{cond_either}
+use Rattle.proof_tools.proofs.Lists.{Contains-first, Contains-nil}
+use Rattle.proof_tools.proofs.FiniteMaps.{get-insert_same, get-remove_same}
 use Rattle.sheep_node.specs.OneWork.{may_work, may_work_at, may_work_of, waiting_in, AreOfDifferentRequests, HaveOneWorkPerRequest, HasNoWork}
 use Rattle.sheep_node.specs.Changes as changes
 use Rattle.sheep_node.specs.Changes.{HasRequest, LearnsStatus, EndsAttempt, gateway_with_touch, without_ended_work, Outcome, ToWork, ToEntry, ToReply, outcome_of_driver, outcome_of_command, RequestSteps, DiskBegins, DiskGoesOn, CommandBegins, CommandGoesOn, CommandDecided, new_work, WorkIsNext, AtOnce, InTurn, Again, with_open_attempt, with_work_held, without_denied_work, attempt_in, zones_of_members, input_received, Change}
-use Rattle.sheep_node.proofs.NumberTools.{got_own, got_removed}
-use Rattle.sheep_node.proofs.ListTools.{has-here, has-none}
 use Rattle.sheep_node.proofs.OneWorkParts.{Requests, Sessions, driven_session, free_session, may_at, driven_insert, driven_queued, driven_taken, free_taken, driven_removed, driven_course, driven_gone, free_at, free_removed}
-use Rattle.recovery.proofs.StepLemmas.{either}
 
 abbrev pub StepHasOneWork : StepState → Type 0
 StepHasOneWork so_far = HaveOneWorkPerRequest so_far.node.gateway.works so_far.node.requests so_far.node.sessions
@@ -92,7 +92,7 @@ driven_moved session req disk step so_far free good =
           (driven_session works so_far.node.requests so_far.node.sessions session after refl good) request;
       free = still;
       course = Driving step.driver;
-      there = got_own so_far.node.requests req request;
+      there = get-insert_same so_far.node.requests req request;
       may = may_drive step.act step.driver;
     }
 
@@ -122,7 +122,7 @@ command_moved session req ask step so_far awaited free good =
           (driven_course works so_far.node.requests so_far.node.sessions req free good request);
       free = free_session req works so_far.node.sessions session after refl free;
       course = Commanding ask step.op;
-      there = got_own so_far.node.requests req request;
+      there = get-insert_same so_far.node.requests req request;
       may = may_command step.act step.op ask awaited;
     }
 
@@ -223,7 +223,7 @@ comes_free so_far session req asked lined (InTurn work later none is) good =
     let first : lines.Waiting = record { req = req; work = work } in
     let after = record (session_in session so_far) { inode_queue = record { current = Some req; waiting = later } } in
     let there : Contains (waiting_in session so_far.node.sessions) first
-    = subst (λ (list : List lines.Waiting). Contains list first) (sym is) (has-here first first later refl) in
+    = subst (λ (list : List lines.Waiting). Contains list first) (sym is) (Contains-first first first later refl) in
     let attempt_with_status = may_work_in session req so_far (tree.get so_far.node.requests req) refl (good.waiting_works session first there) in
     record {
       good = driven_taken so_far.node.gateway.works so_far.node.requests so_far.node.sessions session after first later is refl good;
@@ -267,7 +267,7 @@ denied_good session req asked so_far lined =
       driven_session works so_far.node.requests so_far.node.sessions session after refl
           (driven_removed so_far.node.gateway.works so_far.node.requests so_far.node.sessions req lined.good),
       free_session req works so_far.node.sessions session after refl
-          (record { idle = got_removed so_far.node.gateway.works req; out = lined.out }),
+          (record { idle = get-remove_same so_far.node.gateway.works req; out = lined.out }),
     )
 
 -- ---- every change
@@ -285,8 +285,8 @@ none_there q = ap (λ (o : Option Session). (unwrap_or o new_session).inode_queu
 pub none_good : HaveOneWorkPerRequest tree.empty tree.empty tree.empty
 none_good = record {
   open_works = λ req work there. let none = tree.get-empty {X = Work} nat_cmp req in absurd (cc (there, none));
-  waiting_works = λ number waiting there. has-none waiting (subst (λ (list : List lines.Waiting). Contains list waiting) (none_there number) there);
-  waiting_free = λ number waiting there. has-none waiting (subst (λ (list : List lines.Waiting). Contains list waiting) (none_there number) there);
+  waiting_works = λ number waiting there. absurd (Contains-nil waiting (subst (λ (list : List lines.Waiting). Contains list waiting) (none_there number) there));
+  waiting_free = λ number waiting there. absurd (Contains-nil waiting (subst (λ (list : List lines.Waiting). Contains list waiting) (none_there number) there));
   apart = λ number. subst AreOfDifferentRequests (sym (none_there number)) tt;
 }
 
@@ -335,10 +335,10 @@ unfolding entry_read on_request on_recover_tick on_back
 received_one_work (inputs.Guest req session ask) node good = good
 received_one_work (inputs.Request request) node good = good
 received_one_work (inputs.Reply rsp) node good =
-    either StepHasOneWork (gateways.gateway_awaits rsp.number node.gateway) (at_first node)
+    cond_either StepHasOneWork (gateways.gateway_awaits rsp.number node.gateway) (at_first node)
     (recovery_stepped (recovery_steps.recovery_on_reply rsp (recovery_state_of node)) (at_first node)) good good
 received_one_work (inputs.Lost number) node good =
-    either StepHasOneWork (gateways.gateway_awaits number node.gateway) (at_first node)
+    cond_either StepHasOneWork (gateways.gateway_awaits number node.gateway) (at_first node)
     (recovery_stepped (recovery_steps.recovery_on_loss number (recovery_state_of node)) (at_first node)) good good
 received_one_work (inputs.LogEntry entry) node good = good
 received_one_work inputs.Put node good = by_outbox node.outbox

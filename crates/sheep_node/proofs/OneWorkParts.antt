@@ -2,15 +2,15 @@
 use Rattle.std.proofs.Common.{◌≡◌, ◌≢◌, ◌⊎◌, inl, inr, ℕ, ◌==◌, Bool, true, false, ◌&&◌, cond, List, [], ◌∷◌, ◌++◌, Contains, Option, Some, None, unwrap_or, refl, sym, ap, subst, ◌∙◌, ⊎_elim}
 use Rattle.std.specs.Ordering.{nat_cmp}
 use Rattle.std.specs.FinMap as tree
-use Rattle.std.proofs.lemmas.Bool.{eqb-true, eq-eqb, and_parts}
+use Rattle.std.proofs.lemmas.Bool.{eqb-true, eq-eqb, and_parts, cases_eq}
 use Rattle.std.proofs.lemmas.List.Elements.{Contains-push_cases}
+use Rattle.proof_tools.proofs.Lists.{Contains-cons, Contains-first, Contains-nil}
+use Rattle.proof_tools.proofs.FiniteMaps.{get-insert_other, get-insert_same, get-remove_other, get-remove_same, remove-none}
 use Rattle.gateway.specs.State.{Work}
 use Rattle.guest_driver.specs.InodeQueue as lines
 use Rattle.sheep_node.specs.State.{Course, Request, Session, new_session}
 use Rattle.sheep_node.specs.OneWork.{may_work, may_work_at, may_work_of, waiting_in, AreOfDifferentRequests, HaveOneWorkPerRequest, HasNoWork}
-use Rattle.sheep_node.proofs.NumberTools.{same_or_not, got_own, got_other, got_removed, got_left, removed_none}
-use Rattle.sheep_node.proofs.ListTools.{has-here, has-later, has-none}
-use Rattle.sheep_node.proofs.EntryTools.{Works}
+use Rattle.sheep_node.proofs.AwaitedWorks.{Works}
 
 abbrev pub Requests : Type 0
 Requests = tree.FinMap nat_cmp Request
@@ -24,10 +24,10 @@ pub same_waiting : (sessions : Sessions) (number : ℕ) (session : Session) → 
 same_waiting sessions number session same q = ⊎_elim
     (λ (own : q ≡ number).
     ap (λ (k : ℕ). waiting_in k (tree.insert sessions number session)) own
-    ∙ ap (λ (o : Option Session). (unwrap_or o new_session).inode_queue.waiting) (got_own sessions number session)
+    ∙ ap (λ (o : Option Session). (unwrap_or o new_session).inode_queue.waiting) (get-insert_same sessions number session)
     ∙ same ∙ ap (λ (k : ℕ). waiting_in k sessions) (sym own))
-    (λ (other : q ≢ number). ap (λ (o : Option Session). (unwrap_or o new_session).inode_queue.waiting) (got_other sessions number session q other))
-    (same_or_not q number)
+    (λ (other : q ≢ number). ap (λ (o : Option Session). (unwrap_or o new_session).inode_queue.waiting) (get-insert_other sessions number session q other))
+    (cases_eq q number)
 
 pub driven_session : (works : Works) (requests : Requests) (sessions : Sessions) (number : ℕ) (session : Session)
     → session.inode_queue.waiting ≡ waiting_in number sessions → HaveOneWorkPerRequest works requests sessions → HaveOneWorkPerRequest works requests (tree.insert sessions number session)
@@ -60,23 +60,23 @@ pub driven_insert : (works : Works) (requests : Requests) (sessions : Sessions) 
 driven_insert works requests sessions req work may out driven = record {
   open_works = λ q other_work there. ⊎_elim
       (λ (own : q ≡ req). ap (λ (k : ℕ). may_work_at (tree.get requests k)) own ∙ may)
-      (λ (other : q ≢ req). driven.open_works q other_work (sym (got_other works req work q other) ∙ there))
-      (same_or_not q req);
+      (λ (other : q ≢ req). driven.open_works q other_work (sym (get-insert_other works req work q other) ∙ there))
+      (cases_eq q req);
   waiting_works = driven.waiting_works;
-  waiting_free = λ number waiting there. got_other works req work waiting.req (out number waiting there) ∙ driven.waiting_free number waiting there;
+  waiting_free = λ number waiting there. get-insert_other works req work waiting.req (out number waiting there) ∙ driven.waiting_free number waiting there;
   apart = driven.apart;
 }
 
 pushed_apart : (list : List lines.Waiting) (new : lines.Waiting) → ((waiting : lines.Waiting) → Contains list waiting → waiting.req ≢ new.req)
     → AreOfDifferentRequests list → AreOfDifferentRequests (list ++ new ∷ [])
-pushed_apart [] new out apart = (λ other there. has-none other there, tt)
+pushed_apart [] new out apart = (λ other there. absurd (Contains-nil other there), tt)
 pushed_apart (first ∷ later) new out apart = (
   λ other there. ⊎_elim
       (λ (old : Contains later other). apart.0 other old)
       (λ (own : new ≡ other) (same : other.req ≡ first.req).
-      out first (has-here first first later refl) (sym same ∙ ap (λ (w : lines.Waiting). w.req) (sym own)))
+      out first (Contains-first first first later refl) (sym same ∙ ap (λ (w : lines.Waiting). w.req) (sym own)))
       (Contains-push_cases later new other there),
-  pushed_apart later new (λ waiting there. out waiting (has-later first waiting later there)) apart.1,
+  pushed_apart later new (λ waiting there. out waiting (Contains-cons first later waiting there)) apart.1,
 )
 
 -- a work waits behind the others of its session
@@ -85,11 +85,11 @@ module _ (works : Works) (requests : Requests) (sessions : Sessions) (number : �
   own_inode_queue : (q : ℕ) → q ≡ number → waiting_in q (tree.insert sessions number session) ≡ waiting_in number sessions ++ new ∷ []
   own_inode_queue q own =
       ap (λ (k : ℕ). waiting_in k (tree.insert sessions number session)) own
-      ∙ ap (λ (o : Option Session). (unwrap_or o new_session).inode_queue.waiting) (got_own sessions number session)
+      ∙ ap (λ (o : Option Session). (unwrap_or o new_session).inode_queue.waiting) (get-insert_same sessions number session)
       ∙ behind
 
   other_inode_queue : (q : ℕ) → q ≢ number → waiting_in q (tree.insert sessions number session) ≡ waiting_in q sessions
-  other_inode_queue q other = ap (λ (o : Option Session). (unwrap_or o new_session).inode_queue.waiting) (got_other sessions number session q other)
+  other_inode_queue q other = ap (λ (o : Option Session). (unwrap_or o new_session).inode_queue.waiting) (get-insert_other sessions number session q other)
 
   pub waits_there : (q : ℕ) (waiting : lines.Waiting) → Contains (waiting_in q (tree.insert sessions number session)) waiting
       → Contains (waiting_in q sessions) waiting ⊎ ((q ≡ number) × (new ≡ waiting))
@@ -101,7 +101,7 @@ module _ (works : Works) (requests : Requests) (sessions : Sessions) (number : �
       (Contains-push_cases (waiting_in number sessions) new waiting
       (subst (λ (list : List lines.Waiting). Contains list waiting) (own_inode_queue q own) there)))
       (λ (other : q ≢ number). inl (subst (λ (list : List lines.Waiting). Contains list waiting) (other_inode_queue q other) there))
-      (same_or_not q number)
+      (cases_eq q number)
 
   pub driven_queued : may_work_of number (tree.get requests new.req) ≡ true → HasNoWork new.req works sessions → HaveOneWorkPerRequest works requests sessions
       → HaveOneWorkPerRequest works requests (tree.insert sessions number session)
@@ -121,7 +121,7 @@ module _ (works : Works) (requests : Requests) (sessions : Sessions) (number : �
         (λ (own : q ≡ number). subst AreOfDifferentRequests (sym (own_inode_queue q own))
         (pushed_apart (waiting_in number sessions) new (free.out number) (driven.apart number)))
         (λ (other : q ≢ number). subst AreOfDifferentRequests (sym (other_inode_queue q other)) (driven.apart q))
-        (same_or_not q number);
+        (cases_eq q number);
   }
 
 -- the first work that waits leaves its line
@@ -130,20 +130,20 @@ module _ (works : Works) (requests : Requests) (sessions : Sessions) (number : �
   left_inode_queue_of : (q : ℕ) → q ≡ number → waiting_in q (tree.insert sessions number session) ≡ later
   left_inode_queue_of q own =
       ap (λ (k : ℕ). waiting_in k (tree.insert sessions number session)) own
-      ∙ ap (λ (o : Option Session). (unwrap_or o new_session).inode_queue.waiting) (got_own sessions number session)
+      ∙ ap (λ (o : Option Session). (unwrap_or o new_session).inode_queue.waiting) (get-insert_same sessions number session)
       ∙ now
 
   kept_inode_queue : (q : ℕ) → q ≢ number → waiting_in q (tree.insert sessions number session) ≡ waiting_in q sessions
-  kept_inode_queue q other = ap (λ (o : Option Session). (unwrap_or o new_session).inode_queue.waiting) (got_other sessions number session q other)
+  kept_inode_queue q other = ap (λ (o : Option Session). (unwrap_or o new_session).inode_queue.waiting) (get-insert_other sessions number session q other)
 
   waited_before : (q : ℕ) (waiting : lines.Waiting) → Contains (waiting_in q (tree.insert sessions number session)) waiting
       → Contains (waiting_in q sessions) waiting
   waited_before q waiting there = ⊎_elim
       (λ (own : q ≡ number).
       subst (λ (list : List lines.Waiting). Contains list waiting) (sym (ap (λ (k : ℕ). waiting_in k sessions) own ∙ was))
-      (has-later first waiting later (subst (λ (list : List lines.Waiting). Contains list waiting) (left_inode_queue_of q own) there)))
+      (Contains-cons first later waiting (subst (λ (list : List lines.Waiting). Contains list waiting) (left_inode_queue_of q own) there)))
       (λ (other : q ≢ number). subst (λ (list : List lines.Waiting). Contains list waiting) (kept_inode_queue q other) there)
-      (same_or_not q number)
+      (cases_eq q number)
 
   apart_there : AreOfDifferentRequests (first ∷ later)
   apart_there = subst AreOfDifferentRequests was (driven.apart number)
@@ -156,11 +156,11 @@ module _ (works : Works) (requests : Requests) (sessions : Sessions) (number : �
     apart = λ q. ⊎_elim
         (λ (own : q ≡ number). subst AreOfDifferentRequests (sym (left_inode_queue_of q own)) apart_there.1)
         (λ (other : q ≢ number). subst AreOfDifferentRequests (sym (kept_inode_queue q other)) (driven.apart q))
-        (same_or_not q number);
+        (cases_eq q number);
   }
 
   first_waits : Contains (waiting_in number sessions) first
-  first_waits = subst (λ (list : List lines.Waiting). Contains list first) (sym was) (has-here first first later refl)
+  first_waits = subst (λ (list : List lines.Waiting). Contains list first) (sym was) (Contains-first first first later refl)
 
   -- a request is of one session
   one_session : (q : ℕ) (request : Option Request) → may_work_of q request ≡ true → may_work_of number request ≡ true → q ≡ number
@@ -181,7 +181,7 @@ module _ (works : Works) (requests : Requests) (sessions : Sessions) (number : �
         (ap (λ (req : ℕ). may_work_of q (tree.get requests req)) (sym same)
         ∙ driven.waiting_works q waiting (subst (λ (list : List lines.Waiting). Contains list waiting) (kept_inode_queue q other) there))
         (driven.waiting_works number first first_waits)))
-        (same_or_not q number);
+        (cases_eq q number);
   }
 
 -- requests keep their works but for the one that ends
@@ -190,15 +190,15 @@ pub driven_removed : (works : Works) (requests : Requests) (sessions : Sessions)
 driven_removed works requests sessions req driven = record {
   open_works = λ q work there. ⊎_elim
       (λ (own : q ≡ req).
-      let none : tree.get (tree.remove works req) q ≡ None = ap (tree.get (tree.remove works req)) own ∙ got_removed works req in
+      let none : tree.get (tree.remove works req) q ≡ None = ap (tree.get (tree.remove works req)) own ∙ get-remove_same works req in
       absurd (cc (there, none)))
-      (λ (other : q ≢ req). driven.open_works q work (sym (got_left works req q other) ∙ there))
-      (same_or_not q req);
+      (λ (other : q ≢ req). driven.open_works q work (sym (get-remove_other works req q other) ∙ there))
+      (cases_eq q req);
   waiting_works = driven.waiting_works;
   waiting_free = λ number waiting there. ⊎_elim
-      (λ (own : waiting.req ≡ req). ap (tree.get (tree.remove works req)) own ∙ got_removed works req)
-      (λ (other : waiting.req ≢ req). got_left works req waiting.req other ∙ driven.waiting_free number waiting there)
-      (same_or_not waiting.req req);
+      (λ (own : waiting.req ≡ req). ap (tree.get (tree.remove works req)) own ∙ get-remove_same works req)
+      (λ (other : waiting.req ≢ req). get-remove_other works req waiting.req other ∙ driven.waiting_free number waiting there)
+      (cases_eq waiting.req req);
   apart = driven.apart;
 }
 
@@ -210,10 +210,10 @@ module _ (works : Works) (requests : Requests) (sessions : Sessions) (req : ℕ)
   pub driven_course : (request : Request) → HaveOneWorkPerRequest works (tree.insert requests req request) sessions
   driven_course request = record {
     open_works = λ q work there. ⊎_elim (λ (own : q ≡ req). none_open work q own there)
-        (λ (other : q ≢ req). ap may_work_at (got_other requests req request q other) ∙ driven.open_works q work there)
-        (same_or_not q req);
+        (λ (other : q ≢ req). ap may_work_at (get-insert_other requests req request q other) ∙ driven.open_works q work there)
+        (cases_eq q req);
     waiting_works = λ inode_queue waiting there.
-        ap (may_work_of inode_queue) (got_other requests req request waiting.req (free.out inode_queue waiting there)) ∙ driven.waiting_works inode_queue waiting there;
+        ap (may_work_of inode_queue) (get-insert_other requests req request waiting.req (free.out inode_queue waiting there)) ∙ driven.waiting_works inode_queue waiting there;
     waiting_free = driven.waiting_free;
     apart = driven.apart;
   }
@@ -222,10 +222,10 @@ module _ (works : Works) (requests : Requests) (sessions : Sessions) (req : ℕ)
   pub driven_gone : HaveOneWorkPerRequest works (tree.remove requests req) sessions
   driven_gone = record {
     open_works = λ q work there. ⊎_elim (λ (own : q ≡ req). none_open work q own there)
-        (λ (other : q ≢ req). ap may_work_at (got_left requests req q other) ∙ driven.open_works q work there)
-        (same_or_not q req);
+        (λ (other : q ≢ req). ap may_work_at (get-remove_other requests req q other) ∙ driven.open_works q work there)
+        (cases_eq q req);
     waiting_works = λ inode_queue waiting there.
-        ap (may_work_of inode_queue) (got_left requests req waiting.req (free.out inode_queue waiting there)) ∙ driven.waiting_works inode_queue waiting there;
+        ap (may_work_of inode_queue) (get-remove_other requests req waiting.req (free.out inode_queue waiting there)) ∙ driven.waiting_works inode_queue waiting there;
     waiting_free = driven.waiting_free;
     apart = driven.apart;
   }
@@ -249,7 +249,7 @@ free_at works requests sessions req never driven = record {
 pub free_removed : (works : Works) (requests : Requests) (sessions : Sessions) (req : ℕ) (work : Work) → tree.get works req ≡ Some work
     → HaveOneWorkPerRequest works requests sessions → HasNoWork req (tree.remove works req) sessions
 free_removed works requests sessions req work there driven = record {
-  idle = got_removed works req;
+  idle = get-remove_same works req;
   out = λ inode_queue waiting waits same.
       let none : tree.get works req ≡ None = ap (tree.get works) (sym same) ∙ driven.waiting_free inode_queue waiting waits in
       absurd (cc (there, none));

@@ -4,6 +4,9 @@ use Rattle.std.specs.Ordering.{nat_cmp}
 use Rattle.std.specs.FinMap as tree
 use Rattle.std.proofs.lemmas.List.{append-nil}
 use Rattle.std.proofs.lemmas.List.Elements.{All-nil, All-push, All-tail}
+use Rattle.std.proofs.lemmas.Bool.{cases_eq}
+use Rattle.proof_tools.proofs.Booleans.{cond_either}
+use Rattle.proof_tools.proofs.FiniteMaps.{get-insert_cases, get-remove_other, get-remove_same}
 use Rattle.object_id.specs.declared.oid.Vid.{Vid}
 use Rattle.object_id.specs.declared.cause.Cause.{Cause}
 use Rattle.object_id.specs.declared.cause.Cause.TheVariants.{Halt}
@@ -53,11 +56,8 @@ use Rattle.sheep_node.specs.Step.{on_request, recovery_stepped, on_put, on_recov
 use Rattle.sheep_node.specs.OwnEntries.{IsEntryOf, IsTaskOf, IsStageOf, IsCommandOf, IsCourseOf, AreOwnEntries, HasOnlyOwnEntries}
 use Rattle.sheep_node.specs.Changes as changes
 use Rattle.sheep_node.specs.Changes.{HasRequest, Outcome, ToWork, ToEntry, ToReply, outcome_of_driver, outcome_of_command, without_ended_work, RequestSteps, DiskBegins, DiskGoesOn, CommandBegins, CommandGoesOn, CommandDecided, WorkIsNext, AtOnce, InTurn, Again, input_received, Change}
-use Rattle.sheep_node.proofs.NumberTools.{same_or_not, got_removed, got_left}
-use Rattle.sheep_node.proofs.EntryTools.{got_insert}
 use Rattle.sheep_node.proofs.OneWorkChanges.{awaited_of}
 use Rattle.sheep_node.proofs.StepChain.{kept_by_chain, step_chain}
-use Rattle.recovery.proofs.StepLemmas.{either}
 
 -- ---- the steps of a command
 
@@ -158,15 +158,15 @@ module _ (P : Request → Type 0) (requests : tree.FinMap nat_cmp Request) (all 
   all_put req request so q at got = ⊎_elim
       (λ (own : (q ≡ req) × (request ≡ at)). subst P own.1 so)
       (λ (other : (q ≢ req) × (tree.get requests q ≡ Some at)). all q at other.1)
-      (got_insert requests req request q at got)
+      (get-insert_cases requests req request q at got)
 
   all_gone : (req q : ℕ) (at : Request) → tree.get (tree.remove requests req) q ≡ Some at → P at
   all_gone req q at got = ⊎_elim
       (λ (own : q ≡ req).
-      let none : tree.get (tree.remove requests req) q ≡ None = ap (tree.get (tree.remove requests req)) own ∙ got_removed requests req in
+      let none : tree.get (tree.remove requests req) q ≡ None = ap (tree.get (tree.remove requests req)) own ∙ get-remove_same requests req in
       absurd (cc (none, got)))
-      (λ (other : q ≢ req). all q at (sym (got_left requests req q other) ∙ got))
-      (same_or_not q req)
+      (λ (other : q ≢ req). all q at (sym (get-remove_other requests req q other) ∙ got))
+      (cases_eq q req)
 
 module _ (me : NodeId) where
   abbrev pub OnlyOwn : StepState → Type 0
@@ -307,10 +307,10 @@ module _ (me : NodeId) where
   received_own_entries (inputs.Guest req session ask) node own = own
   received_own_entries (inputs.Request request) node own = own
   received_own_entries (inputs.Reply rsp) node own =
-      either OnlyOwn (gateways.gateway_awaits rsp.number node.gateway) (at_first node)
+      cond_either OnlyOwn (gateways.gateway_awaits rsp.number node.gateway) (at_first node)
       (recovery_stepped (recovery_steps.recovery_on_reply rsp (recovery_state_of node)) (at_first node)) own own
   received_own_entries (inputs.Lost number) node own =
-      either OnlyOwn (gateways.gateway_awaits number node.gateway) (at_first node)
+      cond_either OnlyOwn (gateways.gateway_awaits number node.gateway) (at_first node)
       (recovery_stepped (recovery_steps.recovery_on_loss number (recovery_state_of node)) (at_first node)) own own
   received_own_entries (inputs.LogEntry entry) node own = own
   received_own_entries inputs.Put node own = by_outbox node.outbox own.entries

@@ -1,5 +1,6 @@
 -- What a served request, an entry that is read, and coming back leave of the entries that a node has read.
 use Rattle.std.proofs.Common.{◌≡◌, ℕ, nat_lt, Bool, true, false, cond, List, [], ◌∷◌, ◌++◌, Option, Some, None, Result, Ok, Err, refl, ◌∙◌}
+use Rattle.proof_tools.proofs.Booleans.{cond_either}
 use Rattle.object_id.specs.declared.entry.Entry.{Entry}
 use Rattle.object_store.specs.declared.fault.StoreFault.{StoreFault}
 use Rattle.object_store.specs.Store.{AllRows, read_at, write_at}
@@ -20,7 +21,6 @@ use Rattle.peer_service.specs.Back.{closed_at_end, come_back}
 use Rattle.sheep_node.specs.State.{Node}
 use Rattle.sheep_node.specs.RecoveryView.{with_recovered_rows}
 use Rattle.sheep_node.specs.LogReading.{epochs_with_entry, peer_with_entry, recovery_with_entry, with_settled, entry_read, on_back}
-use Rattle.recovery.proofs.StepLemmas.{either}
 
 -- ---- a served request reads nothing of the log
 
@@ -70,14 +70,14 @@ served_same peer request = by_fence (epoch_refusal peer.epoch request.epoch.0)
 settled_entries : (settled : ℕ) (peer : Peer) → (with_settled settled peer).entries ≡ peer.entries
 unfolding peer_settled_to
 settled_entries settled peer =
-    either (λ (after : Peer). after.entries ≡ peer.entries) (nat_lt peer.settled settled) (peer_settled_to settled peer) peer refl refl
+    cond_either (λ (after : Peer). after.entries ≡ peer.entries) (nat_lt peer.settled settled) (peer_settled_to settled peer) peer refl refl
 
 -- the entries that were read, after one more and after coming back
 pub entries_reading : (entry : Entry) (node : Node) → (entry_read entry node).peer.entries ≡ node.peer.entries ++ entry ∷ []
 unfolding entry_read peers.peer_in_next_epoch read_entry without_objects
 entries_reading entry node =
     settled_entries (settled_of (read_entry entry node.peer).entries) (with_recovered_rows (recovery_with_entry entry node) (peer_with_entry entry node))
-    ∙ either (λ (after : Peer). after.entries ≡ node.peer.entries ++ entry ∷ []) (begins_epoch entry)
+    ∙ cond_either (λ (after : Peer). after.entries ≡ node.peer.entries ++ entry ∷ []) (begins_epoch entry)
     (peers.peer_in_next_epoch node.me (targets_in (epochs_with_entry entry node)) (read_entry entry node.peer)) (read_entry entry node.peer) refl refl
 
 pub entries_back : (entries : List Entry) (node : Node) → (on_back entries node).peer.entries ≡ entries

@@ -3,8 +3,11 @@ use Rattle.std.proofs.Common.{◌≡◌, ◌≢◌, ◌⊎◌, inl, inr, ℕ, �
 use Rattle.std.specs.Ordering.{nat_cmp}
 use Rattle.std.specs.FinMap as tree
 use Rattle.std.proofs.Math.Bool.{and-false}
-use Rattle.std.proofs.lemmas.Bool.{eqb-true, eqb-false, eq-eqb, ne_eqb, and_parts}
+use Rattle.std.proofs.lemmas.Bool.{eqb-true, eqb-false, eq-eqb, ne_eqb, and_parts, cases_eq}
 use Rattle.std.proofs.lemmas.List.Elements.{Contains-push_cases, Contains-append_left, Contains-append_right}
+use Rattle.proof_tools.proofs.Booleans.{cond_either}
+use Rattle.proof_tools.proofs.Lists.{Contains-cons, Contains-cons_cases, Contains-filter, Contains-first, Contains-nil}
+use Rattle.proof_tools.proofs.FiniteMaps.{get-insert_other, get-insert_same, get-remove_other, get-remove_same}
 use Rattle.object_id.specs.declared.cause.Cause.{Cause}
 use Rattle.object_id.specs.declared.cause.Cause.TheVariants.{Halt}
 use Rattle.object_id.specs.declared.entry.Entry.{Entry}
@@ -42,11 +45,8 @@ use Rattle.sheep_node.specs.OneWork.{HasOneWorkPerRequest}
 use Rattle.sheep_node.specs.SessionQueues.{is_disk_request_of, session_among, queue_in, IsQueued, AreDiskRequests, QueuesAreDiskRequests}
 use Rattle.sheep_node.specs.Changes as changes
 use Rattle.sheep_node.specs.Changes.{HasRequest, Outcome, ToWork, ToEntry, ToReply, without_ended_work, RequestSteps, DiskBegins, DiskGoesOn, CommandBegins, CommandGoesOn, CommandDecided, WorkIsNext, AtOnce, InTurn, Again, input_received, Change}
-use Rattle.sheep_node.proofs.NumberTools.{same_or_not, got_own, got_other, got_removed, got_left}
-use Rattle.sheep_node.proofs.ListTools.{has-here, has-later, has-none, has_cases, has-filter}
 use Rattle.sheep_node.proofs.OneWorkParts.{Requests, Sessions}
 use Rattle.sheep_node.proofs.StepChain.{kept_by_chain, step_chain}
-use Rattle.recovery.proofs.StepLemmas.{either}
 
 -- ---- a session among others
 
@@ -56,10 +56,10 @@ pub same_view : {X : Type 0} (f : Session → X) (sessions : Sessions) (number :
 same_view f sessions number session same q = ⊎_elim
     (λ (own : q ≡ number).
     ap (λ (k : ℕ). f (session_among k (tree.insert sessions number session))) own
-    ∙ ap (λ (o : Option Session). f (unwrap_or o new_session)) (got_own sessions number session)
+    ∙ ap (λ (o : Option Session). f (unwrap_or o new_session)) (get-insert_same sessions number session)
     ∙ same ∙ ap (λ (k : ℕ). f (session_among k sessions)) (sym own))
-    (λ (other : q ≢ number). ap (λ (o : Option Session). f (unwrap_or o new_session)) (got_other sessions number session q other))
-    (same_or_not q number)
+    (λ (other : q ≢ number). ap (λ (o : Option Session). f (unwrap_or o new_session)) (get-insert_other sessions number session q other))
+    (cases_eq q number)
 
 queued_session : (requests : Requests) (sessions : Sessions) (number : ℕ) (session : Session) → session.queue ≡ queue_in number sessions
     → AreDiskRequests requests sessions → AreDiskRequests requests (tree.insert sessions number session)
@@ -83,31 +83,31 @@ queued_course requests sessions req request same queued = record {
     so number q = ⊎_elim
         (λ (own : q ≡ req).
         ap (λ (k : ℕ). is_disk_request_of number (tree.get (tree.insert requests req request) k)) own
-        ∙ ap (is_disk_request_of number) (got_own requests req request) ∙ same number ∙ ap (λ (k : ℕ). is_disk_request_of number (tree.get requests k)) (sym own))
-        (λ (other : q ≢ req). ap (is_disk_request_of number) (got_other requests req request q other))
-        (same_or_not q req)
+        ∙ ap (is_disk_request_of number) (get-insert_same requests req request) ∙ same number ∙ ap (λ (k : ℕ). is_disk_request_of number (tree.get requests k)) (sym own))
+        (λ (other : q ≢ req). ap (is_disk_request_of number) (get-insert_other requests req request q other))
+        (cases_eq q req)
 
 -- ---- a request ends
 
 left_in : (req : ℕ) (queue : List Queued) (one : Queued) → Contains (queue_without req queue) one → Contains queue one × (one.req ≢ req)
-left_in req [] one there = has-none one there
+left_in req [] one there = absurd (Contains-nil one there)
 left_in req (first ∷ queue) one there = by_tie (first.req == req) refl (left_in req queue one) there
   where
     later : Contains queue one × (one.req ≢ req) → Contains (first ∷ queue) one × (one.req ≢ req)
-    later (had, apart) = (has-later first one queue had, apart)
+    later (had, apart) = (Contains-cons first queue one had, apart)
 
     by_tie : (b : Bool) → (first.req == req) ≡ b → (Contains (queue_without req queue) one → Contains queue one × (one.req ≢ req))
         → Contains (cond (not b) (first ∷ queue_without req queue) (queue_without req queue)) one → Contains (first ∷ queue) one × (one.req ≢ req)
     by_tie true tie rest there = later (rest there)
     by_tie false tie rest there = ⊎_elim
-        (λ (same : first ≡ one). (has-here first one queue same, λ (is : one.req ≡ req). eqb-false first.req req tie (ap (λ (q : Queued). q.req) same ∙ is)))
+        (λ (same : first ≡ one). (Contains-first first one queue same, λ (is : one.req ≡ req). eqb-false first.req req tie (ap (λ (q : Queued). q.req) same ∙ is)))
         (λ (behind : Contains (queue_without req queue) one). later (rest behind))
-        (has_cases first one (queue_without req queue) there)
+        (Contains-cons_cases first (queue_without req queue) one there)
 
 stays_in : (req q : ℕ) (queue : List Queued) → q ≢ req → IsQueued q queue → IsQueued q (queue_without req queue)
 stays_in req q queue apart (one, had, same) = (
   one,
-  has-filter (λ queued. not (has_request_number req queued)) queue one had
+  Contains-filter (λ queued. not (has_request_number req queued)) queue one had
       (ap not (ne_eqb one.req req (λ (is : one.req ≡ req). apart (sym same ∙ is)))),
   same,
 )
@@ -133,10 +133,10 @@ ended_queued session req course reply so_far is_there queued = record {
       kept number q (λ (is : q ≡ req).
       other (sym (of_one number session course (ap (is_disk_request_of number) (sym is_there) ∙ ap (λ (k : ℕ). is_disk_request_of number (tree.get requests k)) (sym is) ∙ on))))
       ∙ on)
-      (same_or_not number session);
+      (cases_eq number session);
   has = λ number q on. ⊎_elim
       (λ (is : q ≡ req).
-      let none : tree.get (tree.remove requests req) q ≡ None = ap (tree.get (tree.remove requests req)) is ∙ got_removed requests req in
+      let none : tree.get (tree.remove requests req) q ≡ None = ap (tree.get (tree.remove requests req)) is ∙ get-remove_same requests req in
       let off : is_disk_request_of number (tree.get (tree.remove requests req) q) ≡ false = ap (is_disk_request_of number) none in
       absurd (cc (on, off)))
       (λ (apart : q ≢ req).
@@ -146,8 +146,8 @@ ended_queued session req course reply so_far is_there queued = record {
       subst (IsQueued q) (sym (queue_own number own))
       (stays_in req q (queue_in session sessions) apart (subst (λ (k : ℕ). IsQueued q (queue_in k sessions)) own had)))
       (λ (other : number ≢ session). subst (IsQueued q) (sym (queue_other number other)) had)
-      (same_or_not number session))
-      (same_or_not q req);
+      (cases_eq number session))
+      (cases_eq q req);
 }
   where
     requests : Requests
@@ -160,15 +160,15 @@ ended_queued session req course reply so_far is_there queued = record {
     after = record (session_in session so_far) { queue = queue_without req (session_in session so_far).queue; command = None }
 
     kept : (number q : ℕ) → q ≢ req → is_disk_request_of number (tree.get (tree.remove requests req) q) ≡ is_disk_request_of number (tree.get requests q)
-    kept number q apart = ap (is_disk_request_of number) (got_left requests req q apart)
+    kept number q apart = ap (is_disk_request_of number) (get-remove_other requests req q apart)
 
     queue_own : (number : ℕ) → number ≡ session → queue_in number (tree.insert sessions session after) ≡ queue_without req (queue_in session sessions)
     queue_own number own =
         ap (λ (k : ℕ). queue_in k (tree.insert sessions session after)) own
-        ∙ ap (λ (o : Option Session). (unwrap_or o new_session).queue) (got_own sessions session after)
+        ∙ ap (λ (o : Option Session). (unwrap_or o new_session).queue) (get-insert_same sessions session after)
 
     queue_other : (number : ℕ) → number ≢ session → queue_in number (tree.insert sessions session after) ≡ queue_in number sessions
-    queue_other number other = ap (λ (o : Option Session). (unwrap_or o new_session).queue) (got_other sessions session after number other)
+    queue_other number other = ap (λ (o : Option Session). (unwrap_or o new_session).queue) (get-insert_other sessions session after number other)
 
 refused_queued : (session req : ℕ) (cause : Cause) (course : Course) (so_far : StepState) → HasRequest session req course so_far → QueuesAre so_far
     → QueuesAre (course_refused session req cause course so_far)
@@ -201,7 +201,7 @@ driven_took session req disk step so_far same queued =
     let after = record (session_in session so_far) { disk = Some (record disk { inode = step.inode }) } in
     record {
       course = Driving step.driver;
-      there = got_own so_far.node.requests req request;
+      there = get-insert_same so_far.node.requests req request;
       queued = queued_course so_far.node.requests (tree.insert so_far.node.sessions session after) req request same
           (queued_session so_far.node.requests so_far.node.sessions session after refl queued);
     }
@@ -213,7 +213,7 @@ command_took session req ask step so_far same queued =
     let request : Request = record { session = session; course = Commanding ask step.op } in
     record {
       course = Commanding ask step.op;
-      there = got_own so_far.node.requests req request;
+      there = get-insert_same so_far.node.requests req request;
       queued = queued_session (tree.insert so_far.node.requests req request) so_far.node.sessions session
           (record (session_in session so_far) {
             disk = disk_with_act ask step.op step.act (session_in session so_far).disk;
@@ -267,10 +267,10 @@ module _ (session req : ℕ) (ask : DiskAsk) (disk : Disk) (so_far : StepState) 
   queue_own : (number : ℕ) → number ≡ session → queue_in number (tree.insert so_far.node.sessions session after) ≡ queue_in session so_far.node.sessions ++ queued_as disk.inode.spec.shift req ask ∷ []
   queue_own number own =
       ap (λ (k : ℕ). queue_in k (tree.insert so_far.node.sessions session after)) own
-      ∙ ap (λ (o : Option Session). (unwrap_or o new_session).queue) (got_own so_far.node.sessions session after)
+      ∙ ap (λ (o : Option Session). (unwrap_or o new_session).queue) (get-insert_same so_far.node.sessions session after)
 
   queue_other : (number : ℕ) → number ≢ session → queue_in number (tree.insert so_far.node.sessions session after) ≡ queue_in number so_far.node.sessions
-  queue_other number other = ap (λ (o : Option Session). (unwrap_or o new_session).queue) (got_other so_far.node.sessions session after number other)
+  queue_other number other = ap (λ (o : Option Session). (unwrap_or o new_session).queue) (get-insert_other so_far.node.sessions session after number other)
 
   -- what was in a queue is another request
   was_other : (number q : ℕ) → is_disk_request_of number (tree.get so_far.node.requests q) ≡ true → q ≢ req
@@ -279,12 +279,12 @@ module _ (session req : ℕ) (ask : DiskAsk) (disk : Disk) (so_far : StepState) 
       absurd (cc (on, off))
 
   still : (number q : ℕ) → q ≢ req → is_disk_request_of number (tree.get (tree.insert so_far.node.requests req request) q) ≡ is_disk_request_of number (tree.get so_far.node.requests q)
-  still number q apart = ap (is_disk_request_of number) (got_other so_far.node.requests req request q apart)
+  still number q apart = ap (is_disk_request_of number) (get-insert_other so_far.node.requests req request q apart)
 
   now_on : (number q : ℕ) → number ≡ session → q ≡ req → is_disk_request_of number (tree.get (tree.insert so_far.node.requests req request) q) ≡ true
   now_on number q own is =
       ap (λ (k : ℕ). is_disk_request_of number (tree.get (tree.insert so_far.node.requests req request) k)) is
-      ∙ ap (is_disk_request_of number) (got_own so_far.node.requests req request)
+      ∙ ap (is_disk_request_of number) (get-insert_same so_far.node.requests req request)
       ∙ ap (λ (b : Bool). b && true) (eq-eqb session number (sym own))
 
   old_in : (number q : ℕ) → IsQueued q (queue_in number so_far.node.sessions) → is_disk_request_of number (tree.get (tree.insert so_far.node.requests req request) q) ≡ true
@@ -301,15 +301,15 @@ module _ (session req : ℕ) (ask : DiskAsk) (disk : Disk) (so_far : StepState) 
         (λ (is : queued_as disk.inode.spec.shift req ask ≡ one). now_on number q own (sym same ∙ sym (ap (λ (x : Queued). x.req) is)))
         (Contains-push_cases (queue_in session so_far.node.sessions) (queued_as disk.inode.spec.shift req ask) one had))
         (λ (other : number ≢ session). old_in number q (subst (IsQueued q) (queue_other number other) in_it))
-        (same_or_not number session);
+        (cases_eq number session);
     has = λ number q on. ⊎_elim
         (λ (is : q ≡ req).
         let own : session ≡ number = of_one number session (Waiting ask)
-        (sym (ap (λ (k : ℕ). is_disk_request_of number (tree.get (tree.insert so_far.node.requests req request) k)) is ∙ ap (is_disk_request_of number) (got_own so_far.node.requests req request)) ∙ on) in
+        (sym (ap (λ (k : ℕ). is_disk_request_of number (tree.get (tree.insert so_far.node.requests req request) k)) is ∙ ap (is_disk_request_of number) (get-insert_same so_far.node.requests req request)) ∙ on) in
         subst (IsQueued q) (sym (queue_own number (sym own))) (
           queued_as disk.inode.spec.shift req ask,
           Contains-append_right (queue_in session so_far.node.sessions) (queued_as disk.inode.spec.shift req ask ∷ []) (queued_as disk.inode.spec.shift req ask)
-              (has-here (queued_as disk.inode.spec.shift req ask) (queued_as disk.inode.spec.shift req ask) [] refl),
+              (Contains-first (queued_as disk.inode.spec.shift req ask) (queued_as disk.inode.spec.shift req ask) [] refl),
           sym is,
         ))
         (λ (apart : q ≢ req).
@@ -320,8 +320,8 @@ module _ (session req : ℕ) (ask : DiskAsk) (disk : Disk) (so_far : StepState) 
         subst (IsQueued q) (sym (queue_own number own))
         (one, Contains-append_left (queue_in session so_far.node.sessions) (queued_as disk.inode.spec.shift req ask ∷ []) one before, same))
         (λ (other : number ≢ session). subst (IsQueued q) (sym (queue_other number other)) had)
-        (same_or_not number session))
-        (same_or_not q req);
+        (cases_eq number session))
+        (cases_eq q req);
   }
 
 pub change_keeps_queues : {input : Input} {node : Node} → (so_far next : StepState) → Change input node so_far next → QueuesAre so_far → QueuesAre next
@@ -353,7 +353,7 @@ pub none_queued : AreDiskRequests tree.empty tree.empty
 none_queued = record {
   there = λ number req in_it.
       let (one, had, same) = subst (IsQueued req) (ap (λ (o : Option Session). (unwrap_or o new_session).queue) (tree.get-empty {X = Session} nat_cmp number)) in_it in
-      has-none one had;
+      absurd (Contains-nil one had);
   has = λ number req on.
       let off : is_disk_request_of number (tree.get tree.empty req) ≡ false = ap (is_disk_request_of number) (tree.get-empty {X = Request} nat_cmp req) in
       absurd (cc (on, off));
@@ -364,10 +364,10 @@ unfolding entry_read on_request on_recover_tick on_back
 received_queues (inputs.Guest req session ask) node queued = queued
 received_queues (inputs.Request request) node queued = queued
 received_queues (inputs.Reply rsp) node queued =
-    either QueuesAre (gateways.gateway_awaits rsp.number node.gateway) (at_first node)
+    cond_either QueuesAre (gateways.gateway_awaits rsp.number node.gateway) (at_first node)
     (recovery_stepped (recovery_steps.recovery_on_reply rsp (recovery_state_of node)) (at_first node)) queued queued
 received_queues (inputs.Lost number) node queued =
-    either QueuesAre (gateways.gateway_awaits number node.gateway) (at_first node)
+    cond_either QueuesAre (gateways.gateway_awaits number node.gateway) (at_first node)
     (recovery_stepped (recovery_steps.recovery_on_loss number (recovery_state_of node)) (at_first node)) queued queued
 received_queues (inputs.LogEntry entry) node queued = queued
 received_queues inputs.Put node queued = by_outbox node.outbox

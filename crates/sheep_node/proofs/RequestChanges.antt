@@ -2,6 +2,9 @@
 use Rattle.std.proofs.Common.{◌≡◌, ◌≢◌, ◌⊎◌, inl, inr, ℕ, true, List, [], ◌∷◌, Option, Some, None, is_some, refl, sym, ap, subst, ◌∙◌, ⊎_elim}
 use Rattle.std.specs.Ordering.{nat_cmp}
 use Rattle.std.specs.FinMap as tree
+use Rattle.std.proofs.lemmas.Bool.{cases_eq}
+use Rattle.proof_tools.proofs.Booleans.{cond_either}
+use Rattle.proof_tools.proofs.FiniteMaps.{get-insert_cases, get-remove_other, get-remove_same}
 use Rattle.object_id.specs.declared.cause.Cause.{Cause}
 use Rattle.object_id.specs.declared.cause.Cause.TheVariants.{Halt}
 use Rattle.object_id.specs.declared.entry.Entry.{Entry}
@@ -31,11 +34,8 @@ use Rattle.sheep_node.specs.May.{May}
 use Rattle.sheep_node.specs.OneWork.{HasOneWorkPerRequest}
 use Rattle.sheep_node.specs.Changes as changes
 use Rattle.sheep_node.specs.Changes.{Outcome, ToWork, ToEntry, ToReply, RequestSteps, DiskBegins, DiskGoesOn, CommandBegins, CommandGoesOn, CommandDecided, WorkIsNext, AtOnce, InTurn, Again, input_received, Change}
-use Rattle.sheep_node.proofs.NumberTools.{same_or_not, got_removed, got_left}
-use Rattle.sheep_node.proofs.EntryTools.{got_insert}
 use Rattle.sheep_node.proofs.OneWorkParts.{Requests}
 use Rattle.sheep_node.proofs.StepChain.{kept_by_chain, step_chain}
-use Rattle.recovery.proofs.StepLemmas.{either}
 
 -- each number of a request is so
 abbrev pub AllAre : (ℕ → Type 0) → Requests → Type 0
@@ -49,15 +49,15 @@ module _ (P : ℕ → Type 0) where
   put_are requests req request so all q at got = ⊎_elim
       (λ (own : (q ≡ req) × (request ≡ at)). subst P (sym own.0) so)
       (λ (other : (q ≢ req) × (tree.get requests q ≡ Some at)). all q at other.1)
-      (got_insert requests req request q at got)
+      (get-insert_cases requests req request q at got)
 
   gone_are : (requests : Requests) (req : ℕ) → AllAre P requests → AllAre P (tree.remove requests req)
   gone_are requests req all q at got = ⊎_elim
       (λ (own : q ≡ req).
-      let none : tree.get (tree.remove requests req) q ≡ None = ap (tree.get (tree.remove requests req)) own ∙ got_removed requests req in
+      let none : tree.get (tree.remove requests req) q ≡ None = ap (tree.get (tree.remove requests req)) own ∙ get-remove_same requests req in
       absurd (cc (none, got)))
-      (λ (other : q ≢ req). all q at (sym (got_left requests req q other) ∙ got))
-      (same_or_not q req)
+      (λ (other : q ≢ req). all q at (sym (get-remove_other requests req q other) ∙ got))
+      (cases_eq q req)
 
   command_are : (session req : ℕ) (ask : VdiAsk) (step : ops.OpStep) (so_far : StepState) → P req → In so_far → In (after_command_step session req ask step so_far)
   command_are session req ask step so_far so all = put_are so_far.node.requests req (record { session = session; course = Commanding ask step.op }) so all
@@ -77,10 +77,10 @@ module _ (P : ℕ → Type 0) where
   received_requests (inputs.Guest req session ask) node all = all
   received_requests (inputs.Request request) node all = all
   received_requests (inputs.Reply rsp) node all =
-      either In (gateways.gateway_awaits rsp.number node.gateway) (at_first node)
+      cond_either In (gateways.gateway_awaits rsp.number node.gateway) (at_first node)
       (recovery_stepped (recovery_steps.recovery_on_reply rsp (recovery_state_of node)) (at_first node)) all all
   received_requests (inputs.Lost number) node all =
-      either In (gateways.gateway_awaits number node.gateway) (at_first node)
+      cond_either In (gateways.gateway_awaits number node.gateway) (at_first node)
       (recovery_stepped (recovery_steps.recovery_on_loss number (recovery_state_of node)) (at_first node)) all all
   received_requests (inputs.LogEntry entry) node all = all
   received_requests inputs.Put node all = by_outbox node.outbox

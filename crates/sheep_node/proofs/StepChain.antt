@@ -5,6 +5,9 @@ use Rattle.std.specs.Ordering.{nat_cmp}
 use Rattle.std.specs.List.{list_any}
 use Rattle.std.specs.FinMap as tree
 use Rattle.std.proofs.lemmas.Bool.{eqb-true, or_cases}
+use Rattle.proof_tools.proofs.Booleans.{has_value}
+use Rattle.proof_tools.proofs.Lists.{find-contains}
+use Rattle.proof_tools.proofs.FiniteMaps.{get-entry, get-insert_same}
 use Rattle.object_id.specs.declared.cause.Cause.{Cause}
 use Rattle.object_id.specs.declared.cause.Cause.TheVariants.{Halt}
 use Rattle.object_id.specs.declared.node.Epoch.{Epoch}
@@ -30,7 +33,6 @@ use Rattle.gateway.specs.State as gateways
 use Rattle.gateway.specs.State.{WorkStage, Open, Ended, WaitsForMembers, Work, Gateway, is_touched, asker, open_messages, is_awaited_in, fits_work, fits_asker, may_try, next_try}
 use Rattle.gateway.specs.Step as gateway_steps
 use Rattle.gateway.specs.Step.{with_work, without_work, waiting_step, done_step, refusal_step, halt_step, open_step, next_attempt, attempt_step, retry_step_of, start_step, retry_step, failure_step, attempt_continued, attempt_with_status, status_step_in, status_step_by, message_ended}
-use Rattle.gateway.proofs.TryLaws.{found-passes}
 use Rattle.gateway_queue.specs.Queue.{may_run}
 use Rattle.guest_driver.specs.declared.disk.Disk.{Disk}
 use Rattle.guest_driver.specs.declared.act.DriverAct.{DriverAct}
@@ -66,9 +68,7 @@ use Rattle.sheep_node.specs.May.{fits_node, May}
 use Rattle.sheep_node.specs.OneWork.{may_work_at, HasOneWorkPerRequest}
 use Rattle.sheep_node.specs.Changes as changes
 use Rattle.sheep_node.specs.Changes.{IsTold, input_received, IsOverWith, HasRequest, LearnsStatus, EndsAttempt, EndsWork, Arrival, gateway_with_touch, without_ended_work, refusal_of, ToWork, outcome_of_driver, outcome_of_command, RequestSteps, DiskBegins, DiskGoesOn, CommandBegins, CommandGoesOn, CommandDecided, new_work, WorkIsNext, AtOnce, InTurn, Again, has_too_few_zones, zones_of_members, without_denied_work, Change, Leads, Still, Then}
-use Rattle.sheep_node.proofs.NumberTools.{got_own}
-use Rattle.sheep_node.proofs.ListTools.{has-found}
-use Rattle.sheep_node.proofs.EntryTools.{found_got, got_entry, some_of}
+use Rattle.sheep_node.proofs.AwaitedWorks.{found_got}
 use Rattle.sheep_node.proofs.OneWorkChanges.{StepHasOneWork, comes_free, change_keeps_one_work, received_one_work}
 
 -- a chain of changes to a turn, in which works are with their requests
@@ -389,7 +389,7 @@ module _ (input : Input) (node : Node) (first : StepState) where
         by_found (Some found) is =
             let test = λ (entry : ℕ × Work). may_try (record { 0 = so_far.node.peer.epoch }) entry.1.stage in
             tried_walk from found.0 found.1
-            (got_entry so_far.node.gateway.works found (has-found test (tree.entries so_far.node.gateway.works) found is)) is
+            (get-entry so_far.node.gateway.works found (find-contains test (tree.entries so_far.node.gateway.works) found is).0) is
 
     -- ---- a guest's request
 
@@ -408,7 +408,7 @@ module _ (input : Input) (node : Node) (first : StepState) where
         absurd (cc (allowed))
     arrives_walk session req ask arrival (Some disk) on =
         course_begun_walk (with_queued_request session req ask (Some disk) (with_course session req (Waiting ask) so_far)) session req (Waiting ask)
-        (got_own so_far.node.requests req (record { session = session; course = Waiting ask }))
+        (get-insert_same so_far.node.requests req (record { session = session; course = Waiting ask }))
         (reached_by walk (changes.Arrives session req ask disk arrival on))
 
     command_begun_walk : (session req : ℕ) (ask : VdiAsk) → Arrival input node so_far session req (asks.Vdi ask) None
@@ -464,9 +464,9 @@ module _ (input : Input) (node : Node) (first : StepState) where
         let test = λ (found : ℕ × Request). waits_for_entry entry found.1.course in
         let there : tree.get so_far.node.requests found.0 ≡ Some found.1
         = ap (λ (requests : tree.FinMap nat_cmp Request). tree.get requests found.0) same
-        ∙ got_entry node.requests found (has-found test (tree.entries node.requests) found is) in
+        ∙ get-entry node.requests found (find-contains test (tree.entries node.requests) found is).0 in
         let_begin_walk found.1.session (course_decided found.1.session found.0 decision found.1.course so_far)
-        (course_walk found.0 found.1.session found.1.course there (found-passes test (tree.entries node.requests) found is))
+        (course_walk found.0 found.1.session found.1.course there (find-contains test (tree.entries node.requests) found is).1)
 
 -- ---- every input
 

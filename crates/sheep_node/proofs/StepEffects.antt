@@ -3,6 +3,7 @@
 use Rattle.std.proofs.Common.{◌≡◌, ℕ, ◌+◌, ◌≤◌, nat_lt, Bool, true, false, cond, List, [], ◌∷◌, length, map, Option, Some, None, refl, sym, ap, subst, ◌∙◌, arith}
 use Rattle.std.proofs.lemmas.Bool.{ltb-true, ltb-false}
 use Rattle.std.proofs.lemmas.List.{length-append}
+use Rattle.proof_tools.proofs.Booleans.{cond_either}
 use Rattle.object_id.specs.declared.cause.Cause.{Cause}
 use Rattle.object_id.specs.declared.cause.Cause.TheVariants.{Halt}
 use Rattle.object_id.specs.declared.node.NodeId.{NodeId}
@@ -40,7 +41,6 @@ use Rattle.sheep_node.specs.OneWork.{HasOneWorkPerRequest}
 use Rattle.sheep_node.specs.Changes as changes
 use Rattle.sheep_node.specs.Changes.{Outcome, ToWork, ToEntry, ToReply, without_ended_work, zones_of_members, without_denied_work, attempt_in, RequestSteps, DiskBegins, DiskGoesOn, CommandBegins, CommandGoesOn, CommandDecided, WorkIsNext, AtOnce, InTurn, Again, input_received, Change}
 use Rattle.sheep_node.proofs.Numbers.{tick_numbers, numbers_joined}
-use Rattle.recovery.proofs.StepLemmas.{either}
 use Rattle.sheep_node.proofs.StepChain.{ChainNeeds, kept_by_chain, chain_of_step}
 
 -- what the changes of a step leave alone
@@ -191,11 +191,11 @@ received_in_order (inputs.Guest req session ask) node = idle node
 received_in_order (inputs.Request request) node =
     record { numbers = refl; counted = omega arith; ascend = tt; recovered_stays = λ was. was; same = refl }
 received_in_order (inputs.Reply rsp) node =
-    either (BeginsInOrder node.sends) (gateways.gateway_awaits rsp.number node.gateway)
+    cond_either (BeginsInOrder node.sends) (gateways.gateway_awaits rsp.number node.gateway)
     (at_first node) (recovery_stepped (recovery_steps.recovery_on_reply rsp (recovery_state_of node)) (at_first node)) (idle node)
     (heard node (recovery_steps.recovery_on_reply rsp (recovery_state_of node)))
 received_in_order (inputs.Lost number) node =
-    either (BeginsInOrder node.sends) (gateways.gateway_awaits number node.gateway)
+    cond_either (BeginsInOrder node.sends) (gateways.gateway_awaits number node.gateway)
     (at_first node) (recovery_stepped (recovery_steps.recovery_on_loss number (recovery_state_of node)) (at_first node)) (idle node)
     (heard node (recovery_steps.recovery_on_loss number (recovery_state_of node)))
 received_in_order (inputs.LogEntry entry) node = record {

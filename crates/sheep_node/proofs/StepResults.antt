@@ -1,6 +1,7 @@
 -- What a step gives, and what it leaves of what its node has read, as the input has it.
 use Rattle.std.proofs.Common.{◌≡◌, ℕ, ◌+◌, ◌&&◌, not, Bool, true, false, cond, List, [], ◌∷◌, length, Option, Some, None, Result, Ok, Err, refl, ap, sym, ◌∙◌}
 use Rattle.std.proofs.Math.Bool.{and-false}
+use Rattle.proof_tools.proofs.Booleans.{cond_either}
 use Rattle.object_id.specs.declared.node.NodeId.{NodeId}
 use Rattle.object_id.specs.declared.entry.Entry.{Entry}
 use Rattle.vnode_table.specs.Epochs.{EpochMembers}
@@ -21,7 +22,6 @@ use Rattle.sheep_node.specs.Step.{on_request, recovery_stepped, on_put, on_recov
 use Rattle.sheep_node.specs.StepFacts.{read_after, may_begin_recovery, said_on, first_entry_of, put_on, Ascend}
 use Rattle.sheep_node.specs.OneWork.{HasOneWorkPerRequest}
 use Rattle.sheep_node.specs.Changes.{input_received}
-use Rattle.recovery.proofs.StepLemmas.{either}
 use Rattle.sheep_node.proofs.PeerLog.{Log, log_of, served_same, entries_reading, entries_back}
 use Rattle.sheep_node.proofs.StepChain.{ChainNeeds}
 use Rattle.sheep_node.proofs.StepEffects.{Untouched, untouched_in, AreInOrder, step_in_order}
@@ -33,7 +33,7 @@ by_waiting : (P : StepState → Type 0) (number : ℕ) (state : recoveries.Recov
     → P (recovery_stepped state (at_first node))
     → P (cond (gateways.gateway_awaits number node.gateway) (at_first node) (recovery_stepped state (at_first node)))
 by_waiting P number state node first heard =
-    either P (gateways.gateway_awaits number node.gateway) (at_first node) (recovery_stepped state (at_first node)) first heard
+    cond_either P (gateways.gateway_awaits number node.gateway) (at_first node) (recovery_stepped state (at_first node)) first heard
 
 me_received : (input : Input) (node : Node) → (input_received input (at_first node)).node.me ≡ node.me
 unfolding entry_read on_request on_recover_tick on_back

@@ -5,6 +5,8 @@ use Rattle.std.specs.Ordering.{nat_cmp}
 use Rattle.std.specs.List.{list_any}
 use Rattle.std.specs.FinMap as tree
 use Rattle.std.specs.FinSet as set
+use Rattle.proof_tools.proofs.Booleans.{cond_either, has_value}
+use Rattle.proof_tools.proofs.FiniteMaps.{get-remove_same}
 use Rattle.object_id.specs.declared.cause.Cause.{Cause}
 use Rattle.object_id.specs.declared.node.NodeId.{NodeId}
 use Rattle.peer_proto.specs.declared.ask.PeerReq.{PeerReq}
@@ -30,7 +32,6 @@ use Rattle.vdi_ops.proofs.StepLemmas.{done_awaited}
 use Rattle.recovery.specs.State as recoveries
 use Rattle.recovery.specs.Fits as recovery_fits
 use Rattle.recovery.specs.Steps as recovery_steps
-use Rattle.recovery.proofs.StepLemmas.{either}
 use Rattle.sheep_node.specs.declared.input.Input.{Input}
 use Rattle.sheep_node.specs.declared.input.Input.TheVariants as inputs
 use Rattle.sheep_node.specs.State.{Course, Waiting, Driving, Commanding, Request, Node}
@@ -47,9 +48,8 @@ use Rattle.sheep_node.proofs.StepResults.{step_numbers, step_counts}
 use Rattle.sheep_node.specs.OneWork.{HasOneWorkPerRequest}
 use Rattle.sheep_world.proofs.InFlightSends.{Asking}
 use Rattle.sheep_world.proofs.InFlightRecoveryAnswer.{Other, left_now, lost_asks, replied_asks}
-use Rattle.sheep_world.proofs.NumberTools.{got_removed}
 use Rattle.sheep_world.proofs.OneWorkLaws.{IsGood, IsFree, IsFreeIn, driver_stepped_good, let_begin_good, left_good, left_free, work_refused_good}
-use Rattle.sheep_world.proofs.InFlightRetryTick.{found_got, some_of, good_first, good_at_end, good_so_far_asks, good_driven, asks_after}
+use Rattle.sheep_world.proofs.InFlightRetryTick.{found_got, good_first, good_at_end, good_so_far_asks, good_driven, asks_after}
 use Rattle.sheep_world.proofs.InFlightGuest.{command_went_on_good}
 use Rattle.sheep_world.proofs.MarkedMessages.{Marks, marks_open, marks_ended, marks_removed, marked_asks, marked_driven}
 
@@ -100,7 +100,7 @@ module _ (node : Node) (driven : HasOneWorkPerRequest node) (number : ℕ) (stat
   -- without its work the request is free
   free_without : (touched : set.FinSet nat_cmp) → IsFree req (tree.remove node.gateway.works req) node.sessions
   free_without touched = record {
-    idle = got_removed node.gateway.works req;
+    idle = get-remove_same node.gateway.works req;
     out = λ inode_queue waiting_step waits same.
         let none : tree.get node.gateway.works req ≡ None
         = ap (tree.get node.gateway.works) (sym same) ∙ driven.driven.waiting_free inode_queue waiting_step waits in
@@ -176,7 +176,7 @@ module _ (node : Node) (driven : HasOneWorkPerRequest node) (number : ℕ) (stat
   answered_so : Settles node number (message_ended node.gateway number status)
   unfolding message_ended
   answered_so =
-      let (found, is) = some_of (asker number node.gateway) waits in
+      let (found, is) = has_value (asker number node.gateway) waits in
       let (there, awaited) = found_got number node.gateway.works found is in
       subst (λ (o : Option (ℕ × Work)). Settles node number (status_step_by node.gateway number status o)) (sym is)
       (known_so node driven number status settled found.0 found.1 there awaited found.1.stage refl)
@@ -248,7 +248,7 @@ recovery_driven : (node : Node) (number : ℕ) (said : Option PeerSay) → gatew
 unfolding recovered_put
 recovery_driven node number said none driven =
     let so_far = recovery_stepped (recovery_steps.message_end number said (recovery_state_of node)) (at_first node) in
-    either (λ (so_far : StepState). HasOneWorkPerRequest so_far.node) (is_due so_far.node) (with_recovered so_far) so_far
+    cond_either (λ (so_far : StepState). HasOneWorkPerRequest so_far.node) (is_due so_far.node) (with_recovered so_far) so_far
     (record { own = driven.own; driven = driven.driven; once = driven.once; given = driven.given; recovers = λ q waits. apart q waits; recovering = λ q waits. below q waits })
     (record { own = driven.own; driven = driven.driven; once = driven.once; given = driven.given; recovers = λ q waits. apart q waits; recovering = λ q waits. below q waits })
   where

@@ -4,6 +4,7 @@ use Rattle.std.specs.Option.{option_map_or, option_and_then, IfSome}
 use Rattle.std.specs.FinMap as tree
 use Rattle.std.proofs.lemmas.Bool.{eq-eqb, and_parts}
 use Rattle.std.proofs.lemmas.Option.{cond_some}
+use Rattle.proof_tools.proofs.FiniteMaps.{get-insert_same}
 use Rattle.object_id.specs.declared.cause.Cause.{Cause}
 use Rattle.cluster_script.specs.declared.statement.Statement.{Statement}
 use Rattle.cluster_script.specs.NumberedRequests.{session_of, request_at}
@@ -42,7 +43,6 @@ use Rattle.sheep_world.specs.WireMatch.{WireMatchesNodes}
 use Rattle.sheep_node.specs.OneWork.{may_work_at, may_work_of, HasOneWorkPerRequest}
 use Rattle.sheep_world.specs.OneWork.{NodesHaveOneWorkPerRequest, IsSentInRange, IsNewRequest}
 use Rattle.sheep_world.proofs.EnabledLaws.{looked_up}
-use Rattle.sheep_world.proofs.NumberTools.{got_own}
 use Rattle.sheep_world.proofs.OneWorkLaws.{IsGood, IsFreeIn, free_session, good_session, good_course, ended_good, work_asked_good, course_begun_good}
 use Rattle.sheep_world.proofs.InFlightRetryTick.{good_first, good_at_end, DoesWell, good_well, step_together, StaysTogether}
 
@@ -78,7 +78,7 @@ command_stepped_good old number req ask step so_far awaited free good =
       command = Some req;
     } in
     command_acted_good old number req ask step.op step.act (after_command_step number req ask step so_far) awaited
-    (got_own so_far.node.requests req request)
+    (get-insert_same so_far.node.requests req request)
     (free_session req so_far.node.gateway.works so_far.node.sessions number session refl free)
     (good_session old number session course refl (good_course old number req (Commanding ask step.op) so_far free good))
 

@@ -5,6 +5,9 @@ use Rattle.std.specs.Option.{option_map, option_map_or}
 use Rattle.std.specs.FinMap as tree
 use Rattle.std.proofs.lemmas.Bool.{eqb-true, and_parts, or_cases, or_left, or_right}
 use Rattle.std.proofs.lemmas.Option.{cond_some, same_Some}
+use Rattle.proof_tools.proofs.Booleans.{cond_either}
+use Rattle.proof_tools.proofs.Lists.{Contains-nil, find-contains}
+use Rattle.proof_tools.proofs.FiniteMaps.{get-entry}
 use Rattle.object_id.specs.declared.entry.Entry.{Entry}
 use Rattle.object_id.specs.declared.entry.Member.{Member}
 use Rattle.object_id.specs.declared.entry.VdiSpec.{VdiSpec}
@@ -41,7 +44,6 @@ use Rattle.recovery.specs.State as recoveries
 use Rattle.recovery.specs.State.{Message}
 use Rattle.recovery.specs.Fits as recovery_fits
 use Rattle.recovery.specs.Steps.{at_start, recovery_from_epoch, to_recover}
-use Rattle.recovery.proofs.StepLemmas.{either}
 use Rattle.vdi_ops.specs.Op.{entry_wanted}
 use Rattle.vdi_ops.specs.Steps.{on_decision}
 use Rattle.vdi_ops.proofs.StepLemmas.{decision_awaited}
@@ -55,8 +57,8 @@ use Rattle.sheep_node.specs.StepState.{StepState, at_first}
 use Rattle.sheep_node.specs.Courses.{course_decided}
 use Rattle.sheep_node.specs.LogReading as nodes
 use Rattle.sheep_node.specs.LogReading.{asker_of, decision_told, on_log_entry}
-use Rattle.sheep_node.proofs.MessageNumbers.{unanswered_reading}
 use Rattle.sheep_node.specs.Step.{on_input, node_step}
+use Rattle.sheep_node.proofs.MessageNumbers.{unanswered_reading}
 use Rattle.sheep_node.proofs.PeerLog.{entries_reading}
 use Rattle.sheep_node.proofs.StepResults.{step_numbers, step_counts}
 use Rattle.sheep_world.specs.World.{Host, World, host_at, node_at, is_host_up}
@@ -67,12 +69,10 @@ use Rattle.sheep_world.specs.Step.{EventOutcome, step, with_replies}
 use Rattle.sheep_world.specs.WireMatch.{asked_by_gateway, WireMatchesNodes}
 use Rattle.sheep_node.specs.OneWork.{may_work, HaveOneWorkPerRequest, NumbersAreOfOneWork, NumbersAreBelow, HasOneWorkPerRequest}
 use Rattle.sheep_world.specs.OneWork.{NodesHaveOneWorkPerRequest, IsSentInRange}
-use Rattle.sheep_world.proofs.ListTools.{has-none, has-found}
 use Rattle.sheep_world.proofs.InFlightSends.{Sends, Asking}
 use Rattle.sheep_world.proofs.InFlightRecoverTick.{Any}
-use Rattle.gateway.proofs.TryLaws.{found-passes}
 use Rattle.sheep_world.proofs.OneWorkLaws.{Requests, Sessions, IsGood, IsFreeIn, free_of, let_begin_good}
-use Rattle.sheep_world.proofs.InFlightRetryTick.{got_entry, good_first, good_at_end, good_so_far_asks, good_driven, DoesWell, asks_after, step_together, StaysTogether}
+use Rattle.sheep_world.proofs.InFlightRetryTick.{good_first, good_at_end, good_so_far_asks, good_driven, DoesWell, asks_after, step_together, StaysTogether}
 use Rattle.sheep_world.proofs.InFlightGuest.{command_went_on_good}
 
 -- ---- the length of an object's rows stays known
@@ -108,7 +108,7 @@ header_stays entries entry vid header is =
     by_effect (effects.Reserved grant) what = by_id grant what (grant.reservation.vid.0 == vid) refl
     by_effect (effects.Published id name) what = refl
     by_effect (effects.Snapped snap) what =
-        either (HasSpecOf header) (snap.old.0 == vid) (Some (record header { tag = snap.tag })) (Some header) refl refl
+        cond_either (HasSpecOf header) (snap.old.0 == vid) (Some (record header { tag = snap.tag })) (Some header) refl refl
     by_effect (effects.Deleted id name) what = refl
     by_effect (effects.Held id holder) what = refl
     by_effect (effects.Freed id) what = refl
@@ -190,8 +190,8 @@ read_asks entry node =
       me_so = kept.me_so;
       count_so = kept.sends_so ∙ no_more;
       numbers = refl;
-      own = λ send there. has-none send there;
-      read = λ send there. has-none send there;
+      own = λ send there. absurd (Contains-nil send there);
+      read = λ send there. absurd (Contains-nil send there);
       asked = λ send there. inl (
         subst (λ (sends : Sends). Contains sends send)
             (λ i. asked_by_gateway (kept.me_so i) (kept.gateway_so i)
@@ -200,7 +200,7 @@ read_asks entry node =
       );
       waits_on = λ number waits stays.
           (λ i. gateways.gateway_awaits number (kept.gateway_so i) || is_some (recoveries.message_of number (kept.messages_so i))) ∙ waits;
-      waits_too = λ send there. has-none send there;
+      waits_too = λ send there. absurd (Contains-nil send there);
       fits_on = λ rsp below stays fit. ⊎_elim
           (λ (works : gateways.fits_gateway rsp node.gateway ≡ true).
           or_left (gateways.fits_gateway rsp after.gateway) (recovery_fits.fits_recovery rsp (recovery_state_of after)) (ap (gateways.fits_gateway rsp) kept.gateway_so ∙ works))
@@ -258,10 +258,10 @@ told_good entry decision node so_far None is same old good = good
 told_good entry decision node so_far (Some found) is same old good =
     let there : tree.get so_far.node.requests found.0 ≡ Some found.1
     = ap (λ (requests : Requests). tree.get requests found.0) same
-    ∙ got_entry node.requests found
-    (has-found (λ (found : ℕ × Request). waits_for_entry entry found.1.course) (tree.entries node.requests) found is) in
+    ∙ get-entry node.requests found
+    (find-contains (λ (found : ℕ × Request). waits_for_entry entry found.1.course) (tree.entries node.requests) found is).0 in
     let never = wanted_never entry found.1.course
-    (found-passes (λ (found : ℕ × Request). waits_for_entry entry found.1.course) (tree.entries node.requests) found is) in
+    (find-contains (λ (found : ℕ × Request). waits_for_entry entry found.1.course) (tree.entries node.requests) found is).1 in
     let_begin_good old found.1.session (course_decided found.1.session found.0 decision found.1.course so_far)
     (decided_good old found.1.session found.0 decision found.1.course so_far (free_of old found.0 found.1 so_far there never good) good)
 

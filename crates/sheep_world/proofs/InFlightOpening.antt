@@ -5,6 +5,7 @@ use Rattle.std.specs.Cmp.{nat_cmp_total}
 use Rattle.std.specs.FinMap as tree
 use Rattle.std.proofs.lemmas.Option.{same_Some}
 use Rattle.std.proofs.lemmas.List.Elements.{All-nil}
+use Rattle.proof_tools.proofs.Booleans.{cond_either}
 use Rattle.object_id.specs.declared.node.NodeId.{NodeId}
 use Rattle.object_id.specs.declared.entry.Entry.{Entry}
 use Rattle.object_id.specs.declared.entry.Entry.TheVariants.{Format}
@@ -42,10 +43,6 @@ asked_by-idle : (me : NodeId) (tries : ℕ) (node : Node) → Idle me tries node
 asked_by-idle me tries node idle =
     (λ i. asked_by_gateway (idle.me_so i) (idle.gateway_so i) ++ asked_by_recovery (idle.recovery_so i)) ∙ asked_by-opening me tries
 
-either : {X : Type 0} (P : X → Type 0) (b : Bool) (x y : X) → P x → P y → P (cond b x y)
-either P true x y one other = one
-either P false x y one other = other
-
 -- the log's first entry leaves a new node's works and recovery as they are
 read_idle : (me : NodeId) (tries : ℕ) (members : List Member) → Idle me tries (entry_read (Format members) (nodes.initial_node me tries))
 unfolding entry_read
@@ -54,7 +51,7 @@ read_idle me tries members = record { me_so = refl; gateway_so = refl; recovery_
 put_idle : (me : NodeId) (tries : ℕ) (so_far : StepState) → Idle me tries so_far.node → Idle me tries (recovered_put so_far).node
 unfolding recovered_put
 put_idle me tries so_far idle =
-    either (λ (so_far : StepState). Idle me tries so_far.node) (is_due so_far.node) (with_recovered so_far) so_far
+    cond_either (λ (so_far : StepState). Idle me tries so_far.node) (is_due so_far.node) (with_recovered so_far) so_far
     (record { me_so = idle.me_so; gateway_so = idle.gateway_so; recovery_so = idle.recovery_so }) idle
 
 pub nobody_asks : (entry : Entry) (me : NodeId) (tries : ℕ) → asker_of entry (nodes.initial_node me tries) ≡ None

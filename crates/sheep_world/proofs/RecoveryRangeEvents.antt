@@ -16,6 +16,7 @@ use Rattle.vnode_table.specs.Epochs.{members_at}
 use Rattle.vdi_directory.specs.Effects.{header_of}
 use Rattle.vdi_directory.specs.Decisions.{log_effects}
 use Rattle.std.specs.Option.{option_and_then}
+use Rattle.proof_tools.proofs.Booleans.{cond_either}
 use Rattle.cluster_script.specs.Settings.{tries_of}
 use Rattle.cluster_script.specs.NumberedRequests.{session_of, request_at}
 use Rattle.cluster_script.specs.Sessions.{ScriptSession, session_numbered}
@@ -41,7 +42,7 @@ use Rattle.recovery.specs.Range.{IsInRange}
 use Rattle.recovery.specs.Shown.{NodeView}
 use Rattle.recovery.specs.State.{Recovery}
 use Rattle.recovery.specs.Steps as recovery_steps
-use Rattle.recovery.proofs.StepLemmas.{either, frame_of_end}
+use Rattle.recovery.proofs.StepLemmas.{frame_of_end}
 use Rattle.recovery.proofs.RangeLemmas.{ended_in_range}
 use Rattle.sheep_node.specs.declared.event.Event.TheVariants as events
 use Rattle.sheep_node.specs.declared.input.Input.TheVariants as inputs
@@ -233,7 +234,7 @@ loss_range : (statements : List Statement) (name : MessageName) (world : World) 
     → RecoveriesAreInRange (loss_told statements name (without_message name world))
 unfolding node_stepped
 loss_range statements name world driven range =
-    either RecoveriesAreInRange (is_up name.sender.0 (without_message name world))
+    cond_either RecoveriesAreInRange (is_up name.sender.0 (without_message name world))
     (node_stepped statements name.sender.0 (inputs.Lost name.number) (without_message name world)) (without_message name world)
     (told_all statements (without_message name world) name.sender.0 name.number (host_at name.sender.0 world) refl driven range) range
 
@@ -246,7 +247,7 @@ lose_range statements name world driven range = by_packet (message_at name world
     by_packet None = loss_range statements name (at_rest world) driven range
     by_packet (Some packet) =
         let fewer = record (at_rest world) { losses = world.losses - 1 } in
-        either (λ (w : World). RecoveriesAreInRange (loss_told statements name (without_message name w))) (are_ends_up name packet (at_rest world)) fewer (at_rest world)
+        cond_either (λ (w : World). RecoveriesAreInRange (loss_told statements name (without_message name w))) (are_ends_up name packet (at_rest world)) fewer (at_rest world)
         (loss_range statements name fewer driven range) (loss_range statements name (at_rest world) driven range)
 
 pub range-lose_request : (statements : List Statement) (world : World) (made : EventOutcome) (node : NodeId) (number : ℕ)

@@ -2,6 +2,10 @@
 use Rattle.std.proofs.Common.{◌≡◌, ◌≢◌, ℕ, ◌==◌, nat_lt, cond, List, [], ◌∷◌, fold, Option, Some, None, refl, sym, ap, subst, ◌∙◌, ⊎_elim}
 use Rattle.std.specs.Ordering.{nat_cmp}
 use Rattle.std.specs.FinMap as tree
+use Rattle.std.proofs.lemmas.Bool.{cases_eq}
+use Rattle.proof_tools.proofs.Booleans.{cond_either}
+use Rattle.proof_tools.proofs.FiniteMaps.{get-remove_same, get-remove_other, get-insert_cases, get-entry}
+use Rattle.proof_tools.proofs.Lists.{find-contains}
 use Rattle.object_id.specs.declared.cause.Cause.{Cause}
 use Rattle.object_id.specs.declared.entry.Entry.{Entry}
 use Rattle.epoch_log.specs.Epochs.{begins_epoch, epoch_of, settled_of}
@@ -21,7 +25,6 @@ use Rattle.gateway.specs.State as gateways
 use Rattle.gateway.specs.State.{Gateway}
 use Rattle.gateway.specs.Step as gateway_steps
 use Rattle.gateway_queue.specs.Queue.{may_run}
-use Rattle.recovery.proofs.StepLemmas.{either}
 use Rattle.recovery.specs.Steps as recovery_steps
 use Rattle.guest_driver.specs.declared.disk.Disk.{Disk}
 use Rattle.guest_driver.specs.declared.act.DriverAct.{DriverAct}
@@ -52,10 +55,6 @@ use Rattle.sheep_node.specs.Same.{waits_for_entry}
 use Rattle.sheep_node.specs.LogReading.{entry_read, asker_of, decision_told, on_log_entry, on_back}
 use Rattle.sheep_node.specs.Step as steps
 use Rattle.sheep_node.specs.Step.{on_request, recovery_stepped, on_reply, on_put, on_recover_tick, on_retry_tick, on_input, is_due, with_recovered, recovered_put, node_step}
-use Rattle.sheep_world.proofs.ListTools.{has-found}
-use Rattle.sheep_world.proofs.NumberTools.{same_or_not, got_removed, got_left}
-use Rattle.sheep_world.proofs.InFlightRetryTick.{got_entry}
-use Rattle.sheep_world.proofs.InFlightEvents.{got_insert}
 
 module _ (P : ℕ → Type 0) where
   -- each request among some is so
@@ -74,15 +73,15 @@ module _ (P : ℕ → Type 0) where
   are_with requests req request so all q at got = ⊎_elim
       (λ (own : (q ≡ req) × (request ≡ at)). subst P (sym own.0) so)
       (λ (other : (q ≢ req) × (tree.get requests q ≡ Some at)). all q at other.1)
-      (got_insert requests req request q at got)
+      (get-insert_cases requests req request q at got)
 
   are_left : (requests : tree.FinMap nat_cmp Request) (req : ℕ) → AllAre requests → AllAre (tree.remove requests req)
   are_left requests req all q at got = ⊎_elim
       (λ (own : q ≡ req).
-      let none : tree.get (tree.remove requests req) q ≡ None = ap (tree.get (tree.remove requests req)) own ∙ got_removed requests req in
+      let none : tree.get (tree.remove requests req) q ≡ None = ap (tree.get (tree.remove requests req)) own ∙ get-remove_same requests req in
       absurd (cc (none, got)))
-      (λ (other : q ≢ req). all q at (sym (got_left requests req q other) ∙ got))
-      (same_or_not q req)
+      (λ (other : q ≢ req). all q at (sym (get-remove_other requests req q other) ∙ got))
+      (cases_eq q req)
 
   -- ---- works
 
@@ -124,7 +123,7 @@ module _ (P : ℕ → Type 0) where
   work_asked_are : (number req : ℕ) (work : ObjWork) (so_far : StepState) → AreIn so_far → AreIn (work_asked number req work so_far)
   unfolding work_asked
   work_asked_are number req work so_far all =
-      either AreIn (may_open_work (session_in number so_far).inode_queue work)
+      cond_either AreIn (may_open_work (session_in number so_far).inode_queue work)
       (work_begun number req work (with_inode_queue number (queue_with_open (session_in number so_far).inode_queue req work) so_far))
       (with_inode_queue number (queue_with_waiting (session_in number so_far).inode_queue req work) so_far)
       (work_begun_are number req work (with_inode_queue number (queue_with_open (session_in number so_far).inode_queue req work) so_far) all) all
@@ -196,7 +195,7 @@ module _ (P : ℕ → Type 0) where
 
   course_begun_are : (number req : ℕ) (course : Course) (so_far : StepState) → P req → AreIn so_far → AreIn (course_begun number req course so_far)
   course_begun_are number req (Waiting ask) so_far so all =
-      either AreIn (may_run req (session_in number so_far).queue) (disk_begun number req ask (session_in number so_far).disk so_far) so_far
+      cond_either AreIn (may_run req (session_in number so_far).queue) (disk_begun number req ask (session_in number so_far).disk so_far) so_far
       (disk_begun_are number req ask (session_in number so_far).disk so_far so all) all
   course_begun_are number req (Driving driver) so_far so all = all
   course_begun_are number req (Commanding ask op) so_far so all = all
@@ -285,8 +284,8 @@ module _ (P : ℕ → Type 0) where
       told_are (decision_on entry so_far.node.peer) (asker_of entry so_far.node) (with_node (entry_read entry so_far.node) so_far)
       (λ one is.
       all one.0 one.1
-      (got_entry so_far.node.requests one
-      (has-found (λ (found : ℕ × Request). waits_for_entry entry found.1.course) (tree.entries so_far.node.requests) one is)))
+      (get-entry so_far.node.requests one
+      (find-contains (λ (found : ℕ × Request). waits_for_entry entry found.1.course) (tree.entries so_far.node.requests) one is).0))
       (entry_are entry so_far.node all)
 
   -- ---- a step
@@ -310,11 +309,11 @@ module _ (P : ℕ → Type 0) where
       taken_unless_are (request_refusal so_far.node.peer (session_in number so_far).disk ask) number req ask so_far so all
   taken_in_are (inputs.Request request) so_far so all = all
   taken_in_are (inputs.Reply rsp) so_far so all =
-      either AreIn (gateways.gateway_awaits rsp.number so_far.node.gateway) (after_gateway_step (gateway_steps.gateway_on_reply so_far.node.gateway rsp) so_far)
+      cond_either AreIn (gateways.gateway_awaits rsp.number so_far.node.gateway) (after_gateway_step (gateway_steps.gateway_on_reply so_far.node.gateway rsp) so_far)
       (recovery_stepped (recovery_steps.recovery_on_reply rsp (recovery_state_of so_far.node)) so_far)
       (gateway_stepped_are (gateway_steps.gateway_on_reply so_far.node.gateway rsp) so_far all) all
   taken_in_are (inputs.Lost number) so_far so all =
-      either AreIn (gateways.gateway_awaits number so_far.node.gateway) (after_gateway_step (gateway_steps.gateway_on_loss so_far.node.gateway number) so_far)
+      cond_either AreIn (gateways.gateway_awaits number so_far.node.gateway) (after_gateway_step (gateway_steps.gateway_on_loss so_far.node.gateway number) so_far)
       (recovery_stepped (recovery_steps.recovery_on_loss number (recovery_state_of so_far.node)) so_far)
       (gateway_stepped_are (gateway_steps.gateway_on_loss so_far.node.gateway number) so_far all) all
   taken_in_are (inputs.LogEntry entry) so_far so all = log_are entry so_far all
@@ -326,7 +325,7 @@ module _ (P : ℕ → Type 0) where
 
   at_end_are : (so_far : StepState) → AreIn so_far → AreIn (recovered_put so_far)
   unfolding recovered_put
-  at_end_are so_far all = either AreIn (is_due so_far.node) (with_recovered so_far) so_far all all
+  at_end_are so_far all = cond_either AreIn (is_due so_far.node) (with_recovered so_far) so_far all all
 
   -- the requests of a node after a step are so, where those before it are and the guest's request is
   pub stepped_are : (input : Input) (node : Node) → IsOfInput input → AreOf node → AreOf (node_step input node).node

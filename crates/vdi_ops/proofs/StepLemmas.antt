@@ -84,10 +84,8 @@ task_awaited op vid bytes (Making entry opened) = refl
 
 at_done : (bytes : List ℕ) (op : Op) (stage : OpStage)
     → IfSome (done_at bytes op stage) IsAwaitedByCommand
-at_done bytes op (Asked entry ask disk) = tt
 at_done bytes op (Working vid task) = task_awaited op vid bytes task
-at_done bytes op (Publishing entry opened) = tt
-at_done bytes op (Answered opened) = tt
+at_done bytes op stage = tt
 
 pub done_awaited : (bytes : List ℕ) (op : Op)
     → IfSome (op_on_done bytes op) IsAwaitedByCommand
