@@ -1,5 +1,6 @@
 -- What a gateway is, and what it answers about itself.
-use Rattle.std.specs.Prelude.{ℕ, ◌-◌, ◌^◌, ◌≤◌, nat_lt, Bool, true, false, not, List, [], length, map, flat_map, Option, Some, None, IsTrue, is_some}
+use Rattle.std.specs.Prelude.{ℕ, ◌-◌, ◌^◌, ◌≤◌, nat_lt, Bool, true, false, not, List, [], length, map, flat_map, Option, Some, None}
+use Rattle.std.specs.Prelude.{IsTrue, is_some}
 use Rattle.std.specs.List.{find, list_any, list_all}
 use Rattle.std.specs.Ordering.{nat_cmp}
 use Rattle.std.specs.FinMap as tree

@@ -17,7 +17,8 @@ use Rattle.gateway.specs.declared.message.Status.{Status}
 use Rattle.gateway.specs.declared.message.Status.TheVariants as statuses
 use Rattle.peer_proto.specs.Work.{oid_of, policy_of}
 use Rattle.gateway.specs.Work.{is_making, zones_for}
-use Rattle.gateway.specs.Attempt.{Attempt, messages_of, send_of, may_be_made, status_by, messages_with_status, is_over, is_done, bytes_given, first_failure}
+use Rattle.gateway.specs.Attempt.{Attempt, messages_of, send_of, may_be_made, status_by, messages_with_status, is_over, is_done}
+use Rattle.gateway.specs.Attempt.{bytes_given, first_failure}
 use Rattle.gateway.specs.State.{WorkStage, Open, Ended, WaitsForMembers, Work, Gateway, is_touched, asker, next_try}
 
 -- the gateway after a step, and what the step comes to
@@ -127,7 +128,8 @@ attempt_with_status number status attempt = record attempt { messages = messages
 
 -- the same in a work, by where it stands
 abbrev pub status_step_in : Gateway → ℕ → Work → ℕ → Status → WorkStage → GatewayStep
-status_step_in gateway req work number status (Open attempt) = attempt_continued gateway req work (attempt_with_status number status attempt)
+status_step_in gateway req work number status (Open attempt) =
+    attempt_continued gateway req work (attempt_with_status number status attempt)
 status_step_in gateway req work number status Ended = waiting_step gateway
 status_step_in gateway req work number status (WaitsForMembers epoch) = waiting_step gateway
 

@@ -17,9 +17,11 @@ ghost use Rattle.gateway.specs.declared.message.Message.{Message};
 ghost use Rattle.gateway.specs.declared.message.Status.{Status};
 ghost use Rattle.peer_proto.specs.Work.{oid_of, policy_of};
 ghost use Rattle.gateway.specs.Work.{is_making};
-ghost use Rattle.gateway.specs.Attempt.{Attempt, is_unanswered, is_awaited_message, may_be_made, messages_with_status, messages_of, bytes_in, bytes_through};
+ghost use Rattle.gateway.specs.Attempt.{Attempt, is_unanswered, is_awaited_message, may_be_made, messages_with_status, messages_of};
+ghost use Rattle.gateway.specs.Attempt.{bytes_in, bytes_through};
 ghost use Rattle.gateway.specs.State.{Open, Work, Gateway, is_touched, has_work, asker, next_try};
-ghost use Rattle.gateway.specs.Step.{with_work, without_work, without_touch, waiting_step, attempt_with_status, attempt_continued, touched_by, refusal_after_attempt, message_ended, attempt_step};
+ghost use Rattle.gateway.specs.Step.{with_work, without_work, without_touch, waiting_step, attempt_with_status, attempt_continued};
+ghost use Rattle.gateway.specs.Step.{touched_by, refusal_after_attempt, message_ended, attempt_step};
 ghost use Rattle.gateway.specs.Outcomes.{HasFailed, AsksEnough, Tells, BeginsAttempt};
 
 /// What is told when it is known what a message came to: a work is done only where its attempt has enough, and a
@@ -50,7 +52,8 @@ pub fn an_untouched_request_is_refused()
 /// request is refused while it is untouched, and else waits.
 pub fn what_a_beginning_tells()
     ensures { (epochs : List EpochMembers) (gateway : Gateway) (req : ℕ) (work : Work) (first : ℕ) (epoch : Epoch)
-        → BeginsAttempt gateway req work first (zone_count (members_at epochs epoch.0)) (attempt_step epochs gateway req work first epoch).act }
+        → BeginsAttempt gateway req work first (zone_count (members_at epochs epoch.0))
+        (attempt_step epochs gateway req work first epoch).act }
 {}
 
 /// A create, a write and a read of strips ask every target, in order: of strips each for that of its place.

@@ -1,6 +1,6 @@
 pub mod Numbers
 pub mod StepLaws
-pub mod SameLaws
+pub mod AwaitedEntryLaws
 pub mod StartLaws
 pub mod AwaitedWorks
 pub mod OneWorkParts

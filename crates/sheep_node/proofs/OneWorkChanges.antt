@@ -6,6 +6,7 @@ use Rattle.std.specs.FinSet as set
 use Rattle.object_id.specs.declared.cause.Cause.{Cause}
 use Rattle.object_id.specs.declared.cause.Cause.TheVariants.{Halt}
 use Rattle.object_id.specs.declared.entry.Entry.{Entry}
+use Rattle.object_id.specs.Same.{is_same_entry}
 use Rattle.peer_proto.specs.declared.guest.VdiAsk.{VdiAsk}
 use Rattle.peer_proto.specs.declared.guest.GuestRsp.{GuestRsp}
 use Rattle.peer_proto.specs.declared.guest.GuestRsp.TheVariants.{Refused}
@@ -42,10 +43,11 @@ use Rattle.sheep_node.specs.StepState.{StepState, at_first, with_optional_entry,
 use Rattle.sheep_node.specs.RequestWorks.{command_refused, course_refused, queue_left}
 use Rattle.sheep_node.specs.Courses.{after_driver_step, disk_with_act, after_command_step}
 use Rattle.sheep_node.specs.Guests.{inode_open, queued_as}
-use Rattle.sheep_node.specs.Same.{is_wanted, waits_for_entry}
+use Rattle.sheep_node.specs.AwaitedEntry.{waits_for_entry}
 use Rattle.sheep_node.specs.LogReading.{entry_read, on_back}
 use Rattle.sheep_node.specs.Step.{on_request, recovery_stepped, on_put, on_recover_tick}
 use Rattle.std.proofs.lemmas.Bool.{eq-eqb, eqb-true, and_parts}
+use Rattle.std.specs.Option.{option_map_or}
 use Rattle.proof_tools.proofs.Booleans.{cond_either}
 use Rattle.proof_tools.proofs.Lists.{Contains-first, Contains-nil}
 use Rattle.proof_tools.proofs.FiniteMaps.{get-insert_same, get-remove_same}
@@ -144,7 +146,7 @@ wanted_never entry (Waiting ask) waits = refl
 wanted_never entry (Driving driver) waits = absurd (cc (waits))
 wanted_never entry (Commanding ask op) waits = by_entry (entry_wanted op) waits
   where
-    by_entry : (o : Option Entry) → is_wanted entry o ≡ true → is_none o ≡ false
+    by_entry : (o : Option Entry) → option_map_or (λ (wanted : Entry). is_same_entry wanted entry) o false ≡ true → is_none o ≡ false
     by_entry None waits = absurd (cc (waits))
     by_entry (Some wanted) waits = refl
 

@@ -39,7 +39,8 @@ use Rattle.vdi_ops.specs.Steps.{begin_command, op_on_done, on_decision}
 use Rattle.recovery.specs.Steps as recovery_steps
 use Rattle.sheep_node.specs.State.{Course, Waiting, Driving, Commanding, Node}
 use Rattle.sheep_node.specs.RecoveryView.{recovery_state_of}
-use Rattle.sheep_node.specs.StepState.{StepState, at_first, with_node, with_sends, with_guest_reply, with_outbox_entry, with_gateway, with_session, session_in, with_inode_queue, with_disk, with_course, request_ended}
+use Rattle.sheep_node.specs.StepState.{StepState, at_first, with_node, with_sends, with_guest_reply, with_outbox_entry, with_gateway}
+use Rattle.sheep_node.specs.StepState.{with_session, session_in, with_inode_queue, with_disk, with_course, request_ended}
 use Rattle.sheep_node.specs.RequestWorks.{course_refused, queue_left}
 use Rattle.sheep_node.specs.Courses.{after_driver_step, after_command_step}
 use Rattle.sheep_node.specs.declared.ask.Ask.{Ask}
@@ -47,7 +48,7 @@ use Rattle.sheep_node.specs.declared.ask.Ask.TheVariants as asks
 use Rattle.sheep_node.specs.declared.input.Input.{Input}
 use Rattle.sheep_node.specs.declared.input.Input.TheVariants as inputs
 use Rattle.sheep_node.specs.Guests.{request_refusal, inode_open, queued_as}
-use Rattle.sheep_node.specs.Same.{waits_for_entry}
+use Rattle.sheep_node.specs.AwaitedEntry.{waits_for_entry}
 use Rattle.sheep_node.specs.LogReading.{entry_read, on_back}
 use Rattle.sheep_node.specs.Step.{on_request, recovery_stepped, on_put, on_recover_tick, is_due, with_recovered}
 
@@ -67,7 +68,8 @@ without_ended_work session req work status so_far =
 -- why it is refused
 abbrev pub refusal_of : ℕ → ℕ → Work → Attempt → Status → StepState → Option Cause
 refusal_of req number work attempt status so_far =
-    refusal_after_attempt (gateway_with_touch req work status so_far) req work.work (work.ended + 1) (attempt_with_status number status attempt)
+    refusal_after_attempt (gateway_with_touch req work status so_far) req work.work (work.ended + 1)
+    (attempt_with_status number status attempt)
 
 -- what a step is to come to
 pub data Outcome : Type 0 where
@@ -98,18 +100,21 @@ has_too_few_zones asked node = nat_lt (zones_of_members node) (zones_for asked.w
 -- the attempt that begins in a node
 abbrev pub attempt_in : Work → Node → Attempt
 attempt_in asked node =
-    next_attempt asked node.sends (record { 0 = node.peer.epoch }) (targets_in node.epochs node.peer.epoch (oid_of asked.work) (policy_of asked.work))
+    next_attempt asked node.sends (record { 0 = node.peer.epoch })
+    (targets_in node.epochs node.peer.epoch (oid_of asked.work) (policy_of asked.work))
 
 -- it is open, and its messages are sent
 abbrev pub with_open_attempt : ℕ → Work → StepState → StepState
 with_open_attempt req asked so_far =
-    with_sends (map (send_of so_far.node.gateway.me (record { 0 = so_far.node.peer.epoch }) asked.work) (attempt_in asked so_far.node).messages)
+    with_sends
+    (map (send_of so_far.node.gateway.me (record { 0 = so_far.node.peer.epoch }) asked.work) (attempt_in asked so_far.node).messages)
     (with_gateway (with_work req (record asked { stage = Open (attempt_in asked so_far.node) }) so_far.node.gateway) so_far)
 
 -- the work waits for members
 abbrev pub with_work_held : ℕ → Work → StepState → StepState
 with_work_held req asked so_far =
-    with_gateway (with_work req (record asked { stage = WaitsForMembers (record { 0 = so_far.node.peer.epoch }) }) so_far.node.gateway) so_far
+    with_gateway
+    (with_work req (record asked { stage = WaitsForMembers (record { 0 = so_far.node.peer.epoch }) }) so_far.node.gateway) so_far
 
 -- it is refused
 abbrev pub without_denied_work : ℕ → ℕ → Work → StepState → StepState

@@ -1,7 +1,7 @@
 pub mod State
 pub mod RecoveryView
 pub mod StepState
-pub mod Same
+pub mod AwaitedEntry
 pub mod RequestWorks
 pub mod Courses
 pub mod Waiting

@@ -22,7 +22,7 @@ use Rattle.recovery.specs.Steps.{recovery_from_epoch}
 use Rattle.sheep_node.specs.State.{Request, Node}
 use Rattle.sheep_node.specs.RecoveryView.{recovery_state_of, with_recovered_rows, with_state}
 use Rattle.sheep_node.specs.StepState.{StepState, with_node}
-use Rattle.sheep_node.specs.Same.{waits_for_entry}
+use Rattle.sheep_node.specs.AwaitedEntry.{waits_for_entry}
 use Rattle.sheep_node.specs.Courses.{course_decided}
 use Rattle.sheep_node.specs.Waiting.{let_begin}
 

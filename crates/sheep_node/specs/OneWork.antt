@@ -1,6 +1,7 @@
 -- Which requests may have an open work, and which numbers are waited for: by this a work begins only where its request has none, and
 -- an answer or a loss is of one message.
-use Rattle.std.specs.Prelude.{◌≡◌, ◌≢◌, ℕ, ◌<◌, ◌==◌, Bool, true, false, ◌&&◌, List, [], ◌∷◌, Contains, Option, Some, None, is_none, unwrap_or}
+use Rattle.std.specs.Prelude.{◌≡◌, ◌≢◌, ℕ, ◌<◌, ◌==◌, Bool, true, false, ◌&&◌, List, [], ◌∷◌, Contains, Option, Some, None, is_none}
+use Rattle.std.specs.Prelude.{unwrap_or}
 use Rattle.std.specs.Ordering.{nat_cmp}
 use Rattle.std.specs.Option.{option_map_or}
 use Rattle.std.specs.FinMap as tree
@@ -33,15 +34,18 @@ waiting_in number sessions = (unwrap_or (tree.get sessions number) new_session).
 -- no two are of one request
 abbrev pub AreOfDifferentRequests : List lines.Waiting → Type 0
 AreOfDifferentRequests [] = Unit {0}
-AreOfDifferentRequests (waiting ∷ later) = ((other : lines.Waiting) → Contains later other → other.req ≢ waiting.req) × AreOfDifferentRequests later
+AreOfDifferentRequests (waiting ∷ later) =
+    ((other : lines.Waiting) → Contains later other → other.req ≢ waiting.req) × AreOfDifferentRequests later
 
 -- an open work is of a request that may have one; a work that waits is of such a request of its session, which has none open and
 -- waits once
-pub record HaveOneWorkPerRequest (works : tree.FinMap nat_cmp Work) (requests : tree.FinMap nat_cmp Request) (sessions : tree.FinMap nat_cmp Session) : Type 0 where
+pub record HaveOneWorkPerRequest (works : tree.FinMap nat_cmp Work) (requests : tree.FinMap nat_cmp Request)
+    (sessions : tree.FinMap nat_cmp Session) : Type 0 where
   pub open_works : (req : ℕ) (work : Work) → tree.get works req ≡ Some work → may_work_at (tree.get requests req) ≡ true
   pub waiting_works : (number : ℕ) (waiting : lines.Waiting) → Contains (waiting_in number sessions) waiting
       → may_work_of number (tree.get requests waiting.req) ≡ true
-  pub waiting_free : (number : ℕ) (waiting : lines.Waiting) → Contains (waiting_in number sessions) waiting → tree.get works waiting.req ≡ None
+  pub waiting_free : (number : ℕ) (waiting : lines.Waiting) → Contains (waiting_in number sessions) waiting
+      → tree.get works waiting.req ≡ None
   pub apart : (number : ℕ) → AreOfDifferentRequests (waiting_in number sessions)
 
 -- a number is of one work at most
@@ -51,7 +55,8 @@ NumbersAreOfOneWork works = (number one other : ℕ) (work later : Work) → tre
 
 -- each number is below a count
 abbrev pub NumbersAreBelow : ℕ → tree.FinMap nat_cmp Work → Type 0
-NumbersAreBelow count works = (number req : ℕ) (work : Work) → tree.get works req ≡ Some work → is_awaited_in number work ≡ true → number < count
+NumbersAreBelow count works = (number req : ℕ) (work : Work) → tree.get works req ≡ Some work
+    → is_awaited_in number work ≡ true → number < count
 
 -- the same of a node, whose gateway asks in its name; each number that it waits for it gave, to one work or to recoveries
 pub record HasOneWorkPerRequest (node : Node) : Type 0 where

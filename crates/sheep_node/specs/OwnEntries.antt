@@ -4,7 +4,8 @@ use Rattle.std.specs.Ordering.{nat_cmp}
 use Rattle.std.specs.FinMap as tree
 use Rattle.object_id.specs.declared.node.NodeId.{NodeId}
 use Rattle.object_id.specs.declared.entry.Entry.{Entry}
-use Rattle.object_id.specs.declared.entry.Entry.TheVariants.{Format, Join, Leave, Reweight, Recovered, Reserve, Publish, Clone, Snapshot, Delete, Lock, Unlock}
+use Rattle.object_id.specs.declared.entry.Entry.TheVariants.{Format, Join, Leave, Reweight, Recovered, Reserve, Publish, Clone, Snapshot}
+use Rattle.object_id.specs.declared.entry.Entry.TheVariants.{Delete, Lock, Unlock}
 use Rattle.vdi_ops.specs.Op.{Task, Opening, WritingBack, Tagging, Copying, Making, OpStage, Asked, Working, Publishing, Answered, Op}
 use Rattle.sheep_node.specs.State.{Course, Waiting, Driving, Commanding, Request, Node}
 

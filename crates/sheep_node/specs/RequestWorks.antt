@@ -11,7 +11,8 @@ use Rattle.guest_driver.specs.InodeQueue.{may_open_work, queue_with_open, queue_
 use Rattle.vdi_ops.specs.declared.end.OpEnd.{OpEnd}
 use Rattle.vdi_ops.specs.Steps.{on_refusal}
 use Rattle.sheep_node.specs.State.{Course, Waiting, Driving, Commanding, Request, Node}
-use Rattle.sheep_node.specs.StepState.{StepState, with_sends, with_optional_entry, with_gateway, session_in, with_inode_queue, request_ended}
+use Rattle.sheep_node.specs.StepState.{StepState, with_sends, with_optional_entry, with_gateway, session_in, with_inode_queue}
+use Rattle.sheep_node.specs.StepState.{request_ended}
 
 -- a command ends with the refusal of its work: the granted id is given back by an entry in the outbox
 abbrev pub command_refused : ℕ → ℕ → Option OpEnd → StepState → StepState

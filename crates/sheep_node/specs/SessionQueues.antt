@@ -9,7 +9,8 @@ use Rattle.sheep_node.specs.May.{is_disk_course}
 
 -- whether a request that was looked up is a read or write of a session
 abbrev pub is_disk_request_of : ℕ → Option Request → Bool
-is_disk_request_of number request = option_map_or (λ (request : Request). request.session == number && is_disk_course request.course) request false
+is_disk_request_of number request =
+    option_map_or (λ (request : Request). request.session == number && is_disk_course request.course) request false
 
 -- the session of a number among some
 abbrev pub session_among : ℕ → tree.FinMap nat_cmp Session → Session

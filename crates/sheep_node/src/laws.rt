@@ -25,7 +25,7 @@ ghost use Rattle.sheep_node.specs.OneWork.{HasOneWorkPerRequest};
 ghost use Rattle.sheep_node.specs.OwnEntries.{HasOnlyOwnEntries};
 ghost use Rattle.sheep_node.specs.SessionQueues.{QueuesAreDiskRequests};
 ghost use Rattle.sheep_node.specs.Changes.{input_received, Leads};
-ghost use Rattle.sheep_node.specs.Same.{is_of_command, waits_for_entry};
+ghost use Rattle.sheep_node.specs.AwaitedEntry.{waits_for_entry};
 ghost use Rattle.sheep_node.specs.RequestWorks.{work_begun};
 ghost use Rattle.sheep_node.specs.May.{May};
 ghost use Rattle.sheep_node.specs.Step.{is_due, recovered_put, node_step};
@@ -107,7 +107,7 @@ pub fn recovered_is_put_once()
 pub fn a_decision_is_on_the_entry_wanted()
     ensures only { (entry : Entry) (ask : VdiAsk) (op : Op) → waits_for_entry entry (Commanding ask op) ≡ true
         → entry_wanted op ≡ Some entry }
-    ensures each { (entry : Entry) (ask : VdiAsk) (op : Op) → is_of_command entry ≡ true → entry_wanted op ≡ Some entry
+    ensures each { (entry : Entry) (ask : VdiAsk) (op : Op) → entry_wanted op ≡ Some entry
         → waits_for_entry entry (Commanding ask op) ≡ true }
 {}
 

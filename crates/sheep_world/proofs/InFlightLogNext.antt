@@ -9,6 +9,7 @@ use Rattle.proof_tools.proofs.Booleans.{cond_either}
 use Rattle.proof_tools.proofs.Lists.{Contains-nil, find-contains}
 use Rattle.proof_tools.proofs.FiniteMaps.{get-entry}
 use Rattle.object_id.specs.declared.entry.Entry.{Entry}
+use Rattle.object_id.specs.Same.{is_same_entry}
 use Rattle.object_id.specs.declared.entry.Member.{Member}
 use Rattle.object_id.specs.declared.entry.VdiSpec.{VdiSpec}
 use Rattle.object_id.specs.declared.node.NodeId.{NodeId}
@@ -52,7 +53,7 @@ use Rattle.sheep_node.specs.declared.input.Input.TheVariants as inputs
 use Rattle.sheep_node.specs.State.{Course, Waiting, Driving, Commanding, Request, Node}
 use Rattle.sheep_node.specs.RecoveryView.{recovery_state_of}
 use Rattle.sheep_node.specs.May.{fits_node}
-use Rattle.sheep_node.specs.Same.{is_wanted, waits_for_entry}
+use Rattle.sheep_node.specs.AwaitedEntry.{waits_for_entry}
 use Rattle.sheep_node.specs.StepState.{StepState, at_first}
 use Rattle.sheep_node.specs.Courses.{course_decided}
 use Rattle.sheep_node.specs.LogReading as nodes
@@ -239,7 +240,7 @@ wanted_never entry (Waiting ask) waits = absurd (cc (waits))
 wanted_never entry (Driving driver) waits = absurd (cc (waits))
 wanted_never entry (Commanding ask op) waits = by_entry (entry_wanted op) waits
   where
-    by_entry : (o : Option Entry) → is_wanted entry o ≡ true → is_none o ≡ false
+    by_entry : (o : Option Entry) → option_map_or (λ (wanted : Entry). is_same_entry wanted entry) o false ≡ true → is_none o ≡ false
     by_entry None waits = absurd (cc (waits))
     by_entry (Some wanted) waits = refl
 

@@ -20,7 +20,7 @@ use Rattle.sheep_node.specs.State as nodes
 use Rattle.sheep_node.specs.State.{Node, Request}
 use Rattle.sheep_node.specs.StepState.{StepState, at_first, with_node}
 use Rattle.sheep_node.specs.LogReading.{asker_of, decision_told, entry_read, on_log_entry}
-use Rattle.sheep_node.specs.Same.{waits_for_entry}
+use Rattle.sheep_node.specs.AwaitedEntry.{waits_for_entry}
 use Rattle.peer_service.specs.LogReading.{decision_on}
 use Rattle.sheep_node.specs.Step.{on_input, is_due, with_recovered, recovered_put, node_step}
 use Rattle.sheep_node.proofs.NumberChanges.{one_work_at_opening}

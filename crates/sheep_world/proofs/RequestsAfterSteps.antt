@@ -51,7 +51,7 @@ use Rattle.sheep_node.specs.Courses.{driver_acted, driver_stepped, driver_went_o
 use Rattle.sheep_node.specs.Waiting.{next_begun, course_begun, found_request_begun, begun_if_may, passed_over, queued_requests, let_begin, work_done, work_refused, after_act, after_gateway_step}
 use Rattle.sheep_node.specs.Guests as guests
 use Rattle.sheep_node.specs.Guests.{request_refusal, inode_open, with_queued_request, request_taken, request_taken_unless}
-use Rattle.sheep_node.specs.Same.{waits_for_entry}
+use Rattle.sheep_node.specs.AwaitedEntry.{waits_for_entry}
 use Rattle.sheep_node.specs.LogReading.{entry_read, asker_of, decision_told, on_log_entry, on_back}
 use Rattle.sheep_node.specs.Step as steps
 use Rattle.sheep_node.specs.Step.{on_request, recovery_stepped, on_reply, on_put, on_recover_tick, on_retry_tick, on_input, is_due, with_recovered, recovered_put, node_step}
