@@ -78,7 +78,7 @@ fits_work work (says.Row row) = false
 fits_work work says.NoRow = false
 fits_work work (says.Refused refusal) = true
 
--- the same of the request that a message belongs to, if there is one
+-- whether a message belongs to a work's request, and a reply fits that
 abbrev pub fits_asker : Option (ℕ × Work) → PeerSay → Bool
 fits_asker None say = false
 fits_asker (Some found) say = fits_work found.1.work say

@@ -126,14 +126,14 @@ attempt_continued gateway req work attempt =
 abbrev pub attempt_with_status : ℕ → Status → Attempt → Attempt
 attempt_with_status number status attempt = record attempt { messages = messages_with_status number status attempt.messages }
 
--- the same in a work, by where it stands
+-- what a message came to is known in a work, by where that stands
 abbrev pub status_step_in : Gateway → ℕ → Work → ℕ → Status → WorkStage → GatewayStep
 status_step_in gateway req work number status (Open attempt) =
     attempt_continued gateway req work (attempt_with_status number status attempt)
 status_step_in gateway req work number status Ended = waiting_step gateway
 status_step_in gateway req work number status (WaitsForMembers epoch) = waiting_step gateway
 
--- the same for the request, with its work, that the message belongs to; a number of no unanswered message says nothing
+-- it is known for the request, with its work, that the message belongs to; a number of no unanswered message says nothing
 abbrev pub status_step_by : Gateway → ℕ → Status → Option (ℕ × Work) → GatewayStep
 status_step_by gateway number status None = waiting_step gateway
 status_step_by gateway number status (Some found) =

@@ -15,3 +15,4 @@ pub mod PeerLog
 pub mod StepEffects
 pub mod StepResults
 pub mod LogLaws
+mod RefusalLaws

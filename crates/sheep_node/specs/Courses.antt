@@ -40,7 +40,7 @@ abbrev pub driver_went_on : ℕ → ℕ → Disk → Option drivers.DriverStep �
 driver_went_on number req disk None so_far = so_far
 driver_went_on number req disk (Some step) so_far = driver_stepped number req disk step so_far
 
--- the same on the disk that the session has open
+-- a read or write goes on, on the disk that the session has open
 abbrev pub disk_went_on : ℕ → ℕ → List ℕ → Driver → Option Disk → StepState → StepState
 disk_went_on number req bytes driver None so_far = so_far
 disk_went_on number req bytes driver (Some disk) so_far =
@@ -92,7 +92,7 @@ command_acted number req (op_acts.Reply reply) so_far = request_ended number req
 unfoldable pub command_stepped : ℕ → ℕ → VdiAsk → ops.OpStep → StepState → StepState
 command_stepped number req ask step so_far = command_acted number req step.act (after_command_step number req ask step so_far)
 
--- the same, if there is one
+-- a command goes on by a step, if there is one
 abbrev pub command_went_on : ℕ → ℕ → VdiAsk → Option ops.OpStep → StepState → StepState
 command_went_on number req ask None so_far = so_far
 command_went_on number req ask (Some step) so_far = command_stepped number req ask step so_far

@@ -18,11 +18,11 @@ may_work (Waiting ask) = false
 may_work (Driving driver) = true
 may_work (Commanding ask op) = is_none (entry_wanted op)
 
--- the same of a request that was looked up
+-- whether a request that was looked up is there, and may have one
 abbrev pub may_work_at : Option Request → Bool
 may_work_at request = option_map_or (λ (request : Request). may_work request.course) request false
 
--- the same of one of a session
+-- whether it is there, is of this session, and may have one
 abbrev pub may_work_of : ℕ → Option Request → Bool
 may_work_of number request =
     option_map_or (λ (request : Request). request.session == number && may_work request.course) request false
@@ -58,7 +58,8 @@ abbrev pub NumbersAreBelow : ℕ → tree.FinMap nat_cmp Work → Type 0
 NumbersAreBelow count works = (number req : ℕ) (work : Work) → tree.get works req ≡ Some work
     → is_awaited_in number work ≡ true → number < count
 
--- the same of a node, whose gateway asks in its name; each number that it waits for it gave, to one work or to recoveries
+-- a node's gateway asks in the node's name, its works go with its requests, and each number that it waits for it gave, to one work or
+-- to recoveries
 pub record HasOneWorkPerRequest (node : Node) : Type 0 where
   pub own : node.gateway.me ≡ node.me
   pub driven : HaveOneWorkPerRequest node.gateway.works node.requests node.sessions

@@ -25,7 +25,7 @@ course_refused number req cause (Waiting ask) so_far = so_far
 course_refused number req cause (Driving driver) so_far = request_ended number req (Refused cause) so_far
 course_refused number req cause (Commanding ask op) so_far = command_refused number req (on_refusal cause op) so_far
 
--- the same of a request that was looked up
+-- a request that was looked up ends so, if it is there
 abbrev pub request_refused : ℕ → Cause → Option Request → StepState → StepState
 request_refused req cause None so_far = so_far
 request_refused req cause (Some request) so_far = course_refused request.session req cause request.course so_far
