@@ -16,3 +16,4 @@ pub mod StepEffects
 pub mod StepResults
 pub mod LogLaws
 mod RefusalLaws
+pub mod NodeLaws

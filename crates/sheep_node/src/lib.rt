@@ -33,7 +33,7 @@ pub use event::Event;
 pub use input::Input;
 pub use laws::{
     a_create_begins_with_its_reservation, a_decision_is_on_the_entry_wanted,
-    a_node_is_where_its_entries_have_it, a_node_puts_its_own_entries,
+    a_node_is_where_its_entries_have_it, a_node_puts_its_own_entries, a_node_stays_one,
     a_queue_has_the_disk_requests, a_refused_work_gives_its_id_back, a_request_has_one_work,
     a_step_is_a_chain_of_changes, a_touched_work_is_not_refused, only_the_log_is_read,
     other_epochs_are_refused, outputs_are_as_the_input, recovered_is_put_once,
