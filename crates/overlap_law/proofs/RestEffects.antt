@@ -18,7 +18,7 @@ use Rattle.sheep_node.specs.State as nodes
 use Rattle.sheep_node.specs.State.{Node}
 use Rattle.sheep_node.specs.RecoveryView.{recovery_state_of}
 use Rattle.sheep_node.specs.Step.{is_due, node_step}
-use Rattle.sheep_node.proofs.SoundSteps.{stepped_puts}
+use Rattle.sheep_node.proofs.StepResults.{step_not_due}
 use Rattle.sheep_world.specs.declared.name.MessageName.{MessageName}
 use Rattle.sheep_world.specs.World.{Packet, Request, Reply, Host, World, host_at, is_up, message_at, are_ends_up}
 use Rattle.sheep_world.specs.NodeSteps.{host_stepped, node_stepped, node_stepped_if, at_rest}
@@ -42,7 +42,7 @@ host-rested : (script : List Statement) (n : ℕ) (input : Input) (o : Option Ho
     → AreRested (host_stepped script n input o world).hosts
 host-rested script n input None world rested = rested
 host-rested script n input (Some host) world rested =
-    rested-insert world.hosts n (record host { node = (node_step input host.node).node }) rested (stepped_puts input host.node)
+    rested-insert world.hosts n (record host { node = (node_step input host.node).node }) rested (step_not_due input host.node)
 
 pub node-rested : (script : List Statement) (n : ℕ) (input : Input) (world : World) → AreRested world.hosts
     → AreRested (node_stepped script n input world).hosts
