@@ -27,7 +27,7 @@ use Rattle.recovery.proofs.StepLemmas.{frame_of_end, frame_of_tick}
 use Rattle.recovery.specs.Shown.{shown_with_pending}
 use Rattle.sheep_node.specs.State.{Node}
 use Rattle.sheep_node.specs.RecoveryView.{recovery_state_of}
-use Rattle.sheep_node.specs.LogReading.{epoch_members, with_entry, recovery_in_epoch, begins_recovery, entry_read}
+use Rattle.sheep_node.specs.LogReading.{epoch_members, node_with_entry, recovery_in_epoch, begins_recovery, entry_read}
 use Rattle.sheep_node.proofs.Numbers.{tick_numbers}
 
 abbrev pub Sends : Type 0
@@ -183,8 +183,8 @@ pub unanswered_reading : (entry : Entry) (node : Node) → recoveries.all_unansw
 unfolding entry_read
 unanswered_reading entry node =
     cond_either (λ (after : RecoveryState). recoveries.all_unanswered after.recovery ≡ recoveries.all_unanswered node.recovery)
-    (begins_recovery entry node) (recovery_in_epoch (with_entry entry node)) (recovery_state_of (with_entry entry node))
-    (unanswered_in_epoch (with_entry entry node)) refl
+    (begins_recovery entry node) (recovery_in_epoch (node_with_entry entry node)) (recovery_state_of (node_with_entry entry node))
+    (unanswered_in_epoch (node_with_entry entry node)) refl
 
 -- and once it had a tick
 module _ (state : RecoveryState) (first : ℕ) (may : can_tick state ≡ true) where

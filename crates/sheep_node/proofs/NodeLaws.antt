@@ -8,15 +8,15 @@ use Rattle.sheep_node.specs.State.{Node, initial_node}
 use Rattle.sheep_node.specs.RecoveryView.{recovery_state_of}
 use Rattle.sheep_node.specs.Step.{node_step}
 use Rattle.sheep_node.specs.May.{May}
-use Rattle.sheep_node.specs.IsNode.{IsNode}
+use Rattle.sheep_node.specs.NodeInvariant.{IsSoundNode}
 use Rattle.sheep_node.proofs.NumberChanges.{one_work_at_opening, one_work_stays}
 use Rattle.sheep_node.proofs.OwnEntryChanges.{own_entries_at_opening, own_entries_stay}
 use Rattle.sheep_node.proofs.QueueChanges.{none_queued, queues_stay}
 use Rattle.sheep_node.proofs.LogLaws.{opening_follows, step_follows}
 use Rattle.sheep_node.proofs.StepResults.{step_not_due}
 
-pub IsNode-initial : (me : NodeId) (tries : ℕ) → IsNode (initial_node me tries)
-IsNode-initial me tries = record {
+pub IsSoundNode-initial : (me : NodeId) (tries : ℕ) → IsSoundNode (initial_node me tries)
+IsSoundNode-initial me tries = record {
   one_work = one_work_at_opening me tries;
   own_entries = own_entries_at_opening me tries;
   queues = none_queued;
@@ -24,8 +24,8 @@ IsNode-initial me tries = record {
   none_due = and-false (recoveries.is_finished (recovery_state_of (initial_node me tries)));
 }
 
-pub IsNode-step : (input : Input) (node : Node) → May input node → IsNode node → IsNode (node_step input node).node
-IsNode-step input node may is = record {
+pub IsSoundNode-step : (input : Input) (node : Node) → May input node → IsSoundNode node → IsSoundNode (node_step input node).node
+IsSoundNode-step input node may is = record {
   one_work = one_work_stays input node may is.one_work;
   own_entries = own_entries_stay input node may is.one_work is.own_entries;
   queues = queues_stay input node may is.one_work is.queues;

@@ -67,7 +67,7 @@ use Rattle.sheep_node.specs.Step.{recovery_stepped, on_put, on_input, is_due, wi
 use Rattle.sheep_node.specs.May.{fits_node, May}
 use Rattle.sheep_node.specs.OneWork.{may_work_at, HasOneWorkPerRequest}
 use Rattle.sheep_node.specs.Changes as changes
-use Rattle.sheep_node.specs.Changes.{IsTold, input_received, IsOverWith, HasRequest, LearnsStatus, EndsAttempt, EndsWork, Arrival, gateway_with_touch, without_ended_work, refusal_of, ToWork, outcome_of_driver, outcome_of_command, RequestSteps, DiskBegins, DiskGoesOn, CommandBegins, CommandGoesOn, CommandDecided, new_work, WorkIsNext, AtOnce, InTurn, Again, has_too_few_zones, zones_of_members, without_denied_work, Change, Leads, Still, Then}
+use Rattle.sheep_node.specs.Changes.{IsTold, input_received, IsOverWith, HasRequest, LearnsStatus, EndsAttempt, EndsWork, Arrival, gateway_with_touch, without_ended_work, refusal_after_status, ToWork, outcome_of_driver, outcome_of_command, RequestSteps, DiskBegins, DiskGoesOn, CommandBegins, CommandGoesOn, CommandDecided, new_work, WorkIsNext, AtOnce, InTurn, Again, has_too_few_zones, zones_of_members, without_denied_work, Change, Leads, Still, Then}
 use Rattle.sheep_node.proofs.AwaitedWorks.{found_got}
 use Rattle.sheep_node.proofs.OneWorkChanges.{StepHasOneWork, comes_free, change_keeps_one_work, received_one_work}
 
@@ -276,7 +276,7 @@ module _ (input : Input) (node : Node) (first : StepState) where
           (let_begin_walk session (course_went_on session req bytes_now course freed) (went_on_walk course refl))
 
     pub refused_walk : (cause : Cause) → is_done work.work (messages_with_status number status attempt.messages) ≡ false
-        → refusal_of req number work attempt status so_far ≡ Some cause
+        → refusal_after_status req number work attempt status so_far ≡ Some cause
         → IsReached input node first (after_gateway_act (refusal_step (gateway_with_touch req work status so_far) req work.work cause))
     refused_walk cause never why =
         subst (λ (o : Option Request). IsReached input node first (work_refused work.work req cause o (with_gateway (without_work req (gateway_with_touch req work status so_far)) so_far)))
@@ -304,7 +304,7 @@ module _ (input : Input) (node : Node) (first : StepState) where
           ends = record { learns = learns; over = over; request = asker_now.there }
 
           not_done_walk : is_done work.work (messages_with_status number status attempt.messages) ≡ false → (cause : Option Cause)
-              → refusal_of req number work attempt status so_far ≡ cause → Settled (failure_step (gateway_with_touch req work status so_far) req work cause)
+              → refusal_after_status req number work attempt status so_far ≡ cause → Settled (failure_step (gateway_with_touch req work status so_far) req work cause)
           not_done_walk never None why =
               reached_by walk (changes.Fails asker_now.session req number work attempt status asker_now.course ends never why)
           not_done_walk never (Some cause) why =
@@ -312,9 +312,9 @@ module _ (input : Input) (node : Node) (first : StepState) where
 
           over_walk : (b : Bool) → is_done work.work (messages_with_status number status attempt.messages) ≡ b
               → Settled (cond b (done_step (gateway_with_touch req work status so_far) req work.work (bytes_given work.work (messages_with_status number status attempt.messages)))
-              (failure_step (gateway_with_touch req work status so_far) req work (refusal_of req number work attempt status so_far)))
+              (failure_step (gateway_with_touch req work status so_far) req work (refusal_after_status req number work attempt status so_far)))
           over_walk true is = done_walk so_far asker_now.session req number work attempt status asker_now.course ends walk is
-          over_walk false never = not_done_walk never (refusal_of req number work attempt status so_far) refl
+          over_walk false never = not_done_walk never (refusal_after_status req number work attempt status so_far) refl
 
         goes_walk : (b : Bool) → is_over (messages_with_status number status attempt.messages) ≡ b
             → Settled (cond b (gateway_steps.attempt_ended (gateway_with_touch req work status so_far) req work (attempt_with_status number status attempt))

@@ -66,8 +66,8 @@ without_ended_work session req work status so_far =
     queue_left session work.work (with_gateway (without_work req (gateway_with_touch req work status so_far)) so_far)
 
 -- why it is refused
-abbrev pub refusal_of : ℕ → ℕ → Work → Attempt → Status → StepState → Option Cause
-refusal_of req number work attempt status so_far =
+abbrev pub refusal_after_status : ℕ → ℕ → Work → Attempt → Status → StepState → Option Cause
+refusal_after_status req number work attempt status so_far =
     refusal_after_attempt (gateway_with_touch req work status so_far) req work.work (work.ended + 1)
     (attempt_with_status number status attempt)
 
@@ -236,7 +236,7 @@ module _ (input : Input) (node : Node) where
     Fails : (session req number : ℕ) (work : Work) (attempt : Attempt) (status : Status) (course : Course)
         → EndsAttempt so_far session req number work attempt status course
         → is_done work.work (messages_with_status number status attempt.messages) ≡ false
-        → refusal_of req number work attempt status so_far ≡ None
+        → refusal_after_status req number work attempt status so_far ≡ None
         → Change so_far (with_gateway (with_work req (record work { ended = work.ended + 1; stage = Ended })
         (gateway_with_touch req work status so_far)) so_far)
     -- a work is done with which its request doesn't go on
@@ -248,7 +248,7 @@ module _ (input : Input) (node : Node) where
     Refuses : (session req number : ℕ) (work : Work) (attempt : Attempt) (status : Status) (course : Course) (cause : Cause)
         → EndsAttempt so_far session req number work attempt status course
         → is_done work.work (messages_with_status number status attempt.messages) ≡ false
-        → refusal_of req number work attempt status so_far ≡ Some cause
+        → refusal_after_status req number work attempt status so_far ≡ Some cause
         → Change so_far (course_refused session req cause course (without_ended_work session req work status so_far))
     -- an attempt begins
     Opens : (session req : ℕ) (asked : Work) (lined : StepState) → WorkIsNext so_far session req asked lined

@@ -15,4 +15,4 @@ pub mod OneWork
 pub mod Changes
 pub mod OwnEntries
 pub mod SessionQueues
-pub mod IsNode
+pub mod NodeInvariant

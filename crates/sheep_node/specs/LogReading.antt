@@ -57,8 +57,8 @@ peer_with_entry entry node =
     else read_entry entry node.peer
 
 -- the node then
-abbrev pub with_entry : Entry → Node → Node
-with_entry entry node = record node { peer = peer_with_entry entry node; epochs = epochs_with_entry entry node }
+abbrev pub node_with_entry : Entry → Node → Node
+node_with_entry entry node = record node { peer = peer_with_entry entry node; epochs = epochs_with_entry entry node }
 
 -- how the recovery of a node's epoch begins
 abbrev pub recovery_in_epoch : Node → RecoveryState
@@ -67,12 +67,12 @@ recovery_in_epoch node =
 
 -- whether an entry begins a recovery: where it begins an epoch with the node as a member. The first epoch is nobody's to recover
 abbrev pub begins_recovery : Entry → Node → Bool
-begins_recovery entry node = begins_epoch entry && is_epoch_member (with_entry entry node)
+begins_recovery entry node = begins_epoch entry && is_epoch_member (node_with_entry entry node)
 
 -- the recovery, once an entry was read
 abbrev pub recovery_with_entry : Entry → Node → RecoveryState
 recovery_with_entry entry node =
-    if begins_recovery entry node then recovery_in_epoch (with_entry entry node) else recovery_state_of (with_entry entry node)
+    if begins_recovery entry node then recovery_in_epoch (node_with_entry entry node) else recovery_state_of (node_with_entry entry node)
 
 -- a peer, once an epoch is settled that may be a later one than before
 abbrev pub with_settled : ℕ → Peer → Peer

@@ -25,7 +25,7 @@ ghost use Rattle.sheep_node.specs.declared.input.Input.{Input};
 ghost use Rattle.sheep_node.specs.declared.input.Input.TheVariants as inputs;
 ghost use Rattle.sheep_node.specs.State.{Node, Commanding, initial_node};
 ghost use Rattle.sheep_node.specs.StepState.{StepState, at_first};
-ghost use Rattle.sheep_node.specs.IsNode.{IsNode};
+ghost use Rattle.sheep_node.specs.NodeInvariant.{IsSoundNode};
 ghost use Rattle.sheep_node.specs.OneWork.{HasOneWorkPerRequest};
 ghost use Rattle.sheep_node.specs.OwnEntries.{HasOnlyOwnEntries};
 ghost use Rattle.sheep_node.specs.SessionQueues.{QueuesAreDiskRequests};
@@ -74,7 +74,7 @@ pub fn outputs_are_as_the_input()
 
 /// A request of another epoch is answered with the node's own, and changes nothing.
 pub fn other_epochs_are_refused()
-    ensures older { (request : PeerReq) (node : Node) → IsNode node → request.epoch.0 < node.peer.epoch
+    ensures older { (request : PeerReq) (node : Node) → IsSoundNode node → request.epoch.0 < node.peer.epoch
         → node_step (inputs.Request request) node ≡ record {
           node = node;
           outputs = only_reply (record {
@@ -83,7 +83,7 @@ pub fn other_epochs_are_refused()
             say = Refused (OldEpoch (record { 0 = node.peer.epoch }));
           });
         } }
-    ensures newer { (request : PeerReq) (node : Node) → IsNode node → node.peer.epoch < request.epoch.0
+    ensures newer { (request : PeerReq) (node : Node) → IsSoundNode node → node.peer.epoch < request.epoch.0
         → node_step (inputs.Request request) node ≡ record {
           node = node;
           outputs = only_reply (record {
@@ -96,7 +96,7 @@ pub fn other_epochs_are_refused()
 
 /// The entry that was put leaves the outbox, and nothing else changes.
 pub fn what_is_put_leaves_the_outbox()
-    ensures { (node : Node) (entry : Entry) (later : List Entry) → IsNode node → node.outbox ≡ entry ∷ later
+    ensures { (node : Node) (entry : Entry) (later : List Entry) → IsSoundNode node → node.outbox ≡ entry ∷ later
         → (node_step inputs.Put node).node ≡ record node { outbox = later } }
 {}
 
@@ -154,7 +154,7 @@ pub fn a_refused_work_gives_its_id_back()
 
 /// A guest's command begins with its entry in the outbox: a new disk with its reservation.
 pub fn a_create_begins_with_its_reservation()
-    ensures { (req session : ℕ) (name : List ℕ) (spec : VdiSpec) (node : Node) → IsNode node
+    ensures { (req session : ℕ) (name : List ℕ) (spec : VdiSpec) (node : Node) → IsSoundNode node
         → (node_step (inputs.Guest req session (Vdi (Create name spec))) node).node.outbox
         ≡ node.outbox ++ entries.Reserve node.me session name (Fresh spec) ∷ [] }
 {}
@@ -162,8 +162,8 @@ pub fn a_create_begins_with_its_reservation()
 /// A node opens as one, and each step that it may take leaves it one: its requests have one work each at most, its entries
 /// are its own, its queues are its reads and writes, it is in the epoch of what it has read, and no `Recovered` is due.
 pub fn a_node_stays_one()
-    ensures opens { (me : NodeId) (tries : ℕ) → IsNode (initial_node me tries) }
-    ensures stays { (input : Input) (node : Node) → May input node → IsNode node → IsNode (node_step input node).node }
+    ensures opens { (me : NodeId) (tries : ℕ) → IsSoundNode (initial_node me tries) }
+    ensures stays { (input : Input) (node : Node) → May input node → IsSoundNode node → IsSoundNode (node_step input node).node }
 {}
 
 /// A node's step is a chain of changes, each with one effect, behind what its input changes by itself.

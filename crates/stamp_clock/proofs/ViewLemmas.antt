@@ -5,8 +5,8 @@ use Rattle.std.proofs.lemmas.List.Sums.{sum_by-set, sum_by-cons, get_or-le-sum_b
 use mathlib.Core.Option.{some, some-injective, some-ne-none}
 use lib.ListN.{get_elem?}
 use Rattle.stamp_clock.specs.declared.rule.View.{View}
-use Rattle.stamp_clock.specs.Stamps.{times, draws_of, IsUpTo}
-use Rattle.stamp_clock.proofs.TimesLemmas.{times-above}
+use Rattle.stamp_clock.specs.Stamps.{occurrences, draws_of, HasSeenUpTo}
+use Rattle.stamp_clock.proofs.TimesLemmas.{occurrences-above}
 
 -- a view as the table finds it
 pub found_at : (views : List View) (at : ℕ) (view : View) → slice_get views at ≡ Some view → get_elem? views at ≡ some view
@@ -32,24 +32,24 @@ view-le-sum_by f views at view is =
     let P : View → Type 0 = λ other. f other ≤ sum_by f views in
     subst P here.1 (get_or-le-sum_by f views at view here.0)
 
-pub up_to_at : (word : ℕ) (views : List View) (at : ℕ) (view : View) → All (IsUpTo word) views → get_elem? views at ≡ some view → IsUpTo word view
+pub up_to_at : (word : ℕ) (views : List View) (at : ℕ) (view : View) → All (HasSeenUpTo word) views → get_elem? views at ≡ some view → HasSeenUpTo word view
 up_to_at word views at view each is =
     let here = stands_at views at view is in
-    let P : View → Type 0 = λ other. IsUpTo word other in
-    subst P here.1 (All-get_or (IsUpTo word) views at view here.0 each)
+    let P : View → Type 0 = λ other. HasSeenUpTo word other in
+    subst P here.1 (All-get_or (HasSeenUpTo word) views at view here.0 each)
 
-pub up_to-set : (word later : ℕ) (views : List View) (at : ℕ) (new : View) → word ≤ later → All (IsUpTo word) views → IsUpTo later new
-    → All (IsUpTo later) (set views at new)
+pub up_to-set : (word later : ℕ) (views : List View) (at : ℕ) (new : View) → word ≤ later → All (HasSeenUpTo word) views → HasSeenUpTo later new
+    → All (HasSeenUpTo later) (set views at new)
 up_to-set word later views at new le each is =
-    All-set (IsUpTo later) views at new is
-    (All-weaker (IsUpTo word) (IsUpTo later) (λ view up. record { seen = omega (arith, up.seen); mine = up.mine }) views each)
+    All-set (HasSeenUpTo later) views at new is
+    (All-weaker (HasSeenUpTo word) (HasSeenUpTo later) (λ view up. record { seen = omega (arith, up.seen); mine = up.mine }) views each)
 
 -- the next number was drawn by nobody yet
-pub draws_of-word : (word : ℕ) (views : List View) → All (IsUpTo word) views → draws_of word views ≡ 0
+pub draws_of-word : (word : ℕ) (views : List View) → All (HasSeenUpTo word) views → draws_of word views ≡ 0
 draws_of-word word [] each = refl
 draws_of-word word (x ∷ xs) each =
-    let here : IsUpTo word x = All-head (IsUpTo word) x xs each in
-    let none : times word x.mine ≡ 0 = times-above x.seen word x.mine here.mine here.seen in
-    let rest : draws_of word xs ≡ 0 = draws_of-word word xs (All-tail (IsUpTo word) x xs each) in
-    let whole : draws_of word (x ∷ xs) ≡ times word x.mine + draws_of word xs = sum_by-cons (λ view. times word view.mine) x xs in
+    let here : HasSeenUpTo word x = All-head (HasSeenUpTo word) x xs each in
+    let none : occurrences word x.mine ≡ 0 = occurrences-above x.seen word x.mine here.mine here.seen in
+    let rest : draws_of word xs ≡ 0 = draws_of-word word xs (All-tail (HasSeenUpTo word) x xs each) in
+    let whole : draws_of word (x ∷ xs) ≡ occurrences word x.mine + draws_of word xs = sum_by-cons (λ view. occurrences word view.mine) x xs in
     omega (arith, none, rest, whole)

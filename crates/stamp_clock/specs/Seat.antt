@@ -15,8 +15,8 @@ pub record SeatState : Type 0 where
   pub spent : Bool
 
 -- a seat with this view
-abbrev pub state_of : ClockId → View → Bool → SeatState
-state_of clock view spent =
+abbrev pub seat_state : ClockId → View → Bool → SeatState
+seat_state clock view spent =
     record { clock = clock; mine = view.mine; seen = view.seen; room = view.room; spent = spent }
 
 abbrev pub view_of : SeatState → View
@@ -38,7 +38,7 @@ new_seats clock count = new_seat clock (seats_max + 1 - count) ∷ replicate (co
 
 -- a seat whose draw found this number
 abbrev pub seat_after_draw : SeatState → ℕ → SeatState
-seat_after_draw seat found = state_of seat.clock (view_after_draw (view_of seat) found) seat.spent
+seat_after_draw seat found = seat_state seat.clock (view_after_draw (view_of seat) found) seat.spent
 
 -- a draw found a number that is past the last one: the seat is spent
 abbrev pub IsSpentBy : ℕ → SeatState → SeatState → Type 0

@@ -17,13 +17,13 @@ pub struct Seat {
 
 impl Model for Seat {
     ghost use Rattle.std.specs.Prelude.{◌≡◌, []};
-    ghost use Rattle.stamp_clock.specs.Seat.{SeatState, IsSeat, state_of};
+    ghost use Rattle.stamp_clock.specs.Seat.{SeatState, IsSeat, seat_state};
 
     ghost Value = { SeatState };
 
-    ghost view = { λ seat. state_of seat.token.table_id seat.token.me.0 seat.spent };
+    ghost view = { λ seat. seat_state seat.token.table_id seat.token.me.0 seat.spent };
 
-    ghost invariant = { λ seat. (seat.token.me.1 ≡ []) × IsSeat (state_of seat.token.table_id seat.token.me.0 seat.spent) };
+    ghost invariant = { λ seat. (seat.token.me.1 ≡ []) × IsSeat (seat_state seat.token.table_id seat.token.me.0 seat.spent) };
 }
 
 impl Seat {

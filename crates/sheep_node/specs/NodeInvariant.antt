@@ -9,7 +9,7 @@ use Rattle.sheep_node.specs.SessionQueues.{QueuesAreDiskRequests}
 
 -- its requests have one work each at most, the entries that it puts are its own, its sessions' queues are their reads and writes,
 -- it is in the epoch of what it has read, and no `Recovered` is due
-pub record IsNode (node : Node) : Type 0 where
+pub record IsSoundNode (node : Node) : Type 0 where
   pub one_work : HasOneWorkPerRequest node
   pub own_entries : HasOnlyOwnEntries node
   pub queues : QueuesAreDiskRequests node
