@@ -120,6 +120,8 @@ taken_sound first known number req (asks.Disk ask) so_far s =
     (pushed_sound first known number req ask (session_in number so_far).disk (with_course number req (Waiting ask) so_far) s)
 taken_sound first known number req (asks.Vdi ask) so_far s =
     command_went_on_sound first known number req ask (begin_command so_far.node.me number ask (inode_open (session_in number so_far).disk)) so_far s
+taken_sound first known number req (asks.Object work) so_far s = s
+taken_sound first known number req (asks.Entry entry) so_far s = s
 
 taken_unless_sound : (first : ℕ) (known : Known) (cause : Option Cause) (number req : ℕ) (ask : Ask) (so_far : StepState)
     → IsSound first known so_far → IsSound first known (request_taken_unless cause number req ask so_far)

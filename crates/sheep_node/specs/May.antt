@@ -66,6 +66,8 @@ is_disk_course (Commanding ask op) = false
 abbrev pub asks_disk : Ask → Bool
 asks_disk (asks.Disk ask) = true
 asks_disk (asks.Vdi ask) = false
+asks_disk (asks.Object work) = false
+asks_disk (asks.Entry entry) = false
 
 -- whether these and the next one are all reads and writes
 abbrev pub are_on_disk : List Request → Ask → Bool
@@ -80,10 +82,13 @@ is_room requests ask = nat_lt (length requests) REQUESTS_AT_ONCE && (length requ
 abbrev pub has_room_for : ℕ → Ask → Node → Bool
 has_room_for session ask node = is_room (session_requests session node) ask
 
--- what is asked is as it may be: whole blocks and one at least, and names, tags and specs that may be such
+-- what is asked is as it may be: whole blocks and one at least, and names, tags and specs that may be such. A work or an entry
+-- from outside isn't taken yet
 abbrev pub IsGuestAsk : Ask → Type 0
 IsGuestAsk (asks.Disk ask) = IsTrue (is_ask ask)
 IsGuestAsk (asks.Vdi ask) = IsVdiAsk ask
+IsGuestAsk (asks.Object work) = ⊥
+IsGuestAsk (asks.Entry entry) = ⊥
 
 -- what a guest's request must meet
 pub record MayGuest (req session : ℕ) (ask : Ask) (node : Node) : Type 0 where
