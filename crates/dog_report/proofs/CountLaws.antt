@@ -1,7 +1,7 @@
 -- Each line of a request tells of it in one way.
 use Rattle.std.proofs.Common.{◌≡◌, ℕ, suc, ◌+◌, Bool, cond, List, [], ◌∷◌, length, refl, arith}
 use Rattle.std.proofs.lemmas.List.Sums.{sum_by-cons}
-use Rattle.peer_proto.specs.declared.guest.GuestRsp.TheVariants.{Done, Piece, Refused, Granted}
+use Rattle.peer_proto.specs.declared.guest.GuestRsp.TheVariants.{Done, Piece, Refused, Granted, Checked}
 use Rattle.dog_report.specs.Fates.{RequestFate, Answered, Gone, Pending, Unsent, ReportLine, Told, Listed, numbers_told}
 use Rattle.dog_report.specs.Counts.{tells, count_of, is_ok, is_refused, is_gone_fate, is_pending, is_unsent}
 
@@ -19,6 +19,7 @@ one_way (Answered Done) = refl
 one_way (Answered (Piece bytes)) = refl
 one_way (Answered (Refused cause)) = refl
 one_way (Answered (Granted vid)) = refl
+one_way (Answered (Checked found)) = refl
 one_way Gone = refl
 one_way Pending = refl
 one_way Unsent = refl
