@@ -6,7 +6,8 @@ use Rattle.cluster_script.specs.declared.limits.TheConstants.{BLOCK}
 use Rattle.cluster_script.specs.declared.statement.Pattern.{Pattern}
 use Rattle.cluster_script.specs.declared.statement.Pattern.TheVariants.{Fill, Step}
 use Rattle.cluster_script.specs.declared.statement.Statement.{Statement}
-use Rattle.cluster_script.specs.declared.statement.Statement.TheVariants.{Create, OpenDisk, Close, Read, Write, Snapshot, Clone, Delete, Check}
+use Rattle.cluster_script.specs.declared.statement.Statement.TheVariants.{Create, OpenDisk, Close, Read, Write}
+use Rattle.cluster_script.specs.declared.statement.Statement.TheVariants.{Snapshot, Clone, Delete, Check}
 use Rattle.cluster_script.specs.Statements.{requests_of}
 
 -- the session that asks, where a statement is a request

@@ -8,7 +8,8 @@ use Rattle.object_id.specs.Policy.{is_width}
 use Rattle.cluster_script.specs.declared.statement.Pattern.{Pattern}
 use Rattle.cluster_script.specs.declared.statement.Pattern.TheVariants.{Fill, Step}
 use Rattle.cluster_script.specs.declared.statement.Statement.{Statement}
-use Rattle.cluster_script.specs.declared.statement.Statement.TheVariants.{Create, OpenDisk, Close, Read, Write, Snapshot, Clone, Delete, Check}
+use Rattle.cluster_script.specs.declared.statement.Statement.TheVariants.{Create, OpenDisk, Close, Read, Write}
+use Rattle.cluster_script.specs.declared.statement.Statement.TheVariants.{Snapshot, Clone, Delete, Check}
 use Rattle.cluster_script.specs.declared.fault.LineCause.{LineCause}
 use Rattle.cluster_script.specs.declared.fault.LineCause.TheVariants as causes
 use Rattle.cluster_script.specs.declared.limits.TheConstants.{BLOCK, SHIFT_DEFAULT, LENGTH_MAX, REQUESTS_MAX, READ_BYTES_MAX, WRITE_BYTES_MAX, CHECKS_MAX}

@@ -16,13 +16,7 @@ worth way fate = cond (way fate) 1 0
 -- a fate is of one way
 one_way : (fate : RequestFate) → worth is_ok fate + worth is_refused fate + worth is_gone_fate fate + worth is_pending fate + worth is_unsent fate ≡ 1
 one_way (Answered Done) = refl
-one_way (Answered (Piece bytes)) = refl
-one_way (Answered (Refused cause)) = refl
-one_way (Answered (Granted vid)) = refl
-one_way (Answered (Checked found)) = refl
-one_way Gone = refl
-one_way Pending = refl
-one_way Unsent = refl
+one_way fate = refl
 
 more : (way : RequestFate → Bool) (number : ℕ) (fate : RequestFate) (lines : List ReportLine)
     → count_of way (Told number fate ∷ lines) ≡ worth way fate + count_of way lines

@@ -7,7 +7,8 @@ use Rattle.std.proofs.lemmas.List.{append_assoc, append-nil, length_push, take_a
 use Rattle.object_id.specs.declared.entry.Member.{Member}
 use Rattle.object_id.specs.declared.entry.Entry.{Entry}
 use Rattle.object_id.specs.declared.entry.Entry.TheVariants.{Format, Join, Leave, Reweight}
-use Rattle.epoch_log.specs.Members.{is_member_node, is_member, members_with, members_reweighted, members_after, node_numbers, IsWeight, HaveWeights, AreMembers}
+use Rattle.object_id.specs.Node.{IsWeight}
+use Rattle.epoch_log.specs.Members.{is_member_node, is_member, members_with, members_reweighted, members_after, node_numbers, HaveWeights, AreMembers}
 use Rattle.epoch_log.specs.Epochs.{begins_epoch, epoch_of, members_in}
 use Rattle.epoch_log.specs.Appending.{FitsMembers, MayAppend, MayOpen, AreAppended, IsLog}
 use Rattle.epoch_log.proofs.EpochLemmas.{members_in-append, members_in-begun, epoch_of-append}
@@ -192,7 +193,7 @@ IsLog-holds P kept opening entries log =
     (λ epoch _. subst (λ (changes : List Entry). P (fold members_after opens.0 changes)) (sym (take_all (epoch - 1) [] (omega arith))) first) opens.4)
 
 IsLog-ascends : (entries : List Entry) → IsLog entries → (epoch : ℕ) → epoch ≤ epoch_of entries → Ascend 0 (members_in entries epoch)
-IsLog-ascends = IsLog-holds (Ascend 0) Ascend-members_after (λ members opens. Ascend-from 0 members (λ d _. omega arith) opens.ordered.ascending opens.ordered.below_64)
+IsLog-ascends = IsLog-holds (Ascend 0) Ascend-members_after (λ members opens. Ascend-from 0 members (λ d _. omega arith) opens.ordered.ascending opens.ordered.nodes)
 
 weights-members_with : (member : Member) (members : List Member) → IsWeight member.vnodes → HaveWeights members → HaveWeights (members_with member members)
 weights-members_with member [] weight had = All-cons (λ (m : Member). IsWeight m.vnodes) member [] weight had
@@ -230,7 +231,7 @@ pub IsLog-members : (entries : List Entry) (epoch : ℕ) → IsLog entries → e
 IsLog-members entries epoch log begun =
     let up : Ascend 0 (members_in entries epoch) = IsLog-ascends entries log epoch begun in
     let most : length (members_in entries epoch) + 0 ≤ 64 = Ascend-length 0 (members_in entries epoch) (omega arith) up in
-    (record { ascending = Ascend-to 0 (members_in entries epoch) up; below_64 = Ascend-below 0 (members_in entries epoch) up }, omega arith)
+    (record { ascending = Ascend-to 0 (members_in entries epoch) up; nodes = Ascend-below 0 (members_in entries epoch) up }, omega arith)
 
 AreAppended-push : (before later : List Entry) (entry : Entry) → AreAppended before later → MayAppend (before ++ later) entry
     → AreAppended before (later ++ entry ∷ [])

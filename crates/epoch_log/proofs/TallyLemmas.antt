@@ -145,7 +145,7 @@ tally-begins_epoch entries entry old new members log may starts t made terms set
     let theirs : members_in later (count + 1) ≡ members = ap (members_in later) next ∙ members_in-begun entries entry some starts ∙ sym made in
     let small : All (λ node. node < 64) (node_numbers members)
     = subst (λ (ms : List Member). All (λ node. node < 64) (node_numbers ms)) theirs
-    ((IsLog-members later (count + 1) (IsLog-push entries entry log may) (omega (arith, t.epochs))).0).below_64 in
+    ((IsLog-members later (count + 1) (IsLog-push entries entry log may) (omega (arith, t.epochs))).0).nodes in
     let recovered : (node : ℕ) → node < 64 → not (is_early old.early (count + 1) node) ≡ not (has_recovered later (count + 1) node)
     = λ node below. ap not (t.early (count + 1) node (omega (arith, t.epochs)) (omega arith) ∙ sym (kept (count + 1) node)) in
     let missing : filter (λ (m : Member). not (is_early old.early (count + 1) m.node.0)) members ≡ missing_in later (count + 1)

@@ -70,7 +70,7 @@ greatest passes (suc most) = if passes (suc most) then suc most else greatest pa
 abbrev pub settled_of : List Entry → ℕ
 settled_of entries = greatest (is_settled entries) (epoch_of entries)
 
--- the same at a place: what counts is the entries before it
+-- the newest epoch and the settled one at a place: those of the entries before it
 abbrev pub epoch_at : List Entry → ℕ → ℕ
 epoch_at entries place = epoch_of (take place entries)
 

@@ -1,10 +1,11 @@
 -- The members of an epoch, ascending by number, and what an entry of the log makes of them.
-use Rattle.std.specs.Prelude.{ℕ, ◌<◌, ◌≤◌, ◌==◌, nat_lt, Bool, not, List, [], ◌∷◌, map, filter, All, if◌then◌else◌}
+use Rattle.std.specs.Prelude.{ℕ, ◌==◌, nat_lt, Bool, not, List, [], ◌∷◌, map, filter, All, if◌then◌else◌}
 use Rattle.std.specs.List.{list_any}
 use Rattle.std.specs.List.Sorted.{IsStrictlyIncreasing}
 use Rattle.object_id.specs.declared.entry.Member.{Member}
 use Rattle.object_id.specs.declared.entry.Entry.{Entry}
 use Rattle.object_id.specs.declared.entry.Entry.TheVariants.{Format, Join, Leave, Reweight, Recovered, Reserve, Publish, Clone, Snapshot, Delete, Lock, Unlock}
+use Rattle.object_id.specs.Node.{IsNode, IsWeight}
 
 -- whether the member is the node of this number
 abbrev pub is_member_node : ℕ → Member → Bool
@@ -48,14 +49,11 @@ members_after members (Unlock by session vid) = members
 abbrev pub node_numbers : List Member → List ℕ
 node_numbers members = map (λ (member : Member). member.node.0) members
 
--- how many virtual nodes a member may have
-abbrev pub IsWeight : ℕ → Type 0
-IsWeight vnodes = (1 ≤ vnodes) × (vnodes ≤ 256)
-
+-- each member has a weight that there may be
 abbrev pub HaveWeights : List Member → Type 0
 HaveWeights members = All (λ (member : Member). IsWeight member.vnodes) members
 
--- ascending, so all different, and below 64
+-- ascending, so all different, and each a number that a node may have
 pub record AreMembers (members : List Member) : Type 0 where
   pub ascending : IsStrictlyIncreasing (node_numbers members)
-  pub below_64 : All (λ node. node < 64) (node_numbers members)
+  pub nodes : All IsNode (node_numbers members)

@@ -7,6 +7,8 @@ ghost use Rattle.epoch_log.specs.Members.{AreMembers, HaveWeights};
 ghost use Rattle.epoch_log.specs.Epochs.{begins_epoch, epoch_of, epoch_at, settled_of, settled_at, is_settled, members_in};
 ghost use Rattle.epoch_log.specs.Appending.{MayAppend, AreAppended, IsLog};
 
+use object_id::NODES_MAX;
+
 /// What later entries leave as it was, at every place before them and for every epoch that had begun.
 pub fn later_entries_change_nothing()
     ensures epoch { (entries later : List Entry) (place : ℕ) → place ≤ length entries
@@ -15,7 +17,7 @@ pub fn later_entries_change_nothing()
         → settled_at (entries ++ later) place ≡ settled_at entries place }
     ensures members { (entries later : List Entry) (epoch : ℕ) → 1 ≤ length entries → epoch ≤ epoch_of entries
         → members_in (entries ++ later) epoch ≡ members_in entries epoch }
-    // The same of the entries of one list before a place.
+    // The entries of one list before a place have the same members as all of them.
     ensures members_at { (entries : List Entry) (place epoch : ℕ) → 1 ≤ place → epoch ≤ epoch_at entries place
         → members_in (take place entries) epoch ≡ members_in entries epoch }
 {}
@@ -53,10 +55,10 @@ pub fn a_settled_epoch_has_recovered()
 
 /// What is true of every log.
 pub fn log_epochs()
-    // The members of each epoch ascend and are below 64, so they are 64 at most.
+    // The members of each epoch ascend, so they are as many as there may be nodes at most.
     ensures members { (entries : List Entry) (epoch : ℕ) → IsLog entries → epoch ≤ epoch_of entries
-        → AreMembers (members_in entries epoch) × (length (members_in entries epoch) ≤ 64) }
-    // Each has 1 to 256 virtual nodes.
+        → AreMembers (members_in entries epoch) × (length (members_in entries epoch) ≤ NODES_MAX) }
+    // Each has a weight that there may be.
     ensures weights { (entries : List Entry) (epoch : ℕ) → IsLog entries → epoch ≤ epoch_of entries
         → HaveWeights (members_in entries epoch) }
     // A log goes on with each entry that may stand there.

@@ -7,7 +7,7 @@ ghost use Rattle.epoch_log.specs.Appending.{MayOpen, MayAppend, IsLog};
 use crate::appending::{may_follow, may_open};
 use crate::epoch_record::Mark;
 use crate::tally::Tally;
-use object_id::{Entry, Epoch, Items, Member, MemberList, NoMemory};
+use object_id::{EPOCH_MAX, Entry, Epoch, Items, Member, MemberList, NODES_MAX, NoMemory};
 use std::alloc::Global;
 use std::marker::Model;
 
@@ -38,10 +38,10 @@ impl Model for Log {
 }
 
 /// Copies the members to the first places, and answers how many they are.
-fn fill(members: &[Member], out: &mut [Member; 64]) -> usize
-    requires { length members.now ≤ 64 }
+fn fill(members: &[Member], out: &mut [Member; NODES_MAX as usize]) -> usize
+    requires { length members.now ≤ NODES_MAX }
     ensures count { result ≡ length members.now }
-    ensures most { result ≤ 64 }
+    ensures most { result ≤ NODES_MAX }
     ensures filled { take result out.new ≡ members.now }
     ensures rest { drop result out.new ≡ drop result out.old }
 {
@@ -85,7 +85,7 @@ impl Log {
         ensures { IsTrue result ↔ MayAppend self.now entry.now }
     {
         let newest = self.tally.terms.len();
-        newest < u32::MAX as usize
+        newest < EPOCH_MAX as usize
             && may_follow(self.tally.terms[newest - 1].members.as_slice(), entry)
     }
 
@@ -139,10 +139,10 @@ impl Log {
 
     /// Fills the first places of `out` with the members of an epoch that has begun, in ascending number, and answers
     /// how many they are.
-    pub fn members(&self, epoch: Epoch, out: &mut [Member; 64]) -> usize
+    pub fn members(&self, epoch: Epoch, out: &mut [Member; NODES_MAX as usize]) -> usize
         requires { (1 ≤ epoch.0) × (epoch.0 ≤ epoch_of self.now) }
         ensures count { result ≡ length (members_in self.now epoch.0) }
-        ensures most { result ≤ 64 }
+        ensures most { result ≤ NODES_MAX }
         ensures filled { take result out.new ≡ members_in self.now epoch.0 }
         ensures rest { drop result out.new ≡ drop result out.old }
         ensures members { AreMembers (members_in self.now epoch.0) }

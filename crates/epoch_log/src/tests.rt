@@ -298,6 +298,35 @@ fn asks_for_names_and_sizes(rt: HostRuntime) -> Result<(), Fail> {
     Ok(())
 }
 
+// A body that gives up at many members would meet every contract.
+#[test]
+fn opens_with_all_the_members_that_there_may_be(rt: HostRuntime) -> Result<(), Fail> {
+    let alloc = rt.alloc();
+    let mut members = Vec::new(alloc);
+    for number in 0..64 {
+        members.push(Member {
+            node: NodeId(number),
+            zone: number,
+            vnodes: 256,
+        })?;
+    }
+    if !Log::may_open(members.as_slice()) {
+        return Ok(assert!(rt; false, "64 members may open a log"));
+    }
+    let log = Log::new(alloc, members.as_slice())?;
+    let mut out = blank();
+    assert_eq!(rt; log.members(Epoch(1), &mut out), 64);
+    assert_eq!(rt; (out[0].node, out[63].node, out[63].vnodes), (NodeId(0), NodeId(63), 256));
+
+    members.push(Member {
+        node: NodeId(64),
+        zone: 0,
+        vnodes: 1,
+    })?;
+    assert!(rt; !Log::may_open(members.as_slice()));
+    Ok(())
+}
+
 /// What stands at a place of the long log: each hundredth entry begins an epoch, and its three members recover at once.
 fn entry_at(place: u32) -> Entry {
     let epoch = Epoch(place / 100 + 1);

@@ -50,13 +50,13 @@ failure_step-tells gateway req work attempt over missing (Some cause) e =
     let parts = some_from (nat_le gateway.tries (work.ended + 1) && not (is_touched req gateway))
     (first_failure work.work attempt.epoch attempt.messages) cause e in
     let both = and_parts (nat_le gateway.tries (work.ended + 1)) (not (is_touched req gateway)) parts.0 in
-    (refl, not-true (is_touched req gateway) both.1, (over, missing), leb-true _ _ both.0, parts.1)
+    (refl, refl, not-true (is_touched req gateway) both.1, (over, missing), leb-true _ _ both.0, parts.1)
 
 attempt_ended-tells : (gateway : Gateway) (req : ℕ) (work : Work) (attempt : Attempt) → is_over attempt.messages ≡ true
     → (b : Bool) → is_done work.work attempt.messages ≡ b
     → Tells gateway req work attempt
-    (cond b (done_step gateway req (bytes_given work.work attempt.messages)) (failure_step gateway req work (refusal_after_attempt gateway req work.work (work.ended + 1) attempt))).act
-attempt_ended-tells gateway req work attempt over true e = (refl, over, enough_from work.work attempt.messages e, refl)
+    (cond b (done_step gateway req work.work (bytes_given work.work attempt.messages)) (failure_step gateway req work (refusal_after_attempt gateway req work.work (work.ended + 1) attempt))).act
+attempt_ended-tells gateway req work attempt over true e = (refl, refl, over, enough_from work.work attempt.messages e, refl)
 attempt_ended-tells gateway req work attempt over false e =
     failure_step-tells gateway req work attempt over e (refusal_after_attempt gateway req work.work (work.ended + 1) attempt) refl
 

@@ -16,13 +16,13 @@ use Rattle.gateway.specs.Step.{with_work, without_work, touched_by, without_touc
 pub touched-made : (req : ℕ) (work : ObjWork) (status : Status) (gateway : Gateway) → is_making work ≡ true → may_be_made status ≡ true
     → is_touched req (touched_by req work status gateway) ≡ true
 touched-made req work status gateway makes made =
-    ap (λ b. is_touched req (cond b (record gateway { touched = set.insert gateway.touched req }) gateway))
+    ap (λ b. set.contains (cond b (set.insert gateway.touched req) gateway.touched) req)
     (and_from (is_making work) (may_be_made status) makes made)
     ∙ set.contains-insert nat_cmp_total gateway.touched req req
     ∙ ap (λ b. b || set.contains gateway.touched req) (is_at-same req)
 
 stays_if : (q req : ℕ) (gateway : Gateway) (b : Bool) → is_touched q gateway ≡ true
-    → is_touched q (cond b (record gateway { touched = set.insert gateway.touched req }) gateway) ≡ true
+    → set.contains (cond b (set.insert gateway.touched req) gateway.touched) q ≡ true
 stays_if q req gateway true before =
     set.contains-insert nat_cmp_total gateway.touched req q ∙ or_right (eq_by_cmp nat_cmp q req) (set.contains gateway.touched q) before
 stays_if q req gateway false before = before

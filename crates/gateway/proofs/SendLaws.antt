@@ -81,9 +81,9 @@ indexes-read_all oid policy size attempt first targets = indexes-targets_asked (
 
 halted_if : (gateway : Gateway) (req : ℕ) (work : Work) (epoch : Epoch) (first zones : ℕ) (b : Bool) → is_touched req gateway ≡ b
     → zones < zones_for work.work → BeginsAttempt gateway req work first zones
-    (cond b (waiting_step (with_work req (record work { stage = WaitsForMembers epoch }) gateway)) (refusal_step gateway req (Halt zones (zones_for work.work)))).act
+    (cond b (waiting_step (with_work req (record work { stage = WaitsForMembers epoch }) gateway)) (refusal_step gateway req work.work (Halt zones (zones_for work.work)))).act
 halted_if gateway req work epoch first zones true e short = (short, e)
-halted_if gateway req work epoch first zones false e short = (refl, short, e, refl)
+halted_if gateway req work epoch first zones false e short = (refl, refl, short, e, refl)
 
 tried_if : (epochs : List EpochMembers) (gateway : Gateway) (req : ℕ) (work : Work) (first : ℕ) (epoch : Epoch) (b : Bool)
     → nat_lt (zone_count (members_at epochs epoch.0)) (zones_for work.work) ≡ b

@@ -47,11 +47,11 @@ Tells gateway req work attempt (acts.Send sends) = ⊥
 Tells gateway req work attempt acts.Wait =
     (is_over attempt.messages ≡ false)
     ⊎ (HasFailed work.work attempt.messages × (refusal_after_attempt gateway req work.work (work.ended + 1) attempt ≡ None))
-Tells gateway req work attempt (acts.Done done) =
-    (done.req ≡ req) × (is_over attempt.messages ≡ true) × HasEnough work.work attempt.messages
+Tells gateway req work attempt (acts.Done ended done) =
+    (ended ≡ work.work) × (done.req ≡ req) × (is_over attempt.messages ≡ true) × HasEnough work.work attempt.messages
     × (done.bytes ≡ bytes_given work.work attempt.messages)
-Tells gateway req work attempt (acts.Refused number cause) =
-    (number ≡ req) × (is_touched req gateway ≡ false) × HasFailed work.work attempt.messages
+Tells gateway req work attempt (acts.Refused ended number cause) =
+    (ended ≡ work.work) × (number ≡ req) × (is_touched req gateway ≡ false) × HasFailed work.work attempt.messages
     × (gateway.tries ≤ work.ended + 1) × (first_failure work.work attempt.epoch attempt.messages ≡ Some cause)
 
 -- requests are numbered upwards
@@ -63,7 +63,7 @@ AreNumberedFrom first sends = map (λ (send : NodeId × PeerReq). send.1.number)
 abbrev pub BeginsAttempt : Gateway → ℕ → Work → ℕ → ℕ → Act → Type 0
 BeginsAttempt gateway req work first zones (acts.Send sends) = (zones_for work.work ≤ zones) × AreNumberedFrom first sends.list
 BeginsAttempt gateway req work first zones acts.Wait = (zones < zones_for work.work) × (is_touched req gateway ≡ true)
-BeginsAttempt gateway req work first zones (acts.Done done) = ⊥
-BeginsAttempt gateway req work first zones (acts.Refused number cause) =
-    (number ≡ req) × (zones < zones_for work.work) × (is_touched req gateway ≡ false)
+BeginsAttempt gateway req work first zones (acts.Done ended done) = ⊥
+BeginsAttempt gateway req work first zones (acts.Refused ended number cause) =
+    (ended ≡ work.work) × (number ≡ req) × (zones < zones_for work.work) × (is_touched req gateway ≡ false)
     × (cause ≡ Halt zones (zones_for work.work))

@@ -1,5 +1,5 @@
 -- A work on one object: which targets an attempt asks, and for which part of the bytes.
-use Rattle.std.specs.Prelude.{ℕ, ◌%◌, ◌==◌, Bool, true, false, List, length, take, drop}
+use Rattle.std.specs.Prelude.{ℕ, ◌%◌, ◌==◌, Bool, true, false, List, [], length, take, drop}
 use Rattle.std.specs.List.{enumerate_from}
 use Rattle.object_id.specs.declared.node.NodeId.{NodeId}
 use Rattle.object_id.specs.declared.oid.Kind.{Kind}
@@ -52,10 +52,7 @@ ask_for (Create oid policy size offset bytes) index =
     (part_size policy (kind_of oid) offset)
     (part policy (kind_of oid) index bytes)
 ask_for (Write oid policy offset bytes) index =
-    asks.Write
-    (record { oid = oid; index = index })
-    (part_size policy (kind_of oid) offset)
-    (part policy (kind_of oid) index bytes)
+    asks.Write (record { oid = oid; index = index }) (part_size policy (kind_of oid) offset) (part policy (kind_of oid) index bytes)
 ask_for (Read oid policy offset size) index =
     asks.Read
     (record { oid = oid; index = index })
@@ -63,6 +60,14 @@ ask_for (Read oid policy offset size) index =
     (part_size policy (kind_of oid) size)
 ask_for (ReadAll oid policy size) index =
     asks.Read (record { oid = oid; index = index }) 0 (part_size policy (kind_of oid) size)
+
+-- the bytes that a target is asked to keep
+abbrev pub bytes_asked : PeerAsk → List ℕ
+bytes_asked (asks.Create key size offset bytes) = bytes
+bytes_asked (asks.Write key offset bytes) = bytes
+bytes_asked (asks.Read key offset size) = []
+bytes_asked asks.List = []
+bytes_asked (asks.RecoverRead oid level) = []
 
 -- whether a piece is as long as a read asks for
 abbrev pub is_piece : ObjWork → ℕ → Bool

@@ -7,6 +7,7 @@ use Rattle.std.proofs.lemmas.List.Elements.{All-contains}
 use Rattle.std.proofs.lemmas.List.Sorted.{Contains-permutation, IsPermutation-sym}
 use Rattle.std.proofs.lemmas.Bool.{eq-eqb, eqb-true}
 use Rattle.object_id.specs.declared.entry.Member.{Member}
+use Rattle.object_id.specs.Node.{IsWeight}
 use Rattle.hash_ring.specs.declared.point.Point.{Point}
 use Rattle.hash_ring.specs.Circle.{hash_of_virtual, distance}
 use Rattle.hash_ring.specs.Placement.{Place, ComesFirst, least, virtual_hashes, member_place, nodes_one_a_zone, targets_of, AreWeighted}
@@ -179,7 +180,7 @@ members_are_nearest members points are moved object = (to, from)
   where
     to_point : (p : Place) (m : Member) → In m members → member_place object m ≡ p → In p (point_places object points)
     to_point p m i e =
-        let w = All-contains (λ (n : Member). (1 ≤ n.vnodes) × (n.vnodes ≤ 256)) members m are.weights (contains_from_in members m i) in
+        let w = All-contains (λ (n : Member). IsWeight n.vnodes) members m are.weights (contains_from_in members m i) in
         let d = from_map (distance object) (virtual_hashes m) (least (map (distance object) (virtual_hashes m)))
         (least_is_one (map (distance object) (virtual_hashes m)) (distance object (hash_of_virtual m.node.0 0))
         (in_map (distance object) (virtual_hashes m) (hash_of_virtual m.node.0 0) (first_hash m w.0))) in

@@ -13,6 +13,7 @@ use Rattle.std.proofs.lemmas.List.Elements.{All-contains, All-push, Contains-get
 use Rattle.std.proofs.lemmas.List.Quantifiers.{all_pairs_push}
 use Rattle.object_id.specs.declared.node.NodeId.{NodeId}
 use Rattle.object_id.specs.declared.entry.Member.{Member}
+use Rattle.object_id.specs.Node.{IsWeight}
 use Rattle.hash_ring.specs.declared.point.Point.{Point}
 use Rattle.hash_ring.specs.Circle.{hash_of_virtual}
 use Rattle.hash_ring.specs.Placement.{AreWeighted}
@@ -31,9 +32,6 @@ one_zone_from_all points h = record {
 pub all_from_one_zone : (points : List Point) → NodesHaveOneZone points → (of : Point) → Contains points of → HasOneZone points of
 all_from_one_zone points one of i k d lt e = one.alike (get_or points k d) of (Contains-get_or points k d lt) i e
 
-abbrev pub HasWeight : Member → Type 0
-HasWeight member = (1 ≤ member.vnodes) × (member.vnodes ≤ 256)
-
 -- a member's node is one of some members'
 abbrev pub StandsAmong : List Member → Member → Type 0
 StandsAmong members member = Any (λ (m : Member). m.node.0 ≡ member.node.0) members
@@ -45,23 +43,15 @@ apart_from_none members member none k d lt e =
 
 -- one more member with a weight, whose node stands in none before it
 pub weighted_more : (members : List Member) (k : ℕ) (d : Member) → k < length members → AreWeighted (take k members)
-    → HasWeight (get_or members k d) → (StandsAmong (take k members) (get_or members k d) → ⊥)
+    → IsWeight (get_or members k d).vnodes → (StandsAmong (take k members) (get_or members k d) → ⊥)
     → AreWeighted (take (k + 1) members)
 weighted_more members k d lt are weight none =
     let P : List Member → Type 0 = λ ms. AreWeighted ms in
     subst P (sym (take_more members k d lt)) (record {
       different = all_pairs_push (λ (m n : Member). m.node.0 ≢ n.node.0) (take k members) (get_or members k d) are.different
           (apart_from_none (take k members) (get_or members k d) none);
-      weights = All-push (λ (m : Member). HasWeight m) (take k members) (get_or members k d) are.weights weight;
+      weights = All-push (λ (m : Member). IsWeight m.vnodes) (take k members) (get_or members k d) are.weights weight;
     })
-
-pub not_below_1 : (members : List Member) (k : ℕ) (d : Member) → k < length members → AreWeighted members
-    → (get_or members k d).vnodes < 1 → ⊥
-not_below_1 members k d lt are h = let w = (are.weights k d lt).0 in omega (arith, w, h)
-
-pub not_above_256 : (members : List Member) (k : ℕ) (d : Member) → k < length members → AreWeighted members
-    → 256 < (get_or members k d).vnodes → ⊥
-not_above_256 members k d lt are h = let w = (are.weights k d lt).1 in omega (arith, w, h)
 
 pub none_before : (members : List Member) (k : ℕ) (d : Member) → k < length members → AreWeighted members
     → StandsAmong (take k members) (get_or members k d) → ⊥

@@ -3,6 +3,7 @@ use Rattle.std.specs.Prelude.{◌≡◌, ◌≢◌, ◌⊎◌, ℕ, ◌+◌, ◌
 use Rattle.std.specs.List.{list_any, range_with_len}
 use Rattle.object_id.specs.declared.node.NodeId.{NodeId}
 use Rattle.object_id.specs.declared.entry.Member.{Member}
+use Rattle.object_id.specs.Node.{IsWeight}
 use Rattle.hash_ring.specs.Circle.{hash_of_virtual, distance}
 
 -- a node as an object sees it: its distance, its number and its zone
@@ -29,7 +30,7 @@ member_place object member =
 abbrev pub comes_first : Place → Place → Bool
 comes_first p q = nat_lt p.distance q.distance || (p.distance == q.distance && nat_le p.node.0 q.node.0)
 
--- the same as a relation
+-- the order of places as a relation, for proofs that go by cases
 abbrev pub ComesFirst : Place → Place → Type 0
 ComesFirst p q = (p.distance < q.distance) ⊎ ((p.distance ≡ q.distance) × (p.node.0 ≤ q.node.0))
 
@@ -61,10 +62,10 @@ nodes_one_a_zone places wanted = take wanted (map (λ (place : Place). place.nod
 unfoldable pub targets_of : List Member → ℕ → ℕ → List NodeId
 targets_of members object wanted = nodes_one_a_zone (map (member_place object) members) wanted
 
--- no node stands twice, and each has a weight of 1 to 256
+-- no node stands twice, and each has a weight that there may be
 pub record AreWeighted (members : List Member) : Type 0 where
   pub different : AllPairs (λ (m n : Member). m.node.0 ≢ n.node.0) members
-  pub weights : All (λ (m : Member). (1 ≤ m.vnodes) × (m.vnodes ≤ 256)) members
+  pub weights : All (λ (m : Member). IsWeight m.vnodes) members
 
 -- in how many different zones members stand
 unfoldable pub zone_count : List Member → ℕ

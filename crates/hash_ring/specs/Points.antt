@@ -1,4 +1,4 @@
--- The same placement for the points of a ring, in whatever order they stand.
+-- Placement by the points of a ring, in whatever order they stand: it gives the targets that the members have.
 use Rattle.std.specs.Prelude.{◌≡◌, ◌⊎◌, ℕ, ◌<◌, ◌≤◌, ◌==◌, List, map, filter, flat_map, Contains, AllPairs}
 use Rattle.object_id.specs.declared.node.NodeId.{NodeId}
 use Rattle.object_id.specs.declared.entry.Member.{Member}

@@ -1,6 +1,7 @@
 -- How a ring is walked: what its private functions say of one another.
-use Rattle.std.specs.Prelude.{◌≡◌, ℕ, ◌<◌, Bool, false, List, [], ◌∷◌, ◌++◌, take, drop, map, slice_index_or, if◌then◌else◌}
+use Rattle.std.specs.Prelude.{◌≡◌, ℕ, Bool, false, List, [], ◌∷◌, ◌++◌, take, drop, map, slice_index_or, if◌then◌else◌}
 use Rattle.object_id.specs.declared.node.NodeId.{NodeId}
+use Rattle.object_id.specs.Node.{IsZone}
 use Rattle.hash_ring.specs.declared.point.Point.{Point}
 use Rattle.hash_ring.specs.Placement.{is_among}
 
@@ -12,9 +13,9 @@ walk start points = drop start points ++ take start points
 abbrev pub zones_before : ℕ → ℕ → List Point → List ℕ
 zones_before turn start points = map (λ (point : Point). point.zone) (take turn (walk start points))
 
--- each zone below 64 is marked exactly where it is among these
+-- each zone that there may be is marked exactly where it is among these
 abbrev pub AreMarked : List Bool → List ℕ → Type 0
-AreMarked marks zones = (zone : ℕ) → zone < 64 → slice_index_or marks zone false ≡ is_among zone zones
+AreMarked marks zones = (zone : ℕ) → IsZone zone → slice_index_or marks zone false ≡ is_among zone zones
 
 -- the nodes of points whose zone no earlier one has
 abbrev pub first_nodes : List ℕ → List Point → List NodeId

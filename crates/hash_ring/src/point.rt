@@ -4,7 +4,7 @@ ghost use Rattle.hash_ring.specs.Placement.{AreWeighted};
 ghost use Rattle.hash_ring.specs.Points.{NodesHaveOneZone, points_of_member};
 
 use crate::hash::virtual_hash;
-use object_id::{Member, NoMemory, NodeId};
+use object_id::{Member, NoMemory, NodeId, is_weight};
 
 /// A virtual node on the circle, with the zone of its node. Points are ordered by hash, then by number.
 #[derive(Clone, Copy, Debug, PartialEq, Eq, PartialOrd, Ord)]
@@ -14,13 +14,16 @@ pub struct Point {
     pub zone: u32,
 }
 
-/// Whether no node stands twice in the members and each weight is 1 to 256: what [`crate::Ring::build`] asks.
+/// Whether no node stands twice in the members and each has a weight that there may be: what [`crate::Ring::build`] asks.
 pub fn are_weighted(members: &[Member]) -> bool
     ensures { IsTrue result ↔ AreWeighted members.now }
 {
     for k in 0..members.len() {
         let member = members[k];
-        if member.vnodes < 1 || member.vnodes > 256 || stands_before(members, k, member.node) {
+        if !is_weight(member.vnodes) {
+            return false;
+        }
+        if stands_before(members, k, member.node) {
             return false;
         }
     }

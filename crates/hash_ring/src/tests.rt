@@ -91,3 +91,24 @@ fn builds_the_points_of_members(rt: HostRuntime) -> Result<(), Fail> {
     assert!(rt; !are_weighted(&[members[0], members[0]]));
     Ok(())
 }
+
+// A body that gives up at many points would meet every contract.
+#[test]
+fn builds_the_points_of_all_the_members_that_there_may_be(rt: HostRuntime) -> Result<(), Fail> {
+    let mut members = Vec::new(rt.alloc());
+    for number in 0..64 {
+        members.push(Member {
+            node: NodeId(number),
+            zone: number,
+            vnodes: 256,
+        })?;
+    }
+    if !are_weighted(members.as_slice()) {
+        return Ok(assert!(rt; false, "64 members have the greatest weight"));
+    }
+    let ring = Ring::build(rt.alloc(), members.as_slice())?;
+    let mut out = [NodeId(99); 64];
+    assert_eq!(rt; ring.targets(virtual_hash(NodeId(63), 255), 64, &mut out), 64);
+    assert_eq!(rt; out[0], NodeId(63));
+    Ok(())
+}

@@ -1,11 +1,12 @@
 ghost use Rattle.std.specs.Prelude.{◌≡◌, ℕ, ◌+◌, ◌^◌, ◌<◌, ◌≤◌, ◌==◌, ◌||◌, ◌++◌, false, [], ◌∷◌, length, take, drop, not, All, slice_index_or, if◌then◌else◌};
 ghost use Rattle.object_id.specs.declared.node.NodeId.{NodeId};
+ghost use Rattle.object_id.specs.Node.{IsZone};
 ghost use Rattle.hash_ring.specs.Placement.{is_among};
 ghost use Rattle.hash_ring.specs.Points.{IsRing};
 ghost use Rattle.hash_ring.specs.Walk.{walk, zones_before, AreMarked, first_nodes};
 
 use crate::point::Point;
-use object_id::NodeId;
+use object_id::{NodeId, ZONES_MAX, is_zone};
 
 /// The place of the first point that isn't before a hash; past the end where there is none.
 pub fn first_from(points: &[Point], hash: u64) -> usize
@@ -51,26 +52,27 @@ fn none_before(points: &[Point], start: usize, turn: usize, zone: u32) -> bool
     true
 }
 
-/// The same where the zones below 64 that were met are marked: only greater ones are looked for.
-fn is_new(points: &[Point], start: usize, turn: usize, zone: u32, met: &[bool; 64]) -> bool
+/// Whether no point before this turn has the zone, where the zones that were met are marked: only one that no node
+/// may have is looked for.
+fn is_new(points: &[Point], start: usize, turn: usize, zone: u32, met: &[bool; ZONES_MAX as usize]) -> bool
     requires start { start ≤ length points.now }
     requires turn { turn < length points.now }
     requires met { AreMarked met.now (zones_before turn start points.now) }
     ensures { result ≡ not (is_among zone (zones_before turn start points.now)) }
 {
-    if zone < 64 {
+    if is_zone(zone) {
         !met[zone as usize]
     } else {
         none_before(points, start, turn, zone)
     }
 }
 
-/// Marks a zone if it is below 64.
-fn mark(met: &mut [bool; 64], zone: u32)
-    ensures { (z : ℕ) → z < 64
+/// Marks a zone if a node may have it.
+fn mark(met: &mut [bool; ZONES_MAX as usize], zone: u32)
+    ensures { (z : ℕ) → IsZone z
         → slice_index_or met.new z false ≡ (slice_index_or met.old z false || zone == z) }
 {
-    if zone < 64 {
+    if is_zone(zone) {
         met[zone as usize] = true;
     }
 }
@@ -98,7 +100,7 @@ pub fn fill(points: &[Point], start: usize, n: usize, out: &mut [NodeId]) -> usi
     ensures rest { drop result out.new ≡ drop result out.old }
 {
     let mut count = 0;
-    let mut met = [false; 64];
+    let mut met = [false; ZONES_MAX as usize];
     for turn in 0..points.len() {
         if count == n {
             return count;

@@ -4,7 +4,8 @@ use Rattle.std.proofs.lemmas.List.{take-replicate, drop-replicate, take_more}
 use Rattle.std.proofs.lemmas.Bool.Decides.{nat_tests}
 use Rattle.std.proofs.Math.Bool.{and-false}
 use Rattle.object_id.specs.Piece.{laid_over}
-use Rattle.object_store.specs.Bytes.{zeros, trimmed_bytes}
+use Rattle.object_id.specs.Fields.{zeros}
+use Rattle.object_store.specs.Bytes.{trimmed_bytes}
 
 pub trimmed_bytes-zeros : (n : ℕ) → trimmed_bytes (zeros n) ≡ []
 trimmed_bytes-zeros zero = refl

@@ -13,7 +13,8 @@ use Rattle.object_id.specs.Piece.{laid_over}
 use Rattle.object_store.specs.declared.key.Key.{Key}
 use Rattle.object_store.specs.declared.fault.StoreFault.{StoreFault}
 use Rattle.object_store.specs.declared.fault.StoreFault.TheVariants.{OutOfObject}
-use Rattle.object_store.specs.Bytes.{zeros, piece_at}
+use Rattle.object_id.specs.Fields.{zeros}
+use Rattle.object_store.specs.Bytes.{piece_at}
 use Rattle.object_store.specs.Rows.{is_open, is_open_at, open_at, closed, closed_all, is_replaced, ended, created, changed, is_kept, advanced_row, advanced, purged, has_ended_below, without_disk}
 use Rattle.object_store.specs.Store.{SeenRow, AllRows, rows_of, open_row, value_within, on_open, read_at, create_in, write_in, each}
 use Rattle.object_store.specs.Calls.{Call, Create, Write, Advance, CloseAll, PurgeBelow, DropVid, rows_step, rows_after, Story, byte_at, with_piece, story_after, story_of, read_story, touches, Has}

@@ -6,7 +6,8 @@ use Rattle.std.specs.List.{AllByRecursion}
 use Rattle.std.proofs.Math.Bool.{and-true}
 use Rattle.std.proofs.lemmas.List.{nil_from_length}
 use Rattle.object_store.specs.declared.row.Row.{Row}
-use Rattle.object_store.specs.Bytes.{zeros, trimmed_bytes}
+use Rattle.object_id.specs.Fields.{zeros}
+use Rattle.object_store.specs.Bytes.{trimmed_bytes}
 use Rattle.object_store.specs.Rows.{holds, is_no_later, better, row_holding, IsRowAt}
 
 both : (a b : Bool) → (a && b) ≡ false → a ≡ true → b ≡ false

@@ -1,9 +1,5 @@
 -- The bytes of a row: a list of the row's length.
-use Rattle.std.specs.Prelude.{ℕ, ◌&&◌, List, [], ◌∷◌, length, take, drop, replicate, nat_eq, if◌then◌else◌}
-
--- what was never written
-abbrev pub zeros : ℕ → List ℕ
-zeros n = replicate n 0
+use Rattle.std.specs.Prelude.{ℕ, ◌&&◌, List, [], ◌∷◌, length, take, drop, nat_eq, if◌then◌else◌}
 
 -- the n bytes from offset on
 abbrev pub piece_at : List ℕ → ℕ → ℕ → List ℕ

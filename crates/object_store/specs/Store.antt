@@ -9,7 +9,8 @@ use Rattle.object_store.specs.declared.fault.StoreFault.TheVariants.{NoObj, OutO
 use Rattle.object_store.specs.declared.key.Key.{Key}
 use Rattle.object_store.specs.declared.row.Row.{Row}
 use Rattle.object_store.specs.declared.row.RowCopy.{RowCopy}
-use Rattle.object_store.specs.Bytes.{zeros, piece_at, trimmed_bytes}
+use Rattle.object_id.specs.Fields.{zeros}
+use Rattle.object_store.specs.Bytes.{piece_at, trimmed_bytes}
 use Rattle.object_store.specs.Rows.{is_open_at, open_at, created, changed, row_holding, OpenFrom}
 
 -- a row whose bytes are a list of its length

@@ -1,6 +1,7 @@
 ghost use Rattle.std.specs.Prelude.{◌≡◌, ◌+◌, ◌≤◌, length, take, IfOk, OnOk};
 ghost use Rattle.object_id.specs.Piece.{laid_over};
-ghost use Rattle.object_store.specs.Bytes.{zeros, piece_at, trimmed_bytes};
+ghost use Rattle.object_id.specs.Fields.{zeros};
+ghost use Rattle.object_store.specs.Bytes.{piece_at, trimmed_bytes};
 
 use object_id::{Bytes, NoMemory, lay_over};
 use std::alloc::Global;
@@ -15,7 +16,8 @@ pub struct Content {
 
 impl Model for Content {
     ghost use Rattle.std.specs.Prelude.{◌++◌, ◌-◌, ◌≤◌, length};
-    ghost use Rattle.object_store.specs.Bytes.{KeptBytes, zeros};
+    ghost use Rattle.object_id.specs.Fields.{zeros};
+    ghost use Rattle.object_store.specs.Bytes.{KeptBytes};
 
     ghost Value = { KeptBytes };
 

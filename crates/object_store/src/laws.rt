@@ -4,7 +4,8 @@ ghost use Rattle.std.specs.List.{AllByRecursion};
 ghost use Rattle.std.specs.FinMap as tree;
 ghost use Rattle.object_store.specs.declared.key.Key.{Key};
 ghost use Rattle.object_store.specs.Rows.{closed_all, advanced, purged, without_disk, holds, row_holding, IsRowAt, IsOrderly};
-ghost use Rattle.object_store.specs.Bytes.{zeros, trimmed_bytes};
+ghost use Rattle.object_id.specs.Fields.{zeros};
+ghost use Rattle.object_store.specs.Bytes.{trimmed_bytes};
 ghost use Rattle.object_store.specs.Store.{AllRows, SeenRow, rows_of, create_at, write_at, read_at, each, OpenUpTo, OpenBelow};
 ghost use Rattle.object_store.specs.Calls.{Call, rows_step, rows_after, story_of, read_story, touches, Has};
 

@@ -41,9 +41,21 @@ impl<O: ObjStore> Tried<O> {
         offset: u32,
         bytes: &[u8],
     ) -> Result<(), StoreFault> {
+        self.create_long(key, epoch, 4096, offset, bytes)
+    }
+
+    /// Makes a row of so many bytes.
+    fn create_long(
+        &mut self,
+        key: &Key,
+        epoch: u32,
+        length: u32,
+        offset: u32,
+        bytes: &[u8],
+    ) -> Result<(), StoreFault> {
         let from = self.newest.max(epoch);
         self.newest = from;
-        self.store.create(*key, Epoch(from), 4096, offset, bytes)
+        self.store.create(*key, Epoch(from), length, offset, bytes)
     }
 
     fn write(&mut self, key: &Key, offset: u32, bytes: &[u8]) -> Result<(), StoreFault>
@@ -181,6 +193,20 @@ fn lays_pieces_over(rt: HostRuntime) -> Result<(), Fail> {
     ] {
         assert_eq!(rt; node.write(&key, 4095, &[1, 2]), Err(fault));
     }
+    Ok(())
+}
+
+// A body that gives up at a long row would meet every contract.
+#[test]
+fn keeps_a_row_of_the_greatest_length(rt: HostRuntime) -> Result<(), Fail> {
+    let mut node = Tried::new(PlainStore::new(rt.alloc()));
+    let last = key(1, 9, 0);
+    node.create_long(&last, 1, 16_777_216, 0, &[3])?;
+    node.write(&last, 16_777_214, &[5, 6])?;
+    assert_eq!(rt; node.read(&last, 16_777_214), Ok([5, 6]));
+    assert_eq!(rt; node.read(&last, 16_777_215), Err(StoreFault::OutOfObject));
+    let row = node.row_at(&last, 1)?.ok_or(StoreFault::NoObj)?;
+    assert_eq!(rt; row.bytes.as_slice().len(), 16_777_216);
     Ok(())
 }
 

@@ -19,7 +19,7 @@ use Rattle.guest_driver.specs.InodeQueue.{is_on_inode}
 use Rattle.peer_proto.specs.declared.guest.VdiAsk.{VdiAsk}
 use Rattle.vdi_ops.specs.Op.{Op, entry_wanted}
 use Rattle.sheep_node.specs.State.{Node, Session, Request, Driving, Commanding}
-use Rattle.sheep_node.specs.Same.{is_same_entry}
+use Rattle.object_id.specs.Same.{is_same_entry}
 use Rattle.overlap_law.specs.Attempts.{AttemptRecord, object_of}
 use Rattle.overlap_law.specs.Words.{Hosts}
 use Rattle.overlap_law.specs.Each.{EachUp, EachAttempt}

@@ -25,7 +25,7 @@ use Rattle.gateway.specs.Step.{next_attempt}
 use Rattle.recovery.specs.State.{Recovery}
 use Rattle.sheep_node.specs.State.{Node}
 use Rattle.sheep_world.specs.WireMatch.{unanswered_in}
-use Rattle.sheep_world.specs.OneWork.{NumbersAreOfOneWork, NumbersAreBelow}
+use Rattle.sheep_node.specs.OneWork.{NumbersAreOfOneWork, NumbersAreBelow}
 use Rattle.sheep_world.proofs.InFlightSends.{Sends}
 
 abbrev pub Works : Type 0

@@ -41,7 +41,8 @@ use Rattle.sheep_world.specs.NodeSteps.{host_stepped, node_stepped, at_rest}
 use Rattle.sheep_world.specs.Effects.{recover_tick_effect}
 use Rattle.sheep_world.specs.Step.{EventOutcome, step, with_replies}
 use Rattle.sheep_world.specs.WireMatch.{asked_by_gateway, asked_by_recovery, WireMatchesNodes}
-use Rattle.sheep_world.specs.Ranges.{RecoversInRange, AllRecoverInRange, RecoveriesAreInRange}
+use Rattle.sheep_node.specs.RecoveryRange.{RecoversInRange}
+use Rattle.sheep_world.specs.Ranges.{AllRecoverInRange, RecoveriesAreInRange}
 use Rattle.sheep_world.proofs.InFlightEvents.{none_there}
 use Rattle.sheep_world.proofs.InFlightPut.{next_host}
 use Rattle.sheep_world.proofs.InFlightSends.{Sends, Asking, Leaves, wired_asking}

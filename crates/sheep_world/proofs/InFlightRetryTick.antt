@@ -46,14 +46,16 @@ use Rattle.sheep_node.specs.Waiting.{after_act, after_gateway_step}
 use Rattle.sheep_node.specs.May.{has_work_to_retry}
 use Rattle.sheep_node.specs.Step as steps
 use Rattle.sheep_node.specs.Step.{is_due, with_recovered, recovered_put, on_input, node_step}
-use Rattle.sheep_node.proofs.SoundSteps.{stepped_numbers, stepped_counts}
+use Rattle.sheep_node.proofs.StepChain.{ChainNeeds}
+use Rattle.sheep_node.proofs.StepResults.{step_numbers, step_counts}
 use Rattle.sheep_world.specs.World.{Host, World, host_at, is_host_up}
 use Rattle.sheep_world.specs.Conditions as conditions
 use Rattle.sheep_world.specs.NodeSteps.{host_stepped, node_stepped, at_rest}
 use Rattle.sheep_world.specs.Effects.{retry_tick_effect}
 use Rattle.sheep_world.specs.Step.{EventOutcome, step, with_replies}
 use Rattle.sheep_world.specs.WireMatch.{unanswered_in, asked_by, asked_by_recovery, WireMatchesNodes}
-use Rattle.sheep_world.specs.OneWork.{may_work_at, waiting_in, HaveOneWorkPerRequest, HasOneWorkPerRequest, NodesHaveOneWorkPerRequest, IsSentInRange}
+use Rattle.sheep_node.specs.OneWork.{may_work_at, waiting_in, HaveOneWorkPerRequest, HasOneWorkPerRequest}
+use Rattle.sheep_world.specs.OneWork.{NodesHaveOneWorkPerRequest, IsSentInRange}
 use Rattle.sheep_world.proofs.InFlightPut.{next_host}
 use Rattle.sheep_world.proofs.InFlightSends.{Sends, Asking, wired_asking}
 use Rattle.sheep_world.proofs.InFlightRecoverTick.{Any, nothing_leaves}
@@ -288,11 +290,11 @@ good_so_far_asks node so_far numbers counts good requests =
           (or_cases (gateways.fits_gateway rsp node.gateway) (recovery_fits.fits_recovery rsp (recovery_state_of node)) fit);
     }
 
-pub good_asks : (input : Input) (node : Node) → IsGood node (node_step input node)
+pub good_asks : (input : Input) (node : Node) → ChainNeeds input node → HasOneWorkPerRequest node → IsGood node (node_step input node)
     → All (λ (send : NodeId × PeerReq). IsPeerReq send.1) (node_step input node).outputs.sends
     → Asking Any node (node_step input node).node (node_step input node).outputs.sends
-good_asks input node good requests =
-    good_so_far_asks node (node_step input node) (stepped_numbers input node) (stepped_counts input node) good requests
+good_asks input node needs driven good requests =
+    good_so_far_asks node (node_step input node) (step_numbers input node needs driven) (step_counts input node needs driven) good requests
 
 -- what a good step drives its node to
 pub good_driven : (old : Node) (so_far : StepState) → HasOneWorkPerRequest old → IsGood old so_far → HasOneWorkPerRequest so_far.node
@@ -365,9 +367,9 @@ pub record DoesWell (input : Input) (node : Node) : Type 0 where
   pub driven : HasOneWorkPerRequest (node_step input node).node
 
 -- a good step does well
-pub good_well : (input : Input) (node : Node) → HasOneWorkPerRequest node → IsGood node (node_step input node) → DoesWell input node
-good_well input node driven good =
-    record { asks = λ requests. good_asks input node good requests; driven = good_driven node (node_step input node) driven good }
+pub good_well : (input : Input) (node : Node) → ChainNeeds input node → HasOneWorkPerRequest node → IsGood node (node_step input node) → DoesWell input node
+good_well input node needs driven good =
+    record { asks = λ requests. good_asks input node needs driven good requests; driven = good_driven node (node_step input node) driven good }
 
 -- a node steps, and what it sends can be spelled
 abbrev pub StaysTogether : World → Type 0
@@ -394,7 +396,7 @@ idle_stage epoch work (WaitsForMembers since) is may = ap gateways.open_messages
 
 -- what the next attempt of a work comes to is good
 abbrev Tries : Node → gateway_steps.GatewayStep → Type 0
-Tries node step = IsGood node (after_act node.gateway step.act (with_gateway step.gateway (at_first node)))
+Tries node step = IsGood node (after_act step.act (with_gateway step.gateway (at_first node)))
 
 tried_good : (node : Node) (driven : HasOneWorkPerRequest node) (found : ℕ × Work) → next_try (record { 0 = node.peer.epoch }) node.gateway ≡ Some found
     → Tries node (attempt_step node.epochs node.gateway found.0 found.1 node.sends (record { 0 = node.peer.epoch }))
@@ -410,7 +412,7 @@ tried_good node driven found is =
     cond_either (Tries node) (nat_lt zones (zones_for work.work))
     (halt_step gateway req work epoch zones) (open_step gateway req work (next_attempt work node.sends epoch targets))
     (cond_either (Tries node) (is_touched req gateway)
-    (waiting_step (with_work req (record work { stage = WaitsForMembers epoch }) gateway)) (refusal_step gateway req (Halt zones (zones_for work.work)))
+    (waiting_step (with_work req (record work { stage = WaitsForMembers epoch }) gateway)) (refusal_step gateway req work.work (Halt zones (zones_for work.work)))
     (record {
       going = going_short node node.me gateway.me gateway.works node.sends node.recovery node.peer [] req idle good.going work epoch;
       driven = driven_insert gateway.works node.requests node.sessions req (record work { stage = WaitsForMembers epoch }) may out driven.driven;
@@ -443,10 +445,10 @@ tried_good node driven found is =
         = ap (tree.get node.gateway.works) (sym same) ∙ driven.driven.waiting_free number waiting_step waits in
         absurd (cc (there, none))
 
-    refused_again : (cause : Cause) → Tries node (refusal_step node.gateway found.0 cause)
+    refused_again : (cause : Cause) → Tries node (refusal_step node.gateway found.0 found.1.work cause)
     refused_again cause =
         let after = with_gateway (without_work found.0 node.gateway) (at_first node) in
-        work_refused_good node (tree.get node.gateway.works found.0) found.0 cause (tree.get node.requests found.0) after
+        work_refused_good node found.1.work found.0 cause (tree.get node.requests found.0) after
         (record { idle = get-remove_same node.gateway.works found.0; out = out })
         (record {
           going = going_removed node.gateway.works found.0 idle node node.me node.gateway.me node.sends node.recovery node.peer [] (good_first node driven).going;
@@ -473,7 +475,7 @@ retried_well statements world n may driven wired =
     (λ host at.
     let (up, retries) = and_parts (is_host_up host) (has_work_to_retry host.node)
     (sym (ap (λ (o : Option Host). option_map_or (λ (host : Host). is_host_up host && has_work_to_retry host.node) o false) at) ∙ may) in
-    (up, good_well inputs.RetryTick host.node (driven n host at) (retry_good host.node (driven n host at))))
+    (up, good_well inputs.RetryTick host.node tt (driven n host at) (retry_good host.node (driven n host at))))
     driven wired
 
 pub wired-retry : (statements : List Statement) (world : World) (made : EventOutcome) (node : NodeId)

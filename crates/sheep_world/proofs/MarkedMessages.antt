@@ -22,7 +22,7 @@ use Rattle.recovery.specs.Fits as recovery_fits
 use Rattle.sheep_node.specs.State.{Node}
 use Rattle.sheep_node.specs.RecoveryView.{recovery_state_of}
 use Rattle.sheep_world.specs.WireMatch.{unanswered_in, asked_by_recovery}
-use Rattle.sheep_world.specs.OneWork.{HasOneWorkPerRequest}
+use Rattle.sheep_node.specs.OneWork.{HasOneWorkPerRequest}
 use Rattle.sheep_world.proofs.InFlightSends.{Asking}
 use Rattle.sheep_world.proofs.InFlightRecoverTick.{numbered_there}
 use Rattle.sheep_world.proofs.InFlightRecoveryAnswer.{Other, awaited_at}

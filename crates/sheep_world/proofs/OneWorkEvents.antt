@@ -30,7 +30,7 @@ use Rattle.sheep_node.specs.State as nodes
 use Rattle.sheep_node.specs.State.{Node, Session, new_session}
 use Rattle.sheep_node.specs.RecoveryView.{recovery_state_of}
 use Rattle.sheep_node.specs.LogReading as reading
-use Rattle.sheep_node.specs.LogReading.{come_back_with, epoch_members, recovery_begun}
+use Rattle.sheep_node.specs.LogReading.{come_back_with}
 use Rattle.sheep_node.specs.May.{may_tick}
 use Rattle.sheep_node.specs.StepState.{StepState, at_first, with_node}
 use Rattle.sheep_node.specs.Step as steps
@@ -45,7 +45,8 @@ use Rattle.sheep_world.specs.Opening as worlds
 use Rattle.sheep_world.specs.Opening.{format_entry, initial_host}
 use Rattle.sheep_world.specs.MembershipChanges.{lost_host, control_taken, host_changed, without_replies, node_lost, node_left, node_joined, node_reweighted, join_of, last_weight, revived_host, node_rejoined, came_back, phase_ended}
 use Rattle.sheep_world.specs.Step.{EventOutcome, step, only, put_made, loss_made, with_replies}
-use Rattle.sheep_world.specs.OneWork.{waiting_in, AreOfDifferentRequests, HaveOneWorkPerRequest, NumbersAreOfOneWork, NumbersAreBelow, HasOneWorkPerRequest, NodesHaveOneWorkPerRequest}
+use Rattle.sheep_node.specs.OneWork.{waiting_in, AreOfDifferentRequests, HaveOneWorkPerRequest, NumbersAreOfOneWork, NumbersAreBelow, HasOneWorkPerRequest}
+use Rattle.sheep_world.specs.OneWork.{NodesHaveOneWorkPerRequest}
 use Rattle.sheep_world.proofs.InFlightPut.{next_host}
 use Rattle.sheep_world.proofs.InFlightSends.{numbers_within}
 use Rattle.sheep_world.proofs.InFlightRecoverTick.{asked_now}
@@ -53,7 +54,8 @@ use Rattle.sheep_world.proofs.InFlightRetryTick.{found_got, driven_after}
 use Rattle.sheep_world.proofs.GatewaySteps.{Works, found_by}
 use Rattle.sheep_world.proofs.OneWorkLaws.{Sessions}
 use Rattle.sheep_world.proofs.InFlightOpening.{opening_found}
-use Rattle.sheep_world.proofs.InFlightLogNext.{begun_same, reads_well}
+use Rattle.sheep_node.proofs.MessageNumbers.{unanswered_in_epoch}
+use Rattle.sheep_world.proofs.InFlightLogNext.{reads_well}
 
 -- Phase, Leave and Reweight leave the nodes alone
 pub driven-phase : (statements : List Statement) (world : World) (made : EventOutcome) → step statements events.Phase world ≡ Some made
@@ -269,8 +271,8 @@ back_driven : (entries : List Entry) (node : Node) → HasOneWorkPerRequest (rea
 unfolding reading.on_back
 back_driven entries node =
     let lone = come_back_with entries node in
-    idle_driven node.me node.gateway.tries (recovery_begun lone) refl refl refl refl
-    (begun_same lone.peer.epoch (map (λ (member : Member). member.node) (epoch_members lone)) (recovery_state_of lone))
+    idle_driven node.me node.gateway.tries (reading.on_back entries node) refl refl refl refl
+    (unanswered_in_epoch lone)
 
 came_driven : (entries : List Entry) (node : Node) → HasOneWorkPerRequest (node_step (inputs.Back entries) node).node
 unfolding node_step on_input

@@ -36,8 +36,8 @@ use Rattle.sheep_node.specs.State.{Course, Waiting, Driving, Commanding, Request
 use Rattle.sheep_node.specs.StepState.{StepState, with_optional_entry, with_session, session_in, with_gateway, with_inode_queue, with_disk, with_course, request_ended}
 use Rattle.sheep_node.specs.RequestWorks.{command_refused, course_refused, request_refused, queue_left, after_start, work_begun, work_asked}
 use Rattle.sheep_node.specs.Courses.{driver_acted, driver_stepped, disk_begun}
-use Rattle.sheep_node.specs.Waiting.{next_begun, course_begun, found_request_begun, begun_if_may, passed_over, let_begin, queue_left_by, work_refused}
-use Rattle.sheep_world.specs.OneWork.{may_work, may_work_at, may_work_of, waiting_in, AreOfDifferentRequests, HaveOneWorkPerRequest}
+use Rattle.sheep_node.specs.Waiting.{next_begun, course_begun, found_request_begun, begun_if_may, passed_over, queued_requests, let_begin, work_refused}
+use Rattle.sheep_node.specs.OneWork.{may_work, may_work_at, may_work_of, waiting_in, AreOfDifferentRequests, HaveOneWorkPerRequest}
 use Rattle.sheep_world.proofs.GatewaySteps.{Works, Going, IsIdle, going_opened, going_short}
 
 abbrev pub Requests : Type 0
@@ -149,16 +149,14 @@ unfolding request_ended
 ended_good old number req reply so_far free good = record {
   going = good.going;
   driven = driven_session so_far.node.gateway.works (tree.remove so_far.node.requests req) so_far.node.sessions number
-      (record (session_in number so_far) { queue = queue_without req (session_in number so_far).queue }) refl (good_gone old req so_far free good);
+      (record (session_in number so_far) { queue = queue_without req (session_in number so_far).queue; command = None }) refl (good_gone old req so_far free good);
 }
 
 good_appended : (old : Node) (entry : Option Entry) (so_far : StepState) → IsGood old so_far → IsGood old (with_optional_entry entry so_far)
-good_appended old None so_far good = good
-good_appended old (Some entry) so_far good = record { going = good.going; driven = good.driven }
+good_appended old entry so_far good = record { going = good.going; driven = good.driven }
 
 free_appended : (req : ℕ) (entry : Option Entry) (so_far : StepState) → IsFreeIn req so_far → IsFreeIn req (with_optional_entry entry so_far)
-free_appended req None so_far free = free
-free_appended req (Some entry) so_far free = free
+free_appended req entry so_far free = free
 
 command_refused_good : (old : Node) (number req : ℕ) (end : Option OpEnd) (so_far : StepState) → IsFreeIn req so_far → IsGood old so_far
     → IsGood old (command_refused number req end so_far)
@@ -180,8 +178,7 @@ request_refused_good old req cause (Some request) so_far free good =
 
 -- a work has left the line, in which the same wait
 finished_waiting : (inode_queue : InodeQueue) (work : ObjWork) → (queue_after_end inode_queue work).waiting ≡ inode_queue.waiting
-finished_waiting inode_queue work =
-    cond_either (λ (after : InodeQueue). after.waiting ≡ inode_queue.waiting) (is_on_inode work) (record inode_queue { current = None }) inode_queue refl refl
+finished_waiting inode_queue work = refl
 
 pub left_good : (old : Node) (number : ℕ) (work : ObjWork) (so_far : StepState) → IsGood old so_far → IsGood old (queue_left number work so_far)
 left_good old number work so_far good =
@@ -216,8 +213,8 @@ driven_insert works requests sessions req work may out driven = record {
 }
 
 -- what the start of a work comes to is good
-abbrev Begins : Node → ℕ → ℕ → ObjWork → StepState → gateways.GatewayStep → Type 0
-Begins old number req work so_far step = IsGood old (after_start number req work step.act (with_gateway step.gateway so_far))
+abbrev Begins : Node → ℕ → StepState → gateways.GatewayStep → Type 0
+Begins old number so_far step = IsGood old (after_start number step.act (with_gateway step.gateway so_far))
 
 pub work_begun_good : (old : Node) (number req : ℕ) (work : ObjWork) (so_far : StepState) → IsFreeIn req so_far → MayWorkIn number req so_far → IsGood old so_far
     → IsGood old (work_begun number req work so_far)
@@ -229,10 +226,10 @@ work_begun_good old number req work so_far free may good =
     let zones = zone_count (members_at node.epochs node.peer.epoch) in
     let asked : Work = record { work = work; ended = 0; stage = Ended } in
     let targets = targets_in node.epochs node.peer.epoch (oid_of work) (policy_of work) in
-    cond_either (Begins old number req work so_far) (nat_lt zones (zones_for work))
+    cond_either (Begins old number so_far) (nat_lt zones (zones_for work))
     (halt_step gateway req asked epoch zones) (open_step gateway req asked (next_attempt asked node.sends epoch targets))
-    (cond_either (Begins old number req work so_far) (is_touched req gateway)
-    (waiting_step (with_work req (record asked { stage = WaitsForMembers epoch }) gateway)) (refusal_step gateway req (Halt zones (zones_for work)))
+    (cond_either (Begins old number so_far) (is_touched req gateway)
+    (waiting_step (with_work req (record asked { stage = WaitsForMembers epoch }) gateway)) (refusal_step gateway req work (Halt zones (zones_for work)))
     (record {
       going = going_short old node.me gateway.me gateway.works node.sends node.recovery node.peer so_far.outputs.sends req none_open good.going asked epoch;
       driven = driven_insert gateway.works node.requests node.sessions req (record asked { stage = WaitsForMembers epoch })
@@ -248,7 +245,7 @@ work_begun_good old number req work so_far free may good =
     none_open : (w : Work) → tree.get so_far.node.gateway.works req ≡ Some w → IsIdle w
     none_open w there = let none : tree.get so_far.node.gateway.works req ≡ None = free.idle in absurd (cc (there, none))
 
-    refused_start : (cause : Cause) → Begins old number req work so_far (refusal_step so_far.node.gateway req cause)
+    refused_start : (cause : Cause) → Begins old number so_far (refusal_step so_far.node.gateway req work cause)
     refused_start cause =
         let same : so_far.node.gateway.works ≡ tree.remove so_far.node.gateway.works req = sym (remove-none so_far.node.gateway.works req free.idle) in
         let after = with_gateway (without_work req so_far.node.gateway) so_far in
@@ -320,8 +317,7 @@ module _ (works : Works) (requests : Requests) (sessions : Sessions) (number : �
   }
 
 began_waiting : (inode_queue : InodeQueue) (req : ℕ) (work : ObjWork) → (queue_with_open inode_queue req work).waiting ≡ inode_queue.waiting
-began_waiting inode_queue req work =
-    cond_either (λ (after : InodeQueue). after.waiting ≡ inode_queue.waiting) (is_on_inode work) (record inode_queue { current = Some req }) inode_queue refl refl
+began_waiting inode_queue req work = refl
 
 pub work_asked_good : (old : Node) (number req : ℕ) (work : ObjWork) (so_far : StepState) → IsFreeIn req so_far → MayWorkIn number req so_far → IsGood old so_far
     → IsGood old (work_asked number req work so_far)
@@ -392,18 +388,17 @@ free_of old req request so_far there never good = record {
         let may : may_work request.course ≡ true = ap may_work_at (sym there) ∙ good.driven.open_works req work open_there in
         absurd (cc (may, never))
 
-request_begun_good : (old : Node) (number req : ℕ) (request : Option Request) (so_far : StepState) → tree.get so_far.node.requests req ≡ request → IsGood old so_far
-    → IsGood old (found_request_begun number req request so_far)
-request_begun_good old number req None so_far there good = good
-request_begun_good old number req (Some request) so_far there good =
-    cond_either (IsGood old) (request.session == number) (course_begun number req request.course so_far) so_far
-    (course_begun_good old number req request.course so_far (λ never. free_of old req request so_far there never good) good) good
+request_begun_good : (old : Node) (req : ℕ) (request : Option Request) (so_far : StepState) → tree.get so_far.node.requests req ≡ request → IsGood old so_far
+    → IsGood old (found_request_begun req request so_far)
+request_begun_good old req None so_far there good = good
+request_begun_good old req (Some request) so_far there good =
+    course_begun_good old request.session req request.course so_far (λ never. free_of old req request so_far there never good) good
 
-all_begun_good : (old : Node) (number : ℕ) (reqs : List ℕ) (so_far : StepState) → IsGood old so_far → IsGood old (fold (begun_if_may number) so_far reqs)
-all_begun_good old number [] so_far good = good
-all_begun_good old number (req ∷ reqs) so_far good =
-    all_begun_good old number reqs (begun_if_may number so_far req)
-    (request_begun_good old number req (tree.get so_far.node.requests req) so_far refl good)
+all_begun_good : (old : Node) (reqs : List ℕ) (so_far : StepState) → IsGood old so_far → IsGood old (fold begun_if_may so_far reqs)
+all_begun_good old [] so_far good = good
+all_begun_good old (req ∷ reqs) so_far good =
+    all_begun_good old reqs (begun_if_may so_far req)
+    (request_begun_good old req (tree.get so_far.node.requests req) so_far refl good)
 
 -- the first work that waits leaves its line
 module _ (works : Works) (requests : Requests) (sessions : Sessions) (number : ℕ) (session : Session) (first : lines.Waiting) (later : List lines.Waiting)
@@ -498,22 +493,14 @@ next_begun_good old number so_far good =
 pub let_begin_good : (old : Node) (number : ℕ) (so_far : StepState) → IsGood old so_far → IsGood old (let_begin number so_far)
 unfolding let_begin passed_over
 let_begin_good old number so_far good =
-    all_begun_good old number (tree.keys so_far.node.requests) (next_begun number (next_work (session_in number so_far).inode_queue) so_far)
+    all_begun_good old (queued_requests (session_in number so_far)) (next_begun number (next_work (session_in number so_far).inode_queue) so_far)
     (next_begun_good old number so_far good)
 
-pub left_by_good : (old : Node) (number : ℕ) (work : Option Work) (so_far : StepState) → IsGood old so_far → IsGood old (queue_left_by number work so_far)
-left_by_good old number None so_far good = good
-left_by_good old number (Some work) so_far good = left_good old number work.work so_far good
-
-pub left_by_free : (req number : ℕ) (work : Option Work) (so_far : StepState) → IsFreeIn req so_far → IsFreeIn req (queue_left_by number work so_far)
-left_by_free req number None so_far free = free
-left_by_free req number (Some work) so_far free = left_free req number work.work so_far free
-
 -- a request whose work was refused ends, and what waited begins
-pub work_refused_good : (old : Node) (work : Option Work) (req : ℕ) (cause : Cause) (request : Option Request) (so_far : StepState) → IsFreeIn req so_far
+pub work_refused_good : (old : Node) (work : ObjWork) (req : ℕ) (cause : Cause) (request : Option Request) (so_far : StepState) → IsFreeIn req so_far
     → IsGood old so_far → IsGood old (work_refused work req cause request so_far)
 work_refused_good old work req cause None so_far free good = good
 work_refused_good old work req cause (Some request) so_far free good =
-    let_begin_good old request.session (request_refused req cause (Some request) (queue_left_by request.session work so_far))
-    (request_refused_good old req cause (Some request) (queue_left_by request.session work so_far)
-    (left_by_free req request.session work so_far free) (left_by_good old request.session work so_far good))
+    let_begin_good old request.session (request_refused req cause (Some request) (queue_left request.session work so_far))
+    (request_refused_good old req cause (Some request) (queue_left request.session work so_far)
+    (left_free req request.session work so_far free) (left_good old request.session work so_far good))

@@ -47,12 +47,12 @@ use Rattle.sheep_node.specs.State.{Course, Waiting, Driving, Commanding, Request
 use Rattle.sheep_node.specs.RecoveryView.{recovery_state_of}
 use Rattle.sheep_node.specs.StepState.{StepState, at_first, with_node, with_optional_entry, with_gateway, session_in, with_inode_queue, with_disk, with_course, request_ended}
 use Rattle.sheep_node.specs.RequestWorks.{command_refused, course_refused, request_refused, queue_left, after_start, start_of, work_begun, work_asked}
-use Rattle.sheep_node.specs.Courses.{driver_acted, driver_stepped, driver_went_on, disk_went_on, disk_begun, disk_after, command_acted, command_stepped, command_went_on, course_went_on, course_decided}
-use Rattle.sheep_node.specs.Waiting.{next_begun, course_begun, found_request_begun, begun_if_may, passed_over, let_begin, queue_left_by, work_done, work_refused, after_act, after_gateway_step}
+use Rattle.sheep_node.specs.Courses.{driver_acted, driver_stepped, driver_went_on, disk_went_on, disk_begun, after_command_step, command_acted, command_stepped, command_went_on, course_went_on, course_decided}
+use Rattle.sheep_node.specs.Waiting.{next_begun, course_begun, found_request_begun, begun_if_may, passed_over, queued_requests, let_begin, work_done, work_refused, after_act, after_gateway_step}
 use Rattle.sheep_node.specs.Guests as guests
 use Rattle.sheep_node.specs.Guests.{request_refusal, inode_open, with_queued_request, request_taken, request_taken_unless}
-use Rattle.sheep_node.specs.Same.{waits_for_entry}
-use Rattle.sheep_node.specs.LogReading.{with_peer, with_epoch_members, peer_entered, is_epoch_member, recovery_begun, epoch_entered, entered_by, settled_by, entry_read, asker_of, decision_told, on_log_entry, on_back}
+use Rattle.sheep_node.specs.AwaitedEntry.{waits_for_entry}
+use Rattle.sheep_node.specs.LogReading.{entry_read, asker_of, decision_told, on_log_entry, on_back}
 use Rattle.sheep_node.specs.Step as steps
 use Rattle.sheep_node.specs.Step.{on_request, recovery_stepped, on_reply, on_put, on_recover_tick, on_retry_tick, on_input, is_due, with_recovered, recovered_put, node_step}
 
@@ -90,8 +90,7 @@ module _ (P : ℕ → Type 0) where
   ended_are number req reply so_far all = are_left so_far.node.requests req all
 
   appended_are : (entry : Option Entry) (so_far : StepState) → AreIn so_far → AreIn (with_optional_entry entry so_far)
-  appended_are None so_far all = all
-  appended_are (Some entry) so_far all = all
+  appended_are entry so_far all = all
 
   command_refused_are : (number req : ℕ) (end : Option OpEnd) (so_far : StepState) → AreIn so_far → AreIn (command_refused number req end so_far)
   command_refused_are number req None so_far all = all
@@ -109,17 +108,17 @@ module _ (P : ℕ → Type 0) where
   request_refused_are req cause None so_far all = all
   request_refused_are req cause (Some request) so_far all = course_refused_are request.session req cause request.course so_far all
 
-  after_start_are : (number req : ℕ) (work : ObjWork) (act : Act) (so_far : StepState) → AreIn so_far → AreIn (after_start number req work act so_far)
-  after_start_are number req work (acts.Send sends) so_far all = all
-  after_start_are number req work acts.Wait so_far all = all
-  after_start_are number req work (acts.Done done) so_far all = all
-  after_start_are number req work (acts.Refused of cause) so_far all =
+  after_start_are : (number : ℕ) (act : Act) (so_far : StepState) → AreIn so_far → AreIn (after_start number act so_far)
+  after_start_are number (acts.Send sends) so_far all = all
+  after_start_are number acts.Wait so_far all = all
+  after_start_are number (acts.Done work done) so_far all = all
+  after_start_are number (acts.Refused work req cause) so_far all =
       request_refused_are req cause (tree.get so_far.node.requests req) (queue_left number work so_far) all
 
   work_begun_are : (number req : ℕ) (work : ObjWork) (so_far : StepState) → AreIn so_far → AreIn (work_begun number req work so_far)
   unfolding work_begun
   work_begun_are number req work so_far all =
-      after_start_are number req work (start_of req work so_far.node).act (with_gateway (start_of req work so_far.node).gateway so_far) all
+      after_start_are number (start_of req work so_far.node).act (with_gateway (start_of req work so_far.node).gateway so_far) all
 
   work_asked_are : (number req : ℕ) (work : ObjWork) (so_far : StepState) → AreIn so_far → AreIn (work_asked number req work so_far)
   unfolding work_asked
@@ -159,18 +158,16 @@ module _ (P : ℕ → Type 0) where
   disk_begun_are number req ask None so_far so all = all
   disk_begun_are number req ask (Some disk) so_far so all = driver_stepped_are number req disk (drivers.begin_driver disk ask) so_far so all
 
-  command_acted_are : (number req : ℕ) (ask : VdiAsk) (op : Op) (act : OpAct) (so_far : StepState) → AreIn so_far
-      → AreIn (command_acted number req ask op act so_far)
-  command_acted_are number req ask op (op_acts.Append entry) so_far all = all
-  command_acted_are number req ask op (op_acts.Work work) so_far all = work_asked_are number req work so_far all
-  command_acted_are number req ask op (op_acts.Reply reply) so_far all =
-      ended_are number req reply (with_disk number (disk_after ask (opened_inode op) (session_in number so_far).disk) so_far) all
+  command_acted_are : (number req : ℕ) (act : OpAct) (so_far : StepState) → AreIn so_far → AreIn (command_acted number req act so_far)
+  command_acted_are number req (op_acts.Append entry) so_far all = all
+  command_acted_are number req (op_acts.Work work) so_far all = work_asked_are number req work so_far all
+  command_acted_are number req (op_acts.Reply reply) so_far all = ended_are number req reply so_far all
 
   command_stepped_are : (number req : ℕ) (ask : VdiAsk) (step : ops.OpStep) (so_far : StepState) → P req → AreIn so_far
       → AreIn (command_stepped number req ask step so_far)
   unfolding command_stepped
   command_stepped_are number req ask step so_far so all =
-      command_acted_are number req ask step.op step.act (with_course number req (Commanding ask step.op) so_far)
+      command_acted_are number req step.act (after_command_step number req ask step so_far)
       (are_with so_far.node.requests req (record { session = number; course = Commanding ask step.op }) so all)
 
   command_went_on_are : (number req : ℕ) (ask : VdiAsk) (step : Option ops.OpStep) (so_far : StepState) → P req → AreIn so_far
@@ -203,17 +200,15 @@ module _ (P : ℕ → Type 0) where
   course_begun_are number req (Driving driver) so_far so all = all
   course_begun_are number req (Commanding ask op) so_far so all = all
 
-  request_begun_are : (number req : ℕ) (request : Option Request) (so_far : StepState) → tree.get so_far.node.requests req ≡ request → AreIn so_far
-      → AreIn (found_request_begun number req request so_far)
-  request_begun_are number req None so_far there all = all
-  request_begun_are number req (Some request) so_far there all =
-      cond_either AreIn (request.session == number) (course_begun number req request.course so_far) so_far
-      (course_begun_are number req request.course so_far (all req request there) all) all
+  request_begun_are : (req : ℕ) (request : Option Request) (so_far : StepState) → tree.get so_far.node.requests req ≡ request → AreIn so_far
+      → AreIn (found_request_begun req request so_far)
+  request_begun_are req None so_far there all = all
+  request_begun_are req (Some request) so_far there all = course_begun_are request.session req request.course so_far (all req request there) all
 
-  all_begun_are : (number : ℕ) (reqs : List ℕ) (so_far : StepState) → AreIn so_far → AreIn (fold (begun_if_may number) so_far reqs)
-  all_begun_are number [] so_far all = all
-  all_begun_are number (req ∷ reqs) so_far all =
-      all_begun_are number reqs (begun_if_may number so_far req) (request_begun_are number req (tree.get so_far.node.requests req) so_far refl all)
+  all_begun_are : (reqs : List ℕ) (so_far : StepState) → AreIn so_far → AreIn (fold begun_if_may so_far reqs)
+  all_begun_are [] so_far all = all
+  all_begun_are (req ∷ reqs) so_far all =
+      all_begun_are reqs (begun_if_may so_far req) (request_begun_are req (tree.get so_far.node.requests req) so_far refl all)
 
   next_begun_are : (number : ℕ) (next : Option lines.Waiting) (so_far : StepState) → AreIn so_far → AreIn (next_begun number next so_far)
   next_begun_are number None so_far all = all
@@ -223,39 +218,32 @@ module _ (P : ℕ → Type 0) where
   let_begin_are : (number : ℕ) (so_far : StepState) → AreIn so_far → AreIn (let_begin number so_far)
   unfolding let_begin passed_over
   let_begin_are number so_far all =
-      all_begun_are number (tree.keys so_far.node.requests) (next_begun number (next_work (session_in number so_far).inode_queue) so_far)
+      all_begun_are (queued_requests (session_in number so_far)) (next_begun number (next_work (session_in number so_far).inode_queue) so_far)
       (next_begun_are number (next_work (session_in number so_far).inode_queue) so_far all)
 
-  left_by_are : (number : ℕ) (work : Option gateways.Work) (so_far : StepState) → AreIn so_far → AreIn (queue_left_by number work so_far)
-  left_by_are number None so_far all = all
-  left_by_are number (Some work) so_far all = all
-
-  work_done_are : (work : Option gateways.Work) (req : ℕ) (bytes : List ℕ) (request : Option Request) (so_far : StepState)
+  work_done_are : (work : ObjWork) (req : ℕ) (bytes : List ℕ) (request : Option Request) (so_far : StepState)
       → tree.get so_far.node.requests req ≡ request → AreIn so_far → AreIn (work_done work req bytes request so_far)
   work_done_are work req bytes None so_far there all = all
   work_done_are work req bytes (Some request) so_far there all =
-      let_begin_are request.session (course_went_on request.session req bytes request.course (queue_left_by request.session work so_far))
-      (course_went_on_are request.session req bytes request.course (queue_left_by request.session work so_far) (all req request there)
-      (left_by_are request.session work so_far all))
+      let_begin_are request.session (course_went_on request.session req bytes request.course (queue_left request.session work so_far))
+      (course_went_on_are request.session req bytes request.course (queue_left request.session work so_far) (all req request there) all)
 
-  work_refused_are : (work : Option gateways.Work) (req : ℕ) (cause : Cause) (request : Option Request) (so_far : StepState) → AreIn so_far
+  work_refused_are : (work : ObjWork) (req : ℕ) (cause : Cause) (request : Option Request) (so_far : StepState) → AreIn so_far
       → AreIn (work_refused work req cause request so_far)
   work_refused_are work req cause None so_far all = all
   work_refused_are work req cause (Some request) so_far all =
-      let_begin_are request.session (request_refused req cause (Some request) (queue_left_by request.session work so_far))
-      (request_refused_are req cause (Some request) (queue_left_by request.session work so_far) (left_by_are request.session work so_far all))
+      let_begin_are request.session (request_refused req cause (Some request) (queue_left request.session work so_far))
+      (request_refused_are req cause (Some request) (queue_left request.session work so_far) all)
 
-  acted_are : (before : Gateway) (act : Act) (so_far : StepState) → AreIn so_far → AreIn (after_act before act so_far)
-  acted_are before (acts.Send sends) so_far all = all
-  acted_are before acts.Wait so_far all = all
-  acted_are before (acts.Done done) so_far all =
-      work_done_are (tree.get before.works done.req) done.req done.bytes (tree.get so_far.node.requests done.req) so_far refl all
-  acted_are before (acts.Refused req cause) so_far all =
-      work_refused_are (tree.get before.works req) req cause (tree.get so_far.node.requests req) so_far all
+  acted_are : (act : Act) (so_far : StepState) → AreIn so_far → AreIn (after_act act so_far)
+  acted_are (acts.Send sends) so_far all = all
+  acted_are acts.Wait so_far all = all
+  acted_are (acts.Done work done) so_far all = work_done_are work done.req done.bytes (tree.get so_far.node.requests done.req) so_far refl all
+  acted_are (acts.Refused work req cause) so_far all = work_refused_are work req cause (tree.get so_far.node.requests req) so_far all
 
   gateway_stepped_are : (step : gateway_steps.GatewayStep) (so_far : StepState) → AreIn so_far → AreIn (after_gateway_step step so_far)
   unfolding after_gateway_step
-  gateway_stepped_are step so_far all = acted_are so_far.node.gateway step.act (with_gateway step.gateway so_far) all
+  gateway_stepped_are step so_far all = acted_are step.act (with_gateway step.gateway so_far) all
 
   -- ---- a guest's request
 
@@ -281,24 +269,9 @@ module _ (P : ℕ → Type 0) where
 
   -- ---- an entry of the log
 
-  settled_are : (settled : ℕ) (node : Node) → AreOf node → AreOf (settled_by settled node)
-  settled_are settled node all = cond_either AreOf (nat_lt node.peer.settled settled) (with_peer (peer_settled_to settled node.peer) node) node all all
-
-  epoch_are : (node : Node) → AreOf node → AreOf (epoch_entered node)
-  epoch_are node all =
-      let entered = peer_entered (with_epoch_members (epoch_of node.peer.entries) node) in
-      cond_either AreOf (is_epoch_member entered) (recovery_begun entered) entered all all
-
-  entered_are : (entry : Entry) (node : Node) → AreOf node → AreOf (entered_by entry node)
-  entered_are entry node all =
-      cond_either AreOf (begins_epoch entry) (epoch_entered node) (cond (is_format entry) (with_epoch_members 1 node) node) (epoch_are node all)
-      (cond_either AreOf (is_format entry) (with_epoch_members 1 node) node all all)
-
   entry_are : (entry : Entry) (node : Node) → AreOf node → AreOf (entry_read entry node)
   unfolding entry_read
-  entry_are entry node all =
-      settled_are (settled_of (read_entry entry node.peer).entries) (entered_by entry (with_peer (read_entry entry node.peer) node))
-      (entered_are entry (with_peer (read_entry entry node.peer) node) all)
+  entry_are entry node all = all
 
   told_are : (decision : Decision) (found : Option (ℕ × Request)) (so_far : StepState) → ((one : ℕ × Request) → found ≡ Some one → P one.0) → AreIn so_far
       → AreIn (decision_told decision found so_far)

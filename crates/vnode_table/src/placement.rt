@@ -6,7 +6,7 @@ ghost use Rattle.vnode_table.specs.Targets.{targets_in};
 
 use crate::epoch_ring::EpochRing;
 use hash_ring::object_hash;
-use object_id::{Epoch, Member, NoMemory, NodeId, Oid, Policy};
+use object_id::{Epoch, Member, NoMemory, NodeId, Oid, Policy, TARGETS_MAX};
 use std::alloc::Global;
 use std::marker::Model;
 
@@ -69,7 +69,7 @@ impl Placement {
         epoch: Epoch,
         oid: Oid,
         policy: Policy,
-        out: &mut [NodeId; 31],
+        out: &mut [NodeId; TARGETS_MAX],
     ) -> usize
         requires entered { IsTrue (is_entered self.now epoch.0) }
         requires policy { IsPolicy policy }

@@ -1,19 +1,20 @@
 use Rattle.std.proofs.Common.{sym, ◌∙◌, true≢false}
-use Rattle.hash_ring.proofs.PointLaws.{weighted_more, not_below_1, not_above_256, none_before}
-use Rattle.hash_ring.proofs.point.are_weighted.Goals.{then-member-lt1-via-then-member-lt1, then-member-lt1-via-else-member-lt1+then-member-gt256, then-member-lt1-via-else-member-lt1+else-member-gt256+then-stands_before}
+use Rattle.hash_ring.proofs.PointLaws.{weighted_more, none_before}
 use Rattle.hash_ring.proofs.point.are_weighted.Goals as goal
 
-pub returns-then-member-lt1 : goal.returns-then-member-lt1
-returns-then-member-lt1 c = (
+pub returns-then-not-is_weight : goal.returns-then-not-is_weight
+returns-then-not-is_weight c = (
   λ t. absurd (true≢false (sym t)),
-  λ are. absurd (elim c.then-member-lt1.branch [
-    | then-member-lt1-via-then-member-lt1 w ↦ not_below_1 c.args.members.now c.loop-k.k _ c.loop-k-test.true are w.if-member-lt1.true
-    | then-member-lt1-via-else-member-lt1+then-member-gt256 w ↦ not_above_256 c.args.members.now c.loop-k.k _ c.loop-k-test.true are w.if-member-gt256.true
-    | then-member-lt1-via-else-member-lt1+else-member-gt256+then-stands_before w ↦ none_before c.args.members.now c.loop-k.k _ c.loop-k-test.true are (w.stands_before.ensures.0 w.if-stands_before.true)
-  ]),
+  λ are. absurd (true≢false (sym (c.is_weight.ensures.1 (are.weights c.loop-k.k _ c.loop-k-test.true)) ∙ c.if-not-is_weight.true)),
+)
+
+pub returns-then-stands_before : goal.returns-then-stands_before
+returns-then-stands_before c = (
+  λ t. absurd (true≢false (sym t)),
+  λ are. absurd (none_before c.args.members.now c.loop-k.k _ c.loop-k-test.true are (c.stands_before.ensures.0 c.if-stands_before.true)),
 )
 
 pub loop-k-preserved : goal.loop-k-preserved
 loop-k-preserved c =
-    weighted_more c.args.members.now c.loop-k.k _ c.loop-k-test.true c.loop-k.invariant (c.if-member-lt1.false, c.if-member-gt256.false)
+    weighted_more c.args.members.now c.loop-k.k _ c.loop-k-test.true c.loop-k.invariant (c.is_weight.ensures.0 c.if-not-is_weight.false)
     (λ among. true≢false (sym (c.stands_before.ensures.1 among) ∙ c.if-stands_before.false))

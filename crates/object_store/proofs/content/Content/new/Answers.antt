@@ -1,7 +1,7 @@
 use Rattle.std.proofs.Common.{◌≡◌, ◌++◌, arith}
 use Rattle.std.proofs.lemmas.Grind.{common_steps}
 use Rattle.std.proofs.lemmas.List.{length-append, length-replicate}
-use Rattle.object_store.specs.Bytes.{zeros}
+use Rattle.object_id.specs.Fields.{zeros}
 use Rattle.object_store.proofs.ByteLemmas.{laid_over-zeros}
 use Rattle.object_store.proofs.content.Content.new.Goals as goal
 
