@@ -52,6 +52,7 @@ says-something lines.ClusterInfo words spells = rw spells
 says-something lines.Dump words spells = rw spells
 says-something (lines.Zone node zone) words spells = rw spells.2
 says-something (lines.Reweight node vnodes) words spells = rw spells.2
+says-something (lines.Check session) words spells = asked-says session spells
 says-something s words spells = rw spells.1
 
 nothing-says : (s : Statement) → IsSpelled s [] → ⊥

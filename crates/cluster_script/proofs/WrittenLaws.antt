@@ -6,7 +6,7 @@ use Rattle.std.proofs.lemmas.Str.{is_utf8-from_IsUtf8, IsUtf8-nil}
 use Rattle.cluster_script.specs.declared.statement.Pattern.{Pattern}
 use Rattle.cluster_script.specs.declared.statement.Pattern.TheVariants as patterns
 use Rattle.cluster_script.specs.declared.statement.Statement.{Statement}
-use Rattle.cluster_script.specs.declared.statement.Statement.TheVariants.{Cluster, Vnodes, Tries, Limit, Session, Create, OpenDisk, Close, Read, Write, Snapshot, Clone, Delete, Fail, Join, Lose, Zone, Reweight, Back}
+use Rattle.cluster_script.specs.declared.statement.Statement.TheVariants.{Cluster, Vnodes, Tries, Limit, Session, Create, OpenDisk, Close, Read, Write, Snapshot, Clone, Delete, Fail, Join, Lose, Zone, Reweight, Back, Check}
 use Rattle.cluster_script.specs.OneDisk.{IsPrintedName, IsSpan}
 use Rattle.cluster_script.specs.Language.{MayAsk, IsPrintedTag, MayStand, EachMayStand, IsScript}
 use Rattle.cluster_script.specs.Words.{Word, lines_of}
@@ -145,6 +145,7 @@ written before (Zone node zone) script may = two-numbers (codes "zone") node zon
 written before (Reweight node vnodes) script may =
     two-numbers (codes "reweight") node vnodes refl (omega (arith, used-node before node script may.1.used)) (omega (arith, may.3))
 written before (Back node) script may = one-number (codes "back") node refl (omega (arith, failed-node before node script may.1))
+written before (Check session) script may = asked before session (codes "check") [] script may.0 refl
 written before s script may = (refl, refl)
 
 -- what the lines of a text say: a statement each, and the empty one at its end nothing

@@ -11,7 +11,7 @@ use Rattle.hash_ring.specs.Placement.{zone_count}
 use Rattle.vnode_table.specs.Epochs.{EpochMembers, members_at}
 use Rattle.peer_proto.specs.declared.say.Refusal.TheVariants as refusals
 use Rattle.peer_proto.specs.declared.work.ObjWork.{ObjWork}
-use Rattle.peer_proto.specs.declared.work.ObjWork.TheVariants.{Create, Write, Read}
+use Rattle.peer_proto.specs.declared.work.ObjWork.TheVariants.{Create, Write, Read, ReadAll}
 use Rattle.gateway.specs.declared.act.Act.TheVariants as acts
 use Rattle.gateway.specs.declared.message.Message.{Message}
 use Rattle.gateway.specs.declared.message.Status.{Status}
@@ -72,6 +72,19 @@ one_short = refl
 
 two_strips : is_done (Read object (Coded 2 1) 0 512) (message 1 Lost ∷ message 2 (Succeeded []) ∷ message 3 (Succeeded []) ∷ []) ≡ true
 two_strips = refl
+
+-- a read of all parts asks every target for its part, wants all of them, and gives their pieces in order
+all_parts_are_read_everywhere : targets_asked (ReadAll object (Copies 3) 512) 1 three ≡ (0, node 4) ∷ (1, node 7) ∷ (2, node 2) ∷ []
+all_parts_are_read_everywhere = refl
+
+half_of_each_block : ask_for (ReadAll object (Coded 2 1) 1024) 2 ≡ asks.Read (record { oid = object; index = 2 }) 0 512
+half_of_each_block = refl
+
+one_piece_short : is_done (ReadAll object (Coded 2 1) 512) (message 1 Lost ∷ message 2 (Succeeded []) ∷ message 3 (Succeeded []) ∷ []) ≡ false
+one_piece_short = refl
+
+two_pieces : bytes_given (ReadAll object (Copies 2) 2) (message 1 (Succeeded (1 ∷ 2 ∷ [])) ∷ message 2 (Succeeded (1 ∷ 3 ∷ [])) ∷ []) ≡ 1 ∷ 2 ∷ 1 ∷ 3 ∷ []
+two_pieces = refl
 
 -- a read gives what the first message that succeeded gave, not what the first one did
 the_first_that_came : bytes_given (Read object (Copies 2) 0 512) (message 1 Lost ∷ message 2 (Succeeded (7 ∷ [])) ∷ []) ≡ 7 ∷ []

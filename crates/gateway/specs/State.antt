@@ -13,7 +13,8 @@ use Rattle.peer_proto.specs.declared.say.PeerSay.{PeerSay}
 use Rattle.peer_proto.specs.declared.say.PeerSay.TheVariants as says
 use Rattle.peer_proto.specs.declared.say.PeerRsp.{PeerRsp}
 use Rattle.gateway.specs.declared.message.Message.{Message}
-use Rattle.gateway.specs.Work.{is_making, is_piece, IsWork}
+use Rattle.peer_proto.specs.Work.{IsWork}
+use Rattle.gateway.specs.Work.{is_making, is_piece}
 use Rattle.gateway.specs.Attempt.{Attempt, is_awaited_message}
 
 -- where a work stands

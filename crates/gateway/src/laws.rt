@@ -1,6 +1,6 @@
 //! Laws of the definitions, for the proofs of the layers above: each is the contract of a function that does nothing.
 ghost use Rattle.std.specs.Prelude.{◌≡◌, ◌≢◌, ◌⊎◌, ℕ, ◌≤◌, true, false, List, length, map, Some, None};
-ghost use Rattle.std.specs.List.{list_any, range_with_len};
+ghost use Rattle.std.specs.List.{concat, list_any, range_with_len};
 ghost use Rattle.std.specs.FinMap.{get};
 ghost use Rattle.object_id.specs.declared.node.Epoch.{Epoch};
 ghost use Rattle.object_id.specs.declared.node.NodeId.{NodeId};
@@ -17,14 +17,14 @@ ghost use Rattle.gateway.specs.declared.message.Message.{Message};
 ghost use Rattle.gateway.specs.declared.message.Status.{Status};
 ghost use Rattle.gateway.specs.declared.message.Status.TheVariants.{Succeeded, Lost};
 ghost use Rattle.peer_proto.specs.Work.{oid_of, policy_of};
-ghost use Rattle.peer_proto.specs.declared.work.ObjWork.TheVariants.{Create, Write};
+ghost use Rattle.peer_proto.specs.declared.work.ObjWork.TheVariants.{Create, Write, ReadAll};
 ghost use Rattle.gateway.specs.Work.{is_making, ask_for, bytes_asked};
 ghost use Rattle.gateway.specs.Attempt.{Attempt, is_unanswered, is_awaited_message, may_be_made, messages_with_status, messages_of};
-ghost use Rattle.gateway.specs.Attempt.{bytes_in, bytes_through};
+ghost use Rattle.gateway.specs.Attempt.{is_done, bytes_in, bytes_given, bytes_through};
 ghost use Rattle.gateway.specs.State.{Open, Work, Gateway, is_touched, has_work, asker, next_try};
 ghost use Rattle.gateway.specs.Step.{with_work, without_work, without_touch, waiting_step, attempt_with_status, attempt_continued};
 ghost use Rattle.gateway.specs.Step.{touched_by, refusal_after_attempt, message_ended, attempt_step};
-ghost use Rattle.gateway.specs.Outcomes.{HasFailed, AsksEnough, Tells, BeginsAttempt};
+ghost use Rattle.gateway.specs.Outcomes.{AllSucceeded, HasFailed, AsksEnough, Tells, BeginsAttempt};
 
 /// What is told when it is known what a message came to: a work is done only where its attempt has enough, and a
 /// request is refused only while it is untouched, with the first cause of its work's last attempt.
@@ -67,6 +67,23 @@ pub fn every_target_is_asked()
         → (is_making work ≡ true) ⊎ (is_in_strips (policy_of work) (kind_of (oid_of work)) ≡ true)
         → map (λ (message : Message). message.index) (messages_of work attempt first targets)
         ≡ map (index_at (policy_of work) (kind_of (oid_of work))) (range_with_len 0 (length targets)) }
+{}
+
+/// A read of all parts asks every target, in order, each for the part of its index; it gives the pieces as they came, and
+/// touches no request.
+pub fn all_parts_are_read()
+    ensures nodes { (oid : ℕ) (policy : Policy) (size attempt first : ℕ) (targets : List NodeId)
+        → map (λ (message : Message). message.node) (messages_of (ReadAll oid policy size) attempt first targets) ≡ targets }
+    ensures indexes { (oid : ℕ) (policy : Policy) (size attempt first : ℕ) (targets : List NodeId)
+        → map (λ (message : Message). message.index) (messages_of (ReadAll oid policy size) attempt first targets)
+        ≡ map (index_at policy (kind_of oid)) (range_with_len 0 (length targets)) }
+    ensures done { (oid : ℕ) (policy : Policy) (size : ℕ) (messages : List Message)
+        → is_done (ReadAll oid policy size) messages ≡ true → AllSucceeded messages }
+    ensures pieces { (oid : ℕ) (policy : Policy) (size : ℕ) (pieces : List (List ℕ)) (messages : List Message)
+        → map (λ (message : Message). message.status) messages ≡ map Succeeded pieces
+        → bytes_given (ReadAll oid policy size) messages ≡ concat pieces }
+    ensures untouched { (req oid : ℕ) (policy : Policy) (size : ℕ) (status : Status) (gateway : Gateway)
+        → touched_by req (ReadAll oid policy size) status gateway ≡ gateway }
 {}
 
 /// A create or write asks each target for its part of the bytes: as many parts of different indexes as a read needs give the

@@ -5,7 +5,7 @@ use Rattle.std.specs.Option.{option_or}
 use Rattle.std.proofs.lemmas.List.Sums.{fold-append}
 use Rattle.std.proofs.lemmas.Grind.{common_steps}
 use Rattle.cluster_script.specs.declared.statement.Statement.{Statement}
-use Rattle.cluster_script.specs.declared.statement.Statement.TheVariants.{Cluster, Session, Create, OpenDisk, Close, Read, Write, Snapshot, Clone, Delete}
+use Rattle.cluster_script.specs.declared.statement.Statement.TheVariants.{Cluster, Session, Create, OpenDisk, Close, Read, Write, Snapshot, Clone, Delete, Check}
 use Rattle.cluster_script.specs.Statements.{disk_size, size_made, requests_of, disk_name, name_made}
 use Rattle.cluster_script.specs.OneDisk.{MayFollow}
 use Rattle.sheep.specs.declared.disk.Disk.{Disk}
@@ -62,6 +62,7 @@ no_requests P start step (Write session offset length pattern ∷ before) none =
 no_requests P start step (Snapshot session tag ∷ before) none = absurd (cc)
 no_requests P start step (Clone session base tag name ∷ before) none = absurd (cc)
 no_requests P start step (Delete session name tag ∷ before) none = absurd (cc)
+no_requests P start step (Check session ∷ before) none = absurd (cc)
 no_requests P start step (s ∷ before) none =
     step s before refl refl (λ size block. refl) (no_requests P start step before none)
 

@@ -423,6 +423,8 @@ module _ (input : Input) (node : Node) (first : StepState) where
     taken_walk session req (asks.Disk ask) arrival = arrives_walk session req ask arrival (session_in session so_far).disk refl
     taken_walk session req (asks.Vdi ask) arrival =
         command_begun_walk session req ask arrival (begin_command so_far.node.me session ask (inode_open (session_in session so_far).disk)) refl
+    taken_walk session req (asks.Object work) arrival = walk
+    taken_walk session req (asks.Entry entry) arrival = walk
 
     pub guest_walk : (session req : ℕ) (ask : Ask) → so_far ≡ at_first node → input ≡ inputs.Guest req session ask
         → tree.get so_far.node.requests req ≡ None → IsReached input node first (on_guest req session ask so_far)

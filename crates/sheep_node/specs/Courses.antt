@@ -3,7 +3,7 @@ use Rattle.std.specs.Prelude.{ℕ, Bool, false, List, Option, Some, None}
 use Rattle.inode.specs.Layout.{Content}
 use Rattle.peer_proto.specs.declared.guest.DiskAsk.{DiskAsk}
 use Rattle.peer_proto.specs.declared.guest.VdiAsk.{VdiAsk}
-use Rattle.peer_proto.specs.declared.guest.VdiAsk.TheVariants.{Create, Attach, Close, Snapshot, Clone, Delete}
+use Rattle.peer_proto.specs.declared.guest.VdiAsk.TheVariants.{Create, Attach, Close, Snapshot, Clone, Delete, Check}
 use Rattle.vdi_directory.specs.declared.decision.Decision.{Decision}
 use Rattle.peer_service.specs.State.{effects_of}
 use Rattle.guest_driver.specs.declared.disk.Disk.{Disk}
@@ -65,6 +65,7 @@ disk_after Close inode disk = None
 disk_after (Snapshot tag) inode disk = opened_disk_or false inode disk
 disk_after (Clone base tag name) inode disk = disk
 disk_after (Delete name tag) inode disk = disk
+disk_after Check inode disk = disk
 
 -- what is open with an act of a command: its reply leaves another disk
 abbrev pub disk_with_act : VdiAsk → Op → OpAct → Option Disk → Option Disk

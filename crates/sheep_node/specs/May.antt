@@ -62,15 +62,20 @@ is_disk_course (Commanding ask op) = false
 abbrev pub queued_at_most : Ask → ℕ
 queued_at_most (asks.Disk ask) = REQUESTS_AT_ONCE - 1
 queued_at_most (asks.Vdi ask) = 0
+queued_at_most (asks.Object work) = 0
+queued_at_most (asks.Entry entry) = 0
 
 -- whether the session has room for a request: no command of it is without reply
 abbrev pub has_room_for : Ask → Session → Bool
 has_room_for ask session = is_none session.command && nat_le (length session.queue) (queued_at_most ask)
 
--- what is asked is as it may be: whole blocks and one at least, and names, tags and specs that may be such
+-- what is asked is as it may be: whole blocks and one at least, and names, tags and specs that may be such. A work or an entry
+-- from outside isn't taken yet
 abbrev pub IsGuestAsk : Ask → Type 0
 IsGuestAsk (asks.Disk ask) = IsTrue (is_ask ask)
 IsGuestAsk (asks.Vdi ask) = IsVdiAsk ask
+IsGuestAsk (asks.Object work) = ⊥
+IsGuestAsk (asks.Entry entry) = ⊥
 
 -- what a guest's request must meet
 pub record MayGuest (req session : ℕ) (ask : Ask) (node : Node) : Type 0 where

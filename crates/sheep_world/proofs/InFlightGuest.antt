@@ -111,6 +111,8 @@ taken_good old number req (asks.Disk ask) so_far free good =
 taken_good old number req (asks.Vdi ask) so_far free good =
     command_went_on_good old number req ask (begin_command so_far.node.me number ask (inode_open (session_in number so_far).disk)) so_far
     (begin_awaited so_far.node.me number ask (inode_open (session_in number so_far).disk)) free good
+taken_good old number req (asks.Object work) so_far free good = good
+taken_good old number req (asks.Entry entry) so_far free good = good
 
 taken_unless_good : (old : Node) (cause : Option Cause) (number req : ℕ) (ask : Ask) (so_far : StepState) → IsFreeIn req so_far → IsGood old so_far
     → IsGood old (request_taken_unless cause number req ask so_far)

@@ -259,6 +259,8 @@ module _ (P : ℕ → Type 0) where
       (pushed_are number req ask disk waiting (are_with so_far.node.requests req (record { session = number; course = Waiting ask }) so all))
   taken_are number req (asks.Vdi ask) so_far so all =
       command_went_on_are number req ask (begin_command so_far.node.me number ask (inode_open (session_in number so_far).disk)) so_far so all
+  taken_are number req (asks.Object work) so_far so all = all
+  taken_are number req (asks.Entry entry) so_far so all = all
 
   taken_unless_are : (cause : Option Cause) (number req : ℕ) (ask : Ask) (so_far : StepState) → P req → AreIn so_far
       → AreIn (request_taken_unless cause number req ask so_far)
