@@ -7,7 +7,7 @@ use Rattle.disk_check.specs.declared.act.CheckAct.{CheckAct}
 use Rattle.disk_check.specs.declared.act.CheckAct.TheVariants.{Reply}
 use Rattle.disk_check.specs.Table.{own_indexes, inherited_count}
 use Rattle.disk_check.specs.Value.{pieces_in, differ}
-use Rattle.disk_check.specs.Check.{CheckStage, Comparing, WritingBack, Answered, Check, with_object, check_on, begun_check, begin_check, done_at, check_on_done, bytes_at, check_bytes_wanted}
+use Rattle.disk_check.specs.Check.{CheckStage, Comparing, WritingBack, Answered, Check, with_object, check_on, begun_check, begin_check, check_done_at, check_on_done, bytes_at, check_bytes_wanted}
 use Rattle.disk_check.specs.Course.{check_acts_from, object_acts, object_answers, differed_among, findings}
 
 -- a check of the inode's disk that found this so far
@@ -59,7 +59,7 @@ check_acts-begin inode given =
     ∙ ap (λ (act : CheckAct). flat_map (object_acts inode given) (own_indexes inode) ++ act ∷ [])
     (same_checked (inherited_count inode) (omega arith) refl)
 
-done_waits : (bytes : List ℕ) (check : Check) (stage : CheckStage) → is_some (done_at bytes check stage) ≡ is_some (bytes_at check.spec stage)
+done_waits : (bytes : List ℕ) (check : Check) (stage : CheckStage) → is_some (check_done_at bytes check stage) ≡ is_some (bytes_at check.spec stage)
 done_waits bytes check (Comparing index later) = refl
 done_waits bytes check (WritingBack later) = refl
 done_waits bytes check Answered = refl

@@ -17,7 +17,7 @@ use Rattle.strip_coding.specs.Part.{IsAligned, part_size, first_part, blocks_thr
 use Rattle.strip_coding.proofs.Widths.{by_cases}
 use Rattle.inode.specs.Layout.{Content}
 use Rattle.peer_proto.specs.Work.{IsWork}
-use Rattle.disk_check.specs.Value.{all_bytes, cut, pieces_in, value_of}
+use Rattle.disk_check.specs.Value.{all_bytes, cut_pieces, pieces_in, value_of}
 use Rattle.disk_check.specs.Check.{begun_check, read_copies, write_value}
 
 -- objects go by whole blocks
@@ -45,8 +45,8 @@ length-blocks_through d points (suc blocks) parts =
     let others : length rest ≡ blocks * 512 = length-blocks_through d points blocks (map (drop (strip_bytes d)) parts) in
     omega (arith, length-append front rest, one, others)
 
-first_cut : (n count size : ℕ) (bytes : List ℕ) → 1 ≤ n → 1 ≤ count → first_part (take n (cut count size bytes)) ≡ take size bytes
-unfolding cut
+first_cut : (n count size : ℕ) (bytes : List ℕ) → 1 ≤ n → 1 ≤ count → first_part (take n (cut_pieces count size bytes)) ≡ take size bytes
+unfolding cut_pieces
 first_cut zero count size bytes some more = absurd (omega arith)
 first_cut (suc n) zero size bytes some more = absurd (omega arith)
 first_cut (suc n) (suc count) size bytes some more = refl
@@ -61,14 +61,14 @@ one_of count size long some e =
 -- of coded data the strips of each block give the block
 value_long : (policy : Policy) (n m : ℕ) (bytes : List ℕ) → IsPolicy policy → n ≡ 512 * m
     → length bytes ≡ wanted_of policy Block * part_size policy Block n
-    → length (value_of policy (cut (wanted_of policy Block) (part_size policy Block n) bytes)) ≡ n
+    → length (value_of policy (cut_pieces (wanted_of policy Block) (part_size policy Block n) bytes)) ≡ n
 unfolding bytes_of_parts
 value_long (Copies copies) n m bytes is blocks all =
     ap length (first_cut 1 copies n bytes (omega arith) is.0)
     ∙ length-take-le n bytes (one_of copies n (length bytes) is.0 all)
 value_long (Coded d p) n m bytes is blocks all =
     let some : 1 ≤ d = by_cases (λ d. 1 ≤ d) (omega arith) (omega arith) (omega arith) (omega arith) d is.0 in
-    let pieces : List (List ℕ) = take d (cut (d + p) (n / d) bytes) in
+    let pieces : List (List ℕ) = take d (cut_pieces (d + p) (n / d) bytes) in
     let first : length (first_part pieces) ≡ n / d =
     ap length (first_cut d (d + p) (n / d) bytes some (omega (arith, some)))
     ∙ length-take-le (n / d) bytes (one_of (d + p) (n / d) (length bytes) (omega (arith, some)) all) in

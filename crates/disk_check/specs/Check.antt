@@ -65,8 +65,8 @@ unfoldable pub begin_check : Content → CheckStep
 begin_check inode = check_on (begun_check inode) (own_indexes inode)
 
 -- the pieces of an own object came: it is counted, and its value is written back, whether they differ or not
-abbrev pub write_back : Check → ℕ → List ℕ → List (List ℕ) → CheckStep
-write_back check index later pieces = record {
+abbrev pub write_back_step : Check → ℕ → List ℕ → List (List ℕ) → CheckStep
+write_back_step check index later pieces = record {
   check = record check {
     found = with_object (object_number check.vid index) (differ check.spec.policy pieces) check.found;
     stage = WritingBack later;
@@ -75,14 +75,14 @@ write_back check index later pieces = record {
 }
 
 -- a work is done, and gave these bytes
-abbrev pub done_at : List ℕ → Check → CheckStage → Option CheckStep
-done_at bytes check (Comparing index later) = Some (write_back check index later (pieces_in check.spec bytes))
-done_at bytes check (WritingBack later) = Some (check_on check later)
-done_at bytes check Answered = None
+abbrev pub check_done_at : List ℕ → Check → CheckStage → Option CheckStep
+check_done_at bytes check (Comparing index later) = Some (write_back_step check index later (pieces_in check.spec bytes))
+check_done_at bytes check (WritingBack later) = Some (check_on check later)
+check_done_at bytes check Answered = None
 
 -- the work that a check waits for is done; none where it waits for none
 unfoldable pub check_on_done : List ℕ → Check → Option CheckStep
-check_on_done bytes check = done_at bytes check check.stage
+check_on_done bytes check = check_done_at bytes check check.stage
 
 -- how many bytes a work gives that is waited for
 abbrev pub bytes_at : VdiSpec → CheckStage → Option ℕ

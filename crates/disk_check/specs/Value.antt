@@ -8,21 +8,21 @@ use Rattle.object_id.specs.Policy.{wanted_of, need_of}
 use Rattle.strip_coding.specs.Part.{part, part_size, bytes_of_parts, index_at}
 
 -- how many bytes a target keeps of an object
-abbrev pub piece_bytes : VdiSpec → ℕ
-piece_bytes spec = part_size spec.policy Block (2 ^ spec.shift)
+abbrev pub target_bytes : VdiSpec → ℕ
+target_bytes spec = part_size spec.policy Block (2 ^ spec.shift)
 
 -- how many bytes all targets give of it
 abbrev pub all_bytes : VdiSpec → ℕ
-all_bytes spec = wanted_of spec.policy Block * piece_bytes spec
+all_bytes spec = wanted_of spec.policy Block * target_bytes spec
 
 -- bytes cut into so many pieces of this size
-unfoldable pub cut : ℕ → ℕ → List ℕ → List (List ℕ)
-cut zero size bytes = []
-cut (suc count) size bytes = take size bytes ∷ cut count size (drop size bytes)
+unfoldable pub cut_pieces : ℕ → ℕ → List ℕ → List (List ℕ)
+cut_pieces zero size bytes = []
+cut_pieces (suc count) size bytes = take size bytes ∷ cut_pieces count size (drop size bytes)
 
 -- the pieces that all targets gave, one for each
 abbrev pub pieces_in : VdiSpec → List ℕ → List (List ℕ)
-pieces_in spec bytes = cut (wanted_of spec.policy Block) (piece_bytes spec) bytes
+pieces_in spec bytes = cut_pieces (wanted_of spec.policy Block) (target_bytes spec) bytes
 
 -- the value: of whole copies the first piece, of coded data what strips 0 to d - 1 give
 abbrev pub value_of : Policy → List (List ℕ) → List ℕ

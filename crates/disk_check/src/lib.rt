@@ -14,6 +14,7 @@ mod tests;
 
 pub use act::CheckAct;
 pub use laws::{
-    a_check_begins_works, a_check_goes_by_its_own_objects, a_check_waits_for_works, copies_are_compared_with_the_first,
-    objects_that_differ_ascend, own_objects_are_those_of_the_table, pieces_of_one_value_agree,
+    a_check_begins_works, a_check_goes_by_its_own_objects, a_check_waits_for_works,
+    copies_are_compared_with_the_first, objects_that_differ_ascend,
+    own_objects_are_those_of_the_table, pieces_of_one_value_agree,
 };
