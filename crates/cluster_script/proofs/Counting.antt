@@ -1,9 +1,10 @@
 -- The counters of a list with one statement more.
-use Rattle.std.proofs.Common.{◌≡◌, ℕ, ◌+◌, ◌≤◌, Bool, true, false, cond, ◌&&◌, ◌||◌, List, [], ◌∷◌, ◌++◌, refl, sym, ◌∙◌, arith}
+use Rattle.std.proofs.Common.{◌≡◌, ℕ, ◌+◌, ◌≤◌, Bool, cond, ◌&&◌, ◌||◌, List, [], ◌∷◌, ◌++◌, refl, sym, ◌∙◌, arith}
 use Rattle.std.specs.Prelude.{sum_by}
 use Rattle.std.specs.List.{list_all, list_any}
 use Rattle.std.proofs.lemmas.List.Folds.{list_all-append, list_any-append}
 use Rattle.std.proofs.lemmas.List.Sums.{sum_by-append}
+use Rattle.std.proofs.Math.Bool.{and-true, or-false}
 use Rattle.cluster_script.specs.declared.limits.TheConstants.{REQUESTS_MAX, READ_BYTES_MAX, WRITE_BYTES_MAX}
 use Rattle.cluster_script.specs.declared.statement.Statement.{Statement}
 use Rattle.cluster_script.specs.declared.statement.Statement.TheVariants.{Cluster, Session, Create, OpenDisk, Close, Read, Write}
@@ -12,19 +13,11 @@ use Rattle.cluster_script.specs.Statements.{is_setting, is_cluster, is_create, i
 use Rattle.cluster_script.specs.OneDisk.{MayFollow}
 use Rattle.cluster_script.specs.Totals.{IsTotal, totals_after}
 
-and_true : (b : Bool) → (b && true) ≡ b
-and_true true = refl
-and_true false = refl
-
-or_false : (b : Bool) → (b || false) ≡ b
-or_false true = refl
-or_false false = refl
-
 all_more : (p : Statement → Bool) (b : Bool) (before : List Statement) (s : Statement) → b ≡ list_all p before → (b && p s) ≡ list_all p (before ++ s ∷ [])
-all_more p b before s so_far = rw (so_far, list_all-append p before (s ∷ []), and_true (p s)) refl
+all_more p b before s so_far = rw (so_far, list_all-append p before (s ∷ []), and-true (p s)) refl
 
 any_more : (p : Statement → Bool) (b : Bool) (before : List Statement) (s : Statement) → b ≡ list_any p before → (b || p s) ≡ list_any p (before ++ s ∷ [])
-any_more p b before s so_far = rw (so_far, list_any-append p before (s ∷ []), or_false (p s)) refl
+any_more p b before s so_far = rw (so_far, list_any-append p before (s ∷ []), or-false (p s)) refl
 
 sum_more : (f : Statement → ℕ) (n : ℕ) (before : List Statement) (s : Statement) → n ≡ sum_by f before → n + f s ≡ sum_by f (before ++ s ∷ [])
 sum_more f n before s so_far = so_far_plus ∙ sym (sum_by-append f before (s ∷ []))

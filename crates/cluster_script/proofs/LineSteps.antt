@@ -49,35 +49,33 @@ module _ (reader : StatementReader) where
   script_stops before number line lines cause bad = rw (bad, script_of) refl
 
   -- a text's first line and the lines after it, where a rest without line feed is the last line
+  first_line : (text : List ℕ) → (rest : List (List ℕ)) × (lines_of text ≡ before_first is_feed text ∷ rest)
+      × ((before : List Statement) (number : ℕ)
+      → script_of reader before number rest ≡ script_of reader before number (lines_of (after_first is_feed text)))
+  first_line text = elim (cases_lt (position_or_len is_feed text) (length text)) [
+    | inl lt ↦ (lines_of (after_first is_feed text), slice_split_first is_feed text 0 lt, λ before number. refl)
+    | inr past ↦
+        let one = one_part is_feed text past in (
+          [],
+          one.0 ∙ ap (λ (t : List ℕ). t ∷ []) (sym one.1),
+          λ before number. no_line before number ∙ sym (script_ends before number)
+              ∙ ap (λ (t : List ℕ). script_of reader before number (lines_of t)) (sym one.2),
+        )
+  ]
+
   pub script_goes_on : (before : List Statement) (number : ℕ) (text : List ℕ) (s : Option Statement)
       → line_at reader before (before_first is_feed text) ≡ Ok s
       → script_of reader before number (lines_of text) ≡ script_of reader (with_statement before s) (number + 1) (lines_of (after_first is_feed text))
   script_goes_on before number text s taken =
-      elim (cases_lt (position_or_len is_feed text) (length text)) [
-        | inl lt ↦
-            ap (script_of reader before number) (slice_split_first is_feed text 0 lt)
-            ∙ script_takes before number (before_first is_feed text) (lines_of (after_first is_feed text)) s taken
-        | inr past ↦
-            let one = one_part is_feed text past in
-            ap (script_of reader before number) (one.0 ∙ ap (λ (t : List ℕ). t ∷ []) (sym one.1))
-            ∙ script_takes before number (before_first is_feed text) [] s taken
-            ∙ no_line (with_statement before s) (number + 1)
-            ∙ sym (script_ends (with_statement before s) (number + 1))
-            ∙ ap (λ (t : List ℕ). script_of reader (with_statement before s) (number + 1) (lines_of t)) (sym one.2)
-      ]
+      let first = first_line text in
+      ap (script_of reader before number) first.1
+      ∙ script_takes before number (before_first is_feed text) first.0 s taken ∙ first.2 (with_statement before s) (number + 1)
 
   pub script_is_bad : (before : List Statement) (number : ℕ) (text : List ℕ) (cause : LineCause)
       → line_at reader before (before_first is_feed text) ≡ Err cause → script_of reader before number (lines_of text) ≡ Err (number, cause)
   script_is_bad before number text cause bad =
-      elim (cases_lt (position_or_len is_feed text) (length text)) [
-        | inl lt ↦
-            ap (script_of reader before number) (slice_split_first is_feed text 0 lt)
-            ∙ script_stops before number (before_first is_feed text) (lines_of (after_first is_feed text)) cause bad
-        | inr past ↦
-            let one = one_part is_feed text past in
-            ap (script_of reader before number) (one.0 ∙ ap (λ (t : List ℕ). t ∷ []) (sym one.1))
-            ∙ script_stops before number (before_first is_feed text) [] cause bad
-      ]
+      let first = first_line text in
+      ap (script_of reader before number) first.1 ∙ script_stops before number (before_first is_feed text) first.0 cause bad
 
   -- what a line that was taken leaves to read
   pub script_after : (before after : List Statement) (number : ℕ) (text : List ℕ)

@@ -1,9 +1,10 @@
 -- What is asked: sessions, bytes of writes, and the numbers of requests over the phases.
-use Rattle.std.proofs.Common.{◌≡◌, ℕ, zero, suc, ◌+◌, ◌/◌, Bool, true, false, not, cond, List, [], ◌∷◌, ◌++◌, length, refl, sym, ap, ◌∙◌, arith, if◌then◌else◌}
+use Rattle.std.proofs.Common.{◌≡◌, ℕ, ◌+◌, ◌/◌, Bool, true, false, not, cond, List, [], ◌∷◌, ◌++◌, length, refl, sym, ap, ◌∙◌, arith, if◌then◌else◌}
 use Rattle.std.specs.Prelude.{filter, count_by, is_some}
 use Rattle.std.specs.List.{flat_map, range_with_len}
 use Rattle.std.proofs.lemmas.List.FromFn.{length-map-range_with_len}
 use Rattle.std.proofs.lemmas.List.Sums.{length-filter, sum_by-append}
+use Rattle.proof_tools.proofs.Lists.{range_with_len-append}
 use Rattle.cluster_script.specs.declared.limits.TheConstants.{BLOCK}
 use Rattle.cluster_script.specs.declared.statement.Pattern.{Pattern}
 use Rattle.cluster_script.specs.declared.statement.Statement.{Statement}
@@ -69,23 +70,12 @@ unfolding total
 total-stretches [] = refl
 total-stretches (s ∷ rest) = total-stretches_with s (stretches rest) ∙ ap (λ n. one s + n) (total-stretches rest) ∙ sym (count-cons s rest)
 
--- numbers that go on
-range-join : (a m n : ℕ) → range_with_len a m ++ range_with_len (a + m) n ≡ range_with_len a (m + n)
-range-join a zero n =
-    let same : a + 0 ≡ a = omega arith in
-    let all : 0 + n ≡ n = omega arith in
-    ap (λ k. range_with_len k n) same ∙ ap (range_with_len a) (sym all)
-range-join a (suc m) n =
-    let next : a + suc m ≡ a + 1 + m = omega arith in
-    let more : suc m + n ≡ suc (m + n) = omega arith in
-    ap (λ k. a ∷ range_with_len (a + 1) m ++ range_with_len k n) next ∙ ap (λ xs. a ∷ xs) (range-join (a + 1) m n) ∙ ap (range_with_len a) (sym more)
-
 numbers : (number : ℕ) (parts : List (List Statement)) → flat_map (λ (phase : Phase). phase.requests) (phases_from number parts) ≡ range_with_len number (total parts)
 unfolding total
 numbers number [] = refl
 numbers number (first ∷ rest) =
     ap (λ xs. range_with_len number (count_by is_request first) ++ xs) (numbers (number + count_by is_request first) rest)
-    ∙ range-join number (count_by is_request first) (total rest)
+    ∙ range_with_len-append number (count_by is_request first) (total rest)
 
 -- phase after phase, the requests have their numbers
 pub phases-numbers : (statements : List Statement) → flat_map (λ (phase : Phase). phase.requests) (phases_of statements) ≡ range_with_len 1 (length (requests_of statements))

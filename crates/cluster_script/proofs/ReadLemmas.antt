@@ -10,11 +10,11 @@ use Rattle.object_id.specs.declared.limits.TheConstants.{SHIFT_MIN, SHIFT_MAX}
 use Rattle.cluster_script.specs.declared.statement.Pattern.{Pattern}
 use Rattle.cluster_script.specs.declared.statement.Pattern.TheVariants as patterns
 use Rattle.cluster_script.specs.declared.statement.Statement.{Statement}
-use Rattle.cluster_script.specs.declared.statement.Statement.TheVariants.{Cluster, Vnodes, Tries, Limit, Session, Create, OpenDisk, Close, Read, Write, Snapshot, Clone, Delete, Fail, Join, Lose, Settle, ListNodes, ListVdis, ClusterInfo, Dump, Zone, Reweight, Back}
+use Rattle.cluster_script.specs.declared.statement.Statement.TheVariants.{Cluster, Vnodes, Tries, Limit, Session, Create, OpenDisk, Close, Read, Write, Snapshot, Clone, Delete, Fail, Join, Lose, Settle, ListNodes, ListVdis, ClusterInfo, Dump, Zone, Reweight, Back, Check}
 use Rattle.cluster_script.specs.declared.fault.LineCause.{LineCause}
 use Rattle.cluster_script.specs.declared.fault.LineCause.TheVariants as causes
-use Rattle.cluster_script.specs.declared.limits.TheConstants.{BLOCK, SHIFT_DEFAULT, LENGTH_MAX, NODES_MAX, VNODES_MAX, TRIES_MAX, LIMIT_MAX, SESSIONS_MAX, LOSSES_MAX, REQUESTS_MAX, READ_BYTES_MAX, WRITE_BYTES_MAX}
-use Rattle.cluster_script.specs.Statements.{is_setting, is_cluster, has, is_session_declared, is_request, read_bytes, write_bytes}
+use Rattle.cluster_script.specs.declared.limits.TheConstants.{BLOCK, SHIFT_DEFAULT, LENGTH_MAX, NODES_MAX, VNODES_MAX, TRIES_MAX, LIMIT_MAX, SESSIONS_MAX, LOSSES_MAX, REQUESTS_MAX, READ_BYTES_MAX, WRITE_BYTES_MAX, CHECKS_MAX}
+use Rattle.cluster_script.specs.Statements.{is_setting, is_cluster, has, is_session_declared, is_check, is_request, read_bytes, write_bytes}
 use Rattle.cluster_script.specs.Settings.{is_set, nodes_set, vnodes_set, tries_set, limit_set, zone_set}
 use Rattle.cluster_script.specs.Phases.{losses_from}
 use Rattle.cluster_script.specs.Nodes.{is_node_used, is_failed, is_node_there, IsNodeThere}
@@ -22,7 +22,7 @@ use Rattle.cluster_script.specs.OneDisk.{IsPrintedName, IsSpan}
 use Rattle.cluster_script.specs.Language.{MaySet, HasCluster, MayAsk, IsPrintedTag, IsByte, MayStand}
 use Rattle.cluster_script.specs.Words.{Word, is_next_word, option_at}
 use Rattle.cluster_script.specs.Numbers.{is_digits, number_of}
-use Rattle.cluster_script.specs.Requests.{has_room, request_within_limits, is_colon, strips_in, copies_in, policy_of_word, policy_option_at, shift_option_at, tag_at, create_request_at, disk_words_at, open_request_at, close_request_at, span_at, read_request_at, pattern_byte_at, named_pattern_at, pattern_at, write_request_at, snapshot_request_at, clone_request_at, delete_request_at, copy_verb_at, verb_at, vdi_request_at}
+use Rattle.cluster_script.specs.Requests.{has_room, request_within_limits, is_colon, strips_in, copies_in, policy_of_word, policy_option_at, shift_option_at, tag_at, create_request_at, disk_words_at, open_request_at, close_request_at, span_at, read_request_at, pattern_byte_at, named_pattern_at, pattern_at, write_request_at, snapshot_request_at, clone_request_at, delete_request_at, check_request_at, check_within_limits, copy_verb_at, verb_at, vdi_request_at}
 use Rattle.cluster_script.specs.ClusterLines.{setting_at, zone_at, there_at, session_line_at, fail_at, join_at, reweight_at, back_at, lose_at, alone_at, followed_at, barrier_at, happening_at}
 use Rattle.cluster_script.specs.Script.{asking_session, session_request_at, statement_behind_cluster, statement_at}
 use Rattle.cluster_script.specs.Spelling.{IsNumber, IsSize, IsPolicyWord, IsOption, IsRequestWords, IsAskedOfDisk, IsPatternWords, IsSpelled}
@@ -523,6 +523,15 @@ module _ (before : List Statement) (session : ℕ) (known : is_session_declared 
       stays-within (codes "delete") words (Delete session disk.0 disk.1) s e2
       (read.0 session word (codes "delete") spelled) (λ kept ask. (ask, read.1, read.2))))
 
+  check-reads : (words : List Word) (s : Statement) → check_request_at before session words ≡ Ok s → Asks (codes "check") words s
+  unfolding check_request_at
+  check-reads words s e =
+      read-on _ _ _ e (λ end ended e1.
+      either-way (nat_lt (count_by is_check before) CHECKS_MAX) _ _ s e1
+      (λ few e2. stays-within (codes "check") words (Check session) s e2
+      (as-asked (codes "check") words [] (end-read words end ended)) (λ kept ask. (ask, ltb-true _ _ few)))
+      (λ many none. absurd cc))
+
   -- the verb names how the rest is read
   verb-chosen : (verb keyword : Word) (words : List Word) (r t : Result Statement LineCause) (s : Statement)
       → (if bytes_eq verb keyword then r else t) ≡ Ok s → (r ≡ Ok s → Asks keyword words s)
@@ -541,7 +550,8 @@ module _ (before : List Statement) (session : ℕ) (known : is_session_declared 
       (λ e5. verb-chosen verb (codes "snapshot") words _ _ s e5 (snapshot-reads words s)
       (λ e6. verb-chosen verb (codes "clone") words _ _ s e6 (clone-reads words s)
       (λ e7. verb-chosen verb (codes "delete") words _ _ s e7 (delete-reads words s)
-      (λ e8. absurd cc))))))))
+      (λ e8. verb-chosen verb (codes "check") words _ _ s e8 (check-reads words s)
+      (λ e9. absurd cc)))))))))
 
   request-reads : (words : List Word) (s : Statement) → vdi_request_at before session words ≡ Ok s → Reads before (word ∷ words) s
   unfolding vdi_request_at

@@ -5,15 +5,11 @@ use Rattle.std.specs.List.{find, list_any, AllPairs}
 use Rattle.std.proofs.lemmas.Bool.{ltb-true, ltb-false}
 use Rattle.std.proofs.lemmas.List.Elements.{All-nil, All-cons}
 use Rattle.std.proofs.lemmas.List.Kept.{AllPairs-cons}
+use Rattle.proof_tools.proofs.Booleans.{or_left_comm}
 use Rattle.cluster_script.specs.declared.statement.Statement.{Statement}
 use Rattle.cluster_script.specs.declared.statement.Statement.TheVariants as lines
 use Rattle.cluster_script.specs.Statements.{is_session_declared}
 use Rattle.cluster_script.specs.Sessions.{ScriptSession, sessions_with, sessions_from, sessions_of, has_session_number, session_numbered}
-
-or-swap : (a b c : Bool) → (a || (b || c)) ≡ (b || (a || c))
-or-swap true true c = refl
-or-swap true false c = refl
-or-swap false b c = refl
 
 find-any : (p : ScriptSession → Bool) (sessions : List ScriptSession) → is_some (find p sessions) ≡ list_any p sessions
 find-any p [] = refl
@@ -32,7 +28,7 @@ any-sessions_with p session (first ∷ rest) = go (nat_lt session.number first.n
         → list_any p (if before then session ∷ first ∷ rest else first ∷ sessions_with session rest)
         ≡ (p session || (p first || list_any p rest))
     go true later = refl
-    go false later = ap (λ b. p first || b) later ∙ or-swap (p first) (p session) (list_any p rest)
+    go false later = ap (λ b. p first || b) later ∙ or_left_comm (p first) (p session) (list_any p rest)
 
 any-is_session_declared : (number : ℕ) (before rest : List Statement) → list_any (has_session_number number) (sessions_from before rest) ≡ is_session_declared number rest
 any-is_session_declared number before [] = refl

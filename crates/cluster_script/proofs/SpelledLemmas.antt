@@ -11,10 +11,10 @@ use Rattle.object_id.specs.declared.limits.TheConstants.{SHIFT_MIN, SHIFT_MAX}
 use Rattle.cluster_script.specs.declared.statement.Pattern.{Pattern}
 use Rattle.cluster_script.specs.declared.statement.Pattern.TheVariants as patterns
 use Rattle.cluster_script.specs.declared.statement.Statement.{Statement}
-use Rattle.cluster_script.specs.declared.statement.Statement.TheVariants.{Cluster, Vnodes, Tries, Limit, Session, Create, OpenDisk, Close, Read, Write, Snapshot, Clone, Delete, Fail, Join, Lose, Settle, ListNodes, ListVdis, ClusterInfo, Dump, Zone, Reweight, Back}
+use Rattle.cluster_script.specs.declared.statement.Statement.TheVariants.{Cluster, Vnodes, Tries, Limit, Session, Create, OpenDisk, Close, Read, Write, Snapshot, Clone, Delete, Fail, Join, Lose, Settle, ListNodes, ListVdis, ClusterInfo, Dump, Zone, Reweight, Back, Check}
 use Rattle.cluster_script.specs.declared.fault.LineCause.{LineCause}
 use Rattle.cluster_script.specs.declared.fault.LineCause.TheVariants as causes
-use Rattle.cluster_script.specs.declared.limits.TheConstants.{BLOCK, SHIFT_DEFAULT, LENGTH_MAX, NODES_MAX, VNODES_MAX, TRIES_MAX, LIMIT_MAX, SESSIONS_MAX, LOSSES_MAX, REQUESTS_MAX, READ_BYTES_MAX, WRITE_BYTES_MAX}
+use Rattle.cluster_script.specs.declared.limits.TheConstants.{BLOCK, SHIFT_DEFAULT, LENGTH_MAX, NODES_MAX, VNODES_MAX, TRIES_MAX, LIMIT_MAX, SESSIONS_MAX, LOSSES_MAX, REQUESTS_MAX, READ_BYTES_MAX, WRITE_BYTES_MAX, CHECKS_MAX}
 use Rattle.cluster_script.specs.Statements.{is_session_declared, is_request, read_bytes, write_bytes}
 use Rattle.cluster_script.specs.Settings.{nodes_set, vnodes_set, tries_set, limit_set}
 use Rattle.cluster_script.specs.Nodes.{IsNodeThere}
@@ -22,7 +22,7 @@ use Rattle.cluster_script.specs.OneDisk.{IsPrintedName, IsSpan}
 use Rattle.cluster_script.specs.Language.{MaySet, HasCluster, MayAsk, IsPrintedTag, IsByte, MayStand, IsScript}
 use Rattle.cluster_script.specs.Words.{Word, keyword_at, is_next_word, option_at, is_name_byte, is_name, name_word_at}
 use Rattle.cluster_script.specs.Numbers.{is_digits, digits_value, scaled_number, number_in_range, aligned_number, plain_number_at, blocks_at}
-use Rattle.cluster_script.specs.Requests.{request_within_limits, policy_option_at, shift_option_at, tag_at, create_request_at, disk_words_at, open_request_at, close_request_at, span_at, read_request_at, pattern_byte_at, named_pattern_at, pattern_at, write_request_at, snapshot_request_at, clone_request_at, delete_request_at, copy_verb_at, verb_at, vdi_request_at}
+use Rattle.cluster_script.specs.Requests.{request_within_limits, policy_option_at, shift_option_at, tag_at, create_request_at, disk_words_at, open_request_at, close_request_at, check_request_at, span_at, read_request_at, pattern_byte_at, named_pattern_at, pattern_at, write_request_at, snapshot_request_at, clone_request_at, delete_request_at, copy_verb_at, verb_at, vdi_request_at}
 use Rattle.cluster_script.specs.ClusterLines.{setting_at, node_number_at, zone_at, there_at, session_line_at, fail_at, join_at, reweight_at, back_at, lose_at, alone_at, followed_at, barrier_at, happening_at}
 use Rattle.cluster_script.specs.Script.{asking_session, session_request_at, statement_behind_cluster, statement_at}
 use Rattle.cluster_script.specs.Spelling.{IsNumber, IsSize, IsPolicyWord, IsOption, IsRequestWords, IsAskedOfDisk, IsPatternWords, IsSpelled}
@@ -177,6 +177,12 @@ close_request_at-spelled : (before : List Statement) (session : ℕ) → IsScrip
     → close_request_at before session [] ≡ Ok (Close session)
 unfolding close_request_at
 close_request_at-spelled before session script may = still-request_within_limits before (Close session) script may.room refl refl
+
+check_request_at-spelled : (before : List Statement) (session : ℕ) → IsScript before → MayStand before (Check session)
+    → check_request_at before session [] ≡ Ok (Check session)
+unfolding check_request_at
+check_request_at-spelled before session script may =
+    rw (lt-ltb _ CHECKS_MAX may.1) (still-request_within_limits before (Check session) script may.0.room refl refl)
 
 span_at-spelled : (offset size : ℕ) (a b : Word) (rest : List Word) → IsSpan offset size → IsSize offset a → IsSize size b
     → span_at (a ∷ b ∷ rest) ≡ Ok (offset, size, rest)
@@ -413,6 +419,8 @@ statement_in-spelled before words (Reweight node vnodes) script (a, b, same, fir
     ∙ reweight_at-spelled before node vnodes a b script may first second)
 statement_in-spelled before words (Back node) script (word, same, is) may =
     rw same (told-happens before (codes "back") (word ∷ []) refl may.0 ∙ back_at-spelled before node word script may is)
+statement_in-spelled before words (Check session) script asked may =
+    request-spelled before session (codes "check") [] words (Check session) script may.0 asked (check_request_at-spelled before session script may)
 
 -- words that spell a statement are read as it, behind statements after which it may stand
 pub what-is-spelled : (before : List Statement) (first : Word) (rest : List Word) (s : Statement) → IsScript before

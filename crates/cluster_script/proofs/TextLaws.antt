@@ -34,10 +34,6 @@ asked-says session asked = rw asked.1 (digits-say session asked.0 asked.2)
 
 -- words that spell a statement say something
 says-something : (s : Statement) (words : List Word) → IsSpelled s words → says_nothing words ≡ false
-says-something (lines.Cluster nodes) words spells = rw spells.1
-says-something (lines.Vnodes vnodes) words spells = rw spells.1
-says-something (lines.Tries tries) words spells = rw spells.1
-says-something (lines.Limit limit) words spells = rw spells.1
 says-something (lines.Session session node) words spells = rw spells.2
 says-something (lines.Create session policy shift name size) words spells = asked-says session spells.3
 says-something (lines.OpenDisk session name None) words spells = asked-says session spells
@@ -49,9 +45,6 @@ says-something (lines.Snapshot session tag) words spells = asked-says session sp
 says-something (lines.Clone session base tag name) words spells = asked-says session spells
 says-something (lines.Delete session name None) words spells = asked-says session spells
 says-something (lines.Delete session name (Some tag)) words spells = asked-says session spells
-says-something (lines.Fail node) words spells = rw spells.1
-says-something (lines.Join node) words spells = rw spells.1
-says-something (lines.Lose count) words spells = rw spells.1
 says-something lines.Settle words spells = rw spells
 says-something lines.ListNodes words spells = rw spells
 says-something lines.ListVdis words spells = rw spells
@@ -59,7 +52,8 @@ says-something lines.ClusterInfo words spells = rw spells
 says-something lines.Dump words spells = rw spells
 says-something (lines.Zone node zone) words spells = rw spells.2
 says-something (lines.Reweight node vnodes) words spells = rw spells.2
-says-something (lines.Back node) words spells = rw spells.1
+says-something (lines.Check session) words spells = asked-says session spells
+says-something s words spells = rw spells.1
 
 nothing-says : (s : Statement) → IsSpelled s [] → ⊥
 nothing-says s spells = let something = says-something s [] spells in absurd cc

@@ -50,6 +50,8 @@ lines_of_a_cluster =
     (codes "1 vdi snapshot -s monday", Ok (Some (lines.Snapshot 1 (codes "monday")))) ∷
     (codes "1 vdi clone -s monday gs hs", Ok (Some (lines.Clone 1 (codes "gs") (codes "monday") (codes "hs")))) ∷
     (codes "1 vdi delete gs", Ok (Some (lines.Delete 1 (codes "gs") None))) ∷
+    (codes "1 vdi check", Ok (Some (lines.Check 1))) ∷
+    (codes "1 vdi check gs", Err causes.Word) ∷
     (codes "1 vdi snapshot monday", Err causes.Word) ∷
     (codes "1 vdi open -gs", Err causes.Word) ∷
     (codes "1 vdi close now", Err causes.Word) ∷
@@ -149,8 +151,23 @@ first_lines =
     (codes "cluster 0", Err causes.Range) ∷
     []
 
+-- a script has four checks at most, and may go on otherwise
+abbrev lines_behind_four_checks : List Row
+lines_behind_four_checks =
+    (codes "1 vdi check", Err causes.TooMany) ∷
+    (codes "1 vdi check now", Err causes.Word) ∷
+    (codes "1 vdi close", Ok (Some (lines.Close 1))) ∷
+    []
+
+abbrev four_checks : List Statement
+four_checks = lines.Cluster 3 ∷ lines.Session 1 0 ∷ lines.Check 1 ∷ lines.Check 1 ∷ lines.Check 1 ∷ lines.Check 1 ∷ []
+
+checks_are_counted : AreRead four_checks lines_behind_four_checks
+unfolding statement_of_words statement_at statement_behind_cluster session_request_at asking_session keyword_at requests.vdi_request_at requests.verb_at requests.close_request_at requests.copy_verb_at requests.check_request_at scaled_number
+checks_are_counted = refl
+
 lines_are_read : AreRead cluster_so_far lines_of_a_cluster
-unfolding statement_of_words statement_at cluster.setting_at statement_behind_cluster cluster.zone_at cluster.happening_at session_request_at cluster.barrier_at cluster.session_line_at cluster.fail_at cluster.reweight_at cluster.back_at cluster.lose_at asking_session cluster.join_at cluster.followed_at cluster.alone_at plain_number_at cluster.there_at scaled_number keyword_at requests.vdi_request_at requests.verb_at requests.create_request_at requests.open_request_at requests.close_request_at requests.read_request_at requests.write_request_at requests.copy_verb_at name_word_at requests.policy_option_at requests.disk_words_at requests.span_at requests.snapshot_request_at requests.clone_request_at requests.delete_request_at blocks_at requests.strips_in requests.tag_at size_of_word requests.pattern_at requests.named_pattern_at requests.pattern_byte_at requests.copies_in
+unfolding statement_of_words statement_at cluster.setting_at statement_behind_cluster cluster.zone_at cluster.happening_at session_request_at cluster.barrier_at cluster.session_line_at cluster.fail_at cluster.reweight_at cluster.back_at cluster.lose_at asking_session cluster.join_at cluster.followed_at cluster.alone_at plain_number_at cluster.there_at scaled_number keyword_at requests.vdi_request_at requests.verb_at requests.create_request_at requests.open_request_at requests.close_request_at requests.read_request_at requests.write_request_at requests.copy_verb_at name_word_at requests.policy_option_at requests.disk_words_at requests.span_at requests.snapshot_request_at requests.clone_request_at requests.delete_request_at requests.check_request_at blocks_at requests.strips_in requests.tag_at size_of_word requests.pattern_at requests.named_pattern_at requests.pattern_byte_at requests.copies_in
 lines_are_read = refl
 
 settings_are_read : AreRead (lines.Cluster 3 ∷ lines.Zone 0 9 ∷ []) lines_behind_settings

@@ -6,7 +6,7 @@ use Rattle.std.proofs.lemmas.Str.{is_utf8-from_IsUtf8, IsUtf8-nil}
 use Rattle.cluster_script.specs.declared.statement.Pattern.{Pattern}
 use Rattle.cluster_script.specs.declared.statement.Pattern.TheVariants as patterns
 use Rattle.cluster_script.specs.declared.statement.Statement.{Statement}
-use Rattle.cluster_script.specs.declared.statement.Statement.TheVariants.{Cluster, Vnodes, Tries, Limit, Session, Create, OpenDisk, Close, Read, Write, Snapshot, Clone, Delete, Fail, Join, Lose, Settle, ListNodes, ListVdis, ClusterInfo, Dump, Zone, Reweight, Back}
+use Rattle.cluster_script.specs.declared.statement.Statement.TheVariants.{Cluster, Vnodes, Tries, Limit, Session, Create, OpenDisk, Close, Read, Write, Snapshot, Clone, Delete, Fail, Join, Lose, Zone, Reweight, Back, Check}
 use Rattle.cluster_script.specs.OneDisk.{IsPrintedName, IsSpan}
 use Rattle.cluster_script.specs.Language.{MayAsk, IsPrintedTag, MayStand, EachMayStand, IsScript}
 use Rattle.cluster_script.specs.Words.{Word, lines_of}
@@ -141,15 +141,12 @@ written before (Delete session name tag) script may = asked-of-disk before sessi
 written before (Fail node) script may = one-number (codes "fail") node refl (omega (arith, used-node before node script may.1.used))
 written before (Join node) script may = one-number (codes "join") node refl (omega (arith, may.1))
 written before (Lose count) script may = one-number (codes "lose") count refl (omega (arith, may.1))
-written before Settle script may = (refl, refl)
-written before ListNodes script may = (refl, refl)
-written before ListVdis script may = (refl, refl)
-written before ClusterInfo script may = (refl, refl)
-written before Dump script may = (refl, refl)
 written before (Zone node zone) script may = two-numbers (codes "zone") node zone refl (omega (arith, may.1)) (omega (arith, may.2))
 written before (Reweight node vnodes) script may =
     two-numbers (codes "reweight") node vnodes refl (omega (arith, used-node before node script may.1.used)) (omega (arith, may.3))
 written before (Back node) script may = one-number (codes "back") node refl (omega (arith, failed-node before node script may.1))
+written before (Check session) script may = asked before session (codes "check") [] script may.0 refl
+written before s script may = (refl, refl)
 
 -- what the lines of a text say: a statement each, and the empty one at its end nothing
 abbrev said_by : List Statement → List (Option Statement)

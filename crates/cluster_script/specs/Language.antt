@@ -5,9 +5,9 @@ use Rattle.object_id.specs.Spec.{IsSpec}
 use Rattle.cluster_script.specs.declared.statement.Pattern.{Pattern}
 use Rattle.cluster_script.specs.declared.statement.Pattern.TheVariants as patterns
 use Rattle.cluster_script.specs.declared.statement.Statement.{Statement}
-use Rattle.cluster_script.specs.declared.statement.Statement.TheVariants.{Cluster, Vnodes, Tries, Limit, Session, Create, OpenDisk, Close, Read, Write, Snapshot, Clone, Delete, Fail, Join, Lose, Settle, ListNodes, ListVdis, ClusterInfo, Dump, Zone, Reweight, Back}
-use Rattle.cluster_script.specs.declared.limits.TheConstants.{NODES_MAX, VNODES_MAX, TRIES_MAX, LIMIT_MAX, SESSIONS_MAX, LOSSES_MAX, REQUESTS_MAX, READ_BYTES_MAX, WRITE_BYTES_MAX}
-use Rattle.cluster_script.specs.Statements.{is_setting, is_cluster, is_session_declared, is_request, read_bytes, write_bytes, has}
+use Rattle.cluster_script.specs.declared.statement.Statement.TheVariants.{Cluster, Vnodes, Tries, Limit, Session, Create, OpenDisk, Close, Read, Write, Snapshot, Clone, Delete, Fail, Join, Lose, Settle, ListNodes, ListVdis, ClusterInfo, Dump, Zone, Reweight, Back, Check}
+use Rattle.cluster_script.specs.declared.limits.TheConstants.{NODES_MAX, VNODES_MAX, TRIES_MAX, LIMIT_MAX, SESSIONS_MAX, LOSSES_MAX, REQUESTS_MAX, READ_BYTES_MAX, WRITE_BYTES_MAX, CHECKS_MAX}
+use Rattle.cluster_script.specs.Statements.{is_setting, is_cluster, is_session_declared, is_check, is_request, read_bytes, write_bytes, has}
 use Rattle.cluster_script.specs.OneDisk.{IsPrintedName, IsSpan}
 use Rattle.cluster_script.specs.Settings.{is_set, nodes_set, vnodes_set, tries_set, limit_set, zone_set}
 use Rattle.cluster_script.specs.Phases.{losses_from}
@@ -67,6 +67,7 @@ MayStand before Dump = HasCluster before
 MayStand before (Zone node zone) = MaySet before (zone_set node) × (node < NODES_MAX) × (zone < NODES_MAX)
 MayStand before (Reweight node vnodes) = HasCluster before × IsNodeThere node before × (1 ≤ vnodes) × (vnodes ≤ VNODES_MAX)
 MayStand before (Back node) = HasCluster before × (is_failed node before ≡ true)
+MayStand before (Check session) = MayAsk before session × (count_by is_check before < CHECKS_MAX)
 
 -- each statement may stand after those before it
 abbrev pub EachMayStand : List Statement → List Statement → Type 0

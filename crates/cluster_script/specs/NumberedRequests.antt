@@ -6,7 +6,8 @@ use Rattle.cluster_script.specs.declared.limits.TheConstants.{BLOCK}
 use Rattle.cluster_script.specs.declared.statement.Pattern.{Pattern}
 use Rattle.cluster_script.specs.declared.statement.Pattern.TheVariants.{Fill, Step}
 use Rattle.cluster_script.specs.declared.statement.Statement.{Statement}
-use Rattle.cluster_script.specs.declared.statement.Statement.TheVariants.{Create, OpenDisk, Close, Read, Write, Snapshot, Clone, Delete}
+use Rattle.cluster_script.specs.declared.statement.Statement.TheVariants.{Create, OpenDisk, Close, Read, Write}
+use Rattle.cluster_script.specs.declared.statement.Statement.TheVariants.{Snapshot, Clone, Delete, Check}
 use Rattle.cluster_script.specs.Statements.{requests_of}
 
 -- the session that asks, where a statement is a request
@@ -19,6 +20,7 @@ session_of (Write session offset length pattern) = Some session
 session_of (Snapshot session tag) = Some session
 session_of (Clone session base tag name) = Some session
 session_of (Delete session name tag) = Some session
+session_of (Check session) = Some session
 session_of s = None
 
 -- a statement is a request of this session

@@ -8,11 +8,12 @@ use Rattle.object_id.specs.Policy.{is_width}
 use Rattle.cluster_script.specs.declared.statement.Pattern.{Pattern}
 use Rattle.cluster_script.specs.declared.statement.Pattern.TheVariants.{Fill, Step}
 use Rattle.cluster_script.specs.declared.statement.Statement.{Statement}
-use Rattle.cluster_script.specs.declared.statement.Statement.TheVariants.{Create, OpenDisk, Close, Read, Write, Snapshot, Clone, Delete}
+use Rattle.cluster_script.specs.declared.statement.Statement.TheVariants.{Create, OpenDisk, Close, Read, Write}
+use Rattle.cluster_script.specs.declared.statement.Statement.TheVariants.{Snapshot, Clone, Delete, Check}
 use Rattle.cluster_script.specs.declared.fault.LineCause.{LineCause}
 use Rattle.cluster_script.specs.declared.fault.LineCause.TheVariants as causes
-use Rattle.cluster_script.specs.declared.limits.TheConstants.{BLOCK, SHIFT_DEFAULT, LENGTH_MAX, REQUESTS_MAX, READ_BYTES_MAX, WRITE_BYTES_MAX}
-use Rattle.cluster_script.specs.Statements.{is_request, read_bytes, write_bytes}
+use Rattle.cluster_script.specs.declared.limits.TheConstants.{BLOCK, SHIFT_DEFAULT, LENGTH_MAX, REQUESTS_MAX, READ_BYTES_MAX, WRITE_BYTES_MAX, CHECKS_MAX}
+use Rattle.cluster_script.specs.Statements.{is_check, is_request, read_bytes, write_bytes}
 use Rattle.cluster_script.specs.ReadResults.{◌>>=◌}
 use Rattle.cluster_script.specs.Words.{Word, word_at, keyword_at, option_at, name_word_at, end_of_words}
 use Rattle.cluster_script.specs.Numbers.{number_of, plain_number_at, blocks_at}
@@ -27,6 +28,11 @@ has_room read written before =
 -- a request that stays within a script's limits
 abbrev pub request_within_limits : List Statement → Statement → Result Statement LineCause
 request_within_limits before s = if has_room (read_bytes s) (write_bytes s) before then Ok s else Err causes.TooMany
+
+-- a check that stays within them, of which there may be fewer than of other requests
+abbrev pub check_within_limits : List Statement → Statement → Result Statement LineCause
+check_within_limits before s =
+    if nat_lt (count_by is_check before) CHECKS_MAX then request_within_limits before s else Err causes.TooMany
 
 -- the policy of so many whole copies
 abbrev pub policy_of_copies : ℕ → Result Policy LineCause
@@ -170,12 +176,19 @@ delete_request_at before session words = do
   end ← end_of_words disk.2
   request_within_limits before (Delete session disk.0 disk.1)
 
--- what a verb asks for of snapshots, clones and disks that go
+-- nothing follows the verb
+unfoldable pub check_request_at : List Statement → ℕ → List Word → Result Statement LineCause
+check_request_at before session words = do
+  end ← end_of_words words
+  check_within_limits before (Check session)
+
+-- what a verb asks for of snapshots, clones, disks that go, and the copies of a disk's objects
 unfoldable pub copy_verb_at : List Statement → ℕ → Word → List Word → Result Statement LineCause
 copy_verb_at before session verb words =
     if bytes_eq verb (codes "snapshot") then snapshot_request_at before session words
     else if bytes_eq verb (codes "clone") then clone_request_at before session words
     else if bytes_eq verb (codes "delete") then delete_request_at before session words
+    else if bytes_eq verb (codes "check") then check_request_at before session words
     else Err causes.Word
 
 -- what a verb asks for

@@ -7,7 +7,7 @@ use Rattle.object_id.specs.declared.policy.Policy.TheVariants.{Copies}
 use Rattle.cluster_script.specs.declared.statement.Pattern.{Pattern}
 use Rattle.cluster_script.specs.declared.statement.Pattern.TheVariants as patterns
 use Rattle.cluster_script.specs.declared.statement.Statement.{Statement}
-use Rattle.cluster_script.specs.declared.statement.Statement.TheVariants.{Cluster, Vnodes, Tries, Limit, Session, Create, OpenDisk, Close, Read, Write, Snapshot, Clone, Delete, Fail, Join, Lose, Settle, ListNodes, ListVdis, ClusterInfo, Dump, Zone, Reweight, Back}
+use Rattle.cluster_script.specs.declared.statement.Statement.TheVariants.{Cluster, Vnodes, Tries, Limit, Session, Create, OpenDisk, Close, Read, Write, Snapshot, Clone, Delete, Fail, Join, Lose, Settle, ListNodes, ListVdis, ClusterInfo, Dump, Zone, Reweight, Back, Check}
 use Rattle.cluster_script.specs.declared.fault.LineCause.{LineCause}
 use Rattle.cluster_script.specs.declared.limits.TheConstants.{SHIFT_DEFAULT}
 use Rattle.cluster_script.specs.Language.{IsScript}
@@ -88,6 +88,7 @@ IsSpelled Dump words = words ≡ codes "dump" ∷ []
 IsSpelled (Zone node zone) words = IsTwoNumbers (codes "zone") node zone words
 IsSpelled (Reweight node vnodes) words = IsTwoNumbers (codes "reweight") node vnodes words
 IsSpelled (Back node) words = IsOneNumber (codes "back") node words
+IsSpelled (Check session) words = IsRequestWords session (codes "check") [] words
 
 -- words say a statement, or nothing
 abbrev pub IsSaid : Option Statement → List Word → Type 0

@@ -3,7 +3,7 @@ use Rattle.std.specs.Prelude.{ℕ, ◌==◌, Bool, true, false, List, [], ◌∷
 use Rattle.std.specs.List.{list_any}
 use Rattle.std.specs.Option.{option_or}
 use Rattle.cluster_script.specs.declared.statement.Statement.{Statement}
-use Rattle.cluster_script.specs.declared.statement.Statement.TheVariants.{Cluster, Vnodes, Tries, Limit, Session, Create, OpenDisk, Close, Read, Write, Snapshot, Clone, Delete, Fail, Join, Lose, Settle, ListNodes, ListVdis, ClusterInfo, Dump, Zone, Reweight, Back}
+use Rattle.cluster_script.specs.declared.statement.Statement.TheVariants.{Cluster, Vnodes, Tries, Limit, Session, Create, OpenDisk, Close, Read, Write, Snapshot, Clone, Delete, Fail, Join, Lose, Settle, ListNodes, ListVdis, ClusterInfo, Dump, Zone, Reweight, Back, Check}
 
 -- a statement says how many nodes there are
 abbrev pub is_cluster : Statement → Bool
@@ -39,6 +39,11 @@ abbrev pub is_close : Statement → Bool
 is_close (Close session) = true
 is_close s = false
 
+-- a statement checks the disk that its session has open
+abbrev pub is_check : Statement → Bool
+is_check (Check session) = true
+is_check s = false
+
 -- a request is what a session asks for; requests are numbered from 1
 abbrev pub is_request : Statement → Bool
 is_request (Cluster nodes) = false
@@ -65,6 +70,7 @@ is_request Dump = false
 is_request (Zone node zone) = false
 is_request (Reweight node vnodes) = false
 is_request (Back node) = false
+is_request (Check session) = true
 
 -- how many bytes a statement reads
 abbrev pub read_bytes : Statement → ℕ

@@ -6,7 +6,7 @@ use Rattle.object_id.specs.declared.policy.Policy.TheVariants.{Copies, Coded}
 use Rattle.cluster_script.specs.declared.statement.Pattern.{Pattern}
 use Rattle.cluster_script.specs.declared.statement.Pattern.TheVariants as patterns
 use Rattle.cluster_script.specs.declared.statement.Statement.{Statement}
-use Rattle.cluster_script.specs.declared.statement.Statement.TheVariants.{Cluster, Vnodes, Tries, Limit, Session, Create, OpenDisk, Close, Read, Write, Snapshot, Clone, Delete, Fail, Join, Lose, Settle, ListNodes, ListVdis, ClusterInfo, Dump, Zone, Reweight, Back}
+use Rattle.cluster_script.specs.declared.statement.Statement.TheVariants.{Cluster, Vnodes, Tries, Limit, Session, Create, OpenDisk, Close, Read, Write, Snapshot, Clone, Delete, Fail, Join, Lose, Settle, ListNodes, ListVdis, ClusterInfo, Dump, Zone, Reweight, Back, Check}
 use Rattle.cluster_script.specs.Words.{Word}
 
 -- a number of copies, or `D:P`
@@ -56,6 +56,7 @@ words_for Dump = codes "dump" ∷ []
 words_for (Zone node zone) = codes "zone" ∷ decimal node ∷ decimal zone ∷ []
 words_for (Reweight node vnodes) = codes "reweight" ∷ decimal node ∷ decimal vnodes ∷ []
 words_for (Back node) = codes "back" ∷ decimal node ∷ []
+words_for (Check session) = asked_words session (codes "check") []
 
 -- the line of a statement: its words with a space (32) between, and LF at its end
 abbrev pub line_for : Statement → List ℕ

@@ -93,9 +93,10 @@ impl Totals {
                 write_bytes: self.write_bytes + *length as u64,
                 ..self.with_request()
             },
-            Statement::Snapshot { .. } | Statement::Clone { .. } | Statement::Delete { .. } => {
-                self.with_request()
-            }
+            Statement::Snapshot { .. }
+            | Statement::Clone { .. }
+            | Statement::Delete { .. }
+            | Statement::Check { .. } => self.with_request(),
         }
     }
 

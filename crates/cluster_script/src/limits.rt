@@ -53,3 +53,6 @@ pub const SESSIONS_MAX: u32 = 64;
 
 /// The most messages that may be lost in a phase.
 pub const LOSSES_MAX: u32 = 10_000;
+
+/// The most checks of a script.
+pub const CHECKS_MAX: u32 = 4;

@@ -118,4 +118,8 @@ pub enum Statement {
     Back {
         node: u32,
     },
+    /// Checks the disk that the session has open: all copies of its own objects are read, and one value is written back.
+    Check {
+        session: u32,
+    },
 }

@@ -2,14 +2,14 @@
 use Rattle.std.proofs.Common.{◌≡◌, ℕ, ◌+◌, ◌<◌, ◌==◌, Bool, true, false, not, ◌&&◌, ◌||◌, List, [], ◌∷◌, ◌++◌, length, reverse, Option, Some, None, refl, sym, ap, ◌∙◌, subst, cond, arith, length-append}
 use Rattle.std.specs.Option.{option_map}
 use Rattle.std.specs.Ordering.{nat_cmp, is_eq, ordering_then}
-use Rattle.std.specs.declared.cmp.Ordering.{Ordering}
-use Rattle.std.specs.declared.cmp.Ordering.TheVariants.{Less, Equal, Greater}
 use Rattle.std.specs.BTreeMap.{get, is_at, BTreeMap}
 use Rattle.std.specs.BTreeSet.{contains}
 use Rattle.std.proofs.Math.Path.{fun_ext}
-use Rattle.std.proofs.lemmas.Bool.{eqb-true, eqb-false, eq-eqb, ne_eqb}
+use Rattle.std.proofs.lemmas.Bool.{eqb-true, eq-eqb}
 use Rattle.std.proofs.lemmas.List.{reverse-append, length-reverse}
 use Rattle.std.proofs.lemmas.List.Folds.{list_any-append}
+use Rattle.std.specs.Cmp.{unsigned_tied, tied_then}
+use Rattle.proof_tools.proofs.FiniteMaps.{is_at-turned}
 use Rattle.disk_history.specs.declared.requests.Fate.{Fate}
 use Rattle.disk_history.specs.declared.requests.Fate.TheVariants.{Unanswered}
 use Rattle.disk_history.specs.declared.requests.Place.{Place}
@@ -23,7 +23,7 @@ use Rattle.disk_history.specs.Legal.{has_begun_to_write, has_place}
 use Rattle.disk_history.specs.CheckerState.{fate_in, fate_of, stray_of, is_answer, place_cmp, items_from, items_by, shown_disk, has_block_in, newest_in, ShowsRequest, AreWithin, IsLinked, IsWithin, IsWritten, WritesOne}
 use Rattle.disk_history.specs.CheckerLedger.{ShowsAll}
 use Rattle.disk_history.proofs.ItemLemmas.{items_from-older, within_more}
-use Rattle.disk_history.proofs.ShownLemmas.{at-eqb, unanswered_fate, ended_shown, stray_shown}
+use Rattle.disk_history.proofs.ShownLemmas.{unanswered_fate, ended_shown, stray_shown}
 
 -- ---- the request
 
@@ -38,7 +38,7 @@ same_fates : (requests begun : Requests) (req : ℕ) (stray : Bool) → is_answe
     → ((q : ℕ) → get nat_cmp begun.states q ≡ cond (is_at (nat_cmp req) q) (Some (record { stray = stray; fate = Unanswered })) (get nat_cmp requests.states q))
     → (fate_of begun) ≡ (fate_of requests)
 same_fates requests begun req stray unanswered states =
-    fun_ext (λ q. ap fate_in (states q ∙ ap (λ b. cond b (Some state) (get nat_cmp requests.states q)) (at-eqb req q)) ∙ parts q (q == req) refl)
+    fun_ext (λ q. ap fate_in (states q ∙ ap (λ b. cond b (Some state) (get nat_cmp requests.states q)) (is_at-turned req q)) ∙ parts q (q == req) refl)
   where
     state : RequestState
     state = record { stray = stray; fate = Unanswered }
@@ -52,27 +52,14 @@ started_more : (places : List (ℕ × ℕ)) (place : ℕ × ℕ) (stray ended : 
 started_more [] place stray ended = refl
 started_more (first ∷ places) place stray ended = refl
 
--- two numbers are compared alike by both tests
-at_eqb_too : (k q : ℕ) → is_at (nat_cmp k) q ≡ (k == q)
-at_eqb_too k q = at-eqb k q ∙ go (k == q) refl
-  where
-    go : (b : Bool) → (k == q) ≡ b → (q == k) ≡ b
-    go true e = eq-eqb q k (sym (eqb-true k q e))
-    go false e = ne_eqb q k (λ same. eqb-false k q e (sym same))
-
-then_eq : (a b : Ordering) → is_eq (ordering_then a b) ≡ (is_eq a && is_eq b)
-then_eq Less b = refl
-then_eq Equal b = refl
-then_eq Greater b = refl
-
 at_place : (place other : Place) → is_at (place_cmp place) other ≡ ((other.req == place.req) && (place.disk == other.disk && place.block == other.block))
 at_place place other =
-    then_eq (nat_cmp place.req other.req) (ordering_then (nat_cmp place.disk other.disk) (nat_cmp place.block other.block))
-    ∙ ap (λ b. b && is_eq (ordering_then (nat_cmp place.disk other.disk) (nat_cmp place.block other.block))) (at-eqb place.req other.req)
+    sym (tied_then (nat_cmp place.req other.req) (ordering_then (nat_cmp place.disk other.disk) (nat_cmp place.block other.block)))
+    ∙ ap (λ b. b && is_eq (ordering_then (nat_cmp place.disk other.disk) (nat_cmp place.block other.block))) (is_at-turned place.req other.req)
     ∙ ap (λ b. (other.req == place.req) && b)
-    (then_eq (nat_cmp place.disk other.disk) (nat_cmp place.block other.block)
-    ∙ ap (λ b. b && is_eq (nat_cmp place.block other.block)) (at_eqb_too place.disk other.disk)
-    ∙ ap (λ b. place.disk == other.disk && b) (at_eqb_too place.block other.block))
+    (sym (tied_then (nat_cmp place.disk other.disk) (nat_cmp place.block other.block))
+    ∙ ap (λ b. b && is_eq (nat_cmp place.block other.block)) (unsigned_tied place.disk other.disk)
+    ∙ ap (λ b. place.disk == other.disk && b) (unsigned_tied place.block other.block))
 
 one_more : (had is : Bool) → (had || (is || false)) ≡ cond is true had
 one_more true true = refl
@@ -95,7 +82,7 @@ of_request-begin : (requests begun : Requests) (ledger : Ledger) (place : Place)
     → (q : ℕ) → ShowsRequest (get nat_cmp begun.states q) (changed_at place.req (more ledger place stray) ledger.requests q)
 of_request-begin requests begun ledger place stray shows unanswered states q =
     subst (λ (found : Option RequestState). ShowsRequest found (changed_at place.req (more ledger place stray) ledger.requests q))
-    (sym (states q ∙ ap (λ b. cond b (Some state) (get nat_cmp requests.states q)) (at-eqb place.req q))) (go (q == place.req))
+    (sym (states q ∙ ap (λ b. cond b (Some state) (get nat_cmp requests.states q)) (is_at-turned place.req q))) (go (q == place.req))
   where
     state : RequestState
     state = record { stray = stray_of requests place.req || stray; fate = Unanswered }
@@ -214,7 +201,7 @@ written_disk fates writes write state written block is_written within unanswered
     under q = items_from fates (reverse writes) (get nat_cmp state.newest q)
 
     there : (q : ℕ) → get nat_cmp written.newest q ≡ cond (q == block) (Some (length writes)) (get nat_cmp state.newest q)
-    there q = is_written.newest.0 q ∙ ap (λ b. cond b (Some (length writes)) (get nat_cmp state.newest q)) (at-eqb block q)
+    there q = is_written.newest.0 q ∙ ap (λ b. cond b (Some (length writes)) (get nat_cmp state.newest q)) (is_at-turned block q)
 
     go : (q : ℕ) (b : Bool) → cond b (under block ++ item ∷ []) (under q)
         ≡ items_from fates (reverse (writes ++ write ∷ [])) (cond b (Some (length writes)) (get nat_cmp state.newest q))
@@ -237,7 +224,7 @@ disk_written : (fates : ℕ → Fate) (disks written : BTreeMap ℕ DiskState) (
 disk_written fates disks written writes write ledger disk block None is shows within one unanswered same = absurd one
 disk_written fates disks written writes write ledger disk block (Some state) is shows within one unanswered same = λ q. go q (q == disk)
     ∙ ap (option_map (shown_disk fates (writes ++ write ∷ [])))
-    (sym (one.1.0 q ∙ ap (λ b. cond b (Some one.0) (get nat_cmp disks q)) (at-eqb disk q)))
+    (sym (one.1.0 q ∙ ap (λ b. cond b (Some one.0) (get nat_cmp disks q)) (is_at-turned disk q)))
   where
     item : Item
     item = record { request = Some write.req; bytes = write.bytes.now; coded = write.coded; mark = Open }
@@ -256,7 +243,7 @@ within_written : (disks written : BTreeMap ℕ DiskState) (count disk block : �
 within_written disks written count disk block None is within one = absurd one
 within_written disks written count disk block (Some state) is within one = λ q.
     subst (λ (found : Option DiskState). AreWithin found (count + 1))
-    (sym (one.1.0 q ∙ ap (λ b. cond b (Some one.0) (get nat_cmp disks q)) (at-eqb disk q))) (go q (q == disk))
+    (sym (one.1.0 q ∙ ap (λ b. cond b (Some one.0) (get nat_cmp disks q)) (is_at-turned disk q))) (go q (q == disk))
   where
     more_within : (found : Option DiskState) → AreWithin found count → AreWithin found (count + 1)
     more_within None old = tt
@@ -268,7 +255,7 @@ within_written disks written count disk block (Some state) is within one = λ q.
 
     go : (q : ℕ) (b : Bool) → AreWithin (cond b (Some one.0) (get nat_cmp disks q)) (count + 1)
     go q true = λ b. subst (λ (newest : Option ℕ). IsWithin newest (count + 1))
-        (sym (one.2.newest.0 b ∙ ap (λ is_here. cond is_here (Some count) (get nat_cmp state.newest b)) (at-eqb block b))) (each b (b == block))
+        (sym (one.2.newest.0 b ∙ ap (λ is_here. cond is_here (Some count) (get nat_cmp state.newest b)) (is_at-turned block b))) (each b (b == block))
     go q false = more_within (get nat_cmp disks q) (within q)
 
 pub shows-begin : (requests begun : Requests) (disks written : BTreeMap ℕ DiskState) (writes : List Write) (ledger : Ledger) (place : Place) (write : Write)

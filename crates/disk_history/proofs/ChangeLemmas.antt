@@ -37,14 +37,11 @@ other_disks_stay ledger (Read disk block bytes) q running apart = refl
 
 pub other_requests_stay : (ledger : Ledger) (event : HistEvent) (req : ℕ) → ¬ (named_request event ≡ Some req)
     → (ledger_after ledger event).requests req ≡ ledger.requests req
-other_requests_stay ledger (Create disk blocks) q apart = refl
-other_requests_stay ledger (Copy old new) q apart = refl
-other_requests_stay ledger (Delete disk) q apart = refl
 other_requests_stay ledger (WriteStart req disk block coded bytes) q apart = elsewhere req _ ledger.requests q apart
 other_requests_stay ledger (WriteDone req) q apart = elsewhere req _ ledger.requests q apart
 other_requests_stay ledger (WriteRefused req) q apart = elsewhere req _ ledger.requests q apart
 other_requests_stay ledger (WriterLost req) q apart = elsewhere req _ ledger.requests q apart
-other_requests_stay ledger (Read disk block bytes) q apart = refl
+other_requests_stay ledger event q apart = refl
 
 -- lists without an item of the request are told nothing
 unmarked : (mark : Mark) (req : ℕ) (items : List Item) → list_any (is_item_of req) items ≡ false → map (item_with_mark mark req) items ≡ items
@@ -73,10 +70,6 @@ items_changed change disks disk block empty = go (disks disk)
 pub ends_keep_other_items : (ledger : Ledger) (event : HistEvent) (req disk block : ℕ) → ended_request event ≡ Some req
     → list_any (is_item_of req) (items_in (ledger.disks disk) block) ≡ false
     → items_in ((ledger_after ledger event).disks disk) block ≡ items_in (ledger.disks disk) block
-ends_keep_other_items ledger (Create disk blocks) req q block ends none = absurd (let no_end : None ≡ Some req → ⊥ = λ e. cc in no_end ends)
-ends_keep_other_items ledger (Copy old new) req q block ends none = absurd (let no_end : None ≡ Some req → ⊥ = λ e. cc in no_end ends)
-ends_keep_other_items ledger (Delete disk) req q block ends none = absurd (let no_end : None ≡ Some req → ⊥ = λ e. cc in no_end ends)
-ends_keep_other_items ledger (WriteStart number disk at coded bytes) req q block ends none = absurd (let no_end : None ≡ Some req → ⊥ = λ e. cc in no_end ends)
 ends_keep_other_items ledger (WriteDone number) req q block ends none =
     let same : number ≡ req = cc in
     items_changed (map (item_with_mark Acknowledged number)) ledger.disks q block refl
@@ -89,7 +82,7 @@ ends_keep_other_items ledger (WriterLost number) req q block ends none =
     let same : number ≡ req = cc in
     items_changed (map (item_with_mark Lost number)) ledger.disks q block refl
     ∙ unmarked Lost number (items_in (ledger.disks q) block) (ap (λ n. list_any (is_item_of n) (items_in (ledger.disks q) block)) same ∙ none)
-ends_keep_other_items ledger (Read disk at bytes) req q block ends none = absurd (let no_end : None ≡ Some req → ⊥ = λ e. cc in no_end ends)
+ends_keep_other_items ledger event req q block ends none = absurd (let no_end : None ≡ Some req → ⊥ = λ e. cc in no_end ends)
 
 -- an end changes no disk but for its items
 end_blocks : (change : List Item → List Item) (found : Option Disk)
@@ -104,15 +97,11 @@ end_deleted change (Some disk) = refl
 
 pub ends_keep_disks : (ledger : Ledger) (event : HistEvent) (req disk : ℕ) → ended_request event ≡ Some req
     → (blocks_in ((ledger_after ledger event).disks disk) ≡ blocks_in (ledger.disks disk)) × (is_deleted ((ledger_after ledger event).disks disk) ≡ is_deleted (ledger.disks disk))
-ends_keep_disks ledger (Create disk blocks) req q ends = absurd (let no_end : None ≡ Some req → ⊥ = λ e. cc in no_end ends)
-ends_keep_disks ledger (Copy old new) req q ends = absurd (let no_end : None ≡ Some req → ⊥ = λ e. cc in no_end ends)
-ends_keep_disks ledger (Delete disk) req q ends = absurd (let no_end : None ≡ Some req → ⊥ = λ e. cc in no_end ends)
-ends_keep_disks ledger (WriteStart number disk at coded bytes) req q ends = absurd (let no_end : None ≡ Some req → ⊥ = λ e. cc in no_end ends)
 ends_keep_disks ledger (WriteDone number) req q ends = (end_blocks (map (item_with_mark Acknowledged number)) (ledger.disks q), end_deleted (map (item_with_mark Acknowledged number)) (ledger.disks q))
 ends_keep_disks ledger (WriteRefused number) req q ends =
     (end_blocks (filter (λ item. not (is_item_of number item))) (ledger.disks q), end_deleted (filter (λ item. not (is_item_of number item))) (ledger.disks q))
 ends_keep_disks ledger (WriterLost number) req q ends = (end_blocks (map (item_with_mark Lost number)) (ledger.disks q), end_deleted (map (item_with_mark Lost number)) (ledger.disks q))
-ends_keep_disks ledger (Read disk at bytes) req q ends = absurd (let no_end : None ≡ Some req → ⊥ = λ e. cc in no_end ends)
+ends_keep_disks ledger event req q ends = absurd (let no_end : None ≡ Some req → ⊥ = λ e. cc in no_end ends)
 
 -- a write that begins changes the items of its block alone
 pub starts_keep_other_blocks : (ledger : Ledger) (req disk block : ℕ) (coded : Bool) (bytes : List ℕ) (other : ℕ) → other ≢ block

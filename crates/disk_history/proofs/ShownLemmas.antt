@@ -1,16 +1,15 @@
 -- What each entry into the checker's state leaves it to show.
-use Rattle.std.proofs.Common.{◌≡◌, ℕ, ◌==◌, Bool, true, false, not, ◌&&◌, List, [], ◌∷◌, length, reverse, Option, Some, None, refl, sym, ap, ◌∙◌, subst, cond, arith}
+use Rattle.std.proofs.Common.{◌≡◌, ℕ, ◌==◌, Bool, true, false, not, ◌&&◌, List, [], ◌∷◌, length, reverse, Option, Some, None, refl, sym, ap, ◌∙◌, subst, cond}
 use Rattle.std.specs.Option.{option_map}
-use Rattle.std.specs.Ordering.{nat_cmp, is_eq}
-use Rattle.std.specs.declared.cmp.Ordering.TheVariants.{Less, Equal, Greater}
+use Rattle.std.specs.Ordering.{nat_cmp}
 use Rattle.std.specs.BTreeMap.{get, is_at, BTreeMap}
 use Rattle.std.specs.BTreeSet.{contains}
-use Rattle.std.specs.Prelude.{nat_lt}
 use Rattle.std.specs.Map.{lookup}
 use Rattle.std.proofs.Math.Path.{fun_ext}
-use Rattle.std.proofs.lemmas.Bool.{true≢false, false≢true, not-true, eqb-true, eqb-false, eq-eqb, ne_eqb, le-ltb}
+use Rattle.std.proofs.lemmas.Bool.{true≢false, false≢true, not-true, eqb-true}
+use Rattle.proof_tools.proofs.FiniteMaps.{is_at-turned}
 use Rattle.disk_history.specs.declared.requests.Fate.{Fate}
-use Rattle.disk_history.specs.declared.requests.Fate.TheVariants.{Unanswered, Done, Refused, Abandoned}
+use Rattle.disk_history.specs.declared.requests.Fate.TheVariants.{Unanswered}
 use Rattle.disk_history.specs.declared.requests.RequestState.{RequestState}
 use Rattle.disk_history.specs.declared.requests.Requests.{Requests}
 use Rattle.disk_history.specs.declared.disks.DiskState.{DiskState}
@@ -20,21 +19,6 @@ use Rattle.disk_history.specs.Legal.{has_begun_to_write, has_place}
 use Rattle.disk_history.specs.CheckerState.{fate_in, fate_of, stray_in, stray_of, is_answer, may_end_in, place_cmp, items_from, items_by, shown_disk, ShowsRequest, AreWithin, IsWithin}
 use Rattle.disk_history.specs.CheckerLedger.{ShowsAll}
 use Rattle.disk_history.proofs.ItemLemmas.{Turns, items_from-none, items_from-turned}
-
--- a map's test of a number is the ledger's
-pub at-eqb : (k q : ℕ) → is_at (nat_cmp k) q ≡ (q == k)
-at-eqb k q = go (q == k) refl
-  where
-    go : (b : Bool) → (q == k) ≡ b → is_at (nat_cmp k) q ≡ b
-    go true e =
-        let same : q ≡ k = eqb-true q k e in
-        ap (λ b. is_eq (cond b Less (cond (k == q) Equal Greater))) (le-ltb k q (omega (arith, same)))
-        ∙ ap (λ b. is_eq (cond b Equal Greater)) (eq-eqb k q (sym same))
-    go false e = lesser (nat_lt k q) (ne_eqb k q (λ same. eqb-false q k e (sym same)))
-      where
-        lesser : (b : Bool) → (k == q) ≡ false → is_eq (cond b Less (cond (k == q) Equal Greater)) ≡ false
-        lesser true apart = refl
-        lesser false apart = ap (λ b. is_eq (cond b Equal Greater)) apart
 
 -- ---- a new disk
 
@@ -61,7 +45,7 @@ shows-create requests disks made writes ledger disk blocks state shows blocks_is
 }
   where
     there : (q : ℕ) → get nat_cmp made q ≡ cond (q == disk) (Some state) (get nat_cmp disks q)
-    there q = gains q ∙ ap (λ b. cond b (Some state) (get nat_cmp disks q)) (at-eqb disk q)
+    there q = gains q ∙ ap (λ b. cond b (Some state) (get nat_cmp disks q)) (is_at-turned disk q)
 
     of_disk : (q : ℕ) (b : Bool) → (q == disk) ≡ b
         → cond b (Some (record { blocks = blocks; items = λ block. zeros_item ∷ []; deleted = false })) (ledger.disks q)
@@ -77,9 +61,7 @@ shows-create requests disks made writes ledger disk blocks state shows blocks_is
 
 pub unanswered_fate : (fate : Fate) → is_answer fate ≡ false → fate ≡ Unanswered
 unanswered_fate Unanswered e = refl
-unanswered_fate Done e = absurd (true≢false e)
-unanswered_fate Refused e = absurd (true≢false e)
-unanswered_fate Abandoned e = absurd (true≢false e)
+unanswered_fate fate e = absurd (true≢false e)
 
 unanswered_in : (found : Option RequestState) → may_end_in found ≡ true → fate_in found ≡ Unanswered
 unanswered_in None e = refl
@@ -90,7 +72,7 @@ fate_of-end : (requests ended : Requests) (req : ℕ) (state : RequestState)
     → ((q : ℕ) → get nat_cmp ended.states q ≡ cond (is_at (nat_cmp req) q) (Some state) (get nat_cmp requests.states q))
     → (q : ℕ) → fate_of ended q ≡ cond (q == req) state.fate (fate_of requests q)
 fate_of-end requests ended req state states q =
-    ap fate_in (states q ∙ ap (λ b. cond b (Some state) (get nat_cmp requests.states q)) (at-eqb req q)) ∙ parts (q == req)
+    ap fate_in (states q ∙ ap (λ b. cond b (Some state) (get nat_cmp requests.states q)) (is_at-turned req q)) ∙ parts (q == req)
   where
     parts : (b : Bool) → fate_in (cond b (Some state) (get nat_cmp requests.states q)) ≡ cond b state.fate (fate_of requests q)
     parts true = refl
@@ -155,7 +137,7 @@ shows-end requests ended disks writes ledger req fate change turns shows begun a
     state = record { stray = stray_of requests req; fate = fate }
 
     there : (q : ℕ) → get nat_cmp ended.states q ≡ cond (q == req) (Some state) (get nat_cmp requests.states q)
-    there q = states q ∙ ap (λ b. cond b (Some state) (get nat_cmp requests.states q)) (at-eqb req q)
+    there q = states q ∙ ap (λ b. cond b (Some state) (get nat_cmp requests.states q)) (is_at-turned req q)
 
     each : (write : Write) → change (items_by (fate_of requests write.req) write) ≡ items_by (fate_of ended write.req) write
     each write = go (write.req == req) refl

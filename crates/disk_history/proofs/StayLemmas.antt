@@ -1,10 +1,12 @@
 -- What stays through a legal history: disks with their blocks, and acknowledged items.
-use Rattle.std.proofs.Common.{◌≡◌, ℕ, ◌==◌, ◌⊎◌, inl, inr, Bool, true, false, not, ◌&&◌, ◌||◌, List, [], ◌∷◌, ◌++◌, map, filter, Option, Some, None, refl, sym, ap, ◌∙◌, subst, cond, arith}
+use Rattle.std.proofs.Common.{◌≡◌, ℕ, ◌==◌, Bool, true, false, not, ◌&&◌, ◌||◌, List, [], ◌∷◌, ◌++◌, map, filter, Option, Some, None, refl, sym, ap, ◌∙◌, subst, cond, arith}
 use Rattle.std.specs.Prelude.{is_some, is_none}
 use Rattle.std.specs.Option.{option_and_then, option_map}
 use Rattle.std.specs.List.{Contains, All}
 use Rattle.std.proofs.lemmas.Bool.{true≢false, false≢true, not-true, eqb-true, and_parts}
-use Rattle.std.proofs.lemmas.List.Elements.{All-nil, All-cons, All-push, All-map, All-filter, All-weaker, All-contains, Contains-append_left, Contains-append_right, Contains-append_cases, Contains-push, Contains-push_cases}
+use Rattle.std.proofs.lemmas.List.Elements.{All-nil, All-cons, All-push, All-map, All-filter, All-weaker, All-contains, Contains-append_left}
+use Rattle.std.proofs.lemmas.Option.{same_Some, none-some}
+use Rattle.proof_tools.proofs.Lists.{Contains-map, Contains-filter}
 use Rattle.disk_history.specs.declared.event.HistEvent.{HistEvent}
 use Rattle.disk_history.specs.declared.event.HistEvent.TheVariants.{Create, Copy, Delete, WriteStart, WriteDone, WriteRefused, WriterLost, Read}
 use Rattle.disk_history.specs.Ledger.{Mark, Item, Disk, WriteRequest, Ledger, Open, Acknowledged, Lost, empty_ledger, zeros_item, is_item_of, item_with_mark, ledger_after, changed_at, with_items, with_item, with_ended_request, has_block}
@@ -16,20 +18,14 @@ use Rattle.disk_history.specs.Changes.{items_in, blocks_in}
 -- what one event keeps, a legal history keeps
 pub kept_through : (P : Ledger → Type 0) → ((ledger : Ledger) (event : HistEvent) → P ledger → may_follow ledger event ≡ true → P (ledger_after ledger event))
     → (events : List HistEvent) (ledger next : Ledger) → P ledger → ledger_from ledger events ≡ Some next → P next
-kept_through P step [] ledger next holds reached = subst P (some_same reached) holds
-  where
-    some_same : Some ledger ≡ Some next → ledger ≡ next
-    some_same e = cc
+kept_through P step [] ledger next holds reached = subst P (same_Some ledger next reached) holds
 kept_through P step (event ∷ events) ledger next holds reached =
     go (may_follow ledger event) refl (kept_through P step events (ledger_after ledger event) next)
   where
-    not_some : None ≡ Some next → ⊥
-    not_some e = cc
-
     go : (b : Bool) → may_follow ledger event ≡ b → (P (ledger_after ledger event) → ledger_from (ledger_after ledger event) events ≡ Some next → P next) → P next
     go true may rest = rest (step ledger event holds may)
         (sym (ap (λ b. option_and_then (λ next. ledger_from next events) (cond b (Some (ledger_after ledger event)) None)) may) ∙ reached)
-    go false may rest = absurd (not_some
+    go false may rest = absurd (none-some next
         (sym (ap (λ b. option_and_then (λ next. ledger_from next events) (cond b (Some (ledger_after ledger event)) None)) may) ∙ reached))
 
 -- the parts of what an event asks
@@ -258,40 +254,9 @@ settled_all events ledger reached = kept_through IsSettled settled_step events e
 
 -- ---- an acknowledged item stays
 
-Contains-map : (f : Item → Item) (xs : List Item) (x : Item) → f x ≡ x → Contains xs x → Contains (map f xs) x
-Contains-map f [] x same (k, below, at) = absurd (omega (arith, below))
-Contains-map f (y ∷ ys) x same there = go (Contains-append_cases (y ∷ []) ys x there) (Contains-map f ys x same)
-  where
-    none : Contains [] x → ⊥
-    none (k, below, at) = omega (arith, below)
-
-    head : Contains [] x ⊎ (y ≡ x) → Contains (f y ∷ map f ys) x
-    head (inl never) = absurd (none never)
-    head (inr is) = subst (λ (first : Item). Contains (first ∷ map f ys) x) (sym (ap f is ∙ same)) (Contains-append_left (x ∷ []) (map f ys) x (Contains-push [] x))
-
-    go : Contains (y ∷ []) x ⊎ Contains ys x → (Contains ys x → Contains (map f ys) x) → Contains (f y ∷ map f ys) x
-    go (inl first) rest = head (Contains-push_cases [] y x first)
-    go (inr later) rest = Contains-append_right (f y ∷ []) (map f ys) x (rest later)
-
-Contains-filter : (test : Item → Bool) (xs : List Item) (x : Item) → test x ≡ true → Contains xs x → Contains (filter test xs) x
-Contains-filter test [] x passes there = there
-Contains-filter test (y ∷ ys) x passes there = go (Contains-append_cases (y ∷ []) ys x there) (Contains-filter test ys x passes)
-  where
-    none : Contains [] x → ⊥
-    none (k, below, at) = omega (arith, below)
-
-    kept : (b : Bool) → Contains (filter test ys) x → Contains (cond b (y ∷ filter test ys) (filter test ys)) x
-    kept true later = Contains-append_right (y ∷ []) (filter test ys) x later
-    kept false later = later
-
-    head : Contains [] x ⊎ (y ≡ x) → Contains (cond (test y) (y ∷ filter test ys) (filter test ys)) x
-    head (inl never) = absurd (none never)
-    head (inr is) = subst (λ b. Contains (cond b (y ∷ filter test ys) (filter test ys)) x) (sym (ap test is ∙ passes))
-        (subst (λ (first : Item). Contains (first ∷ filter test ys) x) (sym is) (Contains-append_left (x ∷ []) (filter test ys) x (Contains-push [] x)))
-
-    go : Contains (y ∷ []) x ⊎ Contains ys x → (Contains ys x → Contains (filter test ys) x) → Contains (cond (test y) (y ∷ filter test ys) (filter test ys)) x
-    go (inl first) rest = head (Contains-push_cases [] y x first)
-    go (inr later) rest = kept (test y) (rest later)
+-- an item that a change leaves alone is there after it
+mapped_same : (f : Item → Item) (xs : List Item) (x : Item) → f x ≡ x → Contains xs x → Contains (map f xs) x
+mapped_same f xs x same there = subst (Contains (map f xs)) same (Contains-map f xs x there)
 
 -- an acknowledged item is none of a request that goes on
 not_own : (requests : ℕ → WriteRequest) (req : ℕ) (mark : Mark) (request : Option ℕ) (bytes : List ℕ) (coded : Bool)
@@ -372,15 +337,15 @@ item_step q block item acknowledged ledger (WriteStart req disk at coded bytes) 
     whole false = there
 item_step q block item acknowledged ledger (WriteDone req) settled there may =
     end_keeps ledger req q block item (map (item_with_mark Acknowledged req)) refl
-    (Contains-map (item_with_mark Acknowledged req) (items_in (ledger.disks q) block) item
+    (mapped_same (item_with_mark Acknowledged req) (items_in (ledger.disks q) block) item
     (ap (λ b. cond b (record item { mark = Acknowledged }) item) (foreign ledger req q block item settled (open_by_done ledger req may) acknowledged there))) there
 item_step q block item acknowledged ledger (WriteRefused req) settled there may =
     end_keeps ledger req q block item (filter (λ item. not (is_item_of req item))) refl
-    (Contains-filter (λ item. not (is_item_of req item)) (items_in (ledger.disks q) block) item
+    (λ before. Contains-filter (λ item. not (is_item_of req item)) (items_in (ledger.disks q) block) item before
     (ap (λ b. not b) (foreign ledger req q block item settled (open_by_end ledger req may) acknowledged there))) there
 item_step q block item acknowledged ledger (WriterLost req) settled there may =
     end_keeps ledger req q block item (map (item_with_mark Lost req)) refl
-    (Contains-map (item_with_mark Lost req) (items_in (ledger.disks q) block) item
+    (mapped_same (item_with_mark Lost req) (items_in (ledger.disks q) block) item
     (ap (λ b. cond b (record item { mark = Lost }) item) (foreign ledger req q block item settled (open_by_end ledger req may) acknowledged there))) there
 item_step q block item acknowledged ledger (Read disk at bytes) settled there may = there
 

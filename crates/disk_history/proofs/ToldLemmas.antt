@@ -4,12 +4,14 @@ use Rattle.std.specs.Prelude.{replicate, nat_lt, IsSome, is_some, is_none}
 use Rattle.std.specs.Option.{option_and_then, option_map}
 use Rattle.std.specs.Str.{bytes_eq}
 use Rattle.std.specs.List.{list_any}
-use Rattle.std.proofs.Math.Bool.{or-false, or-true}
-use Rattle.std.proofs.lemmas.Bool.{true≢false, false≢true, not-true, eqb-true, eqb-false, eq-eqb, ne_eqb, lt-ltb, ltb-true, and_parts, and_from, or_cases, or_left, or_right}
+use Rattle.std.proofs.Math.Bool.{or-false, or-true, and-true, and-false}
+use Rattle.std.proofs.lemmas.Bool.{true≢false, false≢true, not-true, eqb-true, eq-eqb, ne_eqb, lt-ltb, ltb-true, and_parts, and_from, or_cases, or_left, or_right}
 use Rattle.std.proofs.lemmas.List.{append-nil}
 use Rattle.std.proofs.lemmas.List.Folds.{list_any-append}
 use Rattle.std.proofs.lemmas.List.Sums.{fold-append}
 use Rattle.std.proofs.lemmas.Slice.Eq.{bytes_eq-Decides}
+use Rattle.std.proofs.lemmas.Option.{same_Some, none-some}
+use Rattle.std.specs.Cmp.{nat_eq_equiv}
 use Rattle.disk_history.specs.declared.event.HistEvent.{HistEvent}
 use Rattle.disk_history.specs.declared.event.HistEvent.TheVariants.{Create, Copy, Delete, WriteStart, WriteDone, WriteRefused, WriterLost, Read}
 use Rattle.disk_history.specs.declared.requests.Fate.{Fate}
@@ -87,10 +89,6 @@ writes-push events event = fold-append writes_after (λ disk block. []) events (
 
 blocks-push : (events : List HistEvent) (event : HistEvent) (disk : ℕ) → block_count_of (events ++ event ∷ []) disk ≡ blocks_after (block_count_of events) event disk
 blocks-push events event disk = ap (λ (blocks : ℕ → Option ℕ). blocks disk) (fold-append blocks_after (λ disk. None) events (event ∷ []))
-
-flip : (a b : ℕ) (c : Bool) → (a == b) ≡ c → (b == a) ≡ c
-flip a b true e = eq-eqb b a (sym (eqb-true a b e))
-flip a b false e = ne_eqb b a (λ same. eqb-false a b e (sym same))
 
 none_deleted : (found : Option Disk) → is_none found ≡ true → deleted_in found ≡ false
 none_deleted None e = refl
@@ -194,8 +192,8 @@ tells_delete events ledger disk tells may = record {
 
     deleted : (q : ℕ) (b : Bool) → (q == disk) ≡ b → deleted_in (cond b gone (ledger.disks q)) ≡ (was_deleted events q || (disk == q))
     deleted q true e = deleted_set true (ledger.disks disk) (live_some (ledger.disks disk) may)
-        ∙ sym (or-true (was_deleted events q)) ∙ ap (λ b. was_deleted events q || b) (sym (flip q disk true e))
-    deleted q false e = tells.deleted q ∙ sym (or-false (was_deleted events q)) ∙ ap (λ b. was_deleted events q || b) (sym (flip q disk false e))
+        ∙ sym (or-true (was_deleted events q)) ∙ ap (λ b. was_deleted events q || b) (sym (nat_eq_equiv.symm disk q ∙ e))
+    deleted q false e = tells.deleted q ∙ sym (or-false (was_deleted events q)) ∙ ap (λ b. was_deleted events q || b) (sym (nat_eq_equiv.symm disk q ∙ e))
 
     counted : (q : ℕ) (b : Bool) → (q == disk) ≡ b → blocks_in (cond b gone (ledger.disks q)) ≡ block_count_of events q
     counted q true e = count_kept true (ledger.disks disk) ∙ tells.counted disk ∙ ap (block_count_of events) (sym (eqb-true q disk e))
@@ -380,10 +378,10 @@ end_told told_before is_fate fates req fate found told_all unanswered open_none 
   where
     go : (b : Bool) → (q == req) ≡ b → (told_before q || (req == q && is_fate fate)) ≡ is_fate (cond b fate (fates q))
     go true e =
-        ap (λ b. told_before q || (b && is_fate fate)) (flip q req true e)
+        ap (λ b. told_before q || (b && is_fate fate)) (nat_eq_equiv.symm req q ∙ e)
         ∙ ap (λ b. b || is_fate fate) (told_all q ∙ ap (λ q. is_fate (fates q)) (eqb-true q req e) ∙ ap is_fate unanswered ∙ open_none)
     go false e =
-        ap (λ b. told_before q || (b && is_fate fate)) (flip q req false e)
+        ap (λ b. told_before q || (b && is_fate fate)) (nat_eq_equiv.symm req q ∙ e)
         ∙ or-false (told_before q) ∙ told_all q
 
 end_counted : (change : List Item → List Item) (found : Option Disk)
@@ -423,14 +421,6 @@ tells_end events ledger req fate event change turns tells running answer dones r
     ended q true = sym answer
     ended q false = tells.ended q
 
-and_same : (b : Bool) → b ≡ (b && true)
-and_same true = refl
-and_same false = refl
-
-and_none : (b : Bool) → false ≡ (b && false)
-and_none true = refl
-and_none false = refl
-
 pub tells_step : (events : List HistEvent) (ledger : Ledger) (event : HistEvent) → Tells events ledger → may_follow ledger event ≡ true
     → Tells (events ++ event ∷ []) (ledger_after ledger event)
 tells_step events ledger (Create disk blocks) tells may = tells_create events ledger disk blocks tells may
@@ -440,15 +430,15 @@ tells_step events ledger (WriteStart req disk block coded bytes) tells may = tel
 tells_step events ledger (WriteDone req) tells may =
     tells_end events ledger req Done (WriteDone req) (map (item_with_mark Acknowledged req)) (done_turns req) tells
     (not-true (ledger.requests req).ended (and_parts _ _ (and_parts _ _ may).0).1) refl
-    (λ q. and_same (req == q)) (λ q. and_none (req == q)) (λ q. and_none (req == q)) (λ q. refl) (λ writes. refl) (λ blocks. refl)
+    (λ q. sym (and-true (req == q))) (λ q. sym (and-false (req == q))) (λ q. sym (and-false (req == q))) (λ q. refl) (λ writes. refl) (λ blocks. refl)
 tells_step events ledger (WriteRefused req) tells may =
     tells_end events ledger req Refused (WriteRefused req) (filter (λ item. not (is_item_of req item))) (refused_turns req) tells
     (not-true (ledger.requests req).ended (and_parts _ _ may).1) refl
-    (λ q. and_none (req == q)) (λ q. and_same (req == q)) (λ q. and_none (req == q)) (λ q. refl) (λ writes. refl) (λ blocks. refl)
+    (λ q. sym (and-false (req == q))) (λ q. sym (and-true (req == q))) (λ q. sym (and-false (req == q))) (λ q. refl) (λ writes. refl) (λ blocks. refl)
 tells_step events ledger (WriterLost req) tells may =
     tells_end events ledger req Abandoned (WriterLost req) (map (item_with_mark Lost req)) (lost_turns req) tells
     (not-true (ledger.requests req).ended (and_parts _ _ may).1) refl
-    (λ q. and_none (req == q)) (λ q. and_none (req == q)) (λ q. and_same (req == q)) (λ q. refl) (λ writes. refl) (λ blocks. refl)
+    (λ q. sym (and-false (req == q))) (λ q. sym (and-false (req == q))) (λ q. sym (and-true (req == q))) (λ q. refl) (λ writes. refl) (λ blocks. refl)
 tells_step events ledger (Read disk block bytes) tells may = tells_read events ledger disk block bytes tells
 
 -- ---- a whole history
@@ -467,16 +457,10 @@ tells_empty = record {
 
 tells_from : (before rest : List HistEvent) (ledger next : Ledger) → Tells before ledger → ledger_from ledger rest ≡ Some next → Tells (before ++ rest) next
 tells_from before [] ledger next tells reached =
-    subst (λ (events : List HistEvent). Tells events next) (sym (append-nil before)) (subst (λ (at : Ledger). Tells before at) (some_same reached) tells)
-  where
-    some_same : Some ledger ≡ Some next → ledger ≡ next
-    some_same e = cc
+    subst (λ (events : List HistEvent). Tells events next) (sym (append-nil before)) (subst (λ (at : Ledger). Tells before at) (same_Some ledger next reached) tells)
 tells_from before (event ∷ rest) ledger next tells reached =
     go (may_follow ledger event) refl (tells_from (before ++ event ∷ []) rest (ledger_after ledger event) next)
   where
-    not_some : None ≡ Some next → ⊥
-    not_some e = cc
-
     go : (b : Bool) → may_follow ledger event ≡ b
         → (Tells (before ++ event ∷ []) (ledger_after ledger event) → ledger_from (ledger_after ledger event) rest ≡ Some next → Tells ((before ++ event ∷ []) ++ rest) next)
         → Tells (before ++ event ∷ rest) next
@@ -485,7 +469,7 @@ tells_from before (event ∷ rest) ledger next tells reached =
         (later (tells_step before ledger event tells may)
         (sym (ap (λ b. option_and_then (λ next. ledger_from next rest) (cond b (Some (ledger_after ledger event)) None)) may) ∙ reached))
     go false may later =
-        absurd (not_some (sym (ap (λ b. option_and_then (λ next. ledger_from next rest) (cond b (Some (ledger_after ledger event)) None)) may) ∙ reached))
+        absurd (none-some next (sym (ap (λ b. option_and_then (λ next. ledger_from next rest) (cond b (Some (ledger_after ledger event)) None)) may) ∙ reached))
 
 pub tells_all : (events : List HistEvent) (ledger : Ledger) → ledger_from empty_ledger events ≡ Some ledger → Tells events ledger
 tells_all events ledger reached = tells_from [] events empty_ledger ledger tells_empty reached
@@ -723,10 +707,8 @@ torn_stands events fates writes done lost torn =
     test item = item.coded && is_writer_lost item
 
     seen : (fate : Fate) → is_lost_fate fate ≡ true → list_any test (items_by fate (as_write torn.0)) ≡ true
-    seen Unanswered e = absurd (false≢true e)
-    seen Done e = absurd (false≢true e)
-    seen Refused e = absurd (false≢true e)
     seen Abandoned e = ap (λ coded. (coded && true) || false) torn.2
+    seen fate e = absurd (false≢true e)
 
 readable_stands : (events : List HistEvent) (fates : ℕ → Fate) (writes : List BlockWrite) (bytes : List ℕ)
     → ((req : ℕ) → was_done events req ≡ is_done_fate (fates req)) → ((req : ℕ) → was_refused events req ≡ is_refused_fate (fates req))
@@ -742,10 +724,8 @@ readable_stands events fates writes bytes done refused (inl found) =
     test item = bytes_eq item.bytes bytes
 
     seen : (fate : Fate) → is_refused_fate fate ≡ false → bytes_eq found.0.bytes bytes ≡ true → list_any test (items_by fate (as_write found.0)) ≡ true
-    seen Unanswered kept e = or-false (bytes_eq found.0.bytes bytes) ∙ e
-    seen Done kept e = or-false (bytes_eq found.0.bytes bytes) ∙ e
     seen Refused kept e = absurd (true≢false kept)
-    seen Abandoned kept e = or-false (bytes_eq found.0.bytes bytes) ∙ e
+    seen fate kept e = or-false (bytes_eq found.0.bytes bytes) ∙ e
 
 read_allowed : (events : List HistEvent) (fates : ℕ → Fate) (writes : ℕ → List BlockWrite) (found : Option Disk) (block : ℕ) (bytes : List ℕ) (count : ℕ)
     → ((req : ℕ) → was_done events req ≡ is_done_fate (fates req))

@@ -1,41 +1,31 @@
 -- The entries of the tree in which locks are kept, and the finite map as which they are seen.
-use Rattle.std.proofs.Common.{◌≡◌, ℕ, Bool, true, false, cond, List, [], ◌∷◌, filter, not, Option, Some, None, refl, ap, sym, ◌∙◌, ◌==◌}
-use Rattle.std.specs.Ordering.{is_eq, nat_cmp, eq_by_cmp}
+use Rattle.std.proofs.Common.{◌≡◌, ℕ, Bool, true, false, cond, List, filter, not, Option, Some, None, refl, ap, sym, ◌∙◌}
+use Rattle.std.specs.Ordering.{nat_cmp, eq_by_cmp}
 use Rattle.std.specs.Cmp.{nat_cmp_total, eq_by_cmp_equiv}
 use Rattle.std.specs.Map.{lookup, keys_of}
 use Rattle.std.specs.List.{IsDistinct}
 use Rattle.std.specs.BTreeMap.{is_at}
 use Rattle.std.specs.FinMap as tree
 use Rattle.std.proofs.lemmas.Map.Entries.{lookup-filter-values, option_filter}
+use Rattle.proof_tools.proofs.FiniteMaps.{get-from_entries}
 use Rattle.disk_lock.specs.declared.holder.Holder.{Holder}
 use Rattle.disk_lock.specs.Locks.{is_of_node, without_node}
 
-find-lookup : {V : Type 0} (q : ℕ) (es : List (ℕ × V)) → tree.find nat_cmp q es ≡ lookup (is_at (nat_cmp q)) es
-find-lookup q [] = refl
-find-lookup q (e ∷ es) = ap (cond (is_eq (nat_cmp q e.0)) (Some e.1)) (find-lookup q es)
-
-turned : (a b : ℕ) → is_at (nat_cmp a) b ≡ eq_by_cmp nat_cmp b a
-turned a b = (eq_by_cmp_equiv nat_cmp_total).symm a b
-
 module _ {V : Type 0} where
-  -- what the map has of an id
-  pub get-seen : (es : List (ℕ × V)) (q : ℕ) → tree.get (tree.from_entries {R = nat_cmp} es) q ≡ lookup (is_at (nat_cmp q)) es
-  get-seen es q = tree.get-from_entries nat_cmp_total es q ∙ find-lookup q es
-
   -- one id has a new value, and every other keeps its own
   pub insert-seen : (old new : List (ℕ × V)) (k : ℕ) (v : V)
       → ((q : ℕ) → lookup (is_at (nat_cmp q)) new ≡ cond (is_at (nat_cmp k) q) (Some v) (lookup (is_at (nat_cmp q)) old))
       → tree.from_entries {R = nat_cmp} new ≡ tree.insert (tree.from_entries old) k v
   insert-seen old new k v is =
       tree.same_map nat_cmp_total tree.nat_cmp-IsAntisymmetric (tree.from_entries new) (tree.insert (tree.from_entries old) k v)
-      (λ q. get-seen new q ∙ is q ∙ (λ i. cond (turned k q i) (Some v) (sym (get-seen old q) i)) ∙ sym (tree.get-insert nat_cmp_total (tree.from_entries old) k v q))
+      (λ q. get-from_entries new q ∙ is q ∙ (λ i. cond ((eq_by_cmp_equiv nat_cmp_total).symm k q i) (Some v) (sym (get-from_entries old q) i)) ∙ sym (tree.get-insert nat_cmp_total (tree.from_entries old) k v q))
 
   pub remove-seen : (old new : List (ℕ × V)) (k : ℕ)
       → ((q : ℕ) → lookup (is_at (nat_cmp q)) new ≡ cond (is_at (nat_cmp k) q) None (lookup (is_at (nat_cmp q)) old))
       → tree.from_entries {R = nat_cmp} new ≡ tree.remove (tree.from_entries old) k
   remove-seen old new k is =
       tree.same_map nat_cmp_total tree.nat_cmp-IsAntisymmetric (tree.from_entries new) (tree.remove (tree.from_entries old) k)
-      (λ q. get-seen new q ∙ is q ∙ (λ i. cond (turned k q i) None (sym (get-seen old q) i)) ∙ sym (tree.get-remove nat_cmp_total (tree.from_entries old) k q))
+      (λ q. get-from_entries new q ∙ is q ∙ (λ i. cond ((eq_by_cmp_equiv nat_cmp_total).symm k q i) None (sym (get-from_entries old q) i)) ∙ sym (tree.get-remove nat_cmp_total (tree.from_entries old) k q))
 
 turned_test : {A : Type 0} (b : Bool) (x y : A) → cond (not b) x y ≡ cond b y x
 turned_test true x y = refl
@@ -50,7 +40,7 @@ pub free_node-seen : (old new : List (ℕ × Holder)) (node : ℕ) → IsDistinc
     → new ≡ filter (λ e. not (is_of_node node e.1)) old
     → (q : ℕ) → tree.get (tree.from_entries {R = nat_cmp} new) q ≡ without_node node (tree.get (tree.from_entries {R = nat_cmp} old) q)
 free_node-seen old new node distinct kept q =
-    get-seen new q ∙ ap (lookup (is_at (nat_cmp q))) kept
+    get-from_entries new q ∙ ap (lookup (is_at (nat_cmp q))) kept
     ∙ lookup-filter-values (eq_by_cmp_equiv nat_cmp_total) (λ holder. not (is_of_node node holder)) q old distinct
     ∙ without-filter node (lookup (is_at (nat_cmp q)) old)
-    ∙ ap (without_node node) (sym (get-seen old q))
+    ∙ ap (without_node node) (sym (get-from_entries old q))

@@ -1,7 +1,7 @@
 -- Each line of a request tells of it in one way.
 use Rattle.std.proofs.Common.{◌≡◌, ℕ, suc, ◌+◌, Bool, cond, List, [], ◌∷◌, length, refl, arith}
 use Rattle.std.proofs.lemmas.List.Sums.{sum_by-cons}
-use Rattle.peer_proto.specs.declared.guest.GuestRsp.TheVariants.{Done, Piece, Refused, Granted}
+use Rattle.peer_proto.specs.declared.guest.GuestRsp.TheVariants.{Done, Piece, Refused, Granted, Checked}
 use Rattle.dog_report.specs.Fates.{RequestFate, Answered, Gone, Pending, Unsent, ReportLine, Told, Listed, numbers_told}
 use Rattle.dog_report.specs.Counts.{tells, count_of, is_ok, is_refused, is_gone_fate, is_pending, is_unsent}
 
@@ -16,12 +16,7 @@ worth way fate = cond (way fate) 1 0
 -- a fate is of one way
 one_way : (fate : RequestFate) → worth is_ok fate + worth is_refused fate + worth is_gone_fate fate + worth is_pending fate + worth is_unsent fate ≡ 1
 one_way (Answered Done) = refl
-one_way (Answered (Piece bytes)) = refl
-one_way (Answered (Refused cause)) = refl
-one_way (Answered (Granted vid)) = refl
-one_way Gone = refl
-one_way Pending = refl
-one_way Unsent = refl
+one_way fate = refl
 
 more : (way : RequestFate → Bool) (number : ℕ) (fate : RequestFate) (lines : List ReportLine)
     → count_of way (Told number fate ∷ lines) ≡ worth way fate + count_of way lines

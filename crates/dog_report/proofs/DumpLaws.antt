@@ -1,12 +1,11 @@
 -- The rows that `dump` lists are those of the nodes that are up.
 use Rattle.std.proofs.Common.{◌≡◌, ◌⊎◌, inl, inr, ℕ, Bool, true, false, cond, List, [], ◌∷◌, map, filter, fold, Contains, Option, Some, None, unwrap_or, refl, sym, ap, subst}
 use Rattle.std.specs.FinMap as tree
+use Rattle.proof_tools.proofs.FiniteMaps.{entries-contain, get-entry}
 use Rattle.object_store.specs.Store.{SeenRow, AllRows, rows_of}
 use Rattle.hash_ring.proofs.InLaws.{In, in_from_contains, contains_from_in, in_map, from_map, in_flat_map, from_flat_map, in_filter, from_filter}
 use Rattle.sheep_node.specs.State.{Node}
 use Rattle.sheep_world.specs.World.{Host, World, is_host_up}
-use Rattle.sheep_world.proofs.NameTools.{entries-got}
-use Rattle.sheep_world.proofs.InFlightRetryTick.{got_entry}
 use Rattle.dog_report.specs.Words.{Words}
 use Rattle.dog_report.specs.Lists.{row_words, comes_before, put_in_order, ordered_rows, node_rows, dump}
 
@@ -79,7 +78,7 @@ from_node number node words h =
     let all : AllRows = node.peer.rows in
     let (e, among, listed) = from_flat_map (object_words number) (tree.entries all) words h in
     let (row, there, is) = from_map (row_words number e.0) (ordered_rows e.1) words listed in
-    let got : tree.get all e.0 ≡ Some e.1 = got_entry all e (contains_from_in (tree.entries all) e among) in
+    let got : tree.get all e.0 ≡ Some e.1 = get-entry all e (contains_from_in (tree.entries all) e among) in
     let same : e.1 ≡ rows_of all e.0 = sym (ap (λ (found : Option (List SeenRow)). unwrap_or found []) got) in
     (e.0, row, subst (λ (rows : List SeenRow). In row rows) same (from_order e.1 row there), sym is)
 
@@ -89,7 +88,7 @@ in_node : (number : ℕ) (node : Node) (oid : ℕ) (row : SeenRow) → In row (r
 in_node number node oid row h =
     let all : AllRows = node.peer.rows in
     let rows : List SeenRow = rows_of all oid in
-    let among = entries-got tree.nat_cmp-IsAntisymmetric all oid rows (rows_there all oid row h) in
+    let among = entries-contain tree.nat_cmp-IsAntisymmetric all oid rows (rows_there all oid row h) in
     in_flat_map (object_words number) (tree.entries all) (oid, rows) (row_words number oid row)
     (in_from_contains (tree.entries all) (oid, rows) among)
     (in_map (row_words number oid) (ordered_rows rows) row (in_put_all rows [] row (inr h)))
@@ -118,7 +117,7 @@ dump-only world words h =
       e.1,
       oid,
       row,
-      got_entry world.hosts e (contains_from_in hosts e among),
+      get-entry world.hosts e (contains_from_in hosts e among),
       up,
       contains_from_in (rows_of e.1.node.peer.rows oid) row there,
       is,
@@ -130,7 +129,7 @@ pub dump-all : (world : World) (number : ℕ) (host : Host) (oid : ℕ) (row : S
     → Contains (dump world) (row_words number oid row)
 dump-all world number host oid row is up there =
     let hosts : List (ℕ × Host) = tree.entries world.hosts in
-    let among = in_from_contains hosts (number, host) (entries-got tree.nat_cmp-IsAntisymmetric world.hosts number host is) in
+    let among = in_from_contains hosts (number, host) (entries-contain tree.nat_cmp-IsAntisymmetric world.hosts number host is) in
     contains_from_in (dump world) (row_words number oid row)
     (in_flat_map host_rows (filter is_entry_up hosts) (number, host) (row_words number oid row)
     (in_filter is_entry_up hosts (number, host) among up)

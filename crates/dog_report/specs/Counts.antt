@@ -1,7 +1,7 @@
 -- How many requests a report tells of in each way, and the line that says so for a generated script.
 use Rattle.std.specs.Prelude.{ℕ, Bool, true, false, List, [], ◌∷◌, length, count_by, codes, decimal}
 use Rattle.object_id.specs.Hash.{fnv1a_of}
-use Rattle.peer_proto.specs.declared.guest.GuestRsp.TheVariants.{Done, Piece, Refused, Granted}
+use Rattle.peer_proto.specs.declared.guest.GuestRsp.TheVariants.{Done, Piece, Refused, Granted, Checked}
 use Rattle.dog_report.specs.Words.{Words, hex}
 use Rattle.dog_report.specs.Fates.{RequestFate, Answered, Gone, Pending, Unsent, ReportLine, Told, Listed, numbers_told}
 use Rattle.dog_report.specs.Report.{report_text}
@@ -12,6 +12,7 @@ is_ok (Answered Done) = true
 is_ok (Answered (Piece bytes)) = true
 is_ok (Answered (Refused cause)) = false
 is_ok (Answered (Granted vid)) = true
+is_ok (Answered (Checked found)) = true
 is_ok Gone = false
 is_ok Pending = false
 is_ok Unsent = false
@@ -22,6 +23,7 @@ is_refused (Answered Done) = false
 is_refused (Answered (Piece bytes)) = false
 is_refused (Answered (Refused cause)) = true
 is_refused (Answered (Granted vid)) = false
+is_refused (Answered (Checked found)) = false
 is_refused Gone = false
 is_refused Pending = false
 is_refused Unsent = false

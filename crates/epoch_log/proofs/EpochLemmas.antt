@@ -2,9 +2,11 @@
 use Rattle.std.proofs.Common.{◌≡◌, ℕ, zero, suc, ◌+◌, ◌-◌, ◌≤◌, ◌==◌, ◌&&◌, ◌||◌, not, Bool, true, false, cond, List, [], ◌∷◌, ◌++◌, length, take, drop, filter, fold, length-append, refl, ap, sym, subst, ◌∙◌, arith}
 use Rattle.std.proofs.lemmas.List.{take-append-le, take_all, take-append-drop, length_push, take-take}
 use Rattle.std.proofs.lemmas.Bool.{eqb-true}
-use Rattle.std.proofs.lemmas.List.Elements.{filter-append}
+use Rattle.std.proofs.lemmas.List.Elements.{filter-append, filter_agree}
 use Rattle.std.proofs.lemmas.List.Folds.{list_any-append}
 use Rattle.std.proofs.lemmas.Grind.{fold-append}
+use Rattle.proof_tools.proofs.Lists.{filter-filter}
+use Rattle.proof_tools.proofs.Booleans.{not-or}
 use Rattle.object_id.specs.declared.entry.Member.{Member}
 use Rattle.object_id.specs.declared.entry.Entry.{Entry}
 use Rattle.epoch_log.specs.Members.{members_after}
@@ -45,28 +47,11 @@ members_in-begun entries entry some begun =
     ∙ fold-append members_after (initial_members entries) old (entry ∷ [])
     ∙ sym (ap (λ changes. members_after (fold members_after (initial_members entries) changes) entry) before)
 
--- two tests that agree on each element of a list filter it alike
-pub filter-same : {X : Type 0} (p q : X → Bool) (xs : List X) → ((x : X) → p x ≡ q x) → filter p xs ≡ filter q xs
-filter-same p q [] same = refl
-filter-same p q (x ∷ xs) same =
-    ap (λ b. cond b (x ∷ filter p xs) (filter p xs)) (same x) ∙ ap (λ rest. cond (q x) (x ∷ rest) rest) (filter-same p q xs same)
-
 pub missing_in-same : (old new : List Entry) (epoch : ℕ) → members_in new epoch ≡ members_in old epoch
     → ((node : ℕ) → has_recovered new epoch node ≡ has_recovered old epoch node) → missing_in new epoch ≡ missing_in old epoch
 missing_in-same old new epoch members same =
     ap (filter (λ (member : Member). not (has_recovered new epoch member.node.0))) members
-    ∙ filter-same (λ (member : Member). not (has_recovered new epoch member.node.0)) (λ (member : Member). not (has_recovered old epoch member.node.0)) (members_in old epoch)
-    (λ member. ap not (same member.node.0))
-
--- a filter by one test more
-pub filter-filter : {X : Type 0} (p q : X → Bool) (xs : List X) → filter q (filter p xs) ≡ filter (λ x. p x && q x) xs
-filter-filter p q [] = refl
-filter-filter p q (x ∷ xs) = by_test (p x) (filter-filter p q xs)
-  where
-    by_test : (b : Bool) → filter q (filter p xs) ≡ filter (λ x. p x && q x) xs
-        → filter q (cond b (x ∷ filter p xs) (filter p xs)) ≡ cond (b && q x) (x ∷ filter (λ x. p x && q x) xs) (filter (λ x. p x && q x) xs)
-    by_test true rest = ap (λ kept. cond (q x) (x ∷ kept) kept) rest
-    by_test false rest = rest
+    ∙ filter_agree (λ (member : Member). not (has_recovered new epoch member.node.0)) (λ (member : Member). not (has_recovered old epoch member.node.0)) (λ member. ap not (same member.node.0)) (members_in old epoch)
 
 -- the same of the entries before a place
 pub members_in-take : (entries : List Entry) (place epoch : ℕ) → 1 ≤ place → epoch ≤ epoch_of (take place entries)
@@ -77,18 +62,12 @@ members_in-take (entry ∷ entries) (suc place) epoch some begun =
     sym (members_in-append (entry ∷ take place entries) (drop place entries) epoch (omega arith) begun)
     ∙ ap (λ rest. members_in (entry ∷ rest) epoch) (take-append-drop place entries)
 
-not-or : (a b : Bool) → not (a || b) ≡ (not a && not b)
-not-or true b = refl
-not-or false b = refl
-
 -- later entries take from the missing ones those that they name
 pub missing_in-append : (entries later : List Entry) (epoch : ℕ) → 1 ≤ length entries → epoch ≤ epoch_of entries
     → missing_in (entries ++ later) epoch ≡ filter (λ (member : Member). not (has_recovered later epoch member.node.0)) (missing_in entries epoch)
 missing_in-append entries later epoch some begun =
     ap (filter (λ (member : Member). not (has_recovered (entries ++ later) epoch member.node.0))) (members_in-append entries later epoch some begun)
-    ∙ filter-same (λ (member : Member). not (has_recovered (entries ++ later) epoch member.node.0))
-    (λ (member : Member). not (has_recovered entries epoch member.node.0) && not (has_recovered later epoch member.node.0)) (members_in entries epoch)
-    (λ member. ap not (list_any-append (recovers epoch member.node.0) entries later) ∙ not-or (has_recovered entries epoch member.node.0) (has_recovered later epoch member.node.0))
+    ∙ filter_agree (λ (member : Member). not (has_recovered (entries ++ later) epoch member.node.0)) (λ (member : Member). not (has_recovered entries epoch member.node.0) && not (has_recovered later epoch member.node.0)) (λ member. ap not (list_any-append (recovers epoch member.node.0) entries later) ∙ not-or (has_recovered entries epoch member.node.0) (has_recovered later epoch member.node.0)) (members_in entries epoch)
     ∙ sym (filter-filter (λ (member : Member). not (has_recovered entries epoch member.node.0)) (λ (member : Member). not (has_recovered later epoch member.node.0)) (members_in entries epoch))
 
 -- an epoch that is settled stays so

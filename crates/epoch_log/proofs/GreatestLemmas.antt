@@ -1,30 +1,25 @@
 -- The greatest number up to a limit that passes a test.
 use Rattle.std.proofs.Common.{◌≡◌, ◌≢◌, ◌⊎◌, inl, inr, ℕ, zero, suc, ◌<◌, ◌≤◌, ◌&&◌, nat_lt, Bool, true, false, cond, refl, ap, sym, ◌∙◌, arith}
-use Rattle.std.proofs.lemmas.Bool.{cases_eq, ltb-true, ltb-false, false_from_ne_true}
+use Rattle.std.proofs.lemmas.Bool.{cases_eq, ltb-true, ltb-false, false_from_ne_true, cond_both}
 use Rattle.epoch_log.specs.Epochs.{greatest}
-
--- what holds of a choice, by its test
-chosen : {X : Type 0} (P : X → Type 0) (b : Bool) (x y : X) → (b ≡ true → P x) → (b ≡ false → P y) → P (cond b x y)
-chosen P true x y holds fails = holds refl
-chosen P false x y holds fails = fails refl
 
 pub greatest-most : (p : ℕ → Bool) (n : ℕ) → greatest p n ≤ n
 greatest-most p zero = omega arith
 greatest-most p (suc n) =
     let below : greatest p n ≤ n = greatest-most p n in
-    chosen (λ (g : ℕ). g ≤ suc n) (p (suc n)) (suc n) (greatest p n) (λ _. omega arith) (λ _. omega arith)
+    cond_both (p (suc n)) (suc n) (greatest p n) (λ (g : ℕ). g ≤ suc n) (λ _. omega arith) (λ _. omega arith)
 
 pub greatest-passes : (p : ℕ → Bool) (n : ℕ) → 1 ≤ greatest p n → p (greatest p n) ≡ true
 greatest-passes p zero = λ some. absurd (omega arith)
 greatest-passes p (suc n) =
     let below : 1 ≤ greatest p n → p (greatest p n) ≡ true = greatest-passes p n in
-    chosen (λ (g : ℕ). 1 ≤ g → p g ≡ true) (p (suc n)) (suc n) (greatest p n) (λ holds some. holds) (λ _. below)
+    cond_both (p (suc n)) (suc n) (greatest p n) (λ (g : ℕ). 1 ≤ g → p g ≡ true) (λ holds some. holds) (λ _. below)
 
 pub greatest-bound : (p : ℕ → Bool) (n k : ℕ) → 1 ≤ k → k ≤ n → p k ≡ true → k ≤ greatest p n
 greatest-bound p zero k some within passes = absurd (omega arith)
 greatest-bound p (suc n) k some within passes =
     let below : k ≤ n → k ≤ greatest p n = λ (in' : k ≤ n). greatest-bound p n k some in' passes in
-    chosen (λ (g : ℕ). k ≤ g) (p (suc n)) (suc n) (greatest p n) (λ _. within) (λ fails. apart fails below)
+    cond_both (p (suc n)) (suc n) (greatest p n) (λ (g : ℕ). k ≤ g) (λ _. within) (λ fails. apart fails below)
   where
     apart : p (suc n) ≡ false → (k ≤ n → k ≤ greatest p n) → k ≤ greatest p n
     apart fails below = elim (cases_eq k (suc n)) [

@@ -6,7 +6,7 @@ use Rattle.std.proofs.lemmas.List.Elements.{All-head, All-tail, All-cons, All-ni
 use Rattle.std.proofs.lemmas.List.{append_assoc, append-nil, length_push, take_all}
 use Rattle.object_id.specs.declared.entry.Member.{Member}
 use Rattle.object_id.specs.declared.entry.Entry.{Entry}
-use Rattle.object_id.specs.declared.entry.Entry.TheVariants.{Format, Join, Leave, Reweight, Recovered, Reserve, Publish, Clone, Snapshot, Delete, Lock, Unlock}
+use Rattle.object_id.specs.declared.entry.Entry.TheVariants.{Format, Join, Leave, Reweight}
 use Rattle.object_id.specs.Node.{IsWeight}
 use Rattle.epoch_log.specs.Members.{is_member_node, is_member, members_with, members_reweighted, members_after, node_numbers, HaveWeights, AreMembers}
 use Rattle.epoch_log.specs.Epochs.{begins_epoch, epoch_of, members_in}
@@ -81,18 +81,10 @@ Ascend-members_reweighted node vnodes least (member ∷ members) up = by_test (i
 
 Ascend-members_after : (members : List Member) (entry : Entry) → FitsMembers members entry → Ascend 0 members → Ascend 0 (members_after members entry)
 unfolding Ascend
-Ascend-members_after members (Format opening) fits up = up
 Ascend-members_after members (Join node zone vnodes) fits up = Ascend-members_with 0 (record { node = node; zone = zone; vnodes = vnodes }) members (omega arith) fits.0 fits.2 up
 Ascend-members_after members (Leave node) fits up = Ascend-filter (λ member. not (is_member_node node.0 member)) 0 members up
 Ascend-members_after members (Reweight node vnodes) fits up = Ascend-members_reweighted node.0 vnodes 0 members up
-Ascend-members_after members (Recovered node epoch) fits up = up
-Ascend-members_after members (Reserve by session name origin) fits up = up
-Ascend-members_after members (Publish by vid) fits up = up
-Ascend-members_after members (Clone by vid) fits up = up
-Ascend-members_after members (Snapshot by old vid) fits up = up
-Ascend-members_after members (Delete by session name tag) fits up = up
-Ascend-members_after members (Lock by session name tag) fits up = up
-Ascend-members_after members (Unlock by session vid) fits up = up
+Ascend-members_after members entry fits up = up
 
 -- the next number, one place on
 one_on : (x : ℕ) (xs : List ℕ) (k : ℕ) → slice_index xs k < slice_index xs (k + 1) → slice_index (x ∷ xs) (suc k) < slice_index (x ∷ xs) (suc k + 1)
@@ -180,19 +172,8 @@ module _ (P : List Member → Type 0) (kept : (members : List Member) (entry : E
 -- how a log begins
 IsLog-opens : (entries : List Entry) → IsLog entries
     → (members : List Member) × (later : List Entry) × (entries ≡ Format members ∷ later) × MayOpen members × AreAppended (Format members ∷ []) later
-IsLog-opens [] log = absurd log
 IsLog-opens (Format members ∷ later) log = (members, later, refl, log.0, log.1)
-IsLog-opens (Join node zone vnodes ∷ later) log = absurd log
-IsLog-opens (Leave node ∷ later) log = absurd log
-IsLog-opens (Reweight node vnodes ∷ later) log = absurd log
-IsLog-opens (Recovered node epoch ∷ later) log = absurd log
-IsLog-opens (Reserve by session name origin ∷ later) log = absurd log
-IsLog-opens (Publish by vid ∷ later) log = absurd log
-IsLog-opens (Clone by vid ∷ later) log = absurd log
-IsLog-opens (Snapshot by old vid ∷ later) log = absurd log
-IsLog-opens (Delete by session name tag ∷ later) log = absurd log
-IsLog-opens (Lock by session name tag ∷ later) log = absurd log
-IsLog-opens (Unlock by session vid ∷ later) log = absurd log
+IsLog-opens entries log = absurd log
 
 pub IsLog-some : (entries : List Entry) → IsLog entries → 1 ≤ length entries
 IsLog-some entries log =
@@ -237,18 +218,10 @@ weights-members_reweighted node vnodes (member ∷ members) weight had =
         All-cons (λ (m : Member). IsWeight m.vnodes) member (members_reweighted node vnodes members) (All-head (λ (m : Member). IsWeight m.vnodes) member members had) rest
 
 weights-members_after : (members : List Member) (entry : Entry) → FitsMembers members entry → HaveWeights members → HaveWeights (members_after members entry)
-weights-members_after members (Format opening) fits had = had
 weights-members_after members (Join node zone vnodes) fits had = weights-members_with (record { node = node; zone = zone; vnodes = vnodes }) members fits.1 had
 weights-members_after members (Leave node) fits had = All-filter (λ member. not (is_member_node node.0 member)) (λ (m : Member). IsWeight m.vnodes) members had
 weights-members_after members (Reweight node vnodes) fits had = weights-members_reweighted node.0 vnodes members fits.0 had
-weights-members_after members (Recovered node epoch) fits had = had
-weights-members_after members (Reserve by session name origin) fits had = had
-weights-members_after members (Publish by vid) fits had = had
-weights-members_after members (Clone by vid) fits had = had
-weights-members_after members (Snapshot by old vid) fits had = had
-weights-members_after members (Delete by session name tag) fits had = had
-weights-members_after members (Lock by session name tag) fits had = had
-weights-members_after members (Unlock by session vid) fits had = had
+weights-members_after members entry fits had = had
 
 pub IsLog-weights : (entries : List Entry) (epoch : ℕ) → IsLog entries → epoch ≤ epoch_of entries → HaveWeights (members_in entries epoch)
 IsLog-weights entries epoch log begun = IsLog-holds HaveWeights weights-members_after (λ members opens. opens.weights) entries log epoch begun
@@ -305,13 +278,4 @@ IsLog-prefix (Format members ∷ rest) later some log =
     = AreAppended-split (Format members ∷ []) rest later log.1 in
     ((log.0, parts.0), parts.1)
 IsLog-prefix (Join node zone vnodes ∷ rest) later some log = absurd log
-IsLog-prefix (Leave node ∷ rest) later some log = absurd log
-IsLog-prefix (Reweight node vnodes ∷ rest) later some log = absurd log
-IsLog-prefix (Recovered node epoch ∷ rest) later some log = absurd log
-IsLog-prefix (Reserve by session name origin ∷ rest) later some log = absurd log
-IsLog-prefix (Publish by vid ∷ rest) later some log = absurd log
-IsLog-prefix (Clone by vid ∷ rest) later some log = absurd log
-IsLog-prefix (Snapshot by old vid ∷ rest) later some log = absurd log
-IsLog-prefix (Delete by session name tag ∷ rest) later some log = absurd log
-IsLog-prefix (Lock by session name tag ∷ rest) later some log = absurd log
-IsLog-prefix (Unlock by session vid ∷ rest) later some log = absurd log
+IsLog-prefix entries later some log = absurd log

@@ -7,7 +7,7 @@ use Rattle.std.proofs.lemmas.List.Folds.{Any-from_list_any, list_any_at}
 use Rattle.object_id.specs.declared.node.NodeId.{NodeId}
 use Rattle.object_id.specs.declared.entry.Member.{Member}
 use Rattle.object_id.specs.declared.entry.Entry.{Entry}
-use Rattle.object_id.specs.declared.entry.Entry.TheVariants.{Format, Join, Leave, Reweight, Recovered, Reserve, Publish, Clone, Snapshot, Delete, Lock, Unlock}
+use Rattle.object_id.specs.declared.entry.Entry.TheVariants.{Recovered}
 use Rattle.epoch_log.specs.Epochs.{members_in, recovers, has_recovered, missing_in, is_settled}
 
 -- what a filter loses, where it keeps nothing
@@ -28,22 +28,12 @@ filter-none p (x ∷ xs) lost =
 
 -- the one entry that says so
 pub recovers-is : (epoch : ℕ) (node : NodeId) (entry : Entry) → recovers epoch node.0 entry ≡ true → entry ≡ Recovered node (record { 0 = epoch })
-recovers-is epoch node (Format members) says = cc
-recovers-is epoch node (Join other zone vnodes) says = cc
-recovers-is epoch node (Leave other) says = cc
-recovers-is epoch node (Reweight other vnodes) says = cc
 recovers-is epoch node (Recovered by of) says =
     let parts = and_parts (of.0 == epoch) (by.0 == node.0) says in
     let epochs : of.0 ≡ epoch = eqb-true of.0 epoch parts.0 in
     let nodes : by.0 ≡ node.0 = eqb-true by.0 node.0 parts.1 in
     λ i. Recovered (record { 0 = nodes i }) (record { 0 = epochs i })
-recovers-is epoch node (Reserve by session name origin) says = cc
-recovers-is epoch node (Publish by vid) says = cc
-recovers-is epoch node (Clone by vid) says = cc
-recovers-is epoch node (Snapshot by old vid) says = cc
-recovers-is epoch node (Delete by session name tag) says = cc
-recovers-is epoch node (Lock by session name tag) says = cc
-recovers-is epoch node (Unlock by session vid) says = cc
+recovers-is epoch node entry says = cc
 
 pub has_recovered-from : (entries : List Entry) (epoch : ℕ) (node : NodeId) → Contains entries (Recovered node (record { 0 = epoch }))
     → has_recovered entries epoch node.0 ≡ true

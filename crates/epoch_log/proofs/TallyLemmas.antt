@@ -4,15 +4,16 @@ use Rattle.std.specs.List.{list_any}
 use Rattle.std.specs.Ordering.{nat_cmp, is_eq}
 use Rattle.std.specs.BTreeSet.{BTreeSet}
 use Rattle.std.proofs.lemmas.Bool.{eq-eqb, ne_eqb, le-ltb, and_right, cases_eq, cases_lt}
-use Rattle.std.proofs.lemmas.Bool.Decides.{nat_tests}
 use Rattle.std.proofs.lemmas.List.{take_all, take-append-le, append-nil, get_or_append_left, get_or_push, length_push, length-set, get_or-set_same, get_or-set_other}
-use Rattle.std.proofs.lemmas.List.Elements.{filter-append, All-head, All-tail}
+use Rattle.std.proofs.lemmas.List.Elements.{filter-append, All-head, All-tail, filter_agree}
 use Rattle.std.proofs.lemmas.List.Folds.{list_any-append}
+use Rattle.std.proofs.Math.Bool.{or-false}
+use Rattle.std.specs.Cmp.{nat_eq_equiv}
 use Rattle.object_id.specs.declared.node.NodeId.{NodeId}
 use Rattle.object_id.specs.declared.node.Epoch.{Epoch}
 use Rattle.object_id.specs.declared.entry.Member.{Member}
 use Rattle.object_id.specs.declared.entry.Entry.{Entry}
-use Rattle.object_id.specs.declared.entry.Entry.TheVariants.{Format, Join, Leave, Reweight, Recovered, Reserve, Publish, Clone, Snapshot, Delete, Lock, Unlock}
+use Rattle.object_id.specs.declared.entry.Entry.TheVariants.{Format, Recovered}
 use Rattle.epoch_log.specs.declared.epoch_record.EpochRecord.{EpochRecord}
 use Rattle.epoch_log.specs.declared.epoch_record.Mark.{Mark}
 use Rattle.epoch_log.specs.declared.tally.Tally.{Tally}
@@ -21,7 +22,7 @@ use Rattle.epoch_log.specs.Epochs.{begins_epoch, epoch_of, initial_members, memb
 use Rattle.epoch_log.specs.Appending.{MayAppend, IsLog}
 use Rattle.epoch_log.specs.Tally.{IsTally, AreMarks, mark_of, term_in, new_term, lacking, early_key, is_early}
 use Rattle.epoch_log.proofs.GreatestLemmas.{greatest-same, greatest-one}
-use Rattle.epoch_log.proofs.EpochLemmas.{initial_members-append, epoch_of-append, members_in-append, members_in-begun, filter-same, missing_in-same, missing_in-append, is_settled-append, settled_of-begun}
+use Rattle.epoch_log.proofs.EpochLemmas.{initial_members-append, epoch_of-append, members_in-append, members_in-begun, missing_in-same, missing_in-append, is_settled-append, settled_of-begun}
 use Rattle.epoch_log.proofs.MembersLemmas.{IsLog-some, IsLog-push, IsLog-members}
 
 -- what `next_members` says of an entry, by its answer
@@ -33,52 +34,18 @@ pub next-None : {X : Type 0} (b : Bool) (x : X) → None ≡ cond b (Some x) Non
 next-None true x is = cc
 next-None false x is = refl
 
-or-false : (b : Bool) → (b || false) ≡ b
-or-false true = refl
-or-false false = refl
-
 -- an entry that begins an epoch is no `Recovered`
 begins_epoch-recovers : (entry : Entry) → begins_epoch entry ≡ true → (epoch node : ℕ) → recovers epoch node entry ≡ false
-begins_epoch-recovers (Format members) is epoch node = refl
-begins_epoch-recovers (Join by zone vnodes) is epoch node = refl
-begins_epoch-recovers (Leave by) is epoch node = refl
-begins_epoch-recovers (Reweight by vnodes) is epoch node = refl
 begins_epoch-recovers (Recovered by of) is epoch node = cc
-begins_epoch-recovers (Reserve by session name origin) is epoch node = refl
-begins_epoch-recovers (Publish by vid) is epoch node = refl
-begins_epoch-recovers (Clone by vid) is epoch node = refl
-begins_epoch-recovers (Snapshot by old vid) is epoch node = refl
-begins_epoch-recovers (Delete by session name tag) is epoch node = refl
-begins_epoch-recovers (Lock by session name tag) is epoch node = refl
-begins_epoch-recovers (Unlock by session vid) is epoch node = refl
+begins_epoch-recovers entry is epoch node = refl
 
 none-recovers : (entry : Entry) → recovery_of entry ≡ None → (epoch node : ℕ) → recovers epoch node entry ≡ false
-none-recovers (Format members) is epoch node = refl
-none-recovers (Join by zone vnodes) is epoch node = refl
-none-recovers (Leave by) is epoch node = refl
-none-recovers (Reweight by vnodes) is epoch node = refl
 none-recovers (Recovered by of) is epoch node = cc
-none-recovers (Reserve by session name origin) is epoch node = refl
-none-recovers (Publish by vid) is epoch node = refl
-none-recovers (Clone by vid) is epoch node = refl
-none-recovers (Snapshot by old vid) is epoch node = refl
-none-recovers (Delete by session name tag) is epoch node = refl
-none-recovers (Lock by session name tag) is epoch node = refl
-none-recovers (Unlock by session vid) is epoch node = refl
+none-recovers entry is epoch node = refl
 
 pub recovery_of-is : (entry : Entry) (node : NodeId) (epoch : Epoch) → recovery_of entry ≡ Some (node, epoch) → entry ≡ Recovered node epoch
-recovery_of-is (Format members) node epoch is = cc
-recovery_of-is (Join by zone vnodes) node epoch is = cc
-recovery_of-is (Leave by) node epoch is = cc
-recovery_of-is (Reweight by vnodes) node epoch is = cc
 recovery_of-is (Recovered by of) node epoch is = let both : ◌≡◌ {A = NodeId × Epoch} (by, of) (node, epoch) = cc in λ i. Recovered ((both i).0) ((both i).1)
-recovery_of-is (Reserve by session name origin) node epoch is = cc
-recovery_of-is (Publish by vid) node epoch is = cc
-recovery_of-is (Clone by vid) node epoch is = cc
-recovery_of-is (Snapshot by old vid) node epoch is = cc
-recovery_of-is (Delete by session name tag) node epoch is = cc
-recovery_of-is (Lock by session name tag) node epoch is = cc
-recovery_of-is (Unlock by session vid) node epoch is = cc
+recovery_of-is entry node epoch is = cc
 
 has_recovered-push : (entries : List Entry) (entry : Entry) (epoch node : ℕ)
     → has_recovered (entries ++ entry ∷ []) epoch node ≡ (has_recovered entries epoch node || recovers epoch node entry)
@@ -296,14 +263,11 @@ tally-recovers entries node epoch old new log t first begun terms settled early 
         = members_in-kept entries (Recovered node epoch) epoch.0 some refl in
         let says : (member : Member) → not (has_recovered (Recovered node epoch ∷ []) epoch.0 member.node.0) ≡ not (is_member_node node.0 member)
         = λ member. ap not (or-false (epoch.0 == epoch.0 && node.0 == member.node.0)
-        ∙ ap (λ b. b && node.0 == member.node.0) (eq-eqb epoch.0 epoch.0 refl) ∙ turned node.0 member.node.0) in
+        ∙ ap (λ b. b && node.0 == member.node.0) (eq-eqb epoch.0 epoch.0 refl) ∙ nat_eq_equiv.symm node.0 member.node.0) in
         let missing : missing_in (entries ++ Recovered node epoch ∷ []) epoch.0 ≡ members_without node.0 (missing_in entries epoch.0)
         = missing_in-append entries (Recovered node epoch ∷ []) epoch.0 some within
-        ∙ filter-same (λ (m : Member). not (has_recovered (Recovered node epoch ∷ []) epoch.0 m.node.0)) (λ m. not (is_member_node node.0 m)) (missing_in entries epoch.0) says in
+        ∙ filter_agree (λ (m : Member). not (has_recovered (Recovered node epoch ∷ []) epoch.0 m.node.0)) (λ m. not (is_member_node node.0 m)) says (missing_in entries epoch.0) in
         λ i. record { members = members i; missing = missing i }
-      where
-        turned : (a b : ℕ) → (a == b) ≡ (b == a)
-        turned a b = grind (arith, nat_tests)
 
     -- the epoch is settled where nobody is missing any more, and then it counts where it is above the settled one
     newest : get_or new.terms.items (epoch.0 - 1) (term_in entries 1) ≡ term_in (entries ++ Recovered node epoch ∷ []) epoch.0

@@ -1,26 +1,42 @@
 -- What an answer or a loss tells, by cases on the attempt.
-use Rattle.std.proofs.Common.{◌≡◌, inl, inr, ℕ, ◌+◌, nat_le, ◌==◌, ◌&&◌, ◌||◌, not, Bool, true, false, cond, List, [], ◌∷◌, Option, Some, None, refl, ap, ◌∙◌}
-use Rattle.std.specs.List.{list_any}
-use Rattle.std.proofs.lemmas.Bool.{and_parts, leb-true}
+use Rattle.std.proofs.Common.{◌≡◌, inl, inr, ℕ, ◌+◌, nat_le, ◌==◌, ◌&&◌, ◌||◌, not, Bool, true, false, cond, List, [], ◌∷◌, ◌++◌, map, flat_map, Option, Some, None, refl, ap, sym, ◌∙◌}
+use Rattle.std.specs.List.{list_any, concat}
+use Rattle.std.proofs.lemmas.List.Concat.{concat_is}
+use Rattle.std.proofs.lemmas.Bool.{and_parts, leb-true, not-true}
 use Rattle.std.proofs.lemmas.List.Sums.{AllPass-from_list_all}
 use Rattle.object_id.specs.declared.cause.Cause.{Cause}
 use Rattle.peer_proto.specs.declared.work.ObjWork.{ObjWork}
-use Rattle.peer_proto.specs.declared.work.ObjWork.TheVariants.{Create, Write, Read}
+use Rattle.peer_proto.specs.declared.work.ObjWork.TheVariants.{Create, Write, Read, ReadAll}
 use Rattle.gateway.specs.declared.message.Message.{Message}
 use Rattle.gateway.specs.declared.message.Status.{Status}
-use Rattle.gateway.specs.Attempt.{Attempt, is_unanswered, is_success, is_awaited_message, messages_with_status, is_over, is_done, bytes_given, first_failure}
+use Rattle.gateway.specs.declared.message.Status.TheVariants.{Succeeded}
+use Rattle.gateway.specs.Attempt.{Attempt, is_unanswered, is_success, is_awaited_message, messages_with_status, is_over, is_done, bytes_in, bytes_given, first_failure}
 use Rattle.gateway.specs.State.{WorkStage, Open, Work, Gateway, is_touched, asker}
 use Rattle.gateway.specs.Step.{with_work, waiting_step, done_step, refusal_after_attempt, failure_step, attempt_ended, attempt_continued, attempt_with_status, status_step_in, status_step_by, touched_by, message_ended}
 use Rattle.gateway.specs.Outcomes.{HasEnough, Tells}
 
-enough_from : (work : ObjWork) (messages : List Message) → is_done work messages ≡ true → HasEnough work messages
+pub enough_from : (work : ObjWork) (messages : List Message) → is_done work messages ≡ true → HasEnough work messages
 enough_from (Create oid policy size offset bytes) messages e = AllPass-from_list_all (λ (message : Message). is_success message.status) messages e
 enough_from (Write oid policy offset bytes) messages e = AllPass-from_list_all (λ (message : Message). is_success message.status) messages e
 enough_from (Read oid policy offset size) messages e = leb-true _ _ e
+enough_from (ReadAll oid policy size) messages e = AllPass-from_list_all (λ (message : Message). is_success message.status) messages e
 
-not_true : (b : Bool) → not b ≡ true → b ≡ false
-not_true true e = absurd (cc)
-not_true false e = refl
+statuses_give : (messages : List Message)
+    → flat_map (λ (message : Message). bytes_in message.status) messages
+    ≡ flat_map bytes_in (map (λ (message : Message). message.status) messages)
+statuses_give [] = refl
+statuses_give (message ∷ messages) = ap (λ later. bytes_in message.status ++ later) (statuses_give messages)
+
+successes_give : (pieces : List (List ℕ)) → flat_map bytes_in (map Succeeded pieces) ≡ flat_map (λ (piece : List ℕ). piece) pieces
+successes_give [] = refl
+successes_give (piece ∷ pieces) = ap (λ later. piece ++ later) (successes_give pieces)
+
+-- what messages gave that all succeeded
+pub pieces_given : (pieces : List (List ℕ)) (messages : List Message)
+    → map (λ (message : Message). message.status) messages ≡ map Succeeded pieces
+    → flat_map (λ (message : Message). bytes_in message.status) messages ≡ concat pieces
+pieces_given pieces messages all =
+    statuses_give messages ∙ ap (flat_map bytes_in) all ∙ successes_give pieces ∙ sym (concat_is pieces)
 
 some_from : (b : Bool) (o : Option Cause) (cause : Cause) → cond b o None ≡ Some cause → (b ≡ true) × (o ≡ Some cause)
 some_from true o cause e = (refl, e)
@@ -34,13 +50,13 @@ failure_step-tells gateway req work attempt over missing (Some cause) e =
     let parts = some_from (nat_le gateway.tries (work.ended + 1) && not (is_touched req gateway))
     (first_failure work.work attempt.epoch attempt.messages) cause e in
     let both = and_parts (nat_le gateway.tries (work.ended + 1)) (not (is_touched req gateway)) parts.0 in
-    (refl, not_true (is_touched req gateway) both.1, (over, missing), leb-true _ _ both.0, parts.1)
+    (refl, refl, not-true (is_touched req gateway) both.1, (over, missing), leb-true _ _ both.0, parts.1)
 
 attempt_ended-tells : (gateway : Gateway) (req : ℕ) (work : Work) (attempt : Attempt) → is_over attempt.messages ≡ true
     → (b : Bool) → is_done work.work attempt.messages ≡ b
     → Tells gateway req work attempt
-    (cond b (done_step gateway req (bytes_given work.work attempt.messages)) (failure_step gateway req work (refusal_after_attempt gateway req work.work (work.ended + 1) attempt))).act
-attempt_ended-tells gateway req work attempt over true e = (refl, over, enough_from work.work attempt.messages e, refl)
+    (cond b (done_step gateway req work.work (bytes_given work.work attempt.messages)) (failure_step gateway req work (refusal_after_attempt gateway req work.work (work.ended + 1) attempt))).act
+attempt_ended-tells gateway req work attempt over true e = (refl, refl, over, enough_from work.work attempt.messages e, refl)
 attempt_ended-tells gateway req work attempt over false e =
     failure_step-tells gateway req work attempt over e (refusal_after_attempt gateway req work.work (work.ended + 1) attempt) refl
 

@@ -8,7 +8,7 @@ use Rattle.object_id.specs.declared.node.NodeId.{NodeId}
 use Rattle.object_id.specs.Oid.{kind_of}
 use Rattle.object_id.specs.Policy.{need_of}
 use Rattle.peer_proto.specs.declared.work.ObjWork.{ObjWork}
-use Rattle.peer_proto.specs.declared.work.ObjWork.TheVariants.{Create, Write, Read}
+use Rattle.peer_proto.specs.declared.work.ObjWork.TheVariants.{Create, Write, Read, ReadAll}
 use Rattle.gateway.specs.declared.message.Message.{Message}
 use Rattle.gateway.specs.declared.message.Status.{Status}
 use Rattle.gateway.specs.declared.message.Status.TheVariants.{Unanswered, Succeeded, Refused, Lost}
@@ -23,10 +23,8 @@ succeeded message = is_success message.status
 one_succeeded : (work : ObjWork) (epoch : Epoch) (node : NodeId) (status : Status) (any all : Bool) (later : Option Cause)
     → not (is_unanswered status || any) ≡ true → first_cause (failure work epoch node status) later ≡ None
     → (not any ≡ true → later ≡ None → all ≡ true) → (is_success status && all) ≡ true
-one_succeeded work epoch node Unanswered any all later over none rest = absurd (cc)
 one_succeeded work epoch node (Succeeded bytes) any all later over none rest = rest over none
-one_succeeded work epoch node (Refused refusal) any all later over none rest = absurd (cc)
-one_succeeded work epoch node Lost any all later over none rest = absurd (cc)
+one_succeeded work epoch node status any all later over none rest = absurd (cc)
 
 -- where all are answered and none has a cause, all succeeded
 all_succeeded : (work : ObjWork) (epoch : Epoch) (messages : List Message) → is_over messages ≡ true
@@ -49,6 +47,7 @@ done-from (Create oid policy size offset bytes) messages e asks = e
 done-from (Write oid policy offset bytes) messages e asks = e
 done-from (Read oid policy offset size) messages e asks =
     le-leb _ _ (subst (λ (n : ℕ). need_of policy (kind_of oid) ≤ n) (sym (length-successes messages e)) asks)
+done-from (ReadAll oid policy size) messages e asks = e
 
 pub refusal-there : (gateway : Gateway) (req : ℕ) (work : ObjWork) (number : ℕ) (attempt : Attempt)
     → HasFailed work attempt.messages → AsksEnough work attempt.messages

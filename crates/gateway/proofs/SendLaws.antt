@@ -6,11 +6,12 @@ use Rattle.object_id.specs.declared.cause.Cause.TheVariants.{Halt}
 use Rattle.hash_ring.specs.Placement.{zone_count}
 use Rattle.object_id.specs.declared.node.Epoch.{Epoch}
 use Rattle.object_id.specs.declared.node.NodeId.{NodeId}
+use Rattle.object_id.specs.declared.policy.Policy.{Policy}
 use Rattle.object_id.specs.Oid.{kind_of}
 use Rattle.vnode_table.specs.Epochs.{EpochMembers, members_at}
 use Rattle.vnode_table.specs.Targets.{targets_in}
 use Rattle.peer_proto.specs.declared.work.ObjWork.{ObjWork}
-use Rattle.peer_proto.specs.declared.work.ObjWork.TheVariants.{Create, Write, Read}
+use Rattle.peer_proto.specs.declared.work.ObjWork.TheVariants.{Create, Write, Read, ReadAll}
 use Rattle.gateway.specs.declared.message.Message.{Message}
 use Rattle.strip_coding.specs.Part.{is_in_strips, index_at}
 use Rattle.peer_proto.specs.Work.{oid_of, policy_of}
@@ -50,6 +51,7 @@ all_asked (Write oid policy offset bytes) attempt targets h = refl
 all_asked (Read oid policy offset size) attempt targets h =
     ⊎_elim (λ (e : false ≡ true). absurd (cc (e)))
     (λ (e : is_in_strips policy (kind_of oid) ≡ true). ap (λ b. read_from b attempt (enumerate_from 0 targets)) e) h
+all_asked (ReadAll oid policy size) attempt targets h = refl
 
 -- a create, a write and a read of strips ask every target, in order, each for the part of its index
 pub nodes-all : (work : ObjWork) (attempt first : ℕ) (targets : List NodeId)
@@ -67,11 +69,21 @@ indexes-all work attempt first targets h =
     ap (λ places. map (λ (message : Message). message.index) (map (message_for work) (enumerate_from first places))) (all_asked work attempt targets h)
     ∙ indexes-targets_asked work first 0 targets
 
+-- a read of all parts asks every target, in order, for its part from the front
+pub nodes-read_all : (oid : ℕ) (policy : Policy) (size attempt first : ℕ) (targets : List NodeId)
+    → map (λ (message : Message). message.node) (messages_of (ReadAll oid policy size) attempt first targets) ≡ targets
+nodes-read_all oid policy size attempt first targets = nodes-targets_asked (ReadAll oid policy size) first 0 targets
+
+pub indexes-read_all : (oid : ℕ) (policy : Policy) (size attempt first : ℕ) (targets : List NodeId)
+    → map (λ (message : Message). message.index) (messages_of (ReadAll oid policy size) attempt first targets)
+    ≡ map (index_at policy (kind_of oid)) (range_with_len 0 (length targets))
+indexes-read_all oid policy size attempt first targets = indexes-targets_asked (ReadAll oid policy size) first 0 targets
+
 halted_if : (gateway : Gateway) (req : ℕ) (work : Work) (epoch : Epoch) (first zones : ℕ) (b : Bool) → is_touched req gateway ≡ b
     → zones < zones_for work.work → BeginsAttempt gateway req work first zones
-    (cond b (waiting_step (with_work req (record work { stage = WaitsForMembers epoch }) gateway)) (refusal_step gateway req (Halt zones (zones_for work.work)))).act
+    (cond b (waiting_step (with_work req (record work { stage = WaitsForMembers epoch }) gateway)) (refusal_step gateway req work.work (Halt zones (zones_for work.work)))).act
 halted_if gateway req work epoch first zones true e short = (short, e)
-halted_if gateway req work epoch first zones false e short = (refl, short, e, refl)
+halted_if gateway req work epoch first zones false e short = (refl, refl, short, e, refl)
 
 tried_if : (epochs : List EpochMembers) (gateway : Gateway) (req : ℕ) (work : Work) (first : ℕ) (epoch : Epoch) (b : Bool)
     → nat_lt (zone_count (members_at epochs epoch.0)) (zones_for work.work) ≡ b

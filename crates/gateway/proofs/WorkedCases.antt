@@ -11,13 +11,15 @@ use Rattle.hash_ring.specs.Placement.{zone_count}
 use Rattle.vnode_table.specs.Epochs.{EpochMembers, members_at}
 use Rattle.peer_proto.specs.declared.say.Refusal.TheVariants as refusals
 use Rattle.peer_proto.specs.declared.work.ObjWork.{ObjWork}
-use Rattle.peer_proto.specs.declared.work.ObjWork.TheVariants.{Create, Write, Read}
+use Rattle.peer_proto.specs.declared.work.ObjWork.TheVariants.{Create, Write, Read, ReadAll}
 use Rattle.gateway.specs.declared.act.Act.TheVariants as acts
 use Rattle.gateway.specs.declared.message.Message.{Message}
 use Rattle.gateway.specs.declared.message.Status.{Status}
 use Rattle.gateway.specs.declared.message.Status.TheVariants.{Unanswered, Succeeded, Refused, Lost}
-use Rattle.gateway.specs.Work.{targets_asked}
-use Rattle.gateway.specs.Attempt.{is_over, is_done, first_failure}
+use Rattle.peer_proto.specs.declared.ask.PeerAsk.TheVariants as asks
+use Rattle.strip_coding.specs.Part.{bytes_of_parts}
+use Rattle.gateway.specs.Work.{targets_asked, ask_for}
+use Rattle.gateway.specs.Attempt.{is_over, is_done, bytes_given, first_failure}
 use Rattle.gateway.specs.State.{Ended, WaitsForMembers, Work, initial_gateway}
 use Rattle.gateway.specs.Step.{attempt_step, refusal_step, waiting_step, with_work}
 
@@ -71,6 +73,28 @@ one_short = refl
 two_strips : is_done (Read object (Coded 2 1) 0 512) (message 1 Lost ∷ message 2 (Succeeded []) ∷ message 3 (Succeeded []) ∷ []) ≡ true
 two_strips = refl
 
+-- a read of all parts asks every target for its part, wants all of them, and gives their pieces in order
+all_parts_are_read_everywhere : targets_asked (ReadAll object (Copies 3) 512) 1 three ≡ (0, node 4) ∷ (1, node 7) ∷ (2, node 2) ∷ []
+all_parts_are_read_everywhere = refl
+
+half_of_each_block : ask_for (ReadAll object (Coded 2 1) 1024) 2 ≡ asks.Read (record { oid = object; index = 2 }) 0 512
+half_of_each_block = refl
+
+one_piece_short : is_done (ReadAll object (Coded 2 1) 512) (message 1 Lost ∷ message 2 (Succeeded []) ∷ message 3 (Succeeded []) ∷ []) ≡ false
+one_piece_short = refl
+
+two_pieces : bytes_given (ReadAll object (Copies 2) 2) (message 1 (Succeeded (1 ∷ 2 ∷ [])) ∷ message 2 (Succeeded (1 ∷ 3 ∷ [])) ∷ []) ≡ 1 ∷ 2 ∷ 1 ∷ 3 ∷ []
+two_pieces = refl
+
+-- a read gives what the first message that succeeded gave, not what the first one did
+the_first_that_came : bytes_given (Read object (Copies 2) 0 512) (message 1 Lost ∷ message 2 (Succeeded (7 ∷ [])) ∷ []) ≡ 7 ∷ []
+unfolding bytes_of_parts
+the_first_that_came = refl
+
+-- a target of strips is asked for its part: of 2,048 bytes from 1,024 on, half from 512 on
+half_is_asked : ask_for (Read object (Coded 2 1) 1024 2048) 1 ≡ asks.Read (record { oid = object; index = 1 }) 512 1024
+half_is_asked = refl
+
 -- the cause is that of the first message that didn't succeed
 first_of_three : first_failure write (epoch 5)
     (message 1 (Succeeded []) ∷ message 2 (Refused (refusals.NewEpoch (epoch 4))) ∷ message 3 Lost ∷ [])
@@ -94,10 +118,10 @@ two_zones = refl
 abbrev create : ℕ → Work
 create copies = record { work = Create inode (Copies copies) 4198968 0 []; ended = 0; stage = Ended }
 
-too_few_zones : (attempt_step four (initial_gateway (node 0) 4) 1 (create 3) 0 (epoch 1)).act ≡ acts.Refused 1 (causes.Halt 2 3)
+too_few_zones : (attempt_step four (initial_gateway (node 0) 4) 1 (create 3) 0 (epoch 1)).act ≡ acts.Refused (create 3).work 1 (causes.Halt 2 3)
 unfolding attempt_step zone_count
 too_few_zones =
     ap (λ touched. (cond touched
     (waiting_step (with_work 1 (record (create 3) { stage = WaitsForMembers (epoch 1) }) (initial_gateway (node 0) 4)))
-    (refusal_step (initial_gateway (node 0) 4) 1 (causes.Halt 2 3))).act)
+    (refusal_step (initial_gateway (node 0) 4) 1 (create 3).work (causes.Halt 2 3))).act)
     (contains-empty nat_cmp 1)

@@ -1,5 +1,7 @@
 -- An attempt: its messages, what becomes of each, and what they come to when none is unanswered.
-use Rattle.std.specs.Prelude.{ℕ, ◌==◌, nat_le, Bool, true, false, not, List, [], ◌∷◌, length, take, map, filter, Option, Some, None, if◌then◌else◌}
+use Rattle.std.specs.Prelude.{ℕ, ◌==◌, nat_le, Bool, true, false, not, List, [], ◌∷◌, length, take, map, flat_map}
+use Rattle.std.specs.Prelude.{filter, Option, Some, None}
+use Rattle.std.specs.Prelude.{if◌then◌else◌}
 use Rattle.std.specs.List.{list_any, list_all, enumerate_from}
 use Rattle.object_id.specs.declared.cause.Cause.{Cause}
 use Rattle.object_id.specs.declared.cause.Cause.TheVariants as causes
@@ -11,7 +13,7 @@ use Rattle.object_id.specs.Oid.{kind_of}
 use Rattle.object_id.specs.Policy.{need_of}
 use Rattle.strip_coding.specs.Part.{bytes_of_parts, index_at}
 use Rattle.peer_proto.specs.declared.work.ObjWork.{ObjWork}
-use Rattle.peer_proto.specs.declared.work.ObjWork.TheVariants.{Create, Write, Read}
+use Rattle.peer_proto.specs.declared.work.ObjWork.TheVariants.{Create, Write, Read, ReadAll}
 use Rattle.peer_proto.specs.declared.ask.PeerReq.{PeerReq}
 use Rattle.peer_proto.specs.declared.say.PeerSay.{PeerSay}
 use Rattle.peer_proto.specs.declared.say.PeerSay.TheVariants as says
@@ -93,11 +95,13 @@ is_over messages = not (list_any (λ (message : Message). is_unanswered message.
 abbrev pub successes : List Message → List Message
 successes messages = filter (λ (message : Message). is_success message.status) messages
 
--- a create or write is done where all messages of one attempt succeeded, a read where as many did as it needs
+-- a create, a write and a read of all parts are done where all messages of one attempt succeeded, any other read where as
+-- many did as it needs
 abbrev pub is_done : ObjWork → List Message → Bool
 is_done (Create oid policy size offset bytes) messages = list_all (λ (message : Message). is_success message.status) messages
 is_done (Write oid policy offset bytes) messages = list_all (λ (message : Message). is_success message.status) messages
 is_done (Read oid policy offset size) messages = nat_le (need_of policy (kind_of oid)) (length (successes messages))
+is_done (ReadAll oid policy size) messages = list_all (λ (message : Message). is_success message.status) messages
 
 -- the bytes that a message gave
 abbrev pub bytes_in : Status → List ℕ
@@ -113,12 +117,14 @@ bytes_through policy kind messages =
     (map (λ (message : Message). message.index) messages)
     (map (λ (message : Message). bytes_in message.status) messages)
 
--- what a done work gives: a read the bytes by the first parts that came, as many as it needs; any other work none
+-- what a done work gives: a read the bytes by the first parts that came, as many as it needs; a read of all parts the
+-- pieces as they came, in the order of the targets; a create or write none
 abbrev pub bytes_given : ObjWork → List Message → List ℕ
 bytes_given (Create oid policy size offset bytes) messages = []
 bytes_given (Write oid policy offset bytes) messages = []
 bytes_given (Read oid policy offset size) messages =
     bytes_through policy (kind_of oid) (take (need_of policy (kind_of oid)) (successes messages))
+bytes_given (ReadAll oid policy size) messages = flat_map (λ (message : Message). bytes_in message.status) messages
 
 -- the cause in which a node's refusal of an attempt's message is told
 abbrev pub cause_by : ObjWork → Epoch → NodeId → Refusal → Cause

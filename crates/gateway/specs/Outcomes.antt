@@ -7,7 +7,7 @@ use Rattle.object_id.specs.Oid.{kind_of}
 use Rattle.object_id.specs.Policy.{need_of}
 use Rattle.peer_proto.specs.declared.ask.PeerReq.{PeerReq}
 use Rattle.peer_proto.specs.declared.work.ObjWork.{ObjWork}
-use Rattle.peer_proto.specs.declared.work.ObjWork.TheVariants.{Create, Write, Read}
+use Rattle.peer_proto.specs.declared.work.ObjWork.TheVariants.{Create, Write, Read, ReadAll}
 use Rattle.gateway.specs.declared.act.Act.{Act}
 use Rattle.gateway.specs.declared.act.Act.TheVariants as acts
 use Rattle.gateway.specs.declared.message.Message.{Message}
@@ -20,11 +20,12 @@ use Rattle.gateway.specs.Step.{refusal_after_attempt}
 abbrev pub AllSucceeded : List Message → Type 0
 AllSucceeded messages = All (λ (message : Message). is_success message.status ≡ true) messages
 
--- of a create or write each message succeeded, of a read as many as it needs
+-- of a create, a write and a read of all parts each message succeeded, of any other read as many as it needs
 abbrev pub HasEnough : ObjWork → List Message → Type 0
 HasEnough (Create oid policy size offset bytes) messages = AllSucceeded messages
 HasEnough (Write oid policy offset bytes) messages = AllSucceeded messages
 HasEnough (Read oid policy offset size) messages = need_of policy (kind_of oid) ≤ length (successes messages)
+HasEnough (ReadAll oid policy size) messages = AllSucceeded messages
 
 -- an attempt ended and wasn't done
 abbrev pub HasFailed : ObjWork → List Message → Type 0
@@ -35,6 +36,7 @@ abbrev pub AsksEnough : ObjWork → List Message → Type 0
 AsksEnough (Create oid policy size offset bytes) messages = Unit {0}
 AsksEnough (Write oid policy offset bytes) messages = Unit {0}
 AsksEnough (Read oid policy offset size) messages = need_of policy (kind_of oid) ≤ length messages
+AsksEnough (ReadAll oid policy size) messages = Unit {0}
 
 -- what may be told when it is known what one more message of an attempt came to. Nothing is sent; a work waits while a
 -- message is unanswered, or where the attempt failed and the request isn't refused; it is done where the attempt has
@@ -45,11 +47,11 @@ Tells gateway req work attempt (acts.Send sends) = ⊥
 Tells gateway req work attempt acts.Wait =
     (is_over attempt.messages ≡ false)
     ⊎ (HasFailed work.work attempt.messages × (refusal_after_attempt gateway req work.work (work.ended + 1) attempt ≡ None))
-Tells gateway req work attempt (acts.Done done) =
-    (done.req ≡ req) × (is_over attempt.messages ≡ true) × HasEnough work.work attempt.messages
+Tells gateway req work attempt (acts.Done ended done) =
+    (ended ≡ work.work) × (done.req ≡ req) × (is_over attempt.messages ≡ true) × HasEnough work.work attempt.messages
     × (done.bytes ≡ bytes_given work.work attempt.messages)
-Tells gateway req work attempt (acts.Refused number cause) =
-    (number ≡ req) × (is_touched req gateway ≡ false) × HasFailed work.work attempt.messages
+Tells gateway req work attempt (acts.Refused ended number cause) =
+    (ended ≡ work.work) × (number ≡ req) × (is_touched req gateway ≡ false) × HasFailed work.work attempt.messages
     × (gateway.tries ≤ work.ended + 1) × (first_failure work.work attempt.epoch attempt.messages ≡ Some cause)
 
 -- requests are numbered upwards
@@ -61,7 +63,7 @@ AreNumberedFrom first sends = map (λ (send : NodeId × PeerReq). send.1.number)
 abbrev pub BeginsAttempt : Gateway → ℕ → Work → ℕ → ℕ → Act → Type 0
 BeginsAttempt gateway req work first zones (acts.Send sends) = (zones_for work.work ≤ zones) × AreNumberedFrom first sends.list
 BeginsAttempt gateway req work first zones acts.Wait = (zones < zones_for work.work) × (is_touched req gateway ≡ true)
-BeginsAttempt gateway req work first zones (acts.Done done) = ⊥
-BeginsAttempt gateway req work first zones (acts.Refused number cause) =
-    (number ≡ req) × (zones < zones_for work.work) × (is_touched req gateway ≡ false)
+BeginsAttempt gateway req work first zones (acts.Done ended done) = ⊥
+BeginsAttempt gateway req work first zones (acts.Refused ended number cause) =
+    (ended ≡ work.work) × (number ≡ req) × (zones < zones_for work.work) × (is_touched req gateway ≡ false)
     × (cause ≡ Halt zones (zones_for work.work))

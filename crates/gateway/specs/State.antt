@@ -1,5 +1,6 @@
 -- What a gateway is, and what it answers about itself.
-use Rattle.std.specs.Prelude.{ℕ, ◌-◌, ◌^◌, ◌≤◌, nat_lt, Bool, true, false, not, List, [], length, map, flat_map, Option, Some, None, IsTrue, is_some}
+use Rattle.std.specs.Prelude.{ℕ, ◌-◌, ◌^◌, ◌≤◌, nat_lt, Bool, true, false, not, List, [], length, map, flat_map, Option, Some, None}
+use Rattle.std.specs.Prelude.{IsTrue, is_some}
 use Rattle.std.specs.List.{find, list_any, list_all}
 use Rattle.std.specs.Ordering.{nat_cmp}
 use Rattle.std.specs.FinMap as tree
@@ -12,7 +13,8 @@ use Rattle.peer_proto.specs.declared.say.PeerSay.{PeerSay}
 use Rattle.peer_proto.specs.declared.say.PeerSay.TheVariants as says
 use Rattle.peer_proto.specs.declared.say.PeerRsp.{PeerRsp}
 use Rattle.gateway.specs.declared.message.Message.{Message}
-use Rattle.gateway.specs.Work.{is_making, is_piece, IsWork}
+use Rattle.peer_proto.specs.Work.{IsWork}
+use Rattle.gateway.specs.Work.{is_making, is_piece}
 use Rattle.gateway.specs.Attempt.{Attempt, is_awaited_message}
 
 -- where a work stands
@@ -77,7 +79,7 @@ fits_work work (says.Row row) = false
 fits_work work says.NoRow = false
 fits_work work (says.Refused refusal) = true
 
--- the same of the request that a message belongs to, if there is one
+-- whether a message belongs to a work's request, and a reply fits that
 abbrev pub fits_asker : Option (ℕ × Work) → PeerSay → Bool
 fits_asker None say = false
 fits_asker (Some found) say = fits_work found.1.work say

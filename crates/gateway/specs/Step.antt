@@ -17,7 +17,8 @@ use Rattle.gateway.specs.declared.message.Status.{Status}
 use Rattle.gateway.specs.declared.message.Status.TheVariants as statuses
 use Rattle.peer_proto.specs.Work.{oid_of, policy_of}
 use Rattle.gateway.specs.Work.{is_making, zones_for}
-use Rattle.gateway.specs.Attempt.{Attempt, messages_of, send_of, may_be_made, status_by, messages_with_status, is_over, is_done, bytes_given, first_failure}
+use Rattle.gateway.specs.Attempt.{Attempt, messages_of, send_of, may_be_made, status_by, messages_with_status, is_over, is_done}
+use Rattle.gateway.specs.Attempt.{bytes_given, first_failure}
 use Rattle.gateway.specs.State.{WorkStage, Open, Ended, WaitsForMembers, Work, Gateway, is_touched, asker, next_try}
 
 -- the gateway after a step, and what the step comes to
@@ -38,20 +39,20 @@ abbrev pub waiting_step : Gateway → GatewayStep
 waiting_step gateway = record { gateway = gateway; act = acts.Wait }
 
 -- the request's work ends, and the request is refused for a cause
-abbrev pub refusal_step : Gateway → ℕ → Cause → GatewayStep
-refusal_step gateway req cause = record { gateway = without_work req gateway; act = acts.Refused req cause }
+abbrev pub refusal_step : Gateway → ℕ → ObjWork → Cause → GatewayStep
+refusal_step gateway req work cause = record { gateway = without_work req gateway; act = acts.Refused work req cause }
 
 -- the request's work is done, and gave these bytes
-abbrev pub done_step : Gateway → ℕ → List ℕ → GatewayStep
-done_step gateway req bytes =
-    record { gateway = without_work req gateway; act = acts.Done (record { req = req; bytes = bytes }) }
+abbrev pub done_step : Gateway → ℕ → ObjWork → List ℕ → GatewayStep
+done_step gateway req work bytes =
+    record { gateway = without_work req gateway; act = acts.Done work (record { req = req; bytes = bytes }) }
 
 -- for want of members an untouched request is refused, and a touched one waits for a later epoch
 abbrev pub halt_step : Gateway → ℕ → Work → Epoch → ℕ → GatewayStep
 halt_step gateway req work epoch zones =
     if is_touched req gateway
     then waiting_step (with_work req (record work { stage = WaitsForMembers epoch }) gateway)
-    else refusal_step gateway req (Halt zones (zones_for work.work))
+    else refusal_step gateway req work.work (Halt zones (zones_for work.work))
 
 -- an attempt of these messages is open, and they are sent
 abbrev pub open_step : Gateway → ℕ → Work → Attempt → GatewayStep
@@ -90,8 +91,9 @@ retry_step epochs gateway first epoch = retry_step_of epochs gateway first epoch
 
 -- a message of the request's work that may have been made touches the request, where the work makes something
 abbrev pub touched_by : ℕ → ObjWork → Status → Gateway → Gateway
-touched_by req work status gateway =
-    if is_making work && may_be_made status then (record gateway { touched = set.insert gateway.touched req }) else gateway
+touched_by req work status gateway = record gateway {
+  touched = if is_making work && may_be_made status then set.insert gateway.touched req else gateway.touched;
+}
 
 -- why a request is refused when an attempt has ended, not done, as the work's attempt of this number: it is untouched,
 -- and has been tried as often as it may
@@ -104,13 +106,13 @@ refusal_after_attempt gateway req work number attempt =
 -- the request is refused, or its work waits for its next attempt
 abbrev pub failure_step : Gateway → ℕ → Work → Option Cause → GatewayStep
 failure_step gateway req work None = waiting_step (with_work req (record work { ended = work.ended + 1; stage = Ended }) gateway)
-failure_step gateway req work (Some cause) = refusal_step gateway req cause
+failure_step gateway req work (Some cause) = refusal_step gateway req work.work cause
 
 -- an attempt has ended
 unfoldable pub attempt_ended : Gateway → ℕ → Work → Attempt → GatewayStep
 attempt_ended gateway req work attempt =
     if is_done work.work attempt.messages
-    then done_step gateway req (bytes_given work.work attempt.messages)
+    then done_step gateway req work.work (bytes_given work.work attempt.messages)
     else failure_step gateway req work (refusal_after_attempt gateway req work.work (work.ended + 1) attempt)
 
 -- an attempt goes on as long as one of its messages is unanswered
@@ -124,13 +126,14 @@ attempt_continued gateway req work attempt =
 abbrev pub attempt_with_status : ℕ → Status → Attempt → Attempt
 attempt_with_status number status attempt = record attempt { messages = messages_with_status number status attempt.messages }
 
--- the same in a work, by where it stands
+-- what a message came to is known in a work, by where that stands
 abbrev pub status_step_in : Gateway → ℕ → Work → ℕ → Status → WorkStage → GatewayStep
-status_step_in gateway req work number status (Open attempt) = attempt_continued gateway req work (attempt_with_status number status attempt)
+status_step_in gateway req work number status (Open attempt) =
+    attempt_continued gateway req work (attempt_with_status number status attempt)
 status_step_in gateway req work number status Ended = waiting_step gateway
 status_step_in gateway req work number status (WaitsForMembers epoch) = waiting_step gateway
 
--- the same for the request, with its work, that the message belongs to; a number of no unanswered message says nothing
+-- it is known for the request, with its work, that the message belongs to; a number of no unanswered message says nothing
 abbrev pub status_step_by : Gateway → ℕ → Status → Option (ℕ × Work) → GatewayStep
 status_step_by gateway number status None = waiting_step gateway
 status_step_by gateway number status (Some found) =

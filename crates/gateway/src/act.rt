@@ -1,7 +1,7 @@
 ghost use Rattle.std.specs.Prelude.{◌≡◌, IfOk};
 
 use object_id::{Cause, NoMemory};
-use peer_proto::{SendList, WorkDone};
+use peer_proto::{ObjWork, SendList, WorkDone};
 use std::alloc::Global;
 
 /// What a step of a gateway comes to.
@@ -12,9 +12,16 @@ pub enum Act {
     /// Nothing is sent: a message is unanswered, or the work waits for its next attempt.
     Wait,
     /// The work is done.
-    Done(WorkDone),
+    Done {
+        work: ObjWork,
+        done: WorkDone,
+    },
     /// The request is refused, and its work has ended.
-    Refused { req: u32, cause: Cause },
+    Refused {
+        work: ObjWork,
+        req: u32,
+        cause: Cause,
+    },
 }
 
 /// The messages of an attempt in the order of their numbers, each with the node that it goes to.
@@ -40,8 +47,12 @@ impl Act {
         Ok(match self {
             Act::Send(sends) => Act::Send(sends.copy(alloc)?),
             Act::Wait => Act::Wait,
-            Act::Done(done) => Act::Done(done.copy(alloc)?),
-            Act::Refused { req, cause } => Act::Refused {
+            Act::Done { work, done } => Act::Done {
+                work: work.copy(alloc)?,
+                done: done.copy(alloc)?,
+            },
+            Act::Refused { work, req, cause } => Act::Refused {
+                work: work.copy(alloc)?,
                 req: *req,
                 cause: *cause,
             },

@@ -1,11 +1,12 @@
 -- What the laws say: of requests that may run, of those that are pushed later, and of those that are done.
-use Rattle.std.proofs.Common.{◌≡◌, ◌≢◌, ◌⊎◌, inl, inr, ℕ, suc, ◌+◌, ◌<◌, ◌≤◌, nat_lt, ◌||◌, not, true, false, cond, List, [], ◌∷◌, ◌++◌, length, take, drop, map, filter, get_or, All, Contains, Some, refl, ap, sym, subst, ◌∙◌, arith, append_assoc}
+use Rattle.std.proofs.Common.{◌≡◌, ◌≢◌, ◌⊎◌, inl, inr, ℕ, ◌+◌, ◌<◌, ◌≤◌, nat_lt, ◌||◌, not, true, false, cond, List, [], ◌∷◌, ◌++◌, length, take, drop, map, filter, get_or, All, Contains, Some, refl, ap, sym, subst, ◌∙◌, arith, append_assoc}
 use Rattle.std.specs.List.{find, list_any}
 use Rattle.std.specs.List.Sorted.{IsStrictlyIncreasing}
 use Rattle.std.specs.Option.{option_map_or}
 use Rattle.std.proofs.lemmas.Bool.{not-true, not_from_false, or_cases, cond-false, cases_lt, cases_eq, cases_Bool, cond-true, ne_eqb, lt-ltb, le-ltb, eqb-true}
 use Rattle.std.proofs.lemmas.List.{drop_more, take-append-drop, get_or-take, length-take-le, get_or_default}
-use Rattle.std.proofs.lemmas.List.Elements.{filter-append, All-nil, All-cons, All-head, All-tail, All-weaker}
+use Rattle.std.proofs.lemmas.List.Elements.{filter-append, All-head, All-tail}
+use Rattle.proof_tools.proofs.AscendingNumbers.{IsStrictlyIncreasing-tail, IsStrictlyIncreasing-first}
 use Rattle.gateway_queue.specs.declared.queue.Queued.{Queued}
 use Rattle.gateway_queue.specs.Queue.{has_request_number, is_queued, is_queue, queue_without, meet, earlier, may_run, AreApart}
 use Rattle.gateway_queue.proofs.QueueLemmas.{Split, split_at, may_run-split, list_any-filter, MayRun-from, before_first-split, before_first-more}
@@ -80,20 +81,6 @@ running_apart queue one other kept in_one in_other differ runs others_run = by_p
       | inr apart ↦ (λ index covers_one covers_other. earlier_apart queue other one in_other.0 in_one.0 kept (omega arith) in_one.1 in_other.2 in_one.2 runs index covers_other covers_one)
     ]
 
--- ascending numbers: the first is below all others
-ascending-tail : (x : ℕ) (xs : List ℕ) → IsStrictlyIncreasing (x ∷ xs) → IsStrictlyIncreasing xs
-ascending-tail x xs up k within =
-    let next : suc k + 1 ≡ suc (k + 1) = omega arith in
-    let above : get_or (x ∷ xs) (suc k) 0 < get_or (x ∷ xs) (suc k + 1) 0 = up (suc k) (omega arith) in
-    subst (λ j. get_or xs k 0 < get_or (x ∷ xs) j 0) next above
-
-ascending-first : (x : ℕ) (xs : List ℕ) → IsStrictlyIncreasing (x ∷ xs) → All (λ y. x < y) xs
-ascending-first x [] up = All-nil (λ y. x < y)
-ascending-first x (y ∷ xs) up =
-    let first : x < y = up 0 (omega arith) in
-    let rest : All (λ z. y < z) xs = ascending-first y xs (ascending-tail x (y ∷ xs) up) in
-    All-cons (λ z. x < z) y xs first (All-weaker (λ z. y < z) (λ z. x < z) (λ z above. omega arith) xs rest)
-
 abbrev numbers : List Queued → List ℕ
 numbers queue = map (λ (queued : Queued). queued.req) queue
 
@@ -119,7 +106,7 @@ pub earlier-lower : (queue : List Queued) (req : ℕ) → IsStrictlyIncreasing (
     → is_queued req queue ≡ true → earlier req queue ≡ filter (λ (queued : Queued). nat_lt queued.req req) queue
 earlier-lower [] req up there = absurd (cc)
 earlier-lower (queued ∷ queue) req up there =
-    let above : All (λ y. queued.req < y) (numbers queue) = ascending-first queued.req (numbers queue) up in
+    let above : All (λ y. queued.req < y) (numbers queue) = IsStrictlyIncreasing-first queued.req (numbers queue) up in
     elim (cases_Bool (has_request_number req queued)) [
       | inl here ↦ (
           let same : queued.req ≡ req = eqb-true queued.req req here in
@@ -130,6 +117,6 @@ earlier-lower (queued ∷ queue) req up there =
           let later : is_queued req queue ≡ true = sym (ap (λ b. b || is_queued req queue) other) ∙ there in
           let below : queued.req < req = below_queued queued.req req queue later above in
           before_first-more (has_request_number req) queued queue other
-          ∙ ap (λ qs. queued ∷ qs) (earlier-lower queue req (ascending-tail queued.req (numbers queue) up) later)
+          ∙ ap (λ qs. queued ∷ qs) (earlier-lower queue req (IsStrictlyIncreasing-tail queued.req (numbers queue) up) later)
           ∙ sym (cond-true (nat_lt queued.req req) (queued ∷ lower req queue) (lower req queue) (lt-ltb queued.req req below)))
     ]

@@ -1,9 +1,10 @@
 -- The two tables hold what they say, so a product and an inverse are found in them.
 use Rattle.std.proofs.Common.{◌≡◌, ◌≢◌, ℕ, zero, suc, ◌+◌, ◌-◌, ◌*◌, ◌/◌, ◌%◌, ◌^◌, ◌<◌, ◌≤◌, Bool, true, ◌&&◌, refl, sym, ap, ap₂, ◌∙◌, arith, eqb-true, ltb-true, get_or, zero-add, suc-add, add_comm}
 use Rattle.std.specs.Prelude.{nat_eq, nat_lt}
+use Rattle.std.proofs.lemmas.Bool.{and_parts}
 use Rattle.gf256.specs.Field.{coefficient, product, remainder, times, squares, inverse, power}
 use Rattle.gf256.specs.declared.tables.TheConstants.{POWERS, LOGARITHMS}
-use Rattle.gf256.proofs.Below.{each_below, each_below_at, both_left, both_right}
+use Rattle.gf256.proofs.Below.{each_below, each_below_at}
 use Rattle.gf256.proofs.FieldLaws.{times-zero_left, times-zero, times_assoc, times-one_left, times-one, times_byte, times_cancel, inverse_byte}
 
 pub power_byte : (k : ℕ) → power k < 2 ^ 8
@@ -54,14 +55,14 @@ all_undone = refl
 
 pub logarithm_below : (a : ℕ) → suc a < 2 ^ 8 → get_or LOGARITHMS (suc a) 0 < 255
 unfolding undone_at
-logarithm_below a h = ltb-true _ _ (both_left _ _ (each_below_at 255 undone_at all_undone a (omega arith)))
+logarithm_below a h = ltb-true _ _ (and_parts _ _ (each_below_at 255 undone_at all_undone a (omega arith))).0
 
 pub power_of_logarithm : (a : ℕ) → suc a < 2 ^ 8 → power (get_or LOGARITHMS (suc a) 0) ≡ suc a
 unfolding undone_at
 power_of_logarithm a h =
     let l = logarithm_below a h in
     sym (power_at (get_or LOGARITHMS (suc a) 0) (omega arith))
-    ∙ eqb-true _ _ (both_right _ _ (each_below_at 255 undone_at all_undone a (omega arith)))
+    ∙ eqb-true _ _ (and_parts _ _ (each_below_at 255 undone_at all_undone a (omega arith))).1
 
 -- a logarithm, also that which stands for 0, is at most 510
 pub logarithm_most : (a : ℕ) → a < 2 ^ 8 → get_or LOGARITHMS a 0 ≤ 510

@@ -25,7 +25,8 @@ pub ends_in_front : (inode_queue : InodeQueue) (req : ℕ) (work : ObjWork) → 
 ends_in_front inode_queue req work on is =
     ap (λ current. option_to_list current ++ map (λ (waiting : Waiting). waiting.req) inode_queue.waiting) is
     ∙ ap (λ reqs. req ∷ reqs)
-    (sym (ap requests_in (cond-true (is_on_inode work) (record inode_queue { current = None }) inode_queue on)))
+    (sym (ap (λ current. option_to_list current ++ map (λ (waiting : Waiting). waiting.req) inode_queue.waiting)
+    (cond-true (is_on_inode work) None inode_queue.current on)))
 
 one_open : (on : Bool) (current : Option ℕ) → on ≡ true → (not on || is_none current) ≡ true → current ≡ None
 one_open true None is may = refl

@@ -39,7 +39,8 @@ may_open_work inode_queue work = not (is_on_inode work) || is_none inode_queue.c
 
 -- the line once a request came to a work that began at once
 abbrev pub queue_with_open : InodeQueue → ℕ → ObjWork → InodeQueue
-queue_with_open inode_queue req work = if is_on_inode work then record inode_queue { current = Some req } else inode_queue
+queue_with_open inode_queue req work =
+    record inode_queue { current = if is_on_inode work then Some req else inode_queue.current }
 
 -- the line once a request came to a work that has to wait
 abbrev pub queue_with_waiting : InodeQueue → ℕ → ObjWork → InodeQueue
@@ -47,7 +48,8 @@ queue_with_waiting inode_queue req work = record inode_queue { waiting = inode_q
 
 -- the line once a work is done or refused
 abbrev pub queue_after_end : InodeQueue → ObjWork → InodeQueue
-queue_after_end inode_queue work = if is_on_inode work then record inode_queue { current = None } else inode_queue
+queue_after_end inode_queue work =
+    record inode_queue { current = if is_on_inode work then None else inode_queue.current }
 
 -- the first that waits
 abbrev pub first_waiting : List Waiting → Option Waiting

@@ -2,6 +2,9 @@
 use Rattle.std.proofs.Common.{◌≡◌, ℕ, ◌+◌, Bool, true, false, cond, List, [], ◌∷◌, length, map, refl, sym, ap, ap₂, ◌∙◌, subst, arith, true≢false}
 use Rattle.std.specs.Prelude.{◌==◌, ◌||◌}
 use Rattle.std.specs.List.{list_any}
+use Rattle.std.specs.Cmp.{nat_eq_equiv}
+use Rattle.std.proofs.lemmas.Bool.{eqb-true}
+use Rattle.proof_tools.proofs.Booleans.{or_left_comm}
 use Rattle.object_id.specs.declared.entry.Member.{Member}
 use Rattle.hash_ring.specs.Placement.{Place, comes_first, put_in, places_in_order, is_among, one_a_zone, member_place, zone_count}
 
@@ -29,20 +32,8 @@ fresh_same s t [] h = refl
 fresh_same s t (z ∷ zs) h =
     ap₂ (λ b n. cond b 0 1 + n) (h z) (fresh_same (z ∷ s) (z ∷ t) zs (λ y. ap (λ b. (z == y) || b) (h y)))
 
-either_way : (a b c : Bool) → a || (b || c) ≡ b || (a || c)
-either_way true true c = refl
-either_way true false c = refl
-either_way false true c = refl
-either_way false false c = refl
-
-same_test : (a b : ℕ) → (a == b) ≡ (b == a)
-same_test a b = grind arith
-
-test_equal : (a b : ℕ) → (a == b) ≡ true → a ≡ b
-test_equal a b e = grind arith
-
 fresh_turned : (a b : ℕ) (s zs : List ℕ) → fresh (a ∷ b ∷ s) zs ≡ fresh (b ∷ a ∷ s) zs
-fresh_turned a b s zs = fresh_same (a ∷ b ∷ s) (b ∷ a ∷ s) zs (λ z. either_way (a == z) (b == z) (is_among z s))
+fresh_turned a b s zs = fresh_same (a ∷ b ∷ s) (b ∷ a ∷ s) zs (λ z. or_left_comm (a == z) (b == z) (is_among z s))
 
 swap_step : (t a b : Bool) (f g : ℕ) → (t ≡ true → a ≡ b) → f ≡ g
     → cond a 0 1 + (cond (t || b) 0 1 + f) ≡ cond b 0 1 + (cond (t || a) 0 1 + g)
@@ -60,9 +51,9 @@ fresh_swap seen a b zs =
     let P : Bool → Type 0 = λ u.
     cond (is_among a seen) 0 1 + (cond ((a == b) || is_among b seen) 0 1 + fresh (b ∷ a ∷ seen) zs)
     ≡ cond (is_among b seen) 0 1 + (cond (u || is_among a seen) 0 1 + fresh (a ∷ b ∷ seen) zs) in
-    subst P (same_test a b)
+    subst P (nat_eq_equiv.symm a b)
     (swap_step (a == b) (is_among a seen) (is_among b seen) (fresh (b ∷ a ∷ seen) zs) (fresh (a ∷ b ∷ seen) zs)
-    (λ e. ap (λ z. is_among z seen) (test_equal a b e)) (fresh_turned b a seen zs))
+    (λ e. ap (λ z. is_among z seen) (eqb-true a b e)) (fresh_turned b a seen zs))
 
 fresh-put_in : (seen : List ℕ) (p : Place) (ps : List Place) → fresh seen (zones_of (put_in p ps)) ≡ fresh seen (p.zone ∷ zones_of ps)
 fresh-put_in seen p [] = refl
@@ -106,10 +97,10 @@ fresh_less z seen (y ∷ ys) =
     ≡ cond (is_among y seen) 0 1 + fresh (y ∷ seen) ys in
     let Q : Bool → Type 0 = λ u.
     fresh (z ∷ y ∷ seen) ys + cond (u || is_among z seen) 0 (cond (is_among z ys) 1 0) ≡ fresh (y ∷ seen) ys in
-    subst P (same_test z y)
+    subst P (nat_eq_equiv.symm z y)
     (less_step (z == y) (is_among z seen) (is_among y seen) (is_among z ys) (fresh (y ∷ z ∷ seen) ys)
-    (fresh (z ∷ y ∷ seen) ys) (fresh (y ∷ seen) ys) (λ e. ap (λ x. is_among x seen) (test_equal z y e))
-    (subst Q (sym (same_test z y)) (fresh_less z (y ∷ seen) ys)) (fresh_turned y z seen ys))
+    (fresh (z ∷ y ∷ seen) ys) (fresh (y ∷ seen) ys) (λ e. ap (λ x. is_among x seen) (eqb-true z y e))
+    (subst Q (sym (nat_eq_equiv.symm z y)) (fresh_less z (y ∷ seen) ys)) (fresh_turned y z seen ys))
 
 among_zones : (z : ℕ) (members : List Member)
     → list_any (λ (m : Member). m.zone == z) members ≡ is_among z (map (λ (m : Member). m.zone) members)

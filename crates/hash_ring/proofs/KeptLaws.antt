@@ -1,6 +1,7 @@
 -- What is kept of places in order, one a zone: the nearest place of each zone, whatever else there is.
 use Rattle.std.proofs.Common.{◌≡◌, ◌⊎◌, ℕ, ◌<◌, ◌≤◌, Bool, true, false, cond, List, [], ◌∷◌, map, take, refl, sym, ap, ap₂, ◌∙◌, subst, inl, inr, arith}
 use Rattle.std.specs.Prelude.{◌==◌, ◌||◌}
+use Rattle.std.proofs.lemmas.Bool.{eqb-true, eqb-false, or_parts}
 use Rattle.hash_ring.specs.Placement.{Place, ComesFirst, places_in_order, is_among, one_a_zone, nodes_one_a_zone}
 use Rattle.hash_ring.proofs.InLaws.{In}
 use Rattle.hash_ring.proofs.OrderLaws.{comes_first_itself, comes_first_then, same_place, IsInOrder, in_order_ordered, from_in_order, into_in_order}
@@ -10,11 +11,7 @@ abbrev pub IsNearest : Place → List Place → Type 0
 IsNearest p ps = (q : Place) → In q ps → q.zone ≡ p.zone → ComesFirst p q
 
 pub other_zone : (a b : ℕ) (c : Bool) → ((a == b) || c) ≡ false → (c ≡ false) × ((b ≡ a) → ⊥)
-other_zone a b c e = (go (a == b) c e, λ same. grind (arith, e, same))
-  where
-    go : (x y : Bool) → (x || y) ≡ false → y ≡ false
-    go true y h = cc
-    go false y h = h
+other_zone a b c e = ((or_parts (a == b) c e).1, λ same. eqb-false a b (or_parts (a == b) c e).0 (sym same))
 
 pub kept_is : (seen : List ℕ) (xs : List Place) (p : Place) → IsInOrder xs → In p (one_a_zone seen xs)
     → In p xs × (is_among p.zone seen ≡ false) × IsNearest p xs
@@ -43,12 +40,6 @@ kept_is seen (x ∷ xs) p up h = go (is_among x.zone seen) refl h (λ k. kept_is
     go false e (inl same) ih = (inl same, ap (λ (r : Place). is_among r.zone seen) (sym same) ∙ e, first same)
     go false e (inr k) ih = later (ih k)
 
-same_zone : (a b : ℕ) → (a == b) ≡ true → a ≡ b
-same_zone a b e = grind arith
-
-zones_differ : (a b : ℕ) → (a == b) ≡ false → a ≡ b → ⊥
-zones_differ a b e h = grind arith
-
 pub is_kept : (seen : List ℕ) (xs : List Place) (p : Place) → IsInOrder xs → In p xs → is_among p.zone seen ≡ false
     → IsNearest p xs → In p (one_a_zone seen xs)
 is_kept seen [] p up h new near = absurd h
@@ -76,9 +67,9 @@ is_kept seen (x ∷ xs) p up h new near =
         → (In p xs → is_among p.zone (x.zone ∷ seen) ≡ false → In p (one_a_zone (x.zone ∷ seen) xs))
         → In p (cond (is_among x.zone seen) (one_a_zone (x.zone ∷ seen) xs) (x ∷ one_a_zone (x.zone ∷ seen) xs))
     go true e k ih =
-        let same : x ≡ p = is_first k (same_zone x.zone p.zone e) in
+        let same : x ≡ p = is_first k (eqb-true x.zone p.zone e) in
         here (is_among x.zone seen) refl (ap (λ (r : Place). is_among r.zone seen) same ∙ new) same
-    go false e (inl same) ih = absurd (zones_differ x.zone p.zone e (ap (λ (r : Place). r.zone) same))
+    go false e (inl same) ih = absurd (eqb-false x.zone p.zone e (ap (λ (r : Place). r.zone) same))
     go false e (inr k) ih = there (is_among x.zone seen) (ih k (ap (λ b. b || is_among p.zone seen) e ∙ new))
 
 abbrev pub ComesStrictly : Place → Place → Type 0

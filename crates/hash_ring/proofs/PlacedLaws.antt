@@ -1,10 +1,11 @@
 -- Members and their points, each point at its own distance, are placed alike.
-use Rattle.std.proofs.Common.{◌≡◌, ◌≢◌, ◌⊎◌, ℕ, zero, suc, ◌<◌, ◌≤◌, true, List, get_or, map, filter, AllPairs, Contains, IsPermutation, refl, sym, ap, ◌∙◌, subst, inl, inr, arith}
+use Rattle.std.proofs.Common.{◌≡◌, ◌≢◌, ◌⊎◌, ℕ, zero, suc, ◌<◌, ◌≤◌, List, get_or, map, filter, AllPairs, Contains, IsPermutation, refl, sym, ap, ◌∙◌, subst, inl, inr, arith}
 use Rattle.std.specs.Prelude.{◌==◌}
 use Rattle.std.specs.List.{range_with_len}
 use Rattle.std.proofs.lemmas.List.{get_or_default}
 use Rattle.std.proofs.lemmas.List.Elements.{All-contains}
 use Rattle.std.proofs.lemmas.List.Sorted.{Contains-permutation, IsPermutation-sym}
+use Rattle.std.proofs.lemmas.Bool.{eq-eqb, eqb-true}
 use Rattle.object_id.specs.declared.entry.Member.{Member}
 use Rattle.object_id.specs.Node.{IsWeight}
 use Rattle.hash_ring.specs.declared.point.Point.{Point}
@@ -26,12 +27,6 @@ point_places object points = map (point_place object) points
 at_or_before : (a b m n : ℕ) → a ≤ b → m ≡ n → (a < b) ⊎ ((a ≡ b) × (m ≤ n))
 at_or_before a b m n h e = grind arith
 
-equal_test : (a b : ℕ) → a ≡ b → (a == b) ≡ true
-equal_test a b e = grind arith
-
-test_equal : (a b : ℕ) → (a == b) ≡ true → a ≡ b
-test_equal a b e = grind arith
-
 pub points_keep_zones : (object : ℕ) (points : List Point) → NodesHaveOneZone points → NodesKeepZones (point_places object points)
 points_keep_zones object points one p q i j e =
     let a = from_map (point_place object) points p i in
@@ -45,7 +40,7 @@ points_keep_zones object points one p q i j e =
 own_hash : (points : List Point) (point : Point) → In point points → In point.hash (hashes_of points point.node.0)
 own_hash points point i =
     in_map (λ (p : Point). p.hash) (filter (λ (p : Point). p.node.0 == point.node.0) points) point
-    (in_filter (λ (p : Point). p.node.0 == point.node.0) points point i (equal_test point.node.0 point.node.0 refl))
+    (in_filter (λ (p : Point). p.node.0 == point.node.0) points point i (eq-eqb point.node.0 point.node.0 refl))
 
 pub nodes_are_nearest : (object : ℕ) (points : List Point) → NodesHaveOneZone points
     → HasTheNearest (point_places object points) (map (node_place points object) points)
@@ -58,7 +53,7 @@ nodes_are_nearest object points one = (to, from)
         (in_map (distance object) (hashes_of points point.node.0) point.hash (own_hash points point i))) in
         let f = from_map (λ (q : Point). q.hash) (filter (λ (q : Point). q.node.0 == point.node.0) points) d.0 d.1 in
         let g = from_filter (λ (q : Point). q.node.0 == point.node.0) points f.0 f.1 in
-        let n : f.0.node.0 ≡ point.node.0 = test_equal f.0.node.0 point.node.0 g.1 in
+        let n : f.0.node.0 ≡ point.node.0 = eqb-true f.0.node.0 point.node.0 g.1 in
         let z : f.0.zone ≡ point.zone = one.alike f.0 point (contains_from_in points f.0 g.0) (contains_from_in points point i) n in
         let same : point_place object f.0 ≡ node_place points object point
         = same_parts (point_place object f.0) (node_place points object point) (ap (distance object) f.2 ∙ d.2) n z in

@@ -3,6 +3,7 @@ use Rattle.std.proofs.Common.{◌≡◌, ◌⊎◌, ℕ, suc, ◌+◌, ◌-◌, 
 use Rattle.std.specs.Prelude.{◌==◌, ◌||◌}
 use Rattle.std.proofs.lemmas.List.{take_more, take_at, get_or_append_left, get_or-append_right, get_or-drop, get_or-take, length-drop, length-append, length-take-le}
 use Rattle.std.proofs.lemmas.List.Elements.{All-contains, All-drop}
+use Rattle.std.proofs.Math.Bool.{or_assoc, or-false}
 use Rattle.object_id.specs.declared.node.NodeId.{NodeId}
 use Rattle.hash_ring.specs.declared.point.Point.{Point}
 use Rattle.hash_ring.specs.Circle.{distance}
@@ -253,7 +254,7 @@ goes_on seen (x ∷ xs) ys = go (is_among x.zone seen) (goes_on (x.zone ∷ seen
     go true r = r
     go false r = (r.0, ap (λ nodes. x.node ∷ nodes) r.1)
 
--- once n are found, the rest of the walk adds none of the first n
+-- once n are found, the rest of the walk adds or-false of the first n
 pub first_nodes_found : (ps : List Point) (turn n : ℕ) → length (first_nodes [] (take turn ps)) ≡ n
     → take n (first_nodes [] ps) ≡ first_nodes [] (take turn ps)
 first_nodes_found ps turn n e =
@@ -271,20 +272,12 @@ is_among_more z ps turn p h is =
     (take_more ps turn p h ∙ ap (λ (q : Point). take turn ps ++ q ∷ []) (sym is))
     ∙ push (take turn ps)
   where
-    assoc : (a b c : Bool) → a || (b || c) ≡ (a || b) || c
-    assoc true b c = refl
-    assoc false b c = refl
-
-    none : (b : Bool) → b || false ≡ b
-    none true = refl
-    none false = refl
-
     push : (qs : List Point)
         → is_among z (map (λ (q : Point). q.zone) (qs ++ p ∷ []))
         ≡ (is_among z (map (λ (q : Point). q.zone) qs) || (p.zone == z))
-    push [] = none (p.zone == z)
+    push [] = or-false (p.zone == z)
     push (q ∷ qs) =
-        ap (λ b. (q.zone == z) || b) (push qs) ∙ assoc (q.zone == z) (is_among z (map (λ (q : Point). q.zone) qs)) (p.zone == z)
+        ap (λ b. (q.zone == z) || b) (push qs) ∙ sym (or_assoc (q.zone == z) (is_among z (map (λ (q : Point). q.zone) qs)) (p.zone == z))
 
 -- a point of the walk, ahead or past the end
 pub get_or-walk_ahead : (ps : List Point) (start turn : ℕ) (d : Point) → start + turn < length ps

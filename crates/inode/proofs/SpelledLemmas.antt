@@ -9,7 +9,7 @@ use Rattle.object_id.specs.declared.entry.VdiSpec.{VdiSpec}
 use Rattle.object_id.specs.Policy.{policy_byte, strips_of}
 use Rattle.object_id.specs.Spec.{objects_of}
 use Rattle.object_id.specs.Fields.{u8_bytes, u32_bytes, u64_bytes, numbers_bytes, u8_at, u32_at, u64_at, numbers_at, AreBytes, Stands}
-use Rattle.object_id.proofs.FieldLemmas.{stands-then, stands-part, stands-u8, stands-u32, stands-u64, stands-numbers, wide32, u32-below, length-numbers_at}
+use Rattle.object_id.proofs.FieldLemmas.{stands-then, stands-part, stands-u8, stands-u32, stands-u64, stands-numbers, wide32, u32-below, length-numbers_at, part-length}
 use Rattle.inode.specs.declared.layout.TheConstants.{INODE_HEADER_BYTES, TEXT_BYTES, CHILDREN_BYTES}
 use Rattle.inode.specs.declared.fault.InodeFault.{InodeFault}
 use Rattle.inode.specs.declared.fault.InodeFault.TheVariants as faults
@@ -92,9 +92,6 @@ u32-as bytes at number fits within is = subst (λ n. Stands bytes at (at + 4) (u
 u64-as : (bytes : List ℕ) (at number : ℕ) → AreBytes bytes → at + 8 ≤ length bytes → u64_at at bytes ≡ number → Stands bytes at (at + 8) (u64_bytes number)
 u64-as bytes at number fits within is = subst (λ n. Stands bytes at (at + 8) (u64_bytes n)) is (stands-u64 bytes at fits within)
 
-part-fills : (bytes : List ℕ) (from count : ℕ) → from + count ≤ length bytes → length (take count (drop from bytes)) ≡ count
-part-fills bytes from count within = length-take-le count (drop from bytes) (omega (arith, length-drop from bytes))
-
 content-spelled : (bytes : List ℕ) (content : Content) → AreBytes bytes → INODE_HEADER_BYTES ≤ length bytes → IsReadAs bytes content → SpellsInode bytes content
 content-spelled bytes content fits long read =
     let name = text-stands bytes 0 content.name (omega arith) read.name in
@@ -132,10 +129,10 @@ content-spelled bytes content fits long read =
       fills = record {
         name = name.long;
         tag = tag.long;
-        times = part-fills bytes 512 24 (omega arith);
-        vm_state_size = part-fills bytes 544 8 (omega arith);
-        store_policy = part-fills bytes 553 1 (omega arith);
-        children = part-fills bytes 568 CHILDREN_BYTES (omega arith);
+        times = part-length bytes 512 24 (omega arith);
+        vm_state_size = part-length bytes 544 8 (omega arith);
+        store_policy = part-length bytes 553 1 (omega arith);
+        children = part-length bytes 568 CHILDREN_BYTES (omega arith);
       };
       whole = whole.parts;
     }
@@ -150,13 +147,8 @@ inode-spelled bytes content fits e =
 
 -- a refusal that reading gives
 pub fails-as : (fault : InodeFault) (read : Result Content InodeFault) → read ≡ Err fault → FailsField fault read
-fails-as faults.ShortInode read e = e
-fails-as faults.NameNotEnded read e = e
-fails-as faults.BadShift read e = e
-fails-as faults.BadPolicy read e = e
-fails-as faults.BadSize read e = e
-fails-as faults.BadEntry read e = e
 fails-as faults.NoMemory read e = tt
+fails-as fault read e = e
 
 pub inode-is_spelled : (bytes : List ℕ) (r : Result Content InodeFault) → AreBytes bytes → GivesOrNoMemory (λ (i : Content). i) r (inode_of bytes)
     → IfOk r (λ (i : Content). IsContent i × SpellsInode bytes i)

@@ -11,6 +11,18 @@ pub trait Duplicate: Drop {
         ensures { IfOk result (λ copy. copy ≡ self.now) };
 }
 
+impl Duplicate for u32 {
+    fn duplicate(&self, _alloc: Global) -> Result<Self, NoMemory> {
+        Ok(*self)
+    }
+}
+
+impl<A: Duplicate, B: Duplicate> Duplicate for (A, B) {
+    fn duplicate(&self, alloc: Global) -> Result<Self, NoMemory> {
+        Ok((self.0.duplicate(alloc)?, self.1.duplicate(alloc)?))
+    }
+}
+
 /// A list that grows at its end. Each list type of this workspace is one of these.
 #[derive(Debug, Drop)]
 pub struct Items<T> {
@@ -79,10 +91,10 @@ impl<T: Duplicate> Items<T> {
     pub fn copy(&self, alloc: Global) -> Result<Self, NoMemory>
         ensures { IfOk result (λ copy. copy ≡ self.now) }
     {
-        let mut copy = Items::new(alloc);
+        let mut copy = Vec::with_capacity(alloc, self.len())?;
         for item in self.as_slice() {
             copy.push(item.duplicate(alloc)?)?;
         }
-        Ok(copy)
+        Ok(Items::from_vec(copy))
     }
 }

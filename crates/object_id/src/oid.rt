@@ -1,7 +1,10 @@
 ghost use Rattle.std.specs.Prelude.{◌≡◌, ℕ, ◌<◌, ◌↔◌, IfOk, IsErrOf, IsTrue};
 ghost use Rattle.object_id.specs.Oid.{IsOid, IsVid, HasReservedBit, IsFreeOfReserved, vid_of, index_of, kind_of, inode_number, object_number};
 
+use crate::items::Duplicate;
 use crate::limits::{OBJECTS_MAX, VID_MAX};
+use crate::memory::NoMemory;
+use std::alloc::Global;
 use std::marker::Model;
 
 /// The id of a disk, a snapshot or a clone: 1 to [`VID_MAX`].
@@ -51,6 +54,12 @@ impl Model for Oid {
     ghost invariant = { λ o. IsOid o.raw };
 
     ghost inverse = { λ raw. record { raw = raw } };
+}
+
+impl Duplicate for Oid {
+    fn duplicate(&self, _alloc: Global) -> Result<Self, NoMemory> {
+        Ok(*self)
+    }
 }
 
 impl Oid {

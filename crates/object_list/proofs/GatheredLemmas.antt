@@ -5,45 +5,35 @@ use Rattle.std.specs.List.Sorted.{IsStrictlyIncreasing}
 use Rattle.std.proofs.lemmas.Bool.{cases_Bool, and_right, eqb-true, eq-eqb}
 use Rattle.std.proofs.lemmas.List.Elements.{filter_agree, All-head, All-tail}
 use Rattle.std.proofs.lemmas.List.Folds.{list_any_at}
+use Rattle.proof_tools.proofs.AscendingNumbers.{IsStrictlyIncreasing-nil}
+use Rattle.proof_tools.proofs.Lists.{Contains-nil, filter-filter}
+use Rattle.proof_tools.proofs.Booleans.{not-or}
 use Rattle.object_id.specs.declared.node.NodeId.{NodeId}
 use Rattle.object_list.specs.Union.{union}
 use Rattle.object_list.specs.Gathered.{GatheredLists, ListAnswer, is_same_node, has_node, gathered_of_none, gathered_with_answer, gathered_after, has_answered}
-use Rattle.object_list.proofs.AscendingLemmas.{ascending-nil, contains-nil}
 use Rattle.object_list.proofs.UnionLemmas.{union-ascending, union-has, union-only}
 
 abbrev from_there : GatheredLists → List ListAnswer → GatheredLists
 from_there gathered answers = fold (λ gathered (answer : ListAnswer). gathered_with_answer answer.from answer.list gathered) gathered answers
 
-filter-filter : {X : Type 0} (p q : X → Bool) (xs : List X) → filter p (filter q xs) ≡ filter (λ x. q x && p x) xs
-filter-filter p q [] = refl
-filter-filter p q (x ∷ xs) = by_test (filter-filter p q xs) (q x)
-  where
-    by_test : filter p (filter q xs) ≡ filter (λ x. q x && p x) xs → (b : Bool) → filter p (cond b (x ∷ filter q xs) (filter q xs)) ≡ cond (b && p x) (x ∷ filter (λ x. q x && p x) xs) (filter (λ x. q x && p x) xs)
-    by_test same true = ap (λ rest. cond (p x) (x ∷ rest) rest) same
-    by_test same false = same
-
 filter-all : {X : Type 0} (xs : List X) → filter (λ x. true) xs ≡ xs
 filter-all [] = refl
 filter-all (x ∷ xs) = ap (λ rest. x ∷ rest) (filter-all xs)
-
-not-or : (a b : Bool) → (not a && not b) ≡ not (a || b)
-not-or true b = refl
-not-or false b = refl
 
 waiting_from : (gathered : GatheredLists) (answers : List ListAnswer)
     → (from_there gathered answers).waiting ≡ filter (λ node. not (has_answered node answers)) gathered.waiting
 waiting_from gathered [] = sym (filter-all gathered.waiting)
 waiting_from gathered (answer ∷ answers) =
     waiting_from (gathered_with_answer answer.from answer.list gathered) answers
-    ∙ filter-filter (λ node. not (has_answered node answers)) (λ node. not (is_same_node answer.from node)) gathered.waiting
+    ∙ filter-filter (λ node. not (is_same_node answer.from node)) (λ node. not (has_answered node answers)) gathered.waiting
     ∙ filter_agree (λ node. not (is_same_node answer.from node) && not (has_answered node answers)) (λ node. not (has_answered node (answer ∷ answers)))
-    (λ node. not-or (is_same_node answer.from node) (has_answered node answers)) gathered.waiting
+    (λ node. sym (not-or (is_same_node answer.from node) (has_answered node answers))) gathered.waiting
 
 pub waiting_after : (me : NodeId) (members : List NodeId) (answers : List ListAnswer)
     → (gathered_after me members answers).waiting ≡ filter (λ node. not (is_same_node me node) && not (has_answered node answers)) members
 waiting_after me members answers =
     waiting_from (gathered_of_none me members) answers
-    ∙ filter-filter (λ node. not (has_answered node answers)) (λ node. not (is_same_node me node)) members
+    ∙ filter-filter (λ node. not (is_same_node me node)) (λ node. not (has_answered node answers)) members
 
 -- nodes of one number are the same
 node_from : (node other : NodeId) → is_same_node node other ≡ true → node ≡ other
@@ -108,7 +98,7 @@ finished_after me members answers =
     subst (λ (nodes : List NodeId). (nodes ≡ []) ↔ (list_all (λ node. is_same_node me node || has_answered node answers) members ≡ true))
     (sym (waiting_after me members answers))
     (none_left (λ node. not (is_same_node me node) && not (has_answered node answers)) (λ node. is_same_node me node || has_answered node answers) members
-    (λ node. not-or (is_same_node me node) (has_answered node answers)))
+    (λ node. sym (not-or (is_same_node me node) (has_answered node answers))))
 
 ascending_from : (gathered : GatheredLists) (answers : List ListAnswer) → IsStrictlyIncreasing gathered.objects → IsStrictlyIncreasing (from_there gathered answers).objects
 ascending_from gathered [] up = up
@@ -116,7 +106,7 @@ ascending_from gathered (answer ∷ answers) up =
     ascending_from (gathered_with_answer answer.from answer.list gathered) answers (union-ascending gathered.objects answer.list up)
 
 pub ascending_after : (me : NodeId) (members : List NodeId) (answers : List ListAnswer) → IsStrictlyIncreasing (gathered_after me members answers).objects
-ascending_after me members answers = ascending_from (gathered_of_none me members) answers ascending-nil
+ascending_after me members answers = ascending_from (gathered_of_none me members) answers IsStrictlyIncreasing-nil
 
 abbrev Named : List ListAnswer → ℕ → Type 0
 Named answers oid = Any (λ (answer : ListAnswer). Contains answer.list oid) answers
@@ -170,5 +160,5 @@ objects_after me members answers oid = (
 )
   where
     named : Contains [] oid ⊎ Named answers oid → Named answers oid
-    named (inl none) = absurd (contains-nil oid none)
+    named (inl none) = absurd (Contains-nil oid none)
     named (inr by) = by

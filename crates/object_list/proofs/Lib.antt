@@ -1,3 +1,2 @@
-pub mod AscendingLemmas
 pub mod UnionLemmas
 pub mod GatheredLemmas

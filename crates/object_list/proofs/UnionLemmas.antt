@@ -6,8 +6,9 @@ use Rattle.std.proofs.lemmas.Bool.{cases_order, cond-true, cond-false, lt-ltb, l
 use Rattle.std.proofs.lemmas.List.{get_or-take, length-take-le, append_assoc}
 use Rattle.std.proofs.lemmas.List.Elements.{All-nil, All-cons, All-head, All-tail, All-weaker, All-append, All-push}
 use Rattle.std.proofs.lemmas.List.Sums.{prefix_len_passes, prefix_len-le-length}
+use Rattle.proof_tools.proofs.AscendingNumbers.{IsStrictlyIncreasing-tail, IsStrictlyIncreasing-first, IsStrictlyIncreasing-nil, IsStrictlyIncreasing-cons, same_ascending}
+use Rattle.proof_tools.proofs.Lists.{Contains-head, Contains-cons, Contains-nil, Contains-cons_cases}
 use Rattle.object_list.specs.Union.{with_id, union}
-use Rattle.object_list.proofs.AscendingLemmas.{ascending-tail, ascending-first, ascending-nil, ascending-cons, ascending-same, contains-head, contains-cons, contains-nil, contains-cases}
 
 -- where an id stands against the first of a list
 pub with_id-below : (oid first : ℕ) (rest : List ℕ) → oid < first → with_id (first ∷ rest) oid ≡ oid ∷ first ∷ rest
@@ -80,17 +81,17 @@ All-with_id P (first ∷ rest) oid one all = elim (cases_order oid first) [
 ]
 
 pub with_id-ascending : (oids : List ℕ) (oid : ℕ) → IsStrictlyIncreasing oids → IsStrictlyIncreasing (with_id oids oid)
-with_id-ascending [] oid up = ascending-cons oid [] (All-nil (λ other. oid < other)) ascending-nil
+with_id-ascending [] oid up = IsStrictlyIncreasing-cons oid [] (All-nil (λ other. oid < other)) IsStrictlyIncreasing-nil
 with_id-ascending (first ∷ rest) oid up = elim (cases_order oid first) [
   | inl same ↦ subst IsStrictlyIncreasing (sym (with_id-same oid first rest same)) up
   | inr (inl below) ↦ subst IsStrictlyIncreasing (sym (with_id-below oid first rest below))
-      (ascending-cons oid (first ∷ rest)
+      (IsStrictlyIncreasing-cons oid (first ∷ rest)
       (All-cons (λ other. oid < other) first rest below
-      (All-weaker (λ other. first < other) (λ other. oid < other) (λ other more. omega arith) rest (ascending-first first rest up))) up)
+      (All-weaker (λ other. first < other) (λ other. oid < other) (λ other more. omega arith) rest (IsStrictlyIncreasing-first first rest up))) up)
   | inr (inr above) ↦ subst IsStrictlyIncreasing (sym (with_id-above oid first rest above))
-      (ascending-cons first (with_id rest oid)
-      (All-with_id (λ other. first < other) rest oid above (ascending-first first rest up))
-      (with_id-ascending rest oid (ascending-tail first rest up)))
+      (IsStrictlyIncreasing-cons first (with_id rest oid)
+      (All-with_id (λ other. first < other) rest oid above (IsStrictlyIncreasing-first first rest up))
+      (with_id-ascending rest oid (IsStrictlyIncreasing-tail first rest up)))
 ]
 
 pub union-ascending : (oids others : List ℕ) → IsStrictlyIncreasing oids → IsStrictlyIncreasing (union oids others)
@@ -98,8 +99,8 @@ union-ascending oids [] up = up
 union-ascending oids (other ∷ others) up = union-ascending (with_id oids other) others (with_id-ascending oids other up)
 
 with_id-has : (oids : List ℕ) (oid x : ℕ) → Contains oids x ⊎ (oid ≡ x) → Contains (with_id oids oid) x
-with_id-has [] oid x (inl there) = absurd (contains-nil x there)
-with_id-has [] oid x (inr same) = subst (λ y. Contains (oid ∷ []) y) same (contains-head oid [])
+with_id-has [] oid x (inl there) = absurd (Contains-nil x there)
+with_id-has [] oid x (inr same) = subst (λ y. Contains (oid ∷ []) y) same (Contains-head oid [])
 with_id-has (first ∷ rest) oid x there = elim (cases_order oid first) [
   | inl same ↦ subst (λ xs. Contains xs x) (sym (with_id-same oid first rest same)) (at_first same there)
   | inr (inl below) ↦ subst (λ xs. Contains xs x) (sym (with_id-below oid first rest below)) (in_front there)
@@ -108,28 +109,28 @@ with_id-has (first ∷ rest) oid x there = elim (cases_order oid first) [
   where
     at_first : oid ≡ first → Contains (first ∷ rest) x ⊎ (oid ≡ x) → Contains (first ∷ rest) x
     at_first same (inl there) = there
-    at_first same (inr is) = subst (λ y. Contains (first ∷ rest) y) (sym same ∙ is) (contains-head first rest)
+    at_first same (inr is) = subst (λ y. Contains (first ∷ rest) y) (sym same ∙ is) (Contains-head first rest)
 
     in_front : Contains (first ∷ rest) x ⊎ (oid ≡ x) → Contains (oid ∷ first ∷ rest) x
-    in_front (inl there) = contains-cons oid (first ∷ rest) x there
-    in_front (inr is) = subst (λ y. Contains (oid ∷ first ∷ rest) y) is (contains-head oid (first ∷ rest))
+    in_front (inl there) = Contains-cons oid (first ∷ rest) x there
+    in_front (inr is) = subst (λ y. Contains (oid ∷ first ∷ rest) y) is (Contains-head oid (first ∷ rest))
 
     later : (Contains rest x ⊎ (oid ≡ x) → Contains (with_id rest oid) x) → Contains (first ∷ rest) x ⊎ (oid ≡ x) → Contains (first ∷ with_id rest oid) x
-    later in_rest (inl there) = elim (contains-cases first rest x there) [
-      | inl is ↦ subst (λ y. Contains (first ∷ with_id rest oid) y) is (contains-head first (with_id rest oid))
-      | inr more ↦ contains-cons first (with_id rest oid) x (in_rest (inl more))
+    later in_rest (inl there) = elim (Contains-cons_cases first rest x there) [
+      | inl is ↦ subst (λ y. Contains (first ∷ with_id rest oid) y) is (Contains-head first (with_id rest oid))
+      | inr more ↦ Contains-cons first (with_id rest oid) x (in_rest (inl more))
     ]
-    later in_rest (inr is) = contains-cons first (with_id rest oid) x (in_rest (inr is))
+    later in_rest (inr is) = Contains-cons first (with_id rest oid) x (in_rest (inr is))
 
 with_id-only : (oids : List ℕ) (oid x : ℕ) → Contains (with_id oids oid) x → Contains oids x ⊎ (oid ≡ x)
-with_id-only [] oid x there = elim (contains-cases oid [] x there) [
+with_id-only [] oid x there = elim (Contains-cons_cases oid [] x there) [
   | inl is ↦ inr is
   | inr none ↦ inl none
 ]
 with_id-only (first ∷ rest) oid x there = elim (cases_order oid first) [
   | inl same ↦ inl (subst (λ xs. Contains xs x) (with_id-same oid first rest same) there)
-  | inr (inl below) ↦ in_front (contains-cases oid (first ∷ rest) x (subst (λ xs. Contains xs x) (with_id-below oid first rest below) there))
-  | inr (inr above) ↦ later (with_id-only rest oid x) (contains-cases first (with_id rest oid) x (subst (λ xs. Contains xs x) (with_id-above oid first rest above) there))
+  | inr (inl below) ↦ in_front (Contains-cons_cases oid (first ∷ rest) x (subst (λ xs. Contains xs x) (with_id-below oid first rest below) there))
+  | inr (inr above) ↦ later (with_id-only rest oid x) (Contains-cons_cases first (with_id rest oid) x (subst (λ xs. Contains xs x) (with_id-above oid first rest above) there))
 ]
   where
     in_front : (oid ≡ x) ⊎ Contains (first ∷ rest) x → Contains (first ∷ rest) x ⊎ (oid ≡ x)
@@ -137,19 +138,19 @@ with_id-only (first ∷ rest) oid x there = elim (cases_order oid first) [
     in_front (inr more) = inl more
 
     behind : Contains rest x ⊎ (oid ≡ x) → Contains (first ∷ rest) x ⊎ (oid ≡ x)
-    behind (inl more) = inl (contains-cons first rest x more)
+    behind (inl more) = inl (Contains-cons first rest x more)
     behind (inr is) = inr is
 
     later : (Contains (with_id rest oid) x → Contains rest x ⊎ (oid ≡ x)) → (first ≡ x) ⊎ Contains (with_id rest oid) x
         → Contains (first ∷ rest) x ⊎ (oid ≡ x)
-    later of_rest (inl is) = inl (subst (λ y. Contains (first ∷ rest) y) is (contains-head first rest))
+    later of_rest (inl is) = inl (subst (λ y. Contains (first ∷ rest) y) is (Contains-head first rest))
     later of_rest (inr more) = behind (of_rest more)
 
 pub union-has : (oids others : List ℕ) (x : ℕ) → Contains oids x ⊎ Contains others x → Contains (union oids others) x
 union-has oids [] x (inl there) = there
-union-has oids [] x (inr none) = absurd (contains-nil x none)
+union-has oids [] x (inr none) = absurd (Contains-nil x none)
 union-has oids (other ∷ others) x (inl there) = union-has (with_id oids other) others x (inl (with_id-has oids other x (inl there)))
-union-has oids (other ∷ others) x (inr there) = elim (contains-cases other others x there) [
+union-has oids (other ∷ others) x (inr there) = elim (Contains-cons_cases other others x there) [
   | inl is ↦ union-has (with_id oids other) others x (inl (with_id-has oids other x (inr is)))
   | inr more ↦ union-has (with_id oids other) others x (inr more)
 ]
@@ -160,15 +161,15 @@ union-only oids (other ∷ others) x there = by_list (union-only (with_id oids o
   where
     one : Contains oids x ⊎ (other ≡ x) → Contains oids x ⊎ Contains (other ∷ others) x
     one (inl more) = inl more
-    one (inr is) = inr (subst (λ y. Contains (other ∷ others) y) is (contains-head other others))
+    one (inr is) = inr (subst (λ y. Contains (other ∷ others) y) is (Contains-head other others))
 
     by_list : Contains (with_id oids other) x ⊎ Contains others x → Contains oids x ⊎ Contains (other ∷ others) x
     by_list (inl more) = one (with_id-only oids other x more)
-    by_list (inr more) = inr (contains-cons other others x more)
+    by_list (inr more) = inr (Contains-cons other others x more)
 
 pub union-same : (oids others all : List ℕ) → IsStrictlyIncreasing oids → IsStrictlyIncreasing all
     → ((oid : ℕ) → Contains all oid ↔ (Contains oids oid ⊎ Contains others oid)) → all ≡ union oids others
 union-same oids others all up rises same =
-    ascending-same all (union oids others) rises (union-ascending oids others up)
+    same_ascending all (union oids others) rises (union-ascending oids others up)
     (λ x there. union-has oids others x ((same x).0 there))
     (λ x there. (same x).1 (union-only oids others x there))

@@ -2,13 +2,10 @@
 use Rattle.std.proofs.Common.{◌≡◌, ℕ, zero, suc, ◌+◌, ◌-◌, ◌<◌, ◌≤◌, Bool, true, false, cond, ◌&&◌, nat_eq, List, [], ◌∷◌, ◌++◌, length, take, drop, get_or, refl, ap, sym, ◌∙◌, arith}
 use Rattle.std.proofs.lemmas.List.{take-replicate, drop-replicate, take_more}
 use Rattle.std.proofs.lemmas.Bool.Decides.{nat_tests}
+use Rattle.std.proofs.Math.Bool.{and-false}
 use Rattle.object_id.specs.Piece.{laid_over}
 use Rattle.object_id.specs.Fields.{zeros}
 use Rattle.object_store.specs.Bytes.{trimmed_bytes}
-
-and_false : (a : Bool) → (a && false) ≡ false
-and_false true = refl
-and_false false = refl
 
 pub trimmed_bytes-zeros : (n : ℕ) → trimmed_bytes (zeros n) ≡ []
 trimmed_bytes-zeros zero = refl
@@ -28,7 +25,7 @@ trimmed_bytes-push [] byte some = ap (λ b. cond (b && true) [] (byte ∷ [])) s
 trimmed_bytes-push (b ∷ bytes) byte some =
     ap (λ rest. cond (nat_eq b 0 && nat_eq (length rest) 0) [] (b ∷ rest)) (trimmed_bytes-push bytes byte some)
     ∙ ap (λ long. cond (nat_eq b 0 && long) [] (b ∷ bytes ++ byte ∷ [])) (not_nil bytes byte)
-    ∙ ap (λ none. cond none [] (b ∷ bytes ++ byte ∷ [])) (and_false (nat_eq b 0))
+    ∙ ap (λ none. cond none [] (b ∷ bytes ++ byte ∷ [])) (and-false (nat_eq b 0))
 
 last_of : (bytes : List ℕ) (n : ℕ) → 0 < n → n ≤ length bytes → take n bytes ≡ take (n - 1) bytes ++ get_or bytes (n - 1) 0 ∷ []
 last_of bytes n some within =

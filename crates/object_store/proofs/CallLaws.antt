@@ -7,6 +7,7 @@ use Rattle.std.specs.List.{range_with_len}
 use Rattle.std.specs.Option.{option_map}
 use Rattle.std.specs.Result.{result_unwrap_or}
 use Rattle.std.specs.FinMap as tree
+use Rattle.std.proofs.lemmas.Bool.{eqb-true, eqb-false, eq-eqb, and_parts}
 use Rattle.object_id.specs.Oid.{vid_of}
 use Rattle.object_id.specs.Piece.{laid_over}
 use Rattle.object_store.specs.declared.key.Key.{Key}
@@ -97,15 +98,6 @@ piece_of_bytes f bytes offset n value_within is =
 
 -- ---- the open row of an index after a change
 
-same_number : (a b : ℕ) → nat_eq a b ≡ true → a ≡ b
-same_number a b e = grind (arith, nat_tests)
-
-other_number : (a b : ℕ) → nat_eq a b ≡ false → a ≢ b
-other_number a b e same = absurd (omega (arith, same, go))
-  where
-    go : a ≢ b
-    go = grind (arith, nat_tests)
-
 open-created : (i index epoch : ℕ) (bytes : List ℕ) (rows : List SeenRow)
     → open_at i (created index epoch bytes rows) ≡ cond (nat_eq index i) (Some (record { index = index; from = record { 0 = epoch }; to = None; bytes = bytes })) None
 open-created i index epoch bytes rows =
@@ -131,10 +123,6 @@ open-changed i change (row ∷ rows) = go (is_open_at i row) refl (open-changed 
         ∙ ap (λ b. cond b (Some row) (open_at i (changed (is_open_at i) change rows))) is ∙ rest
         ∙ sym (ap (λ b. option_map (laid change) (cond b (Some row) (open_at i rows))) is)
 
-second_of : (a b : Bool) → (a && b) ≡ true → b ≡ true
-second_of true b e = e
-second_of false b e = absurd (cc)
-
 open-changed_other : (i j : ℕ) (change : List ℕ → List ℕ) (rows : List SeenRow) → j ≢ i → open_at i (changed (is_open_at j) change rows) ≡ open_at i rows
 open-changed_other i j change [] apart = refl
 open-changed_other i j change (row ∷ rows) apart = go (is_open_at j row) refl (is_open_at i row) refl (open-changed_other i j change rows apart)
@@ -145,7 +133,7 @@ open-changed_other i j change (row ∷ rows) apart = go (is_open_at j row) refl 
     go : (b : Bool) → is_open_at j row ≡ b → (t : Bool) → is_open_at i row ≡ t → open_at i (changed (is_open_at j) change rows) ≡ open_at i rows
         → open_at i (cond b (new ∷ rows) (row ∷ changed (is_open_at j) change rows)) ≡ cond (is_open_at i row) (Some row) (open_at i rows)
     go true here true there rest =
-        absurd (apart (sym (same_number row.index j (second_of (is_open row) _ here)) ∙ same_number row.index i (second_of (is_open row) _ there)))
+        absurd (apart (sym (eqb-true row.index j (and_parts (is_open row) _ here).1) ∙ eqb-true row.index i (and_parts (is_open row) _ there).1))
     go true here false there rest =
         ap (λ b. cond b (Some new) (open_at i rows)) there ∙ sym (ap (λ b. cond b (Some row) (open_at i rows)) there)
     go false here t there rest = ap (cond (is_open_at i row) (Some row)) rest
@@ -196,13 +184,13 @@ story_after-create all key story made epoch size offset piece had =
         (cond (a && b) (cond t (Some (record { size = size; pieces = (offset, piece) ∷ [] })) None) story)
     go false out b e t f = had
     go true value_within false apart t f =
-        Tells-same all new key story (ap (open_at key.index) (rows_of-insert_other all made.oid _ key.oid (λ same. other_number made.oid key.oid apart (sym same)))) had
+        Tells-same all new key story (ap (open_at key.index) (rows_of-insert_other all made.oid _ key.oid (λ same. eqb-false made.oid key.oid apart (sym same)))) had
     go true value_within true same true this = (
       row,
-      here (same_number made.oid key.oid same) ∙ ap (λ b. cond b (Some row) None) this,
+      here (eqb-true made.oid key.oid same) ∙ ap (λ b. cond b (Some row) None) this,
       HasBytes-laid (record { size = size; pieces = [] }) (zeros size) offset piece (HasBytes-zeros size) (grind (arith, nat_tests)),
     )
-    go true value_within true same false other = here (same_number made.oid key.oid same) ∙ ap (λ b. cond b (Some row) None) other
+    go true value_within true same false other = here (eqb-true made.oid key.oid same) ∙ ap (λ b. cond b (Some row) None) other
 
 picked : {A : Type 0} → Bool → A → Result A StoreFault
 picked b there = cond b (Ok there) (Err OutOfObject)
@@ -268,15 +256,15 @@ module _ (all : AllRows) (key given : Key) (offset : ℕ) (piece : List ℕ) whe
 
   told_either : (story : Option Story) (a b : Bool) → nat_eq given.oid key.oid ≡ a → nat_eq given.index key.index ≡ b → Tells all key story
       → Tells (written_at (open_row all given)) key (cond (a && b) (with_piece offset piece story) story)
-  told_either story true true same this had = told_written story (same_number given.oid key.oid same) (same_number given.index key.index this) had
+  told_either story true true same this had = told_written story (eqb-true given.oid key.oid same) (eqb-true given.index key.index this) had
   told_either story true false same other had =
       Tells-same all (written_at (open_row all given)) key story
       (unseen (open_row all given)
-      (ap (open_at key.index) (rows_written (same_number given.oid key.oid same))
-      ∙ open-changed_other key.index given.index (λ bytes. laid_over bytes offset piece) (rows_of all key.oid) (other_number given.index key.index other))) had
+      (ap (open_at key.index) (rows_written (eqb-true given.oid key.oid same))
+      ∙ open-changed_other key.index given.index (λ bytes. laid_over bytes offset piece) (rows_of all key.oid) (eqb-false given.index key.index other))) had
   told_either story false b apart t had =
       Tells-same all (written_at (open_row all given)) key story
-      (unseen (open_row all given) (ap (open_at key.index) (rows_elsewhere (other_number given.oid key.oid apart)))) had
+      (unseen (open_row all given) (ap (open_at key.index) (rows_elsewhere (eqb-false given.oid key.oid apart)))) had
 
   told-write : (story : Option Story) → Tells all key story → Tells (rows_step all (Write given offset piece)) key (story_after key story (Write given offset piece))
   unfolding written_at wrote
@@ -373,12 +361,9 @@ Has-insert all oid rows q row had new = go (nat_eq oid q) refl
   where
     go : (b : Bool) → nat_eq oid q ≡ b → Has row (rows_of (tree.insert all oid rows) q)
     go true e =
-        let same : oid ≡ q = same_number oid q e in
+        let same : oid ≡ q = eqb-true oid q e in
         subst (λ k. Has row (rows_of (tree.insert all oid rows) k)) same (subst (Has row) (sym (rows_of-insert_same all oid rows)) (new same))
-    go false e = subst (Has row) (sym (rows_of-insert_other all oid rows q (λ same. other_number oid q e (sym same)))) had
-
-own_number : (a b : ℕ) → a ≡ b → nat_eq a b ≡ true
-own_number a b same = grind (arith, nat_tests)
+    go false e = subst (Has row) (sym (rows_of-insert_other all oid rows q (λ same. eqb-false oid q e (sym same)))) had
 
 pub row_stays : (all : AllRows) (call : Call) (oid : ℕ) (row : SeenRow) → touches call oid row ≡ false → Has row (rows_of all oid) → Has row (rows_of (rows_step all call) oid)
 row_stays all (Create key epoch size offset piece) oid row other had = go (nat_le (offset + length piece) size)
@@ -388,7 +373,7 @@ row_stays all (Create key epoch size offset piece) oid row other had = go (nat_l
 
     go : (b : Bool) → Has row (rows_of (result_unwrap_or (cond b (Ok (tree.insert all key.oid rows)) (Err OutOfObject)) all) oid)
     go true = Has-insert all key.oid rows oid row had (λ same.
-        let shut : is_open row ≡ false = ap (λ b. b && is_open row) (sym (own_number key.oid oid same)) ∙ other in
+        let shut : is_open row ≡ false = ap (λ b. b && is_open row) (sym (eq-eqb key.oid oid same)) ∙ other in
         Has-append row (ended epoch (rows_of all key.oid)) _
         (Has-map (closed (epoch - 1)) row _ (closed-same (epoch - 1) row shut)
         (Has-filter (λ r. not (is_replaced epoch r)) row (rows_of all key.oid) (ap (λ b. not (b && nat_eq row.from.0 epoch)) shut)
@@ -401,7 +386,7 @@ row_stays all (Write key offset piece) oid row other had = go (open_row all key)
 
     wrote : Has row (rows_of (tree.insert all key.oid rows) oid)
     wrote = Has-insert all key.oid rows oid row had (λ same.
-        Has-changed (is_open_at key.index) _ row (rows_of all key.oid) (ap (λ b. b && is_open_at key.index row) (sym (own_number key.oid oid same)) ∙ other)
+        Has-changed (is_open_at key.index) _ row (rows_of all key.oid) (ap (λ b. b && is_open_at key.index row) (sym (eq-eqb key.oid oid same)) ∙ other)
         (subst (λ k. Has row (rows_of all k)) (sym same) had))
 
     pick : (b : Bool) → Has row (rows_of (result_unwrap_or (cond b (Ok (tree.insert all key.oid rows)) (Err OutOfObject)) all) oid)

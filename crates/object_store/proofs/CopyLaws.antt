@@ -1,8 +1,10 @@
 -- Which row is an object's at a level, and what a copy has of a row's bytes.
 use Rattle.std.proofs.Common.{◌≡◌, ◌≢◌, ◌⊎◌, inl, inr, ℕ, suc, ◌-◌, ◌<◌, ◌≤◌, Bool, true, false, ◌&&◌, cond, nat_eq, List, [], ◌∷◌, ◌++◌, length, drop, get_or, fold, Option, None, Some, unwrap_or, refl, ap, sym, ◌∙◌, subst, arith}
-use Rattle.std.proofs.lemmas.Bool.{leb-true, leb-false}
+use Rattle.std.proofs.lemmas.Bool.{leb-true, leb-false, and_parts, eqb-true}
 use Rattle.std.proofs.lemmas.Bool.Decides.{nat_tests}
 use Rattle.std.specs.List.{AllByRecursion}
+use Rattle.std.proofs.Math.Bool.{and-true}
+use Rattle.std.proofs.lemmas.List.{nil_from_length}
 use Rattle.object_store.specs.declared.row.Row.{Row}
 use Rattle.object_id.specs.Fields.{zeros}
 use Rattle.object_store.specs.Bytes.{trimmed_bytes}
@@ -11,10 +13,6 @@ use Rattle.object_store.specs.Rows.{holds, is_no_later, better, row_holding, IsR
 both : (a b : Bool) → (a && b) ≡ false → a ≡ true → b ≡ false
 both true b is held = is
 both false b is held = absurd (cc held)
-
-first_of : (a b : Bool) → (a && b) ≡ true → (a ≡ true) × (b ≡ true)
-first_of true b is = (refl, is)
-first_of false b is = absurd (cc is)
 
 module _ {B : Type 0} (level : ℕ) where
   -- the row stands in the list as the one at the level, and is from no earlier epoch than the best so far
@@ -43,10 +41,10 @@ module _ {B : Type 0} (level : ℕ) where
       taken : (holds level x && is_no_later best x) ≡ true → Stays (Some x) rows row ⊎ Stands (Some x) rows row → Stays best (x ∷ rows) row ⊎ Stands best (x ∷ rows) row
       taken test (inl stays) =
           let same : x ≡ row = ap (λ o. unwrap_or o x) stays.0 in
-          let held = first_of (holds level x) (is_no_later best x) test in
+          let held = and_parts (holds level x) (is_no_later best x) test in
           inr (([], rows, ap (λ r. r ∷ rows) same, subst (λ r. holds level r ≡ true) same held.0, tt, stays.1), subst (λ r. is_no_later best r ≡ true) same held.1)
       taken test (inr stands) =
-          let held = first_of (holds level x) (is_no_later best x) test in
+          let held = and_parts (holds level x) (is_no_later best x) test in
           let le : x.from.0 ≤ row.from.0 = leb-true x.from.0 row.from.0 stands.1 in
           let at = stands.0 in
           inr ((x ∷ at.0, at.1, ap (λ rs. x ∷ rs) at.2, at.3, (λ _. le, at.4), at.5), later best x row held.1 le)
@@ -84,25 +82,17 @@ module _ {B : Type 0} (level : ℕ) where
   none_of [] best is = (is, tt)
   none_of (x ∷ rows) best is = go (none_of rows) (holds level x && is_no_later best x) refl is
     where
-      alone : (b : Bool) → (b && true) ≡ false → b ≡ false
-      alone true is = is
-      alone false is = refl
-
       go : ((b : Option (Row B)) → fold (better level) b rows ≡ None → (b ≡ None) × AllByRecursion (λ r. holds level r ≡ false) rows)
           → (t : Bool) → (holds level x && is_no_later best x) ≡ t → fold (better level) (cond t (Some x) best) rows ≡ None → (best ≡ None) × AllByRecursion (λ r. holds level r ≡ false) (x ∷ rows)
       go rest true test is' = let none = rest (Some x) is' in absurd (cc none.0)
       go rest false test is' =
           let none = rest best is' in
-          (none.0, (alone (holds level x) (subst (λ o. (holds level x && is_no_later o x) ≡ false) none.0 test), none.1))
+          (none.0, (sym (and-true (holds level x)) ∙ (subst (λ o. (holds level x && is_no_later o x) ≡ false) none.0 test), none.1))
 
   pub row_at-none : (rows : List (Row B)) → row_holding level rows ≡ None → AllByRecursion (λ r. holds level r ≡ false) rows
   row_at-none rows is = (none_of rows None is).1
 
 -- ---- bytes up to the last that isn't 0
-
-nothing : (bytes : List ℕ) → nat_eq (length bytes) 0 ≡ true → bytes ≡ []
-nothing [] is = refl
-nothing (byte ∷ bytes) is = absurd (grind (arith, nat_tests))
 
 abbrev Padded : List ℕ → Type 0
 Padded bytes = trimmed_bytes bytes ++ zeros (length bytes - length (trimmed_bytes bytes)) ≡ bytes
@@ -120,7 +110,7 @@ trimmed_bytes-padded (byte ∷ bytes) = go (trimmed_bytes-padded bytes) (nat_eq 
     go : Padded bytes → (z e : Bool) → nat_eq byte 0 ≡ z → nat_eq (length (trimmed_bytes bytes)) 0 ≡ e
         → cond (z && e) [] (byte ∷ trimmed_bytes bytes) ++ zeros (length (byte ∷ bytes) - length (cond (z && e) [] (byte ∷ trimmed_bytes bytes))) ≡ byte ∷ bytes
     go rest true true is_zero none =
-        let nil : trimmed_bytes bytes ≡ [] = nothing (trimmed_bytes bytes) none in
+        let nil : trimmed_bytes bytes ≡ [] = nil_from_length (trimmed_bytes bytes) (eqb-true (length (trimmed_bytes bytes)) 0 none) in
         let whole : length bytes - 0 ≡ length bytes = omega arith in
         let more : length (byte ∷ bytes) - 0 ≡ suc (length bytes) = omega arith in
         let all : zeros (length bytes) ≡ bytes = ap zeros (sym whole) ∙ subst (λ t. t ++ zeros (length bytes - length t) ≡ bytes) nil rest in

@@ -8,12 +8,9 @@ use Rattle.std.proofs.lemmas.Bool.Decides.{eqb_tells}
 use Rattle.std.proofs.lemmas.List.{take-append-drop, get_or-take, get_or-drop, length-take-le, length-drop, take_all}
 use Rattle.std.proofs.lemmas.List.Elements.{All-from_all_within}
 use Rattle.std.proofs.lemmas.List.Folds.{list_any-append, list_any_none}
+use Rattle.std.proofs.Math.Bool.{or-false}
 use Rattle.object_store.specs.declared.key.Key.{Key}
 use Rattle.object_store.specs.Rows.{is_kept}
-
-or_false : (b : Bool) → b ≡ (b || false)
-or_false true = refl
-or_false false = refl
 
 module _ {X : Type 0} (p : X → Bool) where
   abbrev Fails : X → Type 0
@@ -34,7 +31,7 @@ module _ {X : Type 0} (p : X → Bool) where
       let rest : All Fails (drop n xs) = All-from_all_within Fails (drop n xs) (λ k d low high.
       let below : k < length xs - n = subst (λ m. k < m) (length-drop n xs) high in
       subst Fails (sym (get_or-drop n xs k d)) (fail (n + k) d (omega arith) (omega arith))) in
-      or_false (list_any p (take n xs)) ∙ ap (λ b. list_any p (take n xs) || b) (sym (list_any_none p (drop n xs) rest))
+      sym (or-false (list_any p (take n xs))) ∙ ap (λ b. list_any p (take n xs) || b) (sym (list_any_none p (drop n xs) rest))
       ∙ sym (list_any-append p (take n xs) (drop n xs)) ∙ ap (list_any p) (take-append-drop n xs)
 
 other_object : (a b : ℕ) (c : Bool) → a ≢ b → (nat_eq a b && c) ≡ false

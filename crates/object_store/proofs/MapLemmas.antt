@@ -12,77 +12,9 @@ use Rattle.std.specs.FinMap as tree
 use Rattle.std.specs.FinMap.Entries.{below_all, by_order, find, put, is_sorted}
 use Rattle.std.proofs.lemmas.Map.Keys.{sorted_head, sorted_tail}
 use Rattle.std.proofs.lemmas.Bool.Decides.{nat_tests}
+use Rattle.proof_tools.proofs.FiniteMaps.{is_at-true, less_from_test}
+use Rattle.proof_tools.proofs.Booleans.{T_and_left, T_and_right}
 use Rattle.object_store.specs.Store.{with_rows, each_entry}
-
-eq_from : (r : Ordering) → is_eq r ≡ true → r ≡ Equal
-eq_from Less e = absurd (cc)
-eq_from Equal e = refl
-eq_from Greater e = absurd (cc)
-
-less_from : (r : Ordering) → T (is_lt r) → r ≡ Less
-less_from Less h = refl
-less_from Equal h = absurd h
-less_from Greater h = absurd h
-
-both : (a b : Bool) → T a → T b → T (a && b)
-both true b p q = q
-both false b p q = absurd p
-
-first : (a b : Bool) → T (a && b) → T a
-first true b p = tt
-first false b p = absurd p
-
-second : (a b : Bool) → T (a && b) → T b
-second true b p = p
-second false b p = absurd p
-
-pub same_key : (a b : ℕ) → is_at (nat_cmp a) b ≡ true → a ≡ b
-same_key a b e = tree.nat_cmp-IsAntisymmetric a b (eq_from (nat_cmp a b) e)
-
-pub own_key : (a : ℕ) → is_at (nat_cmp a) a ≡ true
-own_key a = ap is_eq (tied_itself nat_cmp_total a)
-
-pub other_key : (a b : ℕ) → b ≢ a → is_at (nat_cmp a) b ≡ false
-other_key a b apart = go (is_at (nat_cmp a) b) refl
-  where
-    go : (t : Bool) → is_at (nat_cmp a) b ≡ t → is_at (nat_cmp a) b ≡ false
-    go true e = absurd (apart (sym (same_key a b e)))
-    go false e = e
-
-pub turned_key : (a b : ℕ) → is_at (nat_cmp a) b ≡ is_at (nat_cmp b) a
-turned_key a b = (eq_by_cmp_equiv nat_cmp_total).symm a b
-
-module _ {V : Type 0} where
-  pub find-lookup : (q : ℕ) (es : List (ℕ × V)) → find nat_cmp q es ≡ lookup (is_at (nat_cmp q)) es
-  find-lookup q [] = refl
-  find-lookup q (e ∷ es) = ap (cond (is_eq (nat_cmp q e.0)) (Some e.1)) (find-lookup q es)
-
-  below_from : (x : ℕ) (es : List (ℕ × V)) → AllByRecursion (λ y. nat_cmp x y ≡ Less) (keys_of es) → T (below_all nat_cmp x es)
-  below_from x [] below = tt
-  below_from x (e ∷ es) below =
-      both _ _ (subst (λ r. T (is_lt r)) (sym below.0) tt) (below_from x es below.1)
-
-  -- a map's entries are in the order of their keys
-  pub sorted_from : (es : List (ℕ × V)) → IsStrictlySortedBy nat_cmp (keys_of es) → T (is_sorted nat_cmp es)
-  sorted_from [] sorted = tt
-  sorted_from (e ∷ es) sorted =
-      both _ _ (below_from e.0 es (sorted_head nat_cmp e.0 (keys_of es) sorted)) (sorted_from es (sorted_tail nat_cmp e.0 (keys_of es) sorted))
-
-  put_below : (k : ℕ) (v : V) (es : List (ℕ × V)) → T (below_all nat_cmp k es) → put nat_cmp k v es ≡ (k, v) ∷ es
-  put_below k v [] below = refl
-  put_below k v (e ∷ es) below =
-      ap (λ r. by_order r ((k, v) ∷ e ∷ es) ((e.0, v) ∷ es) (e ∷ put nat_cmp k v es)) (less_from _ (first _ _ below))
-
-  pub entries-from_entries : (es : List (ℕ × V)) → T (is_sorted nat_cmp es) → tree.entries (tree.from_entries {R = nat_cmp} es) ≡ es
-  entries-from_entries [] sorted = none_there (tree.entries tree.empty) (sym (tree.len-entries tree.empty) ∙ tree.len-empty nat_cmp V)
-    where
-      none_there : (fs : List (ℕ × V)) → length fs ≡ 0 → fs ≡ []
-      none_there [] none = refl
-      none_there (f ∷ fs) none = absurd (omega arith)
-  entries-from_entries (e ∷ es) sorted =
-      tree.entries-insert nat_cmp_total (tree.from_entries es) e.0 e.1
-      ∙ ap (put nat_cmp e.0 e.1) (entries-from_entries es (second _ _ sorted))
-      ∙ put_below e.0 e.1 es (first _ _ sorted)
 
 -- the rows of an object in a list of entries
 abbrev pub rows_at : {B : Type 0} → List (ℕ × List B) → ℕ → List B
@@ -117,8 +49,8 @@ module _ {B : Type 0} where
   none_below : (change : ℕ → List B → List B) (q : ℕ) (es : List (ℕ × List B)) → T (below_all nat_cmp q es) → rows_at (each_entry change es) q ≡ []
   none_below change q [] below = refl
   none_below change q (e ∷ es) below =
-      skipped e.0 q (change e.0 e.1) (each_entry change es) (ap is_eq (less_from _ (first _ _ below)))
-      ∙ none_below change q es (second _ _ below)
+      skipped e.0 q (change e.0 e.1) (each_entry change es) (ap is_eq (less_from_test _ (T_and_left _ _ below)))
+      ∙ none_below change q es (T_and_right _ _ below)
 
   here : (oid q : ℕ) (rows : List B) (es : List (ℕ × List B)) → is_eq (nat_cmp q oid) ≡ true → rows_at es q ≡ [] → rows_at (with_rows oid rows es) q ≡ rows
   here oid q [] es at none = none
@@ -129,14 +61,14 @@ module _ {B : Type 0} where
       → rows_at (each_entry change es) q ≡ change q (rows_at es q)
   rows_at-each_entry change q none [] sorted = sym none
   rows_at-each_entry change q none (e ∷ es) sorted =
-      go (is_eq (nat_cmp q e.0)) refl (rows_at-each_entry change q none es (second _ _ sorted))
+      go (is_eq (nat_cmp q e.0)) refl (rows_at-each_entry change q none es (T_and_right _ _ sorted))
     where
       go : (t : Bool) → is_eq (nat_cmp q e.0) ≡ t → rows_at (each_entry change es) q ≡ change q (rows_at es q)
           → rows_at (each_entry change (e ∷ es)) q ≡ change q (unwrap_or (cond (is_eq (nat_cmp q e.0)) (Some e.1) (lookup (is_at (nat_cmp q)) es)) [])
       go true at rest =
-          let same : q ≡ e.0 = same_key q e.0 at in
+          let same : q ≡ e.0 = is_at-true q e.0 at in
           here e.0 q (change e.0 e.1) (each_entry change es) at
-          (none_below change q es (subst (λ k. T (below_all nat_cmp k es)) (sym same) (first _ _ sorted)))
+          (none_below change q es (subst (λ k. T (below_all nat_cmp k es)) (sym same) (T_and_left _ _ sorted)))
           ∙ ap (λ k. change k e.1) (sym same)
           ∙ sym (ap (λ t. change q (unwrap_or (cond t (Some e.1) (lookup (is_at (nat_cmp q)) es)) [])) at)
       go false at rest =

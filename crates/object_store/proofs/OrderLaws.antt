@@ -6,6 +6,7 @@ use Rattle.std.specs.Map.{lookup}
 use Rattle.std.specs.BTreeMap.{is_at}
 use Rattle.std.specs.FinMap as tree
 use Rattle.std.specs.Result.{result_unwrap_or}
+use Rattle.proof_tools.proofs.FiniteMaps.{find-lookup}
 use Rattle.object_id.specs.Oid.{vid_of}
 use Rattle.object_store.specs.declared.key.Key.{Key}
 use Rattle.object_store.specs.declared.fault.StoreFault.TheVariants.{OutOfObject}
@@ -14,7 +15,6 @@ use Rattle.object_store.specs.Store.{SeenRow, AllRows, rows_of, open_row, on_ope
 use Rattle.object_store.specs.Calls.{Call, Create, Write, Advance, CloseAll, PurgeBelow, DropVid, rows_step, rows_after}
 use Rattle.object_store.proofs.RowLemmas.{closed_all-closed, orderly_closed, orderly_created, orderly_filter}
 use Rattle.object_store.proofs.RoomLemmas.{without_disk-none}
-use Rattle.object_store.proofs.MapLemmas.{find-lookup}
 use Rattle.object_store.proofs.StoreLaws.{rows_of-empty, rows_of-insert, rows_of-each}
 
 orderly_changed : (test : SeenRow → Bool) (change : List ℕ → List ℕ) (rows : List SeenRow) → IsOrderly rows → IsOrderly (changed test change rows)

@@ -2,12 +2,13 @@
 use Rattle.std.proofs.Common.{◌≡◌, ℕ, ◌+◌, Bool, true, false, cond, List, [], ◌∷◌, map, Option, Some, None, unwrap_or, refl, ap, sym, ◌∙◌, subst}
 use Rattle.std.specs.Option.{option_map}
 use Rattle.std.specs.Ordering.{is_eq, nat_cmp}
-use Rattle.std.specs.Cmp.{nat_cmp_total}
+use Rattle.std.specs.Cmp.{nat_cmp_total, eq_by_cmp_equiv}
 use Rattle.std.specs.List.Sorted.{IsStrictlySortedBy}
 use Rattle.std.specs.Map.{lookup, keys_of}
 use Rattle.std.specs.BTreeMap.{is_at}
 use Rattle.std.specs.FinMap as tree
 use Rattle.std.specs.FinMap.Entries.{find}
+use Rattle.proof_tools.proofs.FiniteMaps.{is_at-true, is_at-same, is_at-other, is_sorted-from_keys, entries-from_entries}
 use Rattle.object_store.specs.declared.key.Key.{Key}
 use Rattle.object_store.specs.declared.row.Row.{Row}
 use Rattle.object_store.specs.Bytes.{KeptBytes}
@@ -16,7 +17,7 @@ use Rattle.object_store.specs.Store.{SeenRow, rows_of, open_row, with_rows, each
 use Rattle.object_store.specs.Answers.{KeepsRoom, KeepsOtherRoom}
 use Rattle.object_store.specs.KeptRows.{seen_row, RoomIn, KeepsRowRoom}
 use Rattle.object_store.specs.Plain.{Objects, seen_entry, seen_rows, kept_of, HasRoomIn, IsPut}
-use Rattle.object_store.proofs.MapLemmas.{same_key, own_key, other_key, turned_key, sorted_from, entries-from_entries, rows_at-each_entry}
+use Rattle.object_store.proofs.MapLemmas.{rows_at-each_entry}
 use Rattle.object_store.proofs.SeenLemmas.{seen_row-open_at}
 
 find-seen_row : (q : ℕ) (es : Objects) → find nat_cmp q (map seen_entry es) ≡ option_map (map seen_row) (lookup (is_at (nat_cmp q)) es)
@@ -46,7 +47,7 @@ kept_of-found es oid rows found = ap (λ o. unwrap_or o []) found
 
 put-here : (es fs : Objects) (oid : ℕ) (rows : List (Row KeptBytes)) → IsPut es fs oid rows → kept_of fs oid ≡ rows
 put-here es fs oid rows put =
-    ap (λ o. unwrap_or o []) (put oid ∙ ap (λ b. cond b (Some rows) (lookup (is_at (nat_cmp oid)) es)) (own_key oid))
+    ap (λ o. unwrap_or o []) (put oid ∙ ap (λ b. cond b (Some rows) (lookup (is_at (nat_cmp oid)) es)) (is_at-same oid))
 
 put-other : (es fs : Objects) (oid q : ℕ) (rows : List (Row KeptBytes)) → IsPut es fs oid rows → is_at (nat_cmp oid) q ≡ false → kept_of fs q ≡ kept_of es q
 put-other es fs oid q rows put other =
@@ -64,7 +65,7 @@ one_put es fs oid rows put = tree.same_map nat_cmp_total tree.nat_cmp-IsAntisymm
     at q =
         get-seen_rows fs q ∙ ap (option_map (map seen_row)) (put q) ∙ choice (is_at (nat_cmp oid) q) (lookup (is_at (nat_cmp q)) es)
         ∙ sym (tree.get-insert nat_cmp_total (seen_rows es) oid (map seen_row rows) q
-        ∙ ap (λ b. cond b (Some (map seen_row rows)) (tree.get (seen_rows es) q)) (turned_key q oid)
+        ∙ ap (λ b. cond b (Some (map seen_row rows)) (tree.get (seen_rows es) q)) ((eq_by_cmp_equiv nat_cmp_total).symm q oid)
         ∙ ap (cond (is_at (nat_cmp oid) q) (Some (map seen_row rows))) (get-seen_rows es q))
 
 -- rows that are seen as those before are put in their place
@@ -74,7 +75,7 @@ put_unseen es fs oid rows old put found same = tree.same_map nat_cmp_total tree.
   where
     choice : (q : ℕ) (b : Bool) → is_at (nat_cmp oid) q ≡ b
         → option_map (map seen_row) (cond b (Some rows) (lookup (is_at (nat_cmp q)) es)) ≡ option_map (map seen_row) (lookup (is_at (nat_cmp q)) es)
-    choice q true here = ap Some same ∙ ap (option_map (map seen_row)) (sym found ∙ ap (λ k. lookup (is_at (nat_cmp k)) es) (same_key oid q here))
+    choice q true here = ap Some same ∙ ap (option_map (map seen_row)) (sym found ∙ ap (λ k. lookup (is_at (nat_cmp k)) es) (is_at-true oid q here))
     choice q false other = refl
 
     at : (q : ℕ) → tree.get (seen_rows fs) q ≡ tree.get (seen_rows es) q
@@ -87,7 +88,7 @@ KeepsRoom-put es fs oid rows put keeps key offset n had = go (is_at (nat_cmp oid
   where
     go : (b : Bool) → is_at (nat_cmp oid) key.oid ≡ b → HasRoomIn fs key offset n
     go true here =
-        let same : oid ≡ key.oid = same_key oid key.oid here in
+        let same : oid ≡ key.oid = is_at-true oid key.oid here in
         let new : kept_of fs key.oid ≡ rows = ap (kept_of fs) (sym same) ∙ put-here es fs oid rows put in
         subst (λ rs. RoomIn (open_at key.index rs) (offset + n)) (sym new)
         (keeps key.index (offset + n) (subst (λ k. RoomIn (open_at key.index (kept_of es k)) (offset + n)) (sym same) had))
@@ -95,7 +96,7 @@ KeepsRoom-put es fs oid rows put keeps key offset n had = go (is_at (nat_cmp oid
 
 pub KeepsOtherRoom-put : (es fs : Objects) (oid : ℕ) (rows : List (Row KeptBytes)) → IsPut es fs oid rows → KeepsOtherRoom oid (HasRoomIn es) (HasRoomIn fs)
 KeepsOtherRoom-put es fs oid rows put key offset n apart had =
-    subst (λ rs. RoomIn (open_at key.index rs) (offset + n)) (sym (put-other es fs oid key.oid rows put (other_key oid key.oid apart))) had
+    subst (λ rs. RoomIn (open_at key.index rs) (offset + n)) (sym (put-other es fs oid key.oid rows put (is_at-other oid key.oid (λ same. apart (sym same))))) had
 
 pub HasRoomIn-put : (es fs : Objects) (key : Key) (rows : List (Row KeptBytes)) (end : ℕ) → IsPut es fs key.oid rows → RoomIn (open_at key.index rows) end
     → RoomIn (open_at key.index (kept_of fs key.oid)) end
@@ -107,7 +108,7 @@ keys-seen_row (e ∷ es) = ap (λ ks. e.0 ∷ ks) (keys-seen_row es)
 
 pub entries-seen_rows : (es : Objects) → IsStrictlySortedBy nat_cmp (keys_of es) → tree.entries (seen_rows es) ≡ map seen_entry es
 entries-seen_rows es sorted =
-    entries-from_entries (map seen_entry es) (sorted_from (map seen_entry es) (subst (IsStrictlySortedBy nat_cmp) (sym (keys-seen_row es)) sorted))
+    entries-from_entries (map seen_entry es) (is_sorted-from_keys (map seen_entry es) (subst (IsStrictlySortedBy nat_cmp) (sym (keys-seen_row es)) sorted))
 
 pub keys-seen_rows : (es : Objects) → IsStrictlySortedBy nat_cmp (keys_of es) → tree.keys (seen_rows es) ≡ keys_of es
 keys-seen_rows es sorted = ap keys_of (entries-seen_rows es sorted) ∙ keys-seen_row es
@@ -135,5 +136,5 @@ pub KeepsRoom-each_entry : (change : ℕ → List (Row KeptBytes) → List (Row 
     → ((oid : ℕ) (rows : List (Row KeptBytes)) → KeepsRowRoom rows (change oid rows))
     → (es : Objects) → IsStrictlySortedBy nat_cmp (keys_of es) → KeepsRoom (HasRoomIn es) (HasRoomIn (each_entry change es))
 KeepsRoom-each_entry change none keeps es sorted key offset n had =
-    subst (λ rs. RoomIn (open_at key.index rs) (offset + n)) (sym (rows_at-each_entry change key.oid (none key.oid) es (sorted_from es sorted)))
+    subst (λ rs. RoomIn (open_at key.index rs) (offset + n)) (sym (rows_at-each_entry change key.oid (none key.oid) es (is_sorted-from_keys es sorted)))
     (keeps key.oid (kept_of es key.oid) key.index (offset + n) had)

@@ -1,6 +1,7 @@
 -- What closing, purging and dropping rows, and laying a piece over one, leave of the open row of an index.
 use Rattle.std.proofs.Common.{◌≡◌, ℕ, ◌-◌, Bool, true, false, not, cond, ◌&&◌, nat_eq, List, [], ◌∷◌, Option, Some, None, is_some, refl, ap, sym, ◌∙◌, subst, arith}
 use Rattle.std.proofs.lemmas.Bool.Decides.{nat_tests}
+use Rattle.std.proofs.lemmas.Bool.{eqb-true, and_parts}
 use Rattle.object_id.specs.Oid.{vid_of}
 use Rattle.object_id.specs.declared.node.Epoch.{Epoch}
 use Rattle.object_store.specs.declared.key.Key.{Key}
@@ -9,13 +10,6 @@ use Rattle.object_store.specs.Bytes.{KeptBytes}
 use Rattle.object_store.specs.Rows.{is_open, is_open_at, open_at, closed, closed_all, is_kept, advanced, purged, has_ended_below, without_disk}
 use Rattle.object_store.specs.KeptRows.{RoomIn, KeepsRowRoom, lay, rows_with_piece}
 use Rattle.object_store.proofs.RowLemmas.{AllClosed, closed_all-closed}
-
-same_number : (a b : ℕ) → nat_eq a b ≡ true → a ≡ b
-same_number a b e = grind (arith, nat_tests)
-
-both_true : (a b : Bool) → (a && b) ≡ true → b ≡ true
-both_true true b e = e
-both_true false b e = absurd (cc)
 
 module _ {B : Type 0} where
   pub open-none : (index : ℕ) (rows : List (Row B)) → AllClosed rows → open_at index rows ≡ None
@@ -57,7 +51,7 @@ module _ {B : Type 0} where
       all = is_kept keeps oid index
 
       found : is_open_at index row ≡ true → is_kept keeps oid row.index ≡ all
-      found e = ap (is_kept keeps oid) (same_number row.index index (both_true (is_open row) _ e))
+      found e = ap (is_kept keeps oid) (eqb-true row.index index (and_parts (is_open row) _ e).1)
 
       shut : open_at index (closed (next - 1) row ∷ advanced keeps next oid rows) ≡ rest
       shut = ap (λ b. cond (b && nat_eq (closed (next - 1) row).index index) (Some (closed (next - 1) row)) rest) (is_open-closed (next - 1) row)

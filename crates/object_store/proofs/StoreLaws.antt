@@ -4,6 +4,7 @@ use Rattle.std.specs.Ordering.{nat_cmp}
 use Rattle.std.specs.Cmp.{nat_cmp_total}
 use Rattle.std.specs.BTreeMap.{is_at}
 use Rattle.std.specs.FinMap as tree
+use Rattle.proof_tools.proofs.FiniteMaps.{is_at-same, is_at-other, find-lookup}
 use Rattle.object_id.specs.Oid.{vid_of}
 use Rattle.object_store.specs.declared.key.Key.{Key}
 use Rattle.object_store.specs.declared.row.Row.{Row}
@@ -14,7 +15,7 @@ use Rattle.object_store.specs.Store.{SeenRow, AllRows, rows_of, open_row, on_ope
 use Rattle.object_store.specs.Answers.{Makes, MakesSurely}
 use Rattle.object_store.proofs.RowLemmas.{AllClosed, closed_all-closed}
 use Rattle.object_store.proofs.RoomLemmas.{without_disk-none}
-use Rattle.object_store.proofs.MapLemmas.{own_key, other_key, find-lookup, rows_at-each_entry}
+use Rattle.object_store.proofs.MapLemmas.{rows_at-each_entry}
 
 -- ---- the rows of one object after a change of one, or of each
 
@@ -29,11 +30,11 @@ pub rows_of-insert : (all : AllRows) (oid : ℕ) (rows : List SeenRow) (q : ℕ)
 rows_of-insert all oid rows q = ap (λ o. unwrap_or o []) (tree.get-insert nat_cmp_total all oid rows q) ∙ or_none (is_at (nat_cmp q) oid) rows (tree.get all q)
 
 pub rows_of-insert_same : (all : AllRows) (oid : ℕ) (rows : List SeenRow) → rows_of (tree.insert all oid rows) oid ≡ rows
-rows_of-insert_same all oid rows = rows_of-insert all oid rows oid ∙ ap (λ b. cond b rows (rows_of all oid)) (own_key oid)
+rows_of-insert_same all oid rows = rows_of-insert all oid rows oid ∙ ap (λ b. cond b rows (rows_of all oid)) (is_at-same oid)
 
 pub rows_of-insert_other : (all : AllRows) (oid : ℕ) (rows : List SeenRow) (q : ℕ) → q ≢ oid → rows_of (tree.insert all oid rows) q ≡ rows_of all q
 rows_of-insert_other all oid rows q apart =
-    rows_of-insert all oid rows q ∙ ap (λ b. cond b rows (rows_of all q)) (other_key q oid (λ same. apart (sym same)))
+    rows_of-insert all oid rows q ∙ ap (λ b. cond b rows (rows_of all q)) (is_at-other q oid apart)
 
 pub rows_of-each : (change : ℕ → List SeenRow → List SeenRow) (all : AllRows) (q : ℕ) → change q [] ≡ [] → rows_of (each change all) q ≡ change q (rows_of all q)
 unfolding each

@@ -2,14 +2,14 @@ ghost use Rattle.std.specs.Prelude.{◌≡◌, ◌↔◌, ◌-◌, ◌<◌, List
 ghost use Rattle.std.specs.List.Sorted.{IsStrictlyIncreasing};
 ghost use Rattle.std.specs.Option.{option_copied};
 
-use object_id::{NoMemory, Oid};
+use object_id::{Items, NoMemory, Oid};
 use std::alloc::Global;
 use std::marker::Model;
 
 /// Object ids, ascending and without repeats.
 #[derive(Debug, Drop)]
 pub struct OidList {
-    items: Vec<Oid>,
+    items: Items<Oid>,
 }
 
 impl Model for OidList {
@@ -18,9 +18,9 @@ impl Model for OidList {
 
     ghost Value = { List ℕ };
 
-    ghost view = { λ s. s.items.items };
+    ghost view = { λ s. s.items };
 
-    ghost invariant = { λ s. IsStrictlyIncreasing s.items.items };
+    ghost invariant = { λ s. IsStrictlyIncreasing s.items };
 }
 
 impl OidList {
@@ -29,7 +29,7 @@ impl OidList {
         ensures { result ≡ [] }
     {
         OidList {
-            items: Vec::new(alloc),
+            items: Items::new(alloc),
         }
     }
 
@@ -38,7 +38,9 @@ impl OidList {
         requires { IsStrictlyIncreasing items.items }
         ensures { result ≡ items.items }
     {
-        OidList { items }
+        OidList {
+            items: Items::from_vec(items),
+        }
     }
 
     /// Adds an id that is greater than the last one. Without memory the list stays.
@@ -47,8 +49,7 @@ impl OidList {
         ensures ok { OnOk result (self.new ≡ self.old ++ oid ∷ []) }
         ensures err { OnErr result (self.new ≡ self.old) }
     {
-        self.items.push(oid)?;
-        Ok(())
+        self.items.push(oid)
     }
 
     pub fn len(&self) -> usize
@@ -67,7 +68,7 @@ impl OidList {
     pub fn get(&self, k: usize) -> Option<&Oid>
         ensures { option_copied result ≡ slice_get self.now k }
     {
-        self.items.as_slice().get(k)
+        self.items.get(k)
     }
 
     pub fn as_slice(&self) -> &[Oid]
@@ -81,7 +82,7 @@ impl OidList {
         ensures { IfOk result (λ copy. copy ≡ self.now) }
     {
         Ok(OidList {
-            items: Vec::from_slice(alloc, self.items.as_slice())?,
+            items: self.items.copy(alloc)?,
         })
     }
 }

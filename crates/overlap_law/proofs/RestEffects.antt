@@ -2,6 +2,7 @@
 use Rattle.std.proofs.Common.{◌≡◌, ◌≢◌, ⊎_elim, ℕ, ◌-◌, Bool, true, false, cond, List, Option, Some, None, Result, Ok, Err, refl, sym, ap, ◌∙◌, subst}
 use Rattle.std.specs.FinMap as tree
 use Rattle.std.proofs.lemmas.Bool.{and_right}
+use Rattle.proof_tools.proofs.FiniteMaps.{get-insert_cases}
 use Rattle.object_id.specs.declared.node.NodeId.{NodeId}
 use Rattle.cluster_script.specs.declared.statement.Statement.{Statement}
 use Rattle.cluster_script.specs.Sessions.{ScriptSession, session_numbered}
@@ -17,7 +18,7 @@ use Rattle.sheep_node.specs.State as nodes
 use Rattle.sheep_node.specs.State.{Node}
 use Rattle.sheep_node.specs.RecoveryView.{recovery_state_of}
 use Rattle.sheep_node.specs.Step.{is_due, node_step}
-use Rattle.sheep_node.proofs.SoundSteps.{stepped_puts}
+use Rattle.sheep_node.proofs.StepResults.{step_not_due}
 use Rattle.sheep_world.specs.declared.name.MessageName.{MessageName}
 use Rattle.sheep_world.specs.World.{Packet, Request, Reply, Host, World, host_at, is_up, message_at, are_ends_up}
 use Rattle.sheep_world.specs.NodeSteps.{host_stepped, node_stepped, node_stepped_if, at_rest}
@@ -25,7 +26,6 @@ use Rattle.sheep_world.specs.Conditions.{next_request}
 use Rattle.sheep_world.specs.Effects.{request_started, requests_started, guest_begun, next_input, gateway_node_stepped, guest_effect}
 use Rattle.sheep_world.specs.Messages.{without_message, with_reply_packet, request_got, request_delivered, reply_got, reply_delivered, delivered_as, loss_used, message_lost}
 use Rattle.sheep_world.specs.MembershipChanges.{host_changed}
-use Rattle.sheep_world.proofs.InFlightEvents.{got_insert}
 use Rattle.overlap_law.specs.Words.{Hosts}
 
 -- no node has a `Recovered` due
@@ -36,13 +36,13 @@ pub rested-insert : (hosts : Hosts) (n : ℕ) (host : Host) → AreRested hosts 
 rested-insert hosts n host rested here q found got = ⊎_elim
     (λ (same : (q ≡ n) × (host ≡ found)). subst (λ (s : Host). is_due s.node ≡ false) same.1 here)
     (λ (other : (q ≢ n) × (tree.get hosts q ≡ Some found)). rested q found other.1)
-    (got_insert hosts n host q found got)
+    (get-insert_cases hosts n host q found got)
 
 host-rested : (script : List Statement) (n : ℕ) (input : Input) (o : Option Host) (world : World) → AreRested world.hosts
     → AreRested (host_stepped script n input o world).hosts
 host-rested script n input None world rested = rested
 host-rested script n input (Some host) world rested =
-    rested-insert world.hosts n (record host { node = (node_step input host.node).node }) rested (stepped_puts input host.node)
+    rested-insert world.hosts n (record host { node = (node_step input host.node).node }) rested (step_not_due input host.node)
 
 pub node-rested : (script : List Statement) (n : ℕ) (input : Input) (world : World) → AreRested world.hosts
     → AreRested (node_stepped script n input world).hosts

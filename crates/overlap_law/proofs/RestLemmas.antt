@@ -14,7 +14,7 @@ use Rattle.sheep_node.specs.declared.event.Event.TheVariants as events
 use Rattle.sheep_node.specs.State as nodes
 use Rattle.sheep_node.specs.State.{Node}
 use Rattle.sheep_node.specs.Step.{is_due}
-use Rattle.sheep_node.proofs.SoundSteps.{stepped_puts}
+use Rattle.sheep_node.proofs.StepResults.{step_not_due}
 use Rattle.sheep_world.specs.declared.name.MessageName.{MessageName}
 use Rattle.sheep_world.specs.World.{Host, World, host_at, node_at, message_at}
 use Rattle.sheep_world.specs.Opening as openings
@@ -111,7 +111,7 @@ found_if : (script : List Statement) (q : ℕ) (host : Host) (member : Member) (
 found_if script q host member members Less rest is = rest is
 found_if script q host member members Equal rest is = subst
     (λ (s : Host). is_due s.node ≡ false) (same_Some (initial_host (initial_member_node script member)) host is)
-    (stepped_puts (inputs.LogEntry (format_entry script)) (nodes.initial_node member.node (tries_of script)))
+    (step_not_due (inputs.LogEntry (format_entry script)) (nodes.initial_node member.node (tries_of script)))
 found_if script q host member members Greater rest is = rest is
 
 found-rested : (script : List Statement) (q : ℕ) (host : Host) (members : List Member)

@@ -39,13 +39,7 @@ past-follows script events = run_on-follows script events (first_moment script)
 counted : (log : List Entry) (event : HistEvent) → is_counted log [] event ≡ true
 unfolding is_available_disk
 counted log (Create disk blocks) = refl
-counted log (Copy old new) = refl
-counted log (Delete disk) = refl
-counted log (WriteStart req disk block coded bytes) = refl
-counted log (WriteDone req) = refl
-counted log (WriteRefused req) = refl
-counted log (WriterLost req) = refl
-counted log (Read disk block bytes) = refl
+counted log event = refl
 
 with_counted : (log : List Entry) (event : HistEvent) (events : List HistEvent) → filter (is_counted log []) events ≡ events
     → (b : Bool) → is_counted log [] event ≡ b → cond b (event ∷ filter (is_counted log []) events) (filter (is_counted log []) events) ≡ event ∷ events

@@ -126,16 +126,9 @@ event-has script (LoseReply node number) old new attempts have =
     both-have attempts (attempts_begun node.0 old new) have (attempts_begun-have node.0 old new)
 event-has script (LogNext node) old new attempts have =
     both-have attempts (attempts_begun node.0 old new) have (attempts_begun-have node.0 old new)
-event-has script (Put node) old new attempts have = have
-event-has script (RecoverTick node) old new attempts have = have
 event-has script (RetryTick node) old new attempts have =
     both-have attempts (attempts_begun node.0 old new) have (attempts_begun-have node.0 old new)
-event-has script (Lost node) old new attempts have = have
-event-has script (Leave node) old new attempts have = have
-event-has script (Join node) old new attempts have = have
-event-has script (Reweight node) old new attempts have = have
-event-has script (Back node) old new attempts have = have
-event-has script Phase old new attempts have = have
+event-has script event old new attempts have = have
 
 moment-has : (script : List Statement) (event : Event) (moment : MomentWithPast) (made : EventOutcome) → HaveFates moment.past.attempts
     → HaveFates (moment_after script event moment made).past.attempts

@@ -8,7 +8,7 @@ use Rattle.object_id.specs.Policy.{wanted_of}
 use Rattle.epoch_log.specs.Epochs.{epoch_of}
 use Rattle.vdi_directory.specs.Decisions.{log_effects}
 use Rattle.peer_proto.specs.declared.work.ObjWork.{ObjWork}
-use Rattle.peer_proto.specs.declared.work.ObjWork.TheVariants.{Create, Write, Read}
+use Rattle.peer_proto.specs.declared.work.ObjWork.TheVariants.{Create, Write, Read, ReadAll}
 use Rattle.object_id.specs.declared.oid.Kind.{Kind}
 use Rattle.object_id.specs.declared.entry.VdiSpec.{VdiSpec}
 use Rattle.vdi_directory.specs.declared.effect.Effect.{Effect}
@@ -76,6 +76,7 @@ abbrev pub IsWhole : ℕ → ObjWork → Type 0
 IsWhole size (Create oid policy long offset bytes) = (long ≡ size) × (offset + length bytes ≤ size)
 IsWhole size (Write oid policy offset bytes) = (offset + length bytes ≤ size) × AreUnits (kind_of oid) offset (offset + length bytes)
 IsWhole size (Read oid policy offset long) = Unit {0}
+IsWhole size (ReadAll oid policy long) = Unit {0}
 
 -- an attempt covers whole units, inside its object
 pub record AttemptsAreWhole (effects : List Effect) (attempts : List AttemptRecord) : Type 0 where

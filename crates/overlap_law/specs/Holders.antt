@@ -14,7 +14,7 @@ use Rattle.vdi_directory.specs.declared.effect.Effect.{Effect}
 use Rattle.vdi_directory.specs.Dead.{is_above, is_dead}
 use Rattle.vdi_directory.specs.Decisions.{log_effects}
 use Rattle.peer_proto.specs.declared.work.ObjWork.{ObjWork}
-use Rattle.peer_proto.specs.declared.work.ObjWork.TheVariants.{Create, Write, Read}
+use Rattle.peer_proto.specs.declared.work.ObjWork.TheVariants.{Create, Write, Read, ReadAll}
 use Rattle.peer_proto.specs.Work.{policy_of}
 use Rattle.overlap_law.specs.Attempts.{AttemptRecord, object_of, attempts_on}
 
@@ -27,6 +27,7 @@ abbrev pub is_create_work : ObjWork → Bool
 is_create_work (Create oid policy size offset bytes) = true
 is_create_work (Write oid policy offset bytes) = false
 is_create_work (Read oid policy offset size) = false
+is_create_work (ReadAll oid policy size) = false
 
 -- whether an attempt is to create its object
 abbrev pub creates : AttemptRecord → Bool

@@ -46,6 +46,7 @@ is_refusal replies.Done = false
 is_refusal (replies.Piece bytes) = false
 is_refusal (replies.Refused cause) = true
 is_refusal (replies.Granted vid) = false
+is_refusal (replies.Checked found) = false
 
 -- the requests that a step refused
 abbrev pub refused_in : List (ℕ × GuestRsp) → List ℕ

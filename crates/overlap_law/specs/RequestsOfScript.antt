@@ -48,10 +48,10 @@ pub record IsDriverOfAsk (asked : Option Ask) (opened : Option Disk) (began : Op
   pub is : IsDriverOf on.disk ask driver
 
 -- where a request is, by what was asked, what its session has open, and on which disk it began
-abbrev pub IsCourseOf : Option Ask → Option Disk → Option ℕ → Course → Type 0
-IsCourseOf asked opened began (Waiting ask) = (asked ≡ Some (asks.Disk ask)) × IsOnDisk opened began
-IsCourseOf asked opened began (Driving driver) = IsDriverOfAsk asked opened began driver
-IsCourseOf asked opened began (Commanding ask op) = asked ≡ Some (asks.Vdi ask)
+abbrev pub IsCourseOfAsk : Option Ask → Option Disk → Option ℕ → Course → Type 0
+IsCourseOfAsk asked opened began (Waiting ask) = (asked ≡ Some (asks.Disk ask)) × IsOnDisk opened began
+IsCourseOfAsk asked opened began (Driving driver) = IsDriverOfAsk asked opened began driver
+IsCourseOfAsk asked opened began (Commanding ask op) = asked ≡ Some (asks.Vdi ask)
 
 -- a request of a node is the script's of its number
 pub record IsRequestOfScript (script : List Statement) (world : World) (n : ℕ) (host : Host) (req : ℕ) (request : Request) : Type 0 where
@@ -66,7 +66,7 @@ pub record IsRequestOfScript (script : List Statement) (world : World) (n : ℕ)
   pub own : session_of statement ≡ Some request.session
   pub unanswered : slice_get (progress_at request.session world).unanswered place ≡ Some started
   pub number : started.req ≡ req
-  pub course : IsCourseOf (ask_of_statement statement) (session_at request.session host.node).disk started.disk request.course
+  pub course : IsCourseOfAsk (ask_of_statement statement) (session_at request.session host.node).disk started.disk request.course
 
 -- each request of a node that isn't lost is one of the script
 pub record RequestsAreTheScripts (script : List Statement) (world : World) : Type 0 where

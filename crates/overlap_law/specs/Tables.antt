@@ -15,7 +15,7 @@ use Rattle.vdi_directory.specs.States.{VdiState, Unused, Reserved, Working, Snap
 use Rattle.vdi_directory.specs.Dead.{is_above, is_dead}
 use Rattle.vdi_directory.specs.Decisions.{log_effects}
 use Rattle.peer_proto.specs.declared.work.ObjWork.{ObjWork}
-use Rattle.peer_proto.specs.declared.work.ObjWork.TheVariants.{Create, Write, Read}
+use Rattle.peer_proto.specs.declared.work.ObjWork.TheVariants.{Create, Write, Read, ReadAll}
 use Rattle.gateway.specs.State.{Work}
 use Rattle.guest_driver.specs.declared.disk.Disk.{Disk}
 use Rattle.guest_driver.specs.InodeQueue.{Waiting}
@@ -101,6 +101,7 @@ abbrev pub writes_entry : ℕ → ℕ → ObjWork → Bool
 writes_entry vid index (Create oid policy size offset bytes) = false
 writes_entry vid index (Write oid policy offset bytes) = oid == inode_number vid && offset == INODE_HEADER_BYTES + 4 * index
 writes_entry vid index (Read oid policy offset size) = false
+writes_entry vid index (ReadAll oid policy size) = false
 
 -- the entry write of an index is open
 pub record IsEntryOpen (node : Node) (vid index : ℕ) : Type 0 where

@@ -11,7 +11,7 @@ use Rattle.object_store.specs.Bytes.{piece_at}
 use Rattle.strip_coding.specs.Part.{part, part_size}
 use Rattle.inode.specs.declared.layout.TheConstants.{INODE_HEADER_BYTES}
 use Rattle.peer_proto.specs.declared.work.ObjWork.{ObjWork}
-use Rattle.peer_proto.specs.declared.work.ObjWork.TheVariants.{Create, Write, Read}
+use Rattle.peer_proto.specs.declared.work.ObjWork.TheVariants.{Create, Write, Read, ReadAll}
 use Rattle.peer_proto.specs.Work.{oid_of, policy_of}
 use Rattle.overlap_law.specs.Attempts.{AttemptRecord}
 
@@ -52,6 +52,7 @@ covers_by unit (Create oid policy size offset bytes) = nat_le (unit_end (kind_of
 covers_by unit (Write oid policy offset bytes) =
     nat_le offset (unit_start (kind_of oid) unit) && nat_le (unit_end (kind_of oid) unit) (offset + length bytes)
 covers_by unit (Read oid policy offset size) = false
+covers_by unit (ReadAll oid policy size) = false
 
 -- whether an attempt covers a unit of its object
 abbrev pub covers_unit : ℕ → AttemptRecord → Bool
@@ -66,6 +67,7 @@ abbrev pub laid_by : List ℕ → ObjWork → List ℕ
 laid_by bytes (Create oid policy size offset piece) = laid_over (zeros size) offset piece
 laid_by bytes (Write oid policy offset piece) = laid_over bytes offset piece
 laid_by bytes (Read oid policy offset size) = bytes
+laid_by bytes (ReadAll oid policy size) = bytes
 
 -- the bytes of an object where attempts were laid over each other in their order
 unfoldable pub laid_over_in_order : List AttemptRecord → List ℕ
@@ -77,6 +79,7 @@ bytes_by unit (Create oid policy size offset piece) = unit_bytes (kind_of oid) u
 bytes_by unit (Write oid policy offset piece) =
     piece_at piece (unit_start (kind_of oid) unit - offset) (unit_size (kind_of oid) unit)
 bytes_by unit (Read oid policy offset size) = []
+bytes_by unit (ReadAll oid policy size) = []
 
 -- the strip or copy at an index of what an attempt has for a unit that it covers
 abbrev pub unit_part_by : ℕ → ℕ → ObjWork → List ℕ

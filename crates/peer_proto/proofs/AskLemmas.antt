@@ -1,7 +1,7 @@
 -- Requests: what their bytes read as, and that bytes which are read spell the request.
 use Rattle.std.proofs.Common.{◌≡◌, ℕ, ◌%◌, ◌<◌, ◌≤◌, ◌^◌, Bool, true, ◌&&◌, List, [], ◌++◌, length, drop, Result, Ok, Err, refl, sym, ap, subst, ◌∙◌, arith}
 use Rattle.std.specs.Prelude.{nat_eq, nat_lt, nat_le, not, IfOk}
-use Rattle.std.proofs.lemmas.Bool.{eqb-true, ltb-true, leb-true}
+use Rattle.std.proofs.lemmas.Bool.{eqb-true, ltb-true, leb-true, and_parts, and_from}
 use Rattle.std.proofs.lemmas.Bool.Decides.{nat_tests}
 use Rattle.std.proofs.lemmas.List.{length-append}
 use Rattle.std.proofs.lemmas.Nat.{from_le_bytes-to_le_bytes_4, from_le_bytes-to_le_bytes_8}
@@ -22,8 +22,8 @@ use Rattle.peer_proto.specs.Header.{opcode_in, ◌>>=◌, when, AnswersBytes}
 use Rattle.peer_proto.specs.Ids.{is_oid}
 use Rattle.peer_proto.specs.Ask.{ask_body, ask_head, ask_head_bytes, ask_bytes, IsPeerAsk, IsPeerReq, ask_head_at, is_ask_head, has_fields, fits_ask, peer_ask_of, peer_request_of, request_in, ask_in}
 use Rattle.object_id.proofs.FieldLemmas.{stands-then, stands-u32, stands-u64, u32-below, u64-below}
-use Rattle.peer_proto.proofs.IdLemmas.{both_pass, pass_both, oid-is, oid-passes}
-use Rattle.peer_proto.proofs.HeadLemmas.{header-in, opcode-in, common-read, bind-ok, when-ok, answered, same_common, none, byte-below, same_reading}
+use Rattle.peer_proto.proofs.IdLemmas.{oid-is, oid-passes}
+use Rattle.peer_proto.proofs.HeadLemmas.{header-in, opcode-in, common-read, bind-ok, when-ok, answered, same_common, none, byte-below, same_reading, CommonFacts, common-facts, common-passes}
 use Rattle.sheep_proto.proofs.HeaderLemmas.{common-stands, common-fits}
 
 -- ---- the 48 bytes
@@ -78,24 +78,18 @@ ask-head-read head body range =
 -- ---- the fields that every request has
 
 pub record AskFacts (head : AskHead) (body : List ℕ) : Type 0 where
-  pub flags : head.common.flags ≡ 0
-  pub epoch : 1 ≤ head.common.epoch
-  pub counted : head.common.data_length ≡ length body
+  pub common : CommonFacts head.common body
   pub sender : head.sender < 64
   pub index : head.index ≤ 30
   pub offset : head.offset < 2 ^ 32
 
 ask-facts : (head : AskHead) (body : List ℕ) → is_ask_head head body ≡ true → AskFacts head body
 ask-facts head body h =
-    let a = both_pass _ _ h in
-    let b = both_pass _ _ a.0 in
-    let c = both_pass _ _ b.0 in
-    let d = both_pass _ _ c.0 in
-    let e = both_pass _ _ d.0 in
+    let a = and_parts _ _ h in
+    let b = and_parts _ _ a.0 in
+    let c = and_parts _ _ b.0 in
     record {
-      flags = eqb-true _ _ e.0;
-      epoch = grind (arith, nat_tests, e.1);
-      counted = eqb-true _ _ d.1;
+      common = common-facts head.common body c.0;
       sender = ltb-true _ _ c.1;
       index = leb-true _ _ b.1;
       offset = ltb-true _ _ a.1;
@@ -103,28 +97,25 @@ ask-facts head body h =
 
 ask-passes : (head : AskHead) (body : List ℕ) → AskFacts head body → is_ask_head head body ≡ true
 ask-passes head body facts =
-    let flags : nat_eq head.common.flags 0 ≡ true = grind (arith, nat_tests, facts.flags) in
-    let epoch : not (nat_eq head.common.epoch 0) ≡ true = grind (arith, nat_tests, facts.epoch) in
-    let counted : nat_eq head.common.data_length (length body) ≡ true = grind (arith, nat_tests, facts.counted) in
     let sender : nat_lt head.sender 64 ≡ true = grind (arith, nat_tests, facts.sender) in
     let index : nat_le head.index 30 ≡ true = grind (arith, nat_tests, facts.index) in
     let offset : nat_lt head.offset (2 ^ 32) ≡ true = grind (arith, nat_tests, facts.offset) in
-    pass_both _ _ (pass_both _ _ (pass_both _ _ (pass_both _ _ (pass_both _ _ flags epoch) counted) sender) index) offset
+    and_from _ _ (and_from _ _ (and_from _ _ (common-passes head.common body facts.common) sender) index) offset
 
 -- ---- a header that fits is that of the request
 
 pub recovered_oid : (opcode : Opcode) (head : AskHead) (body : List ℕ) → opcode ≡ opcodes.RecoverRead → fits_ask opcode head body ≡ true → is_oid head.oid ≡ true
 recovered_oid opcode head body is h =
-    let own = both_pass (is_ask_head head body) (has_fields opcodes.RecoverRead head body) (subst (λ (o : Opcode). fits_ask o head body ≡ true) is h) in
-    (both_pass _ _ (both_pass _ _ (both_pass _ _ own.1).0).0).0
+    let own = and_parts (is_ask_head head body) (has_fields opcodes.RecoverRead head body) (subst (λ (o : Opcode). fits_ask o head body ≡ true) is h) in
+    (and_parts _ _ (and_parts _ _ (and_parts _ _ own.1).0).0).0
 
 -- the header of a request with these fields is this header
 same_as : (head : AskHead) (opcode : Opcode) (text : List ℕ) (oid word index offset : ℕ) → opcode_byte opcode ≡ head.common.opcode → AskRange head → AskFacts head text
     → oid ≡ head.oid → word ≡ head.word → index ≡ head.index → offset ≡ head.offset
     → made (record { opcode = opcode_byte opcode; flags = 0; epoch = head.common.epoch; id = head.common.id; data_length = length text % 2 ^ 32 }) oid word head.sender index offset ≡ head
 same_as head opcode text oid word index offset op range facts eo ew ei ef =
-    let low : length text % 2 ^ 32 ≡ head.common.data_length = omega (arith, facts.counted, range.common.data_length) in
-    let flags : 0 ≡ head.common.flags = sym facts.flags in
+    let low : length text % 2 ^ 32 ≡ head.common.data_length = omega (arith, facts.common.counted, range.common.data_length) in
+    let flags : 0 ≡ head.common.flags = sym facts.common.flags in
     let common : record { opcode = opcode_byte opcode; flags = 0; epoch = head.common.epoch; id = head.common.id; data_length = length text % 2 ^ 32 } ≡ head.common
     = same_common (opcode_byte opcode) head.common.opcode 0 head.common.flags (length text % 2 ^ 32) head.common.data_length head.common.epoch head.common.id op flags low in
     same_head _ head.common oid head.oid word head.word head.sender head.sender index head.index offset head.offset common eo ew refl ei ef
@@ -133,15 +124,15 @@ same_as head opcode text oid word index offset op range facts eo ew ei ef =
 pub spelled : (opcode : Opcode) (head : AskHead) (body : List ℕ) → opcode_byte opcode ≡ head.common.opcode → AskRange head → fits_ask opcode head body ≡ true
     → (ask_head (peer_request_of opcode head body) ≡ head) × (ask_body (peer_ask_of opcode head body) ≡ body) × IsPeerAsk (peer_ask_of opcode head body)
 spelled opcodes.Create head body op range h =
-    let t = both_pass (is_ask_head head body) (is_oid head.oid) h in
+    let t = and_parts (is_ask_head head body) (is_oid head.oid) h in
     let facts = ask-facts head body t.0 in (
       same_as head opcodes.Create body head.oid head.word head.index head.offset op range facts refl refl refl refl,
       refl,
-      (oid-is head.oid range.oid t.1, facts.index, range.word, facts.offset, omega (arith, facts.counted, range.common.data_length)),
+      (oid-is head.oid range.oid t.1, facts.index, range.word, facts.offset, omega (arith, facts.common.counted, range.common.data_length)),
     )
 spelled opcodes.Read head body op range h =
-    let t = both_pass (is_ask_head head body) (is_oid head.oid && nat_eq (length body) 0) h in
-    let own = both_pass (is_oid head.oid) (nat_eq (length body) 0) t.1 in
+    let t = and_parts (is_ask_head head body) (is_oid head.oid && nat_eq (length body) 0) h in
+    let own = and_parts (is_oid head.oid) (nat_eq (length body) 0) t.1 in
     let facts = ask-facts head body t.0 in
     let nothing : [] ≡ body = none body own.1 in (
       same_as head opcodes.Read [] head.oid head.word head.index head.offset op range (subst (AskFacts head) (sym nothing) facts) refl refl refl refl,
@@ -149,19 +140,19 @@ spelled opcodes.Read head body op range h =
       (oid-is head.oid range.oid own.0, facts.index, facts.offset, range.word),
     )
 spelled opcodes.Write head body op range h =
-    let t = both_pass (is_ask_head head body) (is_oid head.oid && nat_eq head.word 0) h in
-    let own = both_pass (is_oid head.oid) (nat_eq head.word 0) t.1 in
+    let t = and_parts (is_ask_head head body) (is_oid head.oid && nat_eq head.word 0) h in
+    let own = and_parts (is_oid head.oid) (nat_eq head.word 0) t.1 in
     let facts = ask-facts head body t.0 in (
       same_as head opcodes.Write body head.oid 0 head.index head.offset op range facts refl (sym (eqb-true _ _ own.1)) refl refl,
       refl,
-      (oid-is head.oid range.oid own.0, facts.index, facts.offset, omega (arith, facts.counted, range.common.data_length)),
+      (oid-is head.oid range.oid own.0, facts.index, facts.offset, omega (arith, facts.common.counted, range.common.data_length)),
     )
 spelled opcodes.List head body op range h =
-    let t = both_pass (is_ask_head head body) (nat_eq head.oid 0 && nat_eq head.word 0 && (nat_eq head.index 0 && nat_eq head.offset 0) && nat_eq (length body) 0) h in
-    let a = both_pass (nat_eq head.oid 0 && nat_eq head.word 0 && (nat_eq head.index 0 && nat_eq head.offset 0)) (nat_eq (length body) 0) t.1 in
-    let b = both_pass (nat_eq head.oid 0 && nat_eq head.word 0) (nat_eq head.index 0 && nat_eq head.offset 0) a.0 in
-    let c = both_pass (nat_eq head.oid 0) (nat_eq head.word 0) b.0 in
-    let place = both_pass (nat_eq head.index 0) (nat_eq head.offset 0) b.1 in
+    let t = and_parts (is_ask_head head body) (nat_eq head.oid 0 && nat_eq head.word 0 && (nat_eq head.index 0 && nat_eq head.offset 0) && nat_eq (length body) 0) h in
+    let a = and_parts (nat_eq head.oid 0 && nat_eq head.word 0 && (nat_eq head.index 0 && nat_eq head.offset 0)) (nat_eq (length body) 0) t.1 in
+    let b = and_parts (nat_eq head.oid 0 && nat_eq head.word 0) (nat_eq head.index 0 && nat_eq head.offset 0) a.0 in
+    let c = and_parts (nat_eq head.oid 0) (nat_eq head.word 0) b.0 in
+    let place = and_parts (nat_eq head.index 0) (nat_eq head.offset 0) b.1 in
     let facts = ask-facts head body t.0 in
     let nothing : [] ≡ body = none body a.1 in (
       same_as head opcodes.List [] 0 0 0 0 op range (subst (AskFacts head) (sym nothing) facts)
@@ -170,11 +161,11 @@ spelled opcodes.List head body op range h =
       tt,
     )
 spelled opcodes.RecoverRead head body op range h =
-    let t = both_pass (is_ask_head head body) (is_oid head.oid && not (nat_eq head.word 0) && (nat_eq head.index 0 && nat_eq head.offset 0) && nat_eq (length body) 0) h in
-    let a = both_pass (is_oid head.oid && not (nat_eq head.word 0) && (nat_eq head.index 0 && nat_eq head.offset 0)) (nat_eq (length body) 0) t.1 in
-    let b = both_pass (is_oid head.oid && not (nat_eq head.word 0)) (nat_eq head.index 0 && nat_eq head.offset 0) a.0 in
-    let c = both_pass (is_oid head.oid) (not (nat_eq head.word 0)) b.0 in
-    let place = both_pass (nat_eq head.index 0) (nat_eq head.offset 0) b.1 in
+    let t = and_parts (is_ask_head head body) (is_oid head.oid && not (nat_eq head.word 0) && (nat_eq head.index 0 && nat_eq head.offset 0) && nat_eq (length body) 0) h in
+    let a = and_parts (is_oid head.oid && not (nat_eq head.word 0) && (nat_eq head.index 0 && nat_eq head.offset 0)) (nat_eq (length body) 0) t.1 in
+    let b = and_parts (is_oid head.oid && not (nat_eq head.word 0)) (nat_eq head.index 0 && nat_eq head.offset 0) a.0 in
+    let c = and_parts (is_oid head.oid) (not (nat_eq head.word 0)) b.0 in
+    let place = and_parts (nat_eq head.index 0) (nat_eq head.offset 0) b.1 in
     let facts = ask-facts head body t.0 in
     let nothing : [] ≡ body = none body a.1 in
     let level : 1 ≤ head.word = grind (arith, nat_tests, c.1) in (
@@ -193,13 +184,13 @@ ask-found bytes req fits h =
     let start = header-in bytes b.0 b.1 in
     let w = when-ok (fits_ask b.0 head body) (peer_request_of b.0 head body) req b.2 in
     let range = ask-range bytes fits in
-    let facts = ask-facts head body (both_pass (is_ask_head head body) (has_fields b.0 head body) w.0).0 in
+    let facts = ask-facts head body (and_parts (is_ask_head head body) (has_fields b.0 head body) w.0).0 in
     let s = spelled b.0 head body start.opcode_is range w.0 in
     let whole : bytes ≡ ask_head_bytes head ++ body = (ask-head-stands bytes fits start.long start.version).parts in
     let text : ask_bytes (peer_request_of b.0 head body) ≡ bytes
     = ap (λ (k : AskHead). ask_head_bytes k ++ ask_body (peer_ask_of b.0 head body)) s.0 ∙ ap (λ (rest : List ℕ). ask_head_bytes head ++ rest) s.1 ∙ sym whole in
     let is : IsPeerReq (peer_request_of b.0 head body)
-    = record { from = facts.sender; number = range.common.id; epoch = (facts.epoch, range.common.epoch); ask = s.2 } in
+    = record { from = facts.sender; number = range.common.id; epoch = (facts.common.epoch, range.common.epoch); ask = s.2 } in
     subst (λ (r : PeerReq). IsPeerReq r × (bytes ≡ ask_bytes r)) w.1 (is, sym text)
 
 pub ask-is_found : (bytes : List ℕ) (r : Result PeerReq PeerFault) → AreBytes bytes → AnswersBytes (ask_in bytes) r
@@ -224,9 +215,7 @@ facts-of : (from : NodeId) (number : ℕ) (epoch : Epoch) (ask : PeerAsk) (head 
     → head.common.flags ≡ 0 → head.common.epoch ≡ epoch.0 → head.common.data_length ≡ length (ask_body ask) % 2 ^ 32 → length (ask_body ask) < 2 ^ 32
     → head.sender ≡ from.0 → head.index ≤ 30 → head.offset < 2 ^ 32 → AskFacts head (ask_body ask)
 facts-of from number epoch ask head is flags same_epoch counted short same_sender index offset = record {
-  flags = flags;
-  epoch = omega (arith, is.epoch.0, same_epoch);
-  counted = omega (arith, counted, short);
+  common = record { flags = flags; epoch = omega (arith, is.epoch.0, same_epoch); counted = omega (arith, counted, short) };
   sender = omega (arith, is.from, same_sender);
   index = index;
   offset = offset;
@@ -236,20 +225,20 @@ fits-of : (from : NodeId) (number : ℕ) (epoch : Epoch) (ask : PeerAsk) → IsP
     → fits_ask (asked ask) (ask_head (request from number epoch ask)) (ask_body ask) ≡ true
 fits-of from number epoch (asks.Create key size offset bytes) is =
     let facts = facts-of from number epoch (asks.Create key size offset bytes) (ask_head (request from number epoch (asks.Create key size offset bytes))) is refl refl refl is.ask.4 refl is.ask.1 is.ask.3 in
-    pass_both _ _ (ask-passes _ bytes facts) (oid-passes key.oid is.ask.0)
+    and_from _ _ (ask-passes _ bytes facts) (oid-passes key.oid is.ask.0)
 fits-of from number epoch (asks.Write key offset bytes) is =
     let facts = facts-of from number epoch (asks.Write key offset bytes) (ask_head (request from number epoch (asks.Write key offset bytes))) is refl refl refl is.ask.3 refl is.ask.1 is.ask.2 in
-    pass_both _ _ (ask-passes _ bytes facts) (pass_both _ _ (oid-passes key.oid is.ask.0) refl)
+    and_from _ _ (ask-passes _ bytes facts) (and_from _ _ (oid-passes key.oid is.ask.0) refl)
 fits-of from number epoch (asks.Read key offset size) is =
     let facts = facts-of from number epoch (asks.Read key offset size) (ask_head (request from number epoch (asks.Read key offset size))) is refl refl refl (omega arith) refl is.ask.1 is.ask.2 in
-    pass_both _ _ (ask-passes _ [] facts) (pass_both _ _ (oid-passes key.oid is.ask.0) refl)
+    and_from _ _ (ask-passes _ [] facts) (and_from _ _ (oid-passes key.oid is.ask.0) refl)
 fits-of from number epoch asks.List is =
     let facts = facts-of from number epoch asks.List (ask_head (request from number epoch asks.List)) is refl refl refl (omega arith) refl (omega arith) (omega arith) in
-    pass_both _ _ (ask-passes _ [] facts) refl
+    and_from _ _ (ask-passes _ [] facts) refl
 fits-of from number epoch (asks.RecoverRead oid level) is =
     let facts = facts-of from number epoch (asks.RecoverRead oid level) (ask_head (request from number epoch (asks.RecoverRead oid level))) is refl refl refl (omega arith) refl (omega arith) (omega arith) in
     let some : not (nat_eq level.0 0) ≡ true = grind (arith, nat_tests, is.ask.1.0) in
-    pass_both _ _ (ask-passes _ [] facts) (pass_both _ _ (pass_both _ _ (pass_both _ _ (oid-passes oid is.ask.0) some) refl) refl)
+    and_from _ _ (ask-passes _ [] facts) (and_from _ _ (and_from _ _ (and_from _ _ (oid-passes oid is.ask.0) some) refl) refl)
 
 common-of : (from : NodeId) (number : ℕ) (epoch : Epoch) (ask : PeerAsk) (opcode : Opcode) → IsPeerReq (request from number epoch ask)
     → IsCommon (record { opcode = opcode_byte opcode; flags = 0; epoch = epoch.0; id = number; data_length = length (ask_body ask) % 2 ^ 32 })
@@ -271,18 +260,12 @@ range-of from number epoch (asks.RecoverRead oid level) is =
 
 opcode-of : (from : NodeId) (number : ℕ) (epoch : Epoch) (ask : PeerAsk) → opcode_byte (asked ask) ≡ (ask_head (request from number epoch ask)).common.opcode
 opcode-of from number epoch (asks.Create key size offset bytes) = refl
-opcode-of from number epoch (asks.Write key offset bytes) = refl
-opcode-of from number epoch (asks.Read key offset size) = refl
-opcode-of from number epoch asks.List = refl
-opcode-of from number epoch (asks.RecoverRead oid level) = refl
+opcode-of from number epoch ask = refl
 
 request-of : (from : NodeId) (number : ℕ) (epoch : Epoch) (ask : PeerAsk)
     → peer_request_of (asked ask) (ask_head (request from number epoch ask)) (ask_body ask) ≡ request from number epoch ask
 request-of from number epoch (asks.Create key size offset bytes) = refl
-request-of from number epoch (asks.Write key offset bytes) = refl
-request-of from number epoch (asks.Read key offset size) = refl
-request-of from number epoch asks.List = refl
-request-of from number epoch (asks.RecoverRead oid level) = refl
+request-of from number epoch ask = refl
 
 -- what stands behind 48 bytes that are a header
 behind : (head : AskHead) (body : List ℕ) → drop 48 (ask_head_bytes head ++ body) ≡ body

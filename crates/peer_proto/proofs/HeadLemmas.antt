@@ -1,10 +1,10 @@
 -- The first 16 bytes of a header, and what the refusals before its fields say.
-use Rattle.std.proofs.Common.{◌≡◌, ℕ, ◌+◌, ◌<◌, ◌≤◌, ◌^◌, Bool, true, false, cond, List, [], ◌∷◌, ◌++◌, length, drop, Option, Some, None, Result, Ok, Err, refl, sym, ap, subst, ◌∙◌, arith}
+use Rattle.std.proofs.Common.{◌≡◌, ℕ, ◌+◌, ◌<◌, ◌≤◌, ◌^◌, Bool, true, false, cond, List, [], ◌∷◌, ◌++◌, length, drop, Option, Some, None, Result, Ok, Err, refl, sym, ap, subst, ◌∙◌, arith, ◌==◌, ◌&&◌, not}
 use Rattle.std.specs.Option.{ok_or}
 use Rattle.std.specs.Prelude.{nat_lt, nat_eq, eqb, not}
 use Rattle.std.proofs.lemmas.Bool.Decides.{nat_tests}
 use Rattle.std.proofs.lemmas.List.{get_or-drop}
-use Rattle.std.proofs.lemmas.Bool.{eqb-true, ltb-false, le-ltb, not-false}
+use Rattle.std.proofs.lemmas.Bool.{eqb-true, ltb-false, le-ltb, not-false, and_parts, and_from, eq-eqb}
 use Rattle.sheep_proto.specs.declared.common.Common.{Common}
 use Rattle.peer_proto.specs.declared.opcode.Opcode.{Opcode}
 use Rattle.peer_proto.specs.declared.opcode.Opcode.TheVariants as opcodes
@@ -15,6 +15,7 @@ use Rattle.peer_proto.specs.Opcode.{opcode_byte, opcode_of}
 use Rattle.sheep_proto.specs.Headers.{common_bytes, common_at, IsCommon}
 use Rattle.peer_proto.specs.Header.{opcode_in, peer_header_in, ◌>>=◌, when, AnswersBytes}
 use Rattle.std.proofs.lemmas.Nat.{from_le_bytes-to_le_bytes_2, from_le_bytes-to_le_bytes_4}
+use Rattle.std.proofs.lemmas.Option.{same_Some}
 
 -- ---- reading in steps
 
@@ -42,29 +43,47 @@ pub answered : {A : Type 0} (read : Result A PeerFault) (x : A) → AnswersBytes
 answered (Ok y) x h = cc
 answered (Err f) x h = absurd cc
 
+-- ---- the fields that requests and replies share
+
+pub record CommonFacts (common : Common) (body : List ℕ) : Type 0 where
+  pub flags : common.flags ≡ 0
+  pub epoch : 1 ≤ common.epoch
+  pub counted : common.data_length ≡ length body
+
+pub common-facts : (common : Common) (body : List ℕ)
+    → (common.flags == 0 && not (common.epoch == 0) && common.data_length == length body) ≡ true → CommonFacts common body
+common-facts common body h =
+    let whole = and_parts _ _ h in
+    let first = and_parts _ _ whole.0 in
+    record { flags = eqb-true _ _ first.0; epoch = grind (arith, nat_tests, first.1); counted = eqb-true _ _ whole.1 }
+
+pub common-passes : (common : Common) (body : List ℕ) → CommonFacts common body
+    → (common.flags == 0 && not (common.epoch == 0) && common.data_length == length body) ≡ true
+common-passes common body facts =
+    let flags : (common.flags == 0) ≡ true = eq-eqb _ _ facts.flags in
+    let epoch : not (common.epoch == 0) ≡ true = grind (arith, nat_tests, facts.epoch) in
+    let counted : (common.data_length == length body) ≡ true = eq-eqb _ _ facts.counted in
+    and_from _ _ (and_from _ _ flags epoch) counted
+
 -- ---- opcodes
 
 pub opcode_of-byte : (opcode : Opcode) → opcode_of (opcode_byte opcode) ≡ Some opcode
 opcode_of-byte opcodes.Create = refl
-opcode_of-byte opcodes.Read = refl
-opcode_of-byte opcodes.Write = refl
-opcode_of-byte opcodes.List = refl
-opcode_of-byte opcodes.RecoverRead = refl
+opcode_of-byte opcode = refl
 
-chosen : (b : Bool) (byte n : ℕ) (opcode found : Opcode) (rest : Option Opcode) → eqb byte n ≡ b → opcode_byte opcode ≡ n
-    → cond b (Some opcode) rest ≡ Some found → (rest ≡ Some found → opcode_byte found ≡ byte) → opcode_byte found ≡ byte
-chosen true byte n opcode found rest test is h later =
-    let same : opcode ≡ found = cc in
-    ap opcode_byte (sym same) ∙ is ∙ sym (eqb-true byte n test)
-chosen false byte n opcode found rest test is h later = later h
+-- of values by their bytes, the one that is chosen has the byte
+pub byte-chosen : {X : Type 0} (byte_of : X → ℕ) (b : Bool) (byte n : ℕ) (x found : X) (rest : Option X) → (byte == n) ≡ b → byte_of x ≡ n
+    → cond b (Some x) rest ≡ Some found → (rest ≡ Some found → byte_of found ≡ byte) → byte_of found ≡ byte
+byte-chosen byte_of true byte n x found rest test is h later = ap byte_of (sym (same_Some x found h)) ∙ is ∙ sym (eqb-true byte n test)
+byte-chosen byte_of false byte n x found rest test is h later = later h
 
 pub opcode_byte-of : (byte : ℕ) (opcode : Opcode) → opcode_of byte ≡ Some opcode → opcode_byte opcode ≡ byte
 opcode_byte-of byte opcode h =
-    chosen (eqb byte 0xA1) byte 0xA1 opcodes.Create opcode _ refl refl h (λ h2.
-    chosen (eqb byte 0xA2) byte 0xA2 opcodes.Read opcode _ refl refl h2 (λ h3.
-    chosen (eqb byte 0xA3) byte 0xA3 opcodes.Write opcode _ refl refl h3 (λ h4.
-    chosen (eqb byte 0xA4) byte 0xA4 opcodes.List opcode _ refl refl h4 (λ h5.
-    chosen (eqb byte 0xA5) byte 0xA5 opcodes.RecoverRead opcode None refl refl h5 (λ h6. absurd (cc h6))))))
+    byte-chosen opcode_byte (eqb byte 0xA1) byte 0xA1 opcodes.Create opcode _ refl refl h (λ h2.
+    byte-chosen opcode_byte (eqb byte 0xA2) byte 0xA2 opcodes.Read opcode _ refl refl h2 (λ h3.
+    byte-chosen opcode_byte (eqb byte 0xA3) byte 0xA3 opcodes.Write opcode _ refl refl h3 (λ h4.
+    byte-chosen opcode_byte (eqb byte 0xA4) byte 0xA4 opcodes.List opcode _ refl refl h4 (λ h5.
+    byte-chosen opcode_byte (eqb byte 0xA5) byte 0xA5 opcodes.RecoverRead opcode None refl refl h5 (λ h6. absurd (cc h6))))))
 
 known-ok : (found : Option Opcode) (opcode : Opcode) → ok_or found faults.UnknownOpcode ≡ Ok opcode → found ≡ Some opcode
 known-ok (Some o) opcode h = cc
@@ -133,10 +152,7 @@ none (b ∷ body) h = absurd (grind (arith, nat_tests, h))
 
 pub byte-below : (opcode : Opcode) → opcode_byte opcode < 2 ^ 8
 byte-below opcodes.Create = omega arith
-byte-below opcodes.Read = omega arith
-byte-below opcodes.Write = omega arith
-byte-below opcodes.List = omega arith
-byte-below opcodes.RecoverRead = omega arith
+byte-below opcode = omega arith
 
 -- what stands behind a header is bytes too
 pub drop-bytes : (n : ℕ) (bytes : List ℕ) → AreBytes bytes → AreBytes (drop n bytes)

@@ -6,21 +6,15 @@ use Rattle.std.specs.Int.{w64}
 use Rattle.std.specs.List.{AllByRecursion}
 use Rattle.std.proofs.Math.Seq.{drop-length}
 use Rattle.std.proofs.lemmas.List.Elements.{All-from_recursion, recursion_from_All}
-use Rattle.std.proofs.lemmas.Bool.{ltb-true, lt-ltb, eqb-true}
+use Rattle.std.proofs.lemmas.Bool.{ltb-true, lt-ltb, eqb-true, and_parts, and_from}
 use Rattle.std.proofs.lemmas.List.{length-append, append-nil}
 use Rattle.std.proofs.lemmas.Bool.Decides.{nat_tests}
+use Rattle.std.proofs.Math.Bool.{and-false}
+use Rattle.proof_tools.proofs.AscendingNumbers.{IsStrictlyIncreasing-tail}
 use Rattle.object_id.specs.Oid.{IsOid}
 use Rattle.object_id.specs.Fields.{u64_at, u64_bytes, numbers_at, AreBytes, Stands}
 use Rattle.peer_proto.specs.Ids.{is_oid, are_ids_above, id_bytes, ids_in, are_id_bytes}
 use Rattle.object_id.proofs.FieldLemmas.{numbers-more, numbers-read, stands-numbers, stands-front, wide64, u64-below}
-
--- two tests that pass
-pub both_pass : (a b : Bool) → (a && b) ≡ true → (a ≡ true) × (b ≡ true)
-both_pass true b h = (refl, h)
-both_pass false b h = absurd cc
-
-pub pass_both : (a b : Bool) → a ≡ true → b ≡ true → (a && b) ≡ true
-pass_both a b first second = ap (λ (t : Bool). t && b) first ∙ second
 
 -- ---- one id
 
@@ -53,10 +47,6 @@ numbers-push k bytes =
     let place : 0 + 8 * k ≡ k * 8 = omega arith in
     sym (numbers-more w64 k 0 bytes ∙ ap (λ (at : ℕ). numbers_at w64 k 0 bytes ++ u64_at at bytes ∷ []) place)
 
-and-false : (a : Bool) → (a && false) ≡ false
-and-false true = refl
-and-false false = refl
-
 -- one id more is looked at: it isn't the next one, or the rest is looked at
 pub ids-refused : (k last oid : ℕ) (bytes : List ℕ) → k < length bytes / 8 → oid ≡ u64_at (k * 8) bytes → (nat_lt last oid && is_oid oid) ≡ false
     → are_ids_above last (numbers_at w64 (length bytes / 8 - k) (k * 8) bytes) ≡ are_ids_above 0 (ids_in bytes) → false ≡ are_id_bytes bytes
@@ -86,17 +76,17 @@ pub id-at : (n at last k : ℕ) (bytes : List ℕ) → are_ids_above last (numbe
     → is_oid (u64_at (at + 8 * k) bytes) ≡ true
 id-at zero at last k bytes h lt = absurd (omega arith)
 id-at (suc n) at last zero bytes h lt =
-    let first : is_oid (u64_at at bytes) ≡ true = (both_pass _ _ (both_pass _ _ h).0).1 in
+    let first : is_oid (u64_at at bytes) ≡ true = (and_parts _ _ (and_parts _ _ h).0).1 in
     let place : at ≡ at + 8 * 0 = omega arith in
     ap (λ (p : ℕ). is_oid (u64_at p bytes)) (sym place) ∙ first
 id-at (suc n) at last (suc k) bytes h lt =
     let place : at + 8 + 8 * k ≡ at + 8 * suc k = omega arith in
-    ap (λ (p : ℕ). is_oid (u64_at p bytes)) (sym place) ∙ id-at n (at + 8) (u64_at at bytes) k bytes (both_pass _ _ h).1 (omega arith)
+    ap (λ (p : ℕ). is_oid (u64_at p bytes)) (sym place) ∙ id-at n (at + 8) (u64_at at bytes) k bytes (and_parts _ _ h).1 (omega arith)
 
 pub id_in : (bytes : List ℕ) (k : ℕ) → are_id_bytes bytes ≡ true → k < length bytes / 8 → is_oid (u64_at (k * 8) bytes) ≡ true
 id_in bytes k h lt =
     let place : k * 8 ≡ 0 + 8 * k = omega arith in
-    ap (λ (p : ℕ). is_oid (u64_at p bytes)) place ∙ id-at (length bytes / 8) 0 0 k bytes (both_pass _ _ h).1 lt
+    ap (λ (p : ℕ). is_oid (u64_at p bytes)) place ∙ id-at (length bytes / 8) 0 0 k bytes (and_parts _ _ h).1 lt
 
 ascend-cons : (a b : ℕ) (oids : List ℕ) → a < b → IsStrictlyIncreasing (b ∷ oids) → IsStrictlyIncreasing (a ∷ b ∷ oids)
 ascend-cons a b oids lt rest zero within = lt
@@ -107,16 +97,16 @@ ascend-cons a b oids lt rest (suc k) within =
 pub ascend : (last : ℕ) (oids : List ℕ) → are_ids_above last oids ≡ true → IsStrictlyIncreasing oids
 ascend last [] h = λ k lt. absurd (omega arith)
 ascend last (a ∷ []) h = λ k lt. absurd (omega arith)
-ascend last (a ∷ b ∷ oids) h = ascend-cons a b oids (ltb-true a b (both_pass _ _ (both_pass _ _ (both_pass _ _ h).1).0).0) (ascend a (b ∷ oids) (both_pass _ _ h).1)
+ascend last (a ∷ b ∷ oids) h = ascend-cons a b oids (ltb-true a b (and_parts _ _ (and_parts _ _ (and_parts _ _ h).1).0).0) (ascend a (b ∷ oids) (and_parts _ _ h).1)
 
 pub ids_ascend : (bytes : List ℕ) → are_id_bytes bytes ≡ true → IsStrictlyIncreasing (ids_in bytes)
-ids_ascend bytes h = ascend 0 (ids_in bytes) (both_pass _ _ h).1
+ids_ascend bytes h = ascend 0 (ids_in bytes) (and_parts _ _ h).1
 
 -- bytes of ids, read and spelled again, are the same
 pub ids-back : (bytes : List ℕ) → AreBytes bytes → are_id_bytes bytes ≡ true → id_bytes (ids_in bytes) ≡ bytes
 ids-back bytes fits h =
     let count : ℕ = length bytes / 8 in
-    let whole : length bytes % 8 ≡ 0 = eqb-true (length bytes % 8) 0 (both_pass (nat_eq (length bytes % 8) 0) (are_ids_above 0 (ids_in bytes)) h).0 in
+    let whole : length bytes % 8 ≡ 0 = eqb-true (length bytes % 8) 0 (and_parts (nat_eq (length bytes % 8) 0) (are_ids_above 0 (ids_in bytes)) h).0 in
     let end : 0 + 8 * (length bytes / 8) ≡ length bytes = omega (arith, whole) in
     let stands : Stands bytes 0 (0 + 8 * count) (id_bytes (ids_in bytes)) = stands-numbers w64 (2 ^ 64) wide64 bytes fits count 0 (omega (arith, end)) in
     let nothing : drop (0 + 8 * count) bytes ≡ [] = ap (λ (n : ℕ). drop n bytes) end ∙ drop-length bytes in
@@ -125,8 +115,8 @@ ids-back bytes fits h =
 are-oids : (last : ℕ) (oids : List ℕ) → AllByRecursion (λ (n : ℕ). n < 2 ^ 64) oids → are_ids_above last oids ≡ true → AllByRecursion IsOid oids
 are-oids last [] fits h = tt
 are-oids last (oid ∷ oids) fits h =
-    let first = both_pass (nat_lt last oid && is_oid oid) (are_ids_above oid oids) h in
-    (oid-is oid fits.0 (both_pass (nat_lt last oid) (is_oid oid) first.0).1, are-oids oid oids fits.1 first.1)
+    let first = and_parts (nat_lt last oid && is_oid oid) (are_ids_above oid oids) h in
+    (oid-is oid fits.0 (and_parts (nat_lt last oid) (is_oid oid) first.0).1, are-oids oid oids fits.1 first.1)
 
 numbers-below : (count at : ℕ) (bytes : List ℕ) → AreBytes bytes → AllByRecursion (λ (n : ℕ). n < 2 ^ 64) (numbers_at w64 count at bytes)
 numbers-below zero at bytes fits = tt
@@ -135,7 +125,7 @@ numbers-below (suc count) at bytes fits = (u64-below bytes at fits, numbers-belo
 pub ids-are : (bytes : List ℕ) → AreBytes bytes → are_id_bytes bytes ≡ true → All IsOid (ids_in bytes)
 ids-are bytes fits h =
     All-from_recursion IsOid (ids_in bytes)
-    (are-oids 0 (ids_in bytes) (numbers-below (length bytes / 8) 0 bytes fits) (both_pass (nat_eq (length bytes % 8) 0) (are_ids_above 0 (ids_in bytes)) h).1)
+    (are-oids 0 (ids_in bytes) (numbers-below (length bytes / 8) 0 bytes fits) (and_parts (nat_eq (length bytes % 8) 0) (are_ids_above 0 (ids_in bytes)) h).1)
 
 -- ids, spelled and read again, are the same
 below : (oids : List ℕ) → AllByRecursion IsOid oids → AllByRecursion (λ (n : ℕ). n < 2 ^ 64) oids
@@ -156,11 +146,6 @@ next-above oid oids rise k lt none =
     let one : 0 + 1 ≡ suc 0 = refl in
     rise 0 (omega arith)
 
-rest-rises : (oid : ℕ) (oids : List ℕ) → IsStrictlyIncreasing (oid ∷ oids) → IsStrictlyIncreasing oids
-rest-rises oid oids rise k lt =
-    let same : suc k + 1 ≡ suc (k + 1) = omega arith in
-    subst (λ (n : ℕ). get_or oids k 0 < get_or (oid ∷ oids) n 0) same (rise (suc k) (omega arith))
-
 positive : (raw : ℕ) → IsOid raw → 0 < raw
 positive zero is = absurd (is.2 refl)
 positive (suc raw) is = omega arith
@@ -173,13 +158,13 @@ above : (last : ℕ) (oids : List ℕ) → ((k : ℕ) → k < length oids → k 
     → are_ids_above last oids ≡ true
 above last [] first are rise = refl
 above last (oid ∷ oids) first are rise =
-    pass_both (nat_lt last oid && is_oid oid) (are_ids_above oid oids)
-    (pass_both (nat_lt last oid) (is_oid oid) (lt-ltb last oid (first 0 (omega arith) refl)) (oid-passes oid are.0))
-    (above oid oids (next-above oid oids rise) are.1 (rest-rises oid oids rise))
+    and_from (nat_lt last oid && is_oid oid) (are_ids_above oid oids)
+    (and_from (nat_lt last oid) (is_oid oid) (lt-ltb last oid (first 0 (omega arith) refl)) (oid-passes oid are.0))
+    (above oid oids (next-above oid oids rise) are.1 (IsStrictlyIncreasing-tail oid oids rise))
 
 pub ids-pass : (oids : List ℕ) → All IsOid oids → IsStrictlyIncreasing oids → are_id_bytes (id_bytes oids) ≡ true
 ids-pass oids are rise =
     let whole : length (id_bytes oids) % 8 ≡ 0 = omega (arith, length_id_bytes oids) in
     let ids = recursion_from_All IsOid oids are in
     let test : are_ids_above 0 (ids_in (id_bytes oids)) ≡ true = ap (are_ids_above 0) (ids-again oids are) ∙ above 0 oids (first-above oids ids) ids rise in
-    pass_both (nat_eq (length (id_bytes oids) % 8) 0) (are_ids_above 0 (ids_in (id_bytes oids))) (ap (λ (n : ℕ). nat_eq n 0) whole) test
+    and_from (nat_eq (length (id_bytes oids) % 8) 0) (are_ids_above 0 (ids_in (id_bytes oids))) (ap (λ (n : ℕ). nat_eq n 0) whole) test

@@ -1,7 +1,7 @@
 -- Replies: what their bytes read as, and that bytes which are read spell the reply.
 use Rattle.std.proofs.Common.{◌≡◌, ℕ, ◌%◌, ◌<◌, ◌≤◌, ◌^◌, Bool, true, false, cond, ◌&&◌, ◌||◌, List, [], ◌++◌, length, drop, Option, Some, None, Result, Ok, Err, refl, sym, ap, subst, ◌∙◌, arith}
 use Rattle.std.specs.Prelude.{nat_eq, nat_le, not, IfOk}
-use Rattle.std.proofs.lemmas.Bool.{eqb-true, leb-true, not-true, le-leb}
+use Rattle.std.proofs.lemmas.Bool.{eqb-true, leb-true, not-true, le-leb, and_parts, and_from}
 use Rattle.std.proofs.lemmas.Bool.Decides.{nat_tests}
 use Rattle.std.proofs.lemmas.List.{length-append}
 use Rattle.std.proofs.lemmas.Nat.{from_le_bytes-to_le_bytes_2, from_le_bytes-to_le_bytes_4, from_le_bytes-to_le_bytes_8}
@@ -26,8 +26,8 @@ use Rattle.peer_proto.specs.Opcode.{opcode_byte}
 use Rattle.peer_proto.specs.Header.{opcode_in, ◌>>=◌, when, AnswersBytes}
 use Rattle.peer_proto.specs.Ids.{id_bytes, ids_in, are_id_bytes}
 use Rattle.peer_proto.specs.Say.{form_byte, form_opcode, form_of, refusal_result, refusal_of, to_number, to_epoch, say_form, say_result, no_row, say_row, say_body, say_head, say_head_bytes, say_bytes, ends_in_zero, IsEnd, IsRefusal, IsPeerSay, IsPeerRsp, say_head_at, is_say_head, has_no_row, fits_row_head, is_refusal_result, has_form, fits_say, peer_say_of, peer_reply_of, reply_in, say_in}
-use Rattle.peer_proto.proofs.IdLemmas.{both_pass, pass_both, ids-back, ids-are, ids_ascend, ids-again, ids-pass}
-use Rattle.peer_proto.proofs.HeadLemmas.{header-in, opcode-in, common-read, bind-ok, when-ok, answered, same_common, none, byte-below, drop-bytes, same_reading}
+use Rattle.peer_proto.proofs.IdLemmas.{ids-back, ids-are, ids_ascend, ids-again, ids-pass}
+use Rattle.peer_proto.proofs.HeadLemmas.{header-in, opcode-in, common-read, bind-ok, when-ok, answered, same_common, none, byte-below, drop-bytes, same_reading, CommonFacts, common-facts, common-passes, byte-chosen}
 
 -- ---- the 48 bytes
 
@@ -110,24 +110,18 @@ say-head-read head body range =
 -- ---- the fields that every reply has
 
 record SayFacts (head : SayHead) (body : List ℕ) : Type 0 where
-  flags : head.common.flags ≡ 0
-  epoch : 1 ≤ head.common.epoch
-  counted : head.common.data_length ≡ length body
+  common : CommonFacts head.common body
   zeros_22 : head.zeros_22 ≡ 0
   zeros_36 : head.zeros_36 ≡ 0
   zeros_40 : head.zeros_40 ≡ 0
 
 say-facts : (head : SayHead) (body : List ℕ) → is_say_head head body ≡ true → SayFacts head body
 say-facts head body h =
-    let a = both_pass _ _ h in
-    let b = both_pass _ _ a.0 in
-    let c = both_pass _ _ b.0 in
-    let d = both_pass _ _ c.0 in
-    let e = both_pass _ _ d.0 in
+    let a = and_parts _ _ h in
+    let b = and_parts _ _ a.0 in
+    let c = and_parts _ _ b.0 in
     record {
-      flags = eqb-true _ _ e.0;
-      epoch = grind (arith, nat_tests, e.1);
-      counted = eqb-true _ _ d.1;
+      common = common-facts head.common body c.0;
       zeros_22 = eqb-true _ _ c.1;
       zeros_36 = eqb-true _ _ b.1;
       zeros_40 = eqb-true _ _ a.1;
@@ -135,45 +129,31 @@ say-facts head body h =
 
 say-passes : (head : SayHead) (body : List ℕ) → SayFacts head body → is_say_head head body ≡ true
 say-passes head body facts =
-    let flags : nat_eq head.common.flags 0 ≡ true = grind (arith, nat_tests, facts.flags) in
-    let epoch : not (nat_eq head.common.epoch 0) ≡ true = grind (arith, nat_tests, facts.epoch) in
-    let counted : nat_eq head.common.data_length (length body) ≡ true = grind (arith, nat_tests, facts.counted) in
     let a : nat_eq head.zeros_22 0 ≡ true = grind (arith, nat_tests, facts.zeros_22) in
     let b : nat_eq head.zeros_36 0 ≡ true = grind (arith, nat_tests, facts.zeros_36) in
     let c : nat_eq head.zeros_40 0 ≡ true = grind (arith, nat_tests, facts.zeros_40) in
-    pass_both _ _ (pass_both _ _ (pass_both _ _ (pass_both _ _ (pass_both _ _ flags epoch) counted) a) b) c
+    and_from _ _ (and_from _ _ (and_from _ _ (common-passes head.common body facts.common) a) b) c
 
 -- ---- forms, rows and refusals
 
 form_of-byte : (form : Form) → form_of (form_byte form) ≡ Some form
 form_of-byte forms.Success = refl
-form_of-byte forms.Piece = refl
-form_of-byte forms.Objects = refl
-form_of-byte forms.Row = refl
-form_of-byte forms.NoRow = refl
-form_of-byte forms.Refused = refl
-
-chosen : (b : Bool) (byte n : ℕ) (form found : Form) (rest : Option Form) → nat_eq byte n ≡ b → form_byte form ≡ n
-    → cond b (Some form) rest ≡ Some found → (rest ≡ Some found → form_byte found ≡ byte) → form_byte found ≡ byte
-chosen true byte n form found rest test is h later =
-    let same : form ≡ found = cc in
-    ap form_byte (sym same) ∙ is ∙ sym (eqb-true byte n test)
-chosen false byte n form found rest test is h later = later h
+form_of-byte form = refl
 
 form_byte-of : (byte : ℕ) (form : Form) → form_of byte ≡ Some form → form_byte form ≡ byte
 form_byte-of byte form h =
-    chosen (nat_eq byte 0) byte 0 forms.Success form _ refl refl h (λ h2.
-    chosen (nat_eq byte 1) byte 1 forms.Piece form _ refl refl h2 (λ h3.
-    chosen (nat_eq byte 2) byte 2 forms.Objects form _ refl refl h3 (λ h4.
-    chosen (nat_eq byte 3) byte 3 forms.Row form _ refl refl h4 (λ h5.
-    chosen (nat_eq byte 4) byte 4 forms.NoRow form _ refl refl h5 (λ h6.
-    chosen (nat_eq byte 5) byte 5 forms.Refused form None refl refl h6 (λ h7. absurd (cc h7)))))))
+    byte-chosen form_byte (nat_eq byte 0) byte 0 forms.Success form _ refl refl h (λ h2.
+    byte-chosen form_byte (nat_eq byte 1) byte 1 forms.Piece form _ refl refl h2 (λ h3.
+    byte-chosen form_byte (nat_eq byte 2) byte 2 forms.Objects form _ refl refl h3 (λ h4.
+    byte-chosen form_byte (nat_eq byte 3) byte 3 forms.Row form _ refl refl h4 (λ h5.
+    byte-chosen form_byte (nat_eq byte 4) byte 4 forms.NoRow form _ refl refl h5 (λ h6.
+    byte-chosen form_byte (nat_eq byte 5) byte 5 forms.Refused form None refl refl h6 (λ h7. absurd (cc h7)))))))
 
 no-row : (row : RowHead) → has_no_row row ≡ true → no_row ≡ row
 no-row row h =
-    let a = both_pass _ _ h in
-    let b = both_pass _ _ a.0 in
-    let c = both_pass _ _ b.0 in
+    let a = and_parts _ _ h in
+    let b = and_parts _ _ a.0 in
+    let c = and_parts _ _ b.0 in
     let index : 0 ≡ row.index = sym (eqb-true _ _ c.0) in
     ap (λ (i : ℕ). row_made i 0 0 0) index
     ∙ same_row row.index 0 row.from 0 row.to 0 row.size (sym (eqb-true _ _ c.1)) (sym (eqb-true _ _ b.1)) (sym (eqb-true _ _ a.1))
@@ -221,8 +201,8 @@ same_as : (head : SayHead) (form : Form) (text : List ℕ) (result : ℕ) (row :
     → nat_eq head.common.opcode (opcode_byte (form_opcode form)) ≡ true → result ≡ head.result → row ≡ head.row
     → made (record { opcode = opcode_byte (form_opcode form); flags = 0; epoch = head.common.epoch; id = head.common.id; data_length = length text % 2 ^ 32 }) result (form_byte form) row 0 0 0 ≡ head
 same_as head form text result row is range facts op same_result rows =
-    let low : length text % 2 ^ 32 ≡ head.common.data_length = omega (arith, facts.counted, range.common.data_length) in
-    let flags : 0 ≡ head.common.flags = sym facts.flags in
+    let low : length text % 2 ^ 32 ≡ head.common.data_length = omega (arith, facts.common.counted, range.common.data_length) in
+    let flags : 0 ≡ head.common.flags = sym facts.common.flags in
     let opcode : opcode_byte (form_opcode form) ≡ head.common.opcode = sym (eqb-true _ _ op) in
     let common : record { opcode = opcode_byte (form_opcode form); flags = 0; epoch = head.common.epoch; id = head.common.id; data_length = length text % 2 ^ 32 } ≡ head.common
     = same_common (opcode_byte (form_opcode form)) head.common.opcode 0 head.common.flags (length text % 2 ^ 32) head.common.data_length head.common.epoch head.common.id opcode flags low in
@@ -234,29 +214,29 @@ spelled : (form : Form) (head : SayHead) (body : List ℕ) → AreBytes body →
     → nat_eq head.common.opcode (opcode_byte (form_opcode form)) ≡ true → has_form form head body ≡ true
     → (say_head (peer_reply_of form head body) ≡ head) × (say_body (peer_say_of form head body) ≡ body) × IsPeerSay (record { 0 = head.common.epoch }) (peer_say_of form head body)
 spelled forms.Success head body bytes is range facts op h =
-    let a = both_pass (nat_eq head.result 0 && has_no_row head.row) (nat_eq (length body) 0) h in
-    let b = both_pass (nat_eq head.result 0) (has_no_row head.row) a.0 in
+    let a = and_parts (nat_eq head.result 0 && has_no_row head.row) (nat_eq (length body) 0) h in
+    let b = and_parts (nat_eq head.result 0) (has_no_row head.row) a.0 in
     let nothing : [] ≡ body = none body a.1 in
     (same_as head forms.Success [] 0 no_row is range (subst (SayFacts head) (sym nothing) facts) op (sym (eqb-true _ _ b.0)) (no-row head.row b.1), nothing, tt)
 spelled forms.Piece head body bytes is range facts op h =
-    let b = both_pass (nat_eq head.result 0) (has_no_row head.row) h in (
+    let b = and_parts (nat_eq head.result 0) (has_no_row head.row) h in (
       same_as head forms.Piece body 0 no_row is range facts op (sym (eqb-true _ _ b.0)) (no-row head.row b.1),
       refl,
-      omega (arith, facts.counted, range.common.data_length),
+      omega (arith, facts.common.counted, range.common.data_length),
     )
 spelled forms.Objects head body bytes is range facts op h =
-    let a = both_pass (nat_eq head.result 0 && has_no_row head.row) (are_id_bytes body) h in
-    let b = both_pass (nat_eq head.result 0) (has_no_row head.row) a.0 in
+    let a = and_parts (nat_eq head.result 0 && has_no_row head.row) (are_id_bytes body) h in
+    let b = and_parts (nat_eq head.result 0) (has_no_row head.row) a.0 in
     let back : id_bytes (ids_in body) ≡ body = ids-back body bytes a.1 in (
       same_as head forms.Objects (id_bytes (ids_in body)) 0 no_row is range (subst (SayFacts head) (sym back) facts) op (sym (eqb-true _ _ b.0)) (no-row head.row b.1),
       back,
-      (ids-are body bytes a.1, ids_ascend body a.1, omega (arith, ap length back, facts.counted, range.common.data_length)),
+      (ids-are body bytes a.1, ids_ascend body a.1, omega (arith, ap length back, facts.common.counted, range.common.data_length)),
     )
 spelled forms.Row head body bytes is range facts op h =
-    let a = both_pass (nat_eq head.result 0) (fits_row_head head.row body) h in
-    let b = both_pass (nat_le head.row.index 30 && not (nat_eq head.row.from 0) && nat_le (length body) head.row.size) (not (ends_in_zero body)) a.1 in
-    let c = both_pass (nat_le head.row.index 30 && not (nat_eq head.row.from 0)) (nat_le (length body) head.row.size) b.0 in
-    let d = both_pass (nat_le head.row.index 30) (not (nat_eq head.row.from 0)) c.0 in
+    let a = and_parts (nat_eq head.result 0) (fits_row_head head.row body) h in
+    let b = and_parts (nat_le head.row.index 30 && not (nat_eq head.row.from 0) && nat_le (length body) head.row.size) (not (ends_in_zero body)) a.1 in
+    let c = and_parts (nat_le head.row.index 30 && not (nat_eq head.row.from 0)) (nat_le (length body) head.row.size) b.0 in
+    let d = and_parts (nat_le head.row.index 30) (not (nat_eq head.row.from 0)) c.0 in
     let end = end-is head.row.to range.to in
     let row : row_made head.row.index head.row.from (to_number (to_epoch head.row.to)) head.row.size ≡ head.row
     = ap (λ (to : ℕ). row_made head.row.index head.row.from to head.row.size) end.0 in
@@ -273,13 +253,13 @@ spelled forms.Row head body bytes is range facts op h =
       },
     )
 spelled forms.NoRow head body bytes is range facts op h =
-    let a = both_pass (nat_eq head.result 0 && has_no_row head.row) (nat_eq (length body) 0) h in
-    let b = both_pass (nat_eq head.result 0) (has_no_row head.row) a.0 in
+    let a = and_parts (nat_eq head.result 0 && has_no_row head.row) (nat_eq (length body) 0) h in
+    let b = and_parts (nat_eq head.result 0) (has_no_row head.row) a.0 in
     let nothing : [] ≡ body = none body a.1 in
     (same_as head forms.NoRow [] 0 no_row is range (subst (SayFacts head) (sym nothing) facts) op (sym (eqb-true _ _ b.0)) (no-row head.row b.1), nothing, tt)
 spelled forms.Refused head body bytes is range facts op h =
-    let a = both_pass (is_refusal_result head.result && has_no_row head.row) (nat_eq (length body) 0) h in
-    let b = both_pass (is_refusal_result head.result) (has_no_row head.row) a.0 in
+    let a = and_parts (is_refusal_result head.result && has_no_row head.row) (nat_eq (length body) 0) h in
+    let b = and_parts (is_refusal_result head.result) (has_no_row head.row) a.0 in
     let nothing : [] ≡ body = none body a.1 in
     let refusal = refusal-is head.result (record { 0 = head.common.epoch }) b.0 in (
       same_as head forms.Refused [] (refusal_result (refusal_of head.result (record { 0 = head.common.epoch }))) no_row is range (subst (SayFacts head) (sym nothing) facts) op refusal.0 (no-row head.row b.1),
@@ -296,15 +276,15 @@ say-found bytes rsp (Some form) fits found long version h =
     let body : List ℕ = drop 48 bytes in
     let w = when-ok (fits_say form head body) (peer_reply_of form head body) rsp h in
     let range = say-range bytes fits in
-    let a = both_pass (nat_eq head.common.opcode (opcode_byte (form_opcode form)) && is_say_head head body) (has_form form head body) w.0 in
-    let b = both_pass (nat_eq head.common.opcode (opcode_byte (form_opcode form))) (is_say_head head body) a.0 in
+    let a = and_parts (nat_eq head.common.opcode (opcode_byte (form_opcode form)) && is_say_head head body) (has_form form head body) w.0 in
+    let b = and_parts (nat_eq head.common.opcode (opcode_byte (form_opcode form))) (is_say_head head body) a.0 in
     let facts = say-facts head body b.1 in
     let s = spelled form head body (drop-bytes 48 bytes fits) (form_byte-of (u8_at 21 bytes) form found) range facts b.0 a.1 in
     let whole : bytes ≡ say_head_bytes head ++ body = (say-head-stands bytes fits long version).parts in
     let text : say_bytes (peer_reply_of form head body) ≡ bytes
     = ap (λ (k : SayHead). say_head_bytes k ++ say_body (peer_say_of form head body)) s.0 ∙ ap (λ (rest : List ℕ). say_head_bytes head ++ rest) s.1 ∙ sym whole in
     let is : IsPeerRsp (peer_reply_of form head body)
-    = record { number = range.common.id; epoch = (facts.epoch, range.common.epoch); say = s.2 } in
+    = record { number = range.common.id; epoch = (facts.common.epoch, range.common.epoch); say = s.2 } in
     subst (λ (r : PeerRsp). IsPeerRsp r × (bytes ≡ say_bytes r)) w.1 (is, sym text)
 
 pub say-read : (bytes : List ℕ) (rsp : PeerRsp) → AreBytes bytes → say_in bytes ≡ Ok rsp → IsPeerRsp rsp × (bytes ≡ say_bytes rsp)
@@ -324,18 +304,14 @@ abbrev reply : ℕ → Epoch → PeerSay → PeerRsp
 reply number epoch say = record { number = number; epoch = epoch; say = say }
 
 short-of : (epoch : Epoch) (say : PeerSay) → IsPeerSay epoch say → length (say_body say) < 2 ^ 32
-short-of epoch says.Success is = omega arith
 short-of epoch (says.Piece bytes) is = is
 short-of epoch (says.Objects oids) is = is.2
 short-of epoch (says.Row row) is = omega (arith, is.within, is.size)
-short-of epoch says.NoRow is = omega arith
-short-of epoch (says.Refused refusal) is = omega arith
+short-of epoch say is = omega arith
 
 facts-of : (number : ℕ) (epoch : Epoch) (say : PeerSay) → IsPeerRsp (reply number epoch say) → SayFacts (say_head (reply number epoch say)) (say_body say)
 facts-of number epoch say is = record {
-  flags = refl;
-  epoch = is.epoch.0;
-  counted = omega (arith, short-of epoch say is.say);
+  common = record { flags = refl; epoch = is.epoch.0; counted = omega (arith, short-of epoch say is.say) };
   zeros_22 = refl;
   zeros_36 = refl;
   zeros_40 = refl;
@@ -343,48 +319,34 @@ facts-of number epoch say is = record {
 
 form-fits : (number : ℕ) (epoch : Epoch) (say : PeerSay) → IsPeerRsp (reply number epoch say)
     → has_form (say_form say) (say_head (reply number epoch say)) (say_body say) ≡ true
-form-fits number epoch says.Success is = refl
-form-fits number epoch (says.Piece bytes) is = refl
 form-fits number epoch (says.Objects oids) is = ids-pass oids is.say.0 is.say.1
 form-fits number epoch (says.Row row) is =
     let some : not (nat_eq row.from.0 0) ≡ true = grind (arith, nat_tests, is.say.from.0) in
     let index : nat_le row.index 30 ≡ true = le-leb row.index 30 is.say.index in
     let within : nat_le (length row.bytes) row.length ≡ true = le-leb (length row.bytes) row.length is.say.within in
     let trimmed : not (ends_in_zero row.bytes) ≡ true = ap not is.say.trimmed in
-    pass_both _ _ (pass_both _ _ (pass_both _ _ index some) within) trimmed
-form-fits number epoch says.NoRow is = refl
+    and_from _ _ (and_from _ _ (and_from _ _ index some) within) trimmed
 form-fits number epoch (says.Refused (OldEpoch own)) is = refl
-form-fits number epoch (says.Refused (NewEpoch own)) is = refl
-form-fits number epoch (says.Refused Recovery) is = refl
-form-fits number epoch (says.Refused NoObj) is = refl
+form-fits number epoch (says.Refused refusal) is = refl
+form-fits number epoch say is = refl
 
 same_byte : (form : Form) → nat_eq (opcode_byte (form_opcode form)) (opcode_byte (form_opcode form)) ≡ true
 same_byte forms.Success = refl
-same_byte forms.Piece = refl
-same_byte forms.Objects = refl
-same_byte forms.Row = refl
-same_byte forms.NoRow = refl
-same_byte forms.Refused = refl
+same_byte form = refl
 
 fits-of : (number : ℕ) (epoch : Epoch) (say : PeerSay) → IsPeerRsp (reply number epoch say)
     → fits_say (say_form say) (say_head (reply number epoch say)) (say_body say) ≡ true
 fits-of number epoch say is =
     let head : SayHead = say_head (reply number epoch say) in
-    pass_both (nat_eq head.common.opcode (opcode_byte (form_opcode (say_form say))) && is_say_head head (say_body say)) (has_form (say_form say) head (say_body say))
-    (pass_both (nat_eq head.common.opcode (opcode_byte (form_opcode (say_form say)))) (is_say_head head (say_body say))
+    and_from (nat_eq head.common.opcode (opcode_byte (form_opcode (say_form say))) && is_say_head head (say_body say)) (has_form (say_form say) head (say_body say))
+    (and_from (nat_eq head.common.opcode (opcode_byte (form_opcode (say_form say)))) (is_say_head head (say_body say))
     (same_byte (say_form say)) (say-passes head (say_body say) (facts-of number epoch say is)))
     (form-fits number epoch say is)
 
 result-below : (say : PeerSay) → say_result say < 2 ^ 32
-result-below says.Success = omega arith
-result-below (says.Piece bytes) = omega arith
-result-below (says.Objects oids) = omega arith
-result-below (says.Row row) = omega arith
-result-below says.NoRow = omega arith
 result-below (says.Refused (OldEpoch own)) = omega arith
-result-below (says.Refused (NewEpoch own)) = omega arith
-result-below (says.Refused Recovery) = omega arith
-result-below (says.Refused NoObj) = omega arith
+result-below (says.Refused refusal) = omega arith
+result-below say = omega arith
 
 -- the numbers of a row
 record RowRange (row : RowHead) : Type 0 where
@@ -393,12 +355,8 @@ record RowRange (row : RowHead) : Type 0 where
   size : row.size < 2 ^ 32
 
 row-range : (epoch : Epoch) (say : PeerSay) → IsPeerSay epoch say → RowRange (say_row say)
-row-range epoch says.Success is = record { from = omega arith; to = omega arith; size = omega arith }
-row-range epoch (says.Piece bytes) is = record { from = omega arith; to = omega arith; size = omega arith }
-row-range epoch (says.Objects oids) is = record { from = omega arith; to = omega arith; size = omega arith }
 row-range epoch (says.Row row) is = record { from = is.from.1; to = end-below row.to is.to; size = is.size }
-row-range epoch says.NoRow is = record { from = omega arith; to = omega arith; size = omega arith }
-row-range epoch (says.Refused refusal) is = record { from = omega arith; to = omega arith; size = omega arith }
+row-range epoch say is = record { from = omega arith; to = omega arith; size = omega arith }
 
 range-of : (number : ℕ) (epoch : Epoch) (say : PeerSay) → IsPeerRsp (reply number epoch say) → SayRange (say_head (reply number epoch say))
 range-of number epoch say is =
@@ -415,13 +373,11 @@ range-of number epoch say is =
     }
 
 say-of : (number : ℕ) (epoch : Epoch) (say : PeerSay) → IsPeerSay epoch say → peer_say_of (say_form say) (say_head (reply number epoch say)) (say_body say) ≡ say
-say-of number epoch says.Success is = refl
-say-of number epoch (says.Piece bytes) is = refl
 say-of number epoch (says.Objects oids) is = ap (λ (ids : List ℕ). says.Objects ids) (ids-again oids is.0)
 say-of number epoch (says.Row row) is =
     ap (λ (to : Option Epoch). says.Row (record { index = row.index; from = row.from; to = to; length = row.length; bytes = row.bytes })) (end-again row.to is.to)
-say-of number epoch says.NoRow is = refl
 say-of number epoch (says.Refused refusal) is = ap (λ (r : Refusal). says.Refused r) (refusal-again refusal epoch is)
+say-of number epoch say is = refl
 
 reply-again : (number : ℕ) (epoch : Epoch) (say : PeerSay) → IsPeerRsp (reply number epoch say)
     → say_in (say_bytes (reply number epoch say)) ≡ Ok (reply number epoch say)

@@ -1,6 +1,6 @@
 ghost use Rattle.std.specs.Prelude.{◌≡◌, IfOk};
 
-use object_id::{Bytes, Epoch, NoMemory, NodeId, Oid};
+use object_id::{Bytes, Duplicate, Epoch, NoMemory, NodeId, Oid};
 use object_store::Key;
 use std::alloc::Global;
 
@@ -94,5 +94,11 @@ impl PeerReq {
             epoch: self.epoch,
             ask: self.ask.copy(alloc)?,
         })
+    }
+}
+
+impl Duplicate for PeerReq {
+    fn duplicate(&self, alloc: Global) -> Result<Self, NoMemory> {
+        self.copy(alloc)
     }
 }

@@ -1,6 +1,7 @@
 ghost use Rattle.std.specs.Prelude.{◌≡◌, IfOk};
 
-use object_id::{Bytes, Cause, NoMemory, VdiSpec, Vid};
+use object_id::{Bytes, Cause, Duplicate, NoMemory, VdiSpec, Vid};
+use object_store::OidList;
 use std::alloc::Global;
 
 /// What a guest asks of its open disk.
@@ -52,6 +53,8 @@ pub enum VdiAsk {
         name: Bytes,
         tag: Option<Bytes>,
     },
+    /// Read all copies of each own object of the open disk, and write one value back.
+    Check,
 }
 
 impl VdiAsk {
@@ -80,6 +83,30 @@ impl VdiAsk {
                 name: name.copy(alloc)?,
                 tag: Bytes::copy_option(alloc, tag)?,
             },
+            VdiAsk::Check => VdiAsk::Check,
+        })
+    }
+}
+
+/// What the check of a disk found.
+#[derive(Debug, Drop)]
+pub struct Checked {
+    /// How many objects are the disk's own; each was read at every target, and written back.
+    pub objects: u32,
+    /// How many entries of its table name another disk's object; these weren't looked at.
+    pub inherited: u32,
+    /// The own objects whose copies differed, ascending.
+    pub differed: OidList,
+}
+
+impl Checked {
+    pub fn copy(&self, alloc: Global) -> Result<Self, NoMemory>
+        ensures { IfOk result (λ copy. copy ≡ self.now) }
+    {
+        Ok(Checked {
+            objects: self.objects,
+            inherited: self.inherited,
+            differed: self.differed.copy(alloc)?,
         })
     }
 }
@@ -93,6 +120,7 @@ pub enum GuestRsp {
     Refused(Cause),
     /// The disk that a lock was granted on.
     Granted { vid: Vid },
+    Checked(Checked),
 }
 
 impl GuestRsp {
@@ -104,6 +132,13 @@ impl GuestRsp {
             GuestRsp::Piece(bytes) => GuestRsp::Piece(bytes.copy(alloc)?),
             GuestRsp::Refused(cause) => GuestRsp::Refused(*cause),
             GuestRsp::Granted { vid } => GuestRsp::Granted { vid: *vid },
+            GuestRsp::Checked(checked) => GuestRsp::Checked(checked.copy(alloc)?),
         })
+    }
+}
+
+impl Duplicate for GuestRsp {
+    fn duplicate(&self, alloc: Global) -> Result<Self, NoMemory> {
+        self.copy(alloc)
     }
 }

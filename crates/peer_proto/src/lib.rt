@@ -1,10 +1,11 @@
 //! What nodes say to each other: requests, replies, and the bytes that they go over the wire as. Beside them stand the
 //! plain types that pass between the parts of a node.
 //!
-//! The crate stands on `object_id`, `object_store` and `sheep_proto`, whose first 16 bytes of a header it shares. A
-//! message's bytes are one spelling of it, said once for both directions in `specs/Ask.antt` and `specs/Say.antt`: a
-//! header of 48 bytes, and what stands behind it. The encoders give that spelling. The decoders take exactly the
-//! bytes that spell a message, and else answer with the first refusal. Memory is taken only for what an answer keeps.
+//! The crate stands on `object_id`, `object_store`, `sheep_proto`, whose first 16 bytes of a header it shares, and
+//! `strip_coding`, by whose parts works on coded data are aligned. A message's bytes are one spelling of it, said once for
+//! both directions in `specs/Ask.antt` and `specs/Say.antt`: a header of 48 bytes, and what stands behind it. The encoders
+//! give that spelling. The decoders take exactly the bytes that spell a message, and else answer with the first refusal.
+//! Memory is taken only for what an answer keeps.
 #![tactic(auto)]
 
 mod ask;
@@ -27,7 +28,7 @@ mod work;
 pub use ask::{PeerAsk, PeerReq};
 pub use ask_codec::{decode_ask, encode_ask};
 pub use fault::PeerFault;
-pub use guest::{DiskAsk, GuestRsp, VdiAsk};
+pub use guest::{Checked, DiskAsk, GuestRsp, VdiAsk};
 pub use laws::{replies_have_one_spelling, requests_have_one_spelling, trimmed_rows_fit_a_reply};
 pub use object_id::{Cause, Entry, Origin, VdiSpec};
 pub use say::{PeerRsp, PeerSay, Refusal};

@@ -470,6 +470,12 @@ fn copies_works(rt: HostRuntime) -> Result<(), Fail> {
     assert!(rt;
         matches!(&copy, ObjWork::Write { offset: 512, bytes, .. } if bytes.as_slice() == b"inode".as_slice())
     );
+    let all = ObjWork::ReadAll {
+        oid: Oid::object(Vid(1), 3),
+        policy: Policy::Copies(2),
+        length: 4_096,
+    };
+    assert!(rt; matches!(&all.copy(alloc)?, ObjWork::ReadAll { length: 4_096, .. }));
     let done = WorkDone {
         req: 2,
         bytes: Bytes::from_slice(alloc, b"read")?,
@@ -499,5 +505,23 @@ fn copies_what_guests_say(rt: HostRuntime) -> Result<(), Fail> {
     );
     let granted = GuestRsp::Granted { vid: Vid(7) };
     assert!(rt; matches!(granted.copy(alloc)?, GuestRsp::Granted { vid: Vid(7) }));
+    Ok(())
+}
+
+#[test]
+fn copies_checks(rt: HostRuntime) -> Result<(), Fail> {
+    let alloc = rt.alloc();
+    assert!(rt; matches!(VdiAsk::Check.copy(alloc)?, VdiAsk::Check));
+    let mut differed = OidList::new(alloc);
+    differed.push(Oid::object(Vid(1), 0))?;
+    let checked = GuestRsp::Checked(Checked {
+        objects: 2,
+        inherited: 1,
+        differed,
+    });
+    let copy = checked.copy(alloc)?;
+    assert!(rt;
+        matches!(&copy, GuestRsp::Checked(Checked { objects: 2, inherited: 1, differed }) if differed.len() == 1)
+    );
     Ok(())
 }

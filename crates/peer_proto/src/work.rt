@@ -27,6 +27,12 @@ pub enum ObjWork {
         offset: u32,
         length: u32,
     },
+    /// What every target keeps of the object's first `length` bytes.
+    ReadAll {
+        oid: Oid,
+        policy: Policy,
+        length: u32,
+    },
 }
 
 impl ObjWork {
@@ -69,11 +75,21 @@ impl ObjWork {
                 offset: *offset,
                 length: *length,
             },
+            ObjWork::ReadAll {
+                oid,
+                policy,
+                length,
+            } => ObjWork::ReadAll {
+                oid: *oid,
+                policy: *policy,
+                length: *length,
+            },
         })
     }
 }
 
-/// A request's work that is done, with the bytes of a read; of any other work they are empty.
+/// A request's work that is done, with the bytes of a read, or the pieces of all targets in their order one behind the
+/// other; of any other work they are empty.
 #[derive(Debug, Drop)]
 pub struct WorkDone {
     pub req: u32,

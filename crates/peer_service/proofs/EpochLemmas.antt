@@ -4,6 +4,7 @@ use Rattle.std.specs.List.{AllByRecursion}
 use Rattle.std.specs.Ordering.{nat_cmp}
 use Rattle.std.specs.BTreeMap.{is_at}
 use Rattle.std.specs.FinMap as tree
+use Rattle.std.proofs.Math.Bool.{and-false}
 use Rattle.object_id.specs.declared.entry.Entry.{Entry}
 use Rattle.object_id.specs.declared.node.NodeId.{NodeId}
 use Rattle.object_id.specs.declared.policy.Policy.{Policy}
@@ -127,11 +128,7 @@ unfolding read_entry without_objects
 read_still_pending entry peer oid is = waits_on (kills_object entry peer) oid peer.pending is
 
 pub dead_before : (entry : Entry) (peer : Peer) (oid : ℕ) → is_dead_object peer oid ≡ true → kills_object entry peer oid ≡ false
-dead_before entry peer oid is = ap (λ b. is_dead_object (with_entry entry peer) oid && not b) is ∙ never (is_dead_object (with_entry entry peer) oid)
-  where
-    never : (a : Bool) → (a && false) ≡ false
-    never true = refl
-    never false = refl
+dead_before entry peer oid is = ap (λ b. is_dead_object (with_entry entry peer) oid && not b) is ∙ and-false (is_dead_object (with_entry entry peer) oid)
 
 pub dead_for_good : (entry : Entry) (peer : Peer) (oid : ℕ) → is_dead_object peer oid ≡ true → is_dead_object (read_entry entry peer) oid ≡ true
 unfolding read_entry without_objects

@@ -8,13 +8,14 @@ use Rattle.std.specs.declared.cmp.Ordering.TheVariants.{Less, Equal, Greater}
 use Rattle.std.specs.Ordering.{is_eq, is_lt, nat_cmp}
 use Rattle.std.specs.FinMap as tree
 use Rattle.std.specs.FinMap.Entries.{find, is_sorted, below_all}
+use Rattle.proof_tools.proofs.FiniteMaps.{is_at-true, is_at-same, less_from_test}
+use Rattle.proof_tools.proofs.Booleans.{T_and_left, T_and_right}
 use Rattle.object_id.specs.Piece.{laid_over}
 use Rattle.object_id.specs.declared.node.Epoch.{Epoch}
 use Rattle.object_store.specs.Bytes.{piece_at}
 use Rattle.object_store.specs.Rows.{is_open, open_at, closed, closed_all, is_replaced, ended, created, purged, has_ended_below, OpenFrom}
 use Rattle.object_store.specs.Store.{SeenRow, AllRows, rows_of, with_rows, each_entry, each, OpenUpTo}
 use Rattle.object_store.proofs.RowLemmas.{AllClosed, find-front, closed_all-closed}
-use Rattle.object_store.proofs.MapLemmas.{same_key, own_key}
 use Rattle.object_store.proofs.StoreLaws.{rows_of-each}
 
 -- ---- pieces
@@ -142,23 +143,10 @@ OpenUpTo-change last change none keeps all had oid =
 
 -- ---- changes of all objects
 
-one_of : (a b : Bool) → T (a && b) → T a
-one_of true b p = tt
-one_of false b p = absurd p
-
-other_of : (a b : Bool) → T (a && b) → T b
-other_of true b p = p
-other_of false b p = absurd p
-
-not_equal : (r : Ordering) → T (is_lt r) → is_eq r ≡ false
-not_equal Less p = refl
-not_equal Equal p = absurd p
-not_equal Greater p = absurd p
-
 none_below : (q : ℕ) (es : List (ℕ × List SeenRow)) → T (below_all nat_cmp q es) → find nat_cmp q es ≡ None
 none_below q [] below = refl
 none_below q (e ∷ es) below =
-    ap (λ b. cond b (Some e.1) (find nat_cmp q es)) (not_equal (nat_cmp q e.0) (one_of _ _ below)) ∙ none_below q es (other_of _ _ below)
+    ap (λ b. cond b (Some e.1) (find nat_cmp q es)) (ap is_eq (less_from_test (nat_cmp q e.0) (T_and_left _ _ below))) ∙ none_below q es (T_and_right _ _ below)
 
 rows_in : List (ℕ × List SeenRow) → ℕ → List SeenRow
 rows_in es q = unwrap_or (find nat_cmp q es) []
@@ -169,10 +157,10 @@ unfolding rows_in
 each_entry_alike f g none [] sorted alike = refl
 each_entry_alike f g none (e ∷ es) sorted alike =
     let here : f e.0 e.1 ≡ g e.0 e.1
-    = ap (λ b. f e.0 (unwrap_or (cond b (Some e.1) (find nat_cmp e.0 es)) [])) (sym (own_key e.0)) ∙ alike e.0
-    ∙ ap (λ b. g e.0 (unwrap_or (cond b (Some e.1) (find nat_cmp e.0 es)) [])) (own_key e.0) in
+    = ap (λ b. f e.0 (unwrap_or (cond b (Some e.1) (find nat_cmp e.0 es)) [])) (sym (is_at-same e.0)) ∙ alike e.0
+    ∙ ap (λ b. g e.0 (unwrap_or (cond b (Some e.1) (find nat_cmp e.0 es)) [])) (is_at-same e.0) in
     ap₂ (λ (rows : List SeenRow) (rest : List (ℕ × List SeenRow)). with_rows e.0 rows rest) here
-    (each_entry_alike f g none es (other_of _ _ sorted) (λ q. go q (is_eq (nat_cmp q e.0)) refl (alike q)))
+    (each_entry_alike f g none es (T_and_right _ _ sorted) (λ q. go q (is_eq (nat_cmp q e.0)) refl (alike q)))
   where
     go : (q : ℕ) (b : Bool) → is_eq (nat_cmp q e.0) ≡ b
         → f q (unwrap_or (cond (is_eq (nat_cmp q e.0)) (Some e.1) (find nat_cmp q es)) [])
@@ -180,7 +168,7 @@ each_entry_alike f g none (e ∷ es) sorted alike =
         → f q (unwrap_or (find nat_cmp q es) []) ≡ g q (unwrap_or (find nat_cmp q es) [])
     go q true at same =
         let nothing : find nat_cmp q es ≡ None
-        = none_below q es (subst (λ k. T (below_all nat_cmp k es)) (sym (same_key q e.0 at)) (one_of _ _ sorted)) in
+        = none_below q es (subst (λ k. T (below_all nat_cmp k es)) (sym (is_at-true q e.0 at)) (T_and_left _ _ sorted)) in
         ap (λ (o : Option (List SeenRow)). f q (unwrap_or o [])) nothing ∙ none q
         ∙ sym (ap (λ (o : Option (List SeenRow)). g q (unwrap_or o [])) nothing)
     go q false at same =

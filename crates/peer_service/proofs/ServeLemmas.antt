@@ -5,6 +5,7 @@ use Rattle.std.proofs.lemmas.List.{length-replicate}
 use Rattle.std.specs.Option.{option_map}
 use Rattle.std.specs.Result.{result_unwrap_or}
 use Rattle.std.specs.FinMap as tree
+use Rattle.std.proofs.lemmas.Bool.{and_right}
 use Rattle.object_id.specs.Piece.{laid_over}
 use Rattle.object_id.specs.declared.node.Epoch.{Epoch}
 use Rattle.object_store.specs.declared.fault.StoreFault.{StoreFault}
@@ -165,15 +166,11 @@ unfolding own_epoch_step
 create_others peer key size offset bytes oid apart =
     rows_of-insert_other peer.rows key.oid (create_in key.index peer.epoch size offset bytes (rows_of peer.rows key.oid)) oid apart
 
-never : (a b : Bool) → b ≡ false → (a && b) ≡ false
-never true b is = is
-never false b is = refl
-
 pub create_closed : (peer : Peer) (key : Key) (size offset : ℕ) (bytes : List ℕ) (row : SeenRow) → offset + length bytes ≤ size
     → is_open row ≡ false → Has row (rows_of peer.rows key.oid)
     → Has row (rows_of (own_epoch_step (asks.Create key size offset bytes) peer).peer.rows key.oid)
 create_closed peer key size offset bytes row ends shut had =
-    let untouched : (nat_eq key.oid key.oid && is_open row) ≡ false = never (nat_eq key.oid key.oid) (is_open row) shut in
+    let untouched : (nat_eq key.oid key.oid && is_open row) ≡ false = and_right (nat_eq key.oid key.oid) (is_open row) shut in
     subst (λ (all : AllRows). Has row (rows_of all key.oid))
     (ap (λ (r : Result AllRows StoreFault). result_unwrap_or r peer.rows) (create_call peer key size offset bytes ends))
     (row_stays peer.rows (Create key peer.epoch size offset bytes) key.oid row untouched had)
@@ -269,7 +266,7 @@ pub write_rows : (peer : Peer) (key : Key) (offset : ℕ) (bytes : List ℕ) (ro
     → Has row (rows_of peer.rows key.oid) → Has row (rows_of (own_epoch_step (asks.Write key offset bytes) peer).peer.rows key.oid)
 write_rows peer key offset bytes row other had =
     write_left (λ (all : AllRows). Has row (rows_of all key.oid)) peer key offset bytes had
-    (row_stays peer.rows (Write key offset bytes) key.oid row (never (nat_eq key.oid key.oid) (is_open_at key.index row) other) had)
+    (row_stays peer.rows (Write key offset bytes) key.oid row (and_right (nat_eq key.oid key.oid) (is_open_at key.index row) other) had)
 
 pub write_pending : (peer : Peer) (key : Key) (offset : ℕ) (bytes : List ℕ)
     → (own_epoch_step (asks.Write key offset bytes) peer).peer.pending ≡ peer.pending

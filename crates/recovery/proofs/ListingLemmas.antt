@@ -2,6 +2,7 @@
 use Rattle.std.proofs.Common.{◌≡◌, ℕ, ◌==◌, Bool, true, false, cond, List, [], ◌∷◌, length, Option, None, Some, refl, ap, sym, subst, ◌∙◌, arith}
 use Rattle.std.specs.List.{list_any}
 use Rattle.std.proofs.lemmas.Bool.{ne_eqb}
+use Rattle.proof_tools.proofs.Booleans.{cond_either}
 use Rattle.object_id.specs.declared.node.NodeId.{NodeId}
 use Rattle.object_list.specs.Gathered.{GatheredLists, nodes_without, gathered_with_answer}
 use Rattle.peer_proto.specs.declared.ask.PeerAsk.{PeerAsk}
@@ -14,7 +15,7 @@ use Rattle.recovery.specs.Level.{level_over, is_of_search, searching}
 use Rattle.recovery.specs.Tick.{next_search, with_messages, searching_on, tick_messages, state_after_tick}
 use Rattle.recovery.specs.Steps.{to_recover, when_listed, at_start, recovery_from_epoch, without_unanswered, search_after_answer, after_list, after_read, after_ask, after_message, message_end}
 use Rattle.recovery.specs.Frame.{WaitsForLists}
-use Rattle.recovery.proofs.StepLemmas.{either, judged_each}
+use Rattle.recovery.proofs.StepLemmas.{judged_each}
 
 -- a search leaves the lists
 
@@ -23,7 +24,7 @@ SameLists old new = new.recovery.lists ≡ old.recovery.lists
 
 searching_lists : (search : Search) (state : RecoveryState) → SameLists state (searching search state)
 searching_lists search state =
-    either (SameLists state)
+    cond_either (SameLists state)
     (list_any (is_of_search search.oid) state.recovery.unanswered)
     (record state { recovery = record state.recovery { search = Some search } }) (level_over search state)
     refl (judged_each (SameLists state) search state refl (λ index bytes. refl) refl (λ level. refl))
@@ -36,7 +37,7 @@ after_read_lists : (oid : ℕ) (from : NodeId) (said : Option PeerSay) (search :
     → SameLists state (after_read oid from said search state)
 after_read_lists oid from said None state = refl
 after_read_lists oid from said (Some search) state =
-    either (SameLists state) (search.oid == oid) (searching (search_after_answer from said search) state) state
+    cond_either (SameLists state) (search.oid == oid) (searching (search_after_answer from said search) state) state
     (searching_lists (search_after_answer from said search) state) refl
 
 -- where the list is finished, and the lists are the same, there is nothing to show
@@ -74,15 +75,10 @@ unfinished_before from [] unlisted = unlisted
 unfinished_before from (node ∷ nodes) unlisted = ne_eqb (length (node ∷ nodes)) 0 (λ (none : length (node ∷ nodes) ≡ 0). omega arith)
 
 after_list_waits : (from : NodeId) (said : Option PeerSay) (state : RecoveryState) → WaitsForLists state → WaitsForLists (after_list from said state)
-after_list_waits from None state waits = waits
-after_list_waits from (Some says.Success) state waits = waits
-after_list_waits from (Some (says.Piece bytes)) state waits = waits
 after_list_waits from (Some (says.Objects oids)) state waits =
     when_listed_waits (record state { recovery = record state.recovery { lists = gathered_with_answer from oids state.recovery.lists } })
     (λ unlisted. waits (unfinished_before from state.recovery.lists.waiting unlisted))
-after_list_waits from (Some (says.Row row)) state waits = waits
-after_list_waits from (Some says.NoRow) state waits = waits
-after_list_waits from (Some (says.Refused refusal)) state waits = waits
+after_list_waits from said state waits = waits
 
 after_read_waits : (oid : ℕ) (from : NodeId) (said : Option PeerSay) (state : RecoveryState) → WaitsForLists state
     → WaitsForLists (after_read oid from said (search_on state) state)
@@ -98,11 +94,9 @@ after_read_waits oid from said state waits = by_list (is_listed state.recovery) 
 
 after_ask_waits : (ask : PeerAsk) (from : NodeId) (said : Option PeerSay) (state : RecoveryState) → WaitsForLists state
     → WaitsForLists (after_ask ask from said state)
-after_ask_waits (asks.Create key size offset bytes) from said state waits = waits
-after_ask_waits (asks.Write key offset bytes) from said state waits = waits
-after_ask_waits (asks.Read key offset size) from said state waits = waits
 after_ask_waits asks.List from said state waits = after_list_waits from said state waits
 after_ask_waits (asks.RecoverRead oid level) from said state waits = after_read_waits oid from said state waits
+after_ask_waits ask from said state waits = waits
 
 after_message_waits : (message : Option Message) (said : Option PeerSay) (state : RecoveryState) → WaitsForLists state
     → WaitsForLists (after_message message said state)

@@ -6,11 +6,13 @@ use Rattle.std.specs.Ordering.{nat_cmp}
 use Rattle.std.specs.Cmp.{nat_cmp_total}
 use Rattle.std.specs.FinMap as tree
 use Rattle.std.specs.FinMap.Entries.{by_order}
-use Rattle.std.proofs.lemmas.Bool.{eqb-false, ltb-false, and_parts, or_parts}
+use Rattle.std.proofs.lemmas.Bool.{eqb-false, ltb-false, and_parts, or_parts, not-true}
 use Rattle.std.proofs.lemmas.List.{length-map}
 use Rattle.std.proofs.lemmas.List.Elements.{All-nil, All-cons, All-head, All-tail, All-map, All-weaker, All-filter, All-contains, All-contains_itself}
 use Rattle.std.proofs.lemmas.Map.Keys.{sorted_from_strictly_increasing}
 use Rattle.std.proofs.lemmas.Map.Views.{length-le_from_below}
+use Rattle.proof_tools.proofs.Booleans.{cond_either}
+use Rattle.proof_tools.proofs.FiniteMaps.{All-keys-insert}
 use Rattle.object_id.specs.declared.node.NodeId.{NodeId}
 use Rattle.object_id.specs.declared.oid.Kind.{Kind}
 use Rattle.object_id.specs.declared.oid.Kind.TheVariants.{Block, Inode}
@@ -19,7 +21,7 @@ use Rattle.object_id.specs.declared.policy.Policy.TheVariants.{Copies, Coded}
 use Rattle.object_id.specs.Oid.{IsOid, kind_of}
 use Rattle.object_id.specs.Policy.{IsPolicy, wanted_of}
 use Rattle.strip_coding.proofs.Widths.{by_cases}
-use Rattle.object_store.specs.Store.{create_in, rows_of}
+use Rattle.object_store.specs.Store.{AllRows, create_in, rows_of}
 use Rattle.object_list.specs.Gathered.{is_same_node, has_node, nodes_without, gathered_with_answer}
 use Rattle.object_list.specs.Union.{union}
 use Rattle.object_list.proofs.UnionLemmas.{union-only}
@@ -36,7 +38,7 @@ use Rattle.recovery.specs.Level.{with_part_found, with_object_missing, to_ask, o
 use Rattle.recovery.specs.Tick.{request_message, messages_to, lists_asked, asked_of, level_asked, or_next, next_search, level_messages, tick_messages, tick_sends, searching_on, with_messages, state_after_tick}
 use Rattle.recovery.specs.Steps.{to_recover, when_listed, at_start, recovery_from_epoch, without_unanswered, with_list_of, search_after_answer, after_list, after_read, after_ask, after_message, message_end}
 use Rattle.recovery.specs.Range.{IsSearchInRange, IsInRange, NamesIds}
-use Rattle.recovery.proofs.StepLemmas.{either, numbers_of_tick}
+use Rattle.recovery.proofs.StepLemmas.{numbers_of_tick}
 
 -- ---- what is asked
 
@@ -86,7 +88,7 @@ IsFine search = IfSome search IsSearchInRange
 
 still_fine : (pending : Option (List ℕ)) (search : Option Search) → IsFine search → IsFine (still_on pending search)
 still_fine pending None fine = tt
-still_fine pending (Some search) fine = either IsFine (is_pending_object search.oid pending) (Some search) None fine tt
+still_fine pending (Some search) fine = cond_either IsFine (is_pending_object search.oid pending) (Some search) None fine tt
 
 next_fine : (epoch : ℕ) (pending : Option (List ℕ)) (search : Option Search) → 2 ≤ epoch → epoch < 2 ^ 32
     → IfSome pending (All IsOid) → IsFine search → IsFine (or_next epoch (first_in pending) search)
@@ -96,15 +98,11 @@ next_fine epoch (Some []) None above below ids fine = tt
 next_fine epoch (Some (oid ∷ rest)) None above below ids fine =
     record { oid = All-head IsOid oid rest ids; level = (omega (arith, above), omega (arith, below)) }
 
-not_so : (b : Bool) → not b ≡ true → b ≡ false
-not_so true is = absurd (cc (is))
-not_so false is = refl
-
 -- a recovery that may tick is of a later epoch than the first
 above_1 : (state : RecoveryState) → IsInRange state → can_tick state ≡ true → 2 ≤ state.recovery.epoch
 above_1 state range may =
     let unfinished : is_finished state ≡ false
-    = not_so (is_finished state) (and_parts (not (is_finished state)) (length (all_unanswered state.recovery) == 0) may).0 in
+    = not-true (is_finished state) (and_parts (not (is_finished state)) (length (all_unanswered state.recovery) == 0) may).0 in
     let apart = eqb-false state.recovery.epoch 1
     (or_parts (state.recovery.epoch == 1) (is_listed state.recovery && not (is_some (first_in state.shown.pending))) unfinished).0 in
     let low : 1 ≤ state.recovery.epoch = range.epoch.0 in
@@ -120,7 +118,7 @@ next_search_fine state range may =
 tick_is : (first : ℕ) (state : RecoveryState) → IsInRange state → IsFine (next_search state) → IsTick state.recovery (tick_messages first state)
 unfolding tick_messages
 tick_is first state range fine =
-    either (IsTick state.recovery) (is_listed state.recovery) (option_map_or (level_messages first state) (next_search state) []) (lists_asked first state.recovery)
+    cond_either (IsTick state.recovery) (is_listed state.recovery) (option_map_or (level_messages first state) (next_search state) []) (lists_asked first state.recovery)
     (of_search (next_search state) fine)
     (record {
       few = subst (λ (n : ℕ). n ≤ 64) (sym (count_messages state.recovery first 0 asks.List state.recovery.lists.waiting)) range.waiting;
@@ -150,7 +148,7 @@ tick_is first state range fine =
     of_search None fine = none
     of_search (Some search) fine =
         of_level search (live_policy state.shown search.oid)
-        (either (λ (policy : Option Policy). IfSome policy IsPolicy) (state.shown.is_dead search.oid) None (state.shown.policy_of search.oid)
+        (cond_either (λ (policy : Option Policy). IfSome policy IsPolicy) (state.shown.is_dead search.oid) None (state.shown.policy_of search.oid)
         tt (range.policies search.oid))
         fine
 
@@ -164,7 +162,7 @@ unfolding tick_sends tick_messages
 asked_by_own first state =
     All-map (λ (send : NodeId × PeerReq). send.1.from ≡ state.recovery.me) (λ (message : Message). (message.to, message.request))
     (tick_messages first state)
-    (either (All (IsIn state.recovery.me)) (is_listed state.recovery) (option_map_or (level_messages first state) (next_search state) []) (lists_asked first state.recovery)
+    (cond_either (All (IsIn state.recovery.me)) (is_listed state.recovery) (option_map_or (level_messages first state) (next_search state) []) (lists_asked first state.recovery)
     (of_search (next_search state)) (to_each first 0 asks.List state.recovery.lists.waiting))
   where
     to_each : (first wanted : ℕ) (ask : PeerAsk) (nodes : List NodeId) → All (IsIn state.recovery.me) (messages_to state.recovery first wanted ask nodes)
@@ -223,33 +221,18 @@ asked_in_range first state may range =
 
 -- ---- a tick stays in range
 
-keys_put : (P : ℕ → Type 0) {X : Type 0} (key : ℕ) (value : X) (es : List (ℕ × X)) → P key → All P (map (λ (e : ℕ × X). e.0) es)
-    → All P (map (λ (e : ℕ × X). e.0) (tree.put nat_cmp key value es))
-keys_put P key value [] own all = All-cons P key [] own all
-keys_put P {X} key value (e ∷ es) own all =
-    by_place (keys_put P key value es own (All-tail P e.0 (map (λ (e : ℕ × X). e.0) es) all)) (nat_cmp key e.0)
-  where
-    by_place : All P (map (λ (e : ℕ × X). e.0) (tree.put nat_cmp key value es)) → (o : Ordering)
-        → All P (map (λ (e : ℕ × X). e.0) (by_order o ((key, value) ∷ e ∷ es) ((e.0, value) ∷ es) (e ∷ tree.put nat_cmp key value es)))
-    by_place later Less = All-cons P key (map (λ (e : ℕ × X). e.0) (e ∷ es)) own all
-    by_place later Equal = all
-    by_place later Greater =
-        All-cons P e.0 (map (λ (e : ℕ × X). e.0) (tree.put nat_cmp key value es)) (All-head P e.0 (map (λ (e : ℕ × X). e.0) es) all) later
-
-keys_insert : (P : ℕ → Type 0) {X : Type 0} (m : tree.FinMap nat_cmp X) (key : ℕ) (value : X) → P key → All P (tree.keys m)
-    → All P (tree.keys (tree.insert m key value))
-keys_insert P {X} m key value own all =
-    subst (λ (es : List (ℕ × X)). All P (map (λ (e : ℕ × X). e.0) es)) (sym (tree.entries-insert nat_cmp_total m key value))
-    (keys_put P key value (tree.entries m) own all)
-
 given_up_ids : (pending : Option (List ℕ)) (p : ℕ → Bool) → IfSome pending (All IsOid) → IfSome (option_map (filter p) pending) (All IsOid)
 given_up_ids None p ids = tt
 given_up_ids (Some oids) p ids = All-filter p IsOid oids ids
 
--- a state with another search
-with_search : (search : Option Search) (state : RecoveryState) → IsFine search → IsInRange state
-    → IsInRange (record state { recovery = record state.recovery { search = search } })
-with_search search state fine range = record {
+-- a state stays in range with other messages, another search, and other rows and pending objects
+with_others : (missing : List ℕ) (unanswered older : List Message) (search : Option Search) (rows : AllRows) (pending : Option (List ℕ)) (state : RecoveryState)
+    → IsFine search → All IsOid (tree.keys rows) → IfSome pending (All IsOid) → IsInRange state
+    → IsInRange (record state {
+      recovery = record state.recovery { missing = missing; unanswered = unanswered; older = older; search = search };
+      shown = record state.shown { rows = rows; pending = pending };
+    })
+with_others missing unanswered older search rows pending state fine kept ids range = record {
   me = range.me;
   epoch = range.epoch;
   settled = range.settled;
@@ -257,39 +240,24 @@ with_search search state fine range = record {
   policies = range.policies;
   targets = range.targets;
   named = range.named;
-  kept = range.kept;
-  pending = range.pending;
+  kept = kept;
+  pending = ids;
   search = fine;
 }
 
+with_search : (search : Option Search) (state : RecoveryState) → IsFine search → IsInRange state
+    → IsInRange (record state { recovery = record state.recovery { search = search } })
+with_search search state fine range = with_others _ _ _ search _ _ state fine range.kept range.pending range
+
 found_range : (oid index : ℕ) (bytes : List ℕ) (state : RecoveryState) → IsOid oid → IsInRange state → IsInRange (with_part_found oid index bytes state)
-found_range oid index bytes state is range = record {
-  me = range.me;
-  epoch = range.epoch;
-  settled = range.settled;
-  waiting = range.waiting;
-  policies = range.policies;
-  targets = range.targets;
-  named = range.named;
-  kept = keys_insert IsOid state.shown.rows oid
-      (create_in index state.shown.epoch (length bytes) 0 bytes (rows_of state.shown.rows oid)) is range.kept;
-  pending = given_up_ids state.shown.pending (λ other. not (other == oid)) range.pending;
-  search = tt;
-}
+found_range oid index bytes state is range = with_others _ _ _ None _ _ state tt
+    (All-keys-insert IsOid state.shown.rows oid
+    (create_in index state.shown.epoch (length bytes) 0 bytes (rows_of state.shown.rows oid)) is range.kept)
+    (given_up_ids state.shown.pending (λ other. not (other == oid)) range.pending) range
 
 missed_range : (oid : ℕ) (state : RecoveryState) → IsInRange state → IsInRange (with_object_missing oid state)
-missed_range oid state range = record {
-  me = range.me;
-  epoch = range.epoch;
-  settled = range.settled;
-  waiting = range.waiting;
-  policies = range.policies;
-  targets = range.targets;
-  named = range.named;
-  kept = range.kept;
-  pending = given_up_ids state.shown.pending (λ other. not (other == oid)) range.pending;
-  search = tt;
-}
+missed_range oid state range = with_others _ _ _ None _ _ state tt range.kept
+    (given_up_ids state.shown.pending (λ other. not (other == oid)) range.pending) range
 
 lower_range : (search : Search) (state : RecoveryState) → IsSearchInRange search → IsInRange state → IsInRange (one_lower search state)
 lower_range search state fine range = by_level (nat_lt (search.level - 1) state.shown.settled) refl
@@ -312,17 +280,17 @@ judged_range search state fine range = of_policy (live_policy state.shown search
     of_policy None = range
     of_policy (Some policy) =
         let rows = rows_found state policy search in
-        either IsInRange (are_enough policy (kind_of search.oid) rows)
+        cond_either IsInRange (are_enough policy (kind_of search.oid) rows)
         (with_part_found search.oid (own_index policy search state) (own_part policy search rows state) state)
         (level_without_part search state)
         (found_range search.oid (own_index policy search state) (own_part policy search rows state) state fine.oid range)
-        (either IsInRange search.again (to_ask search.oid search.level state) (one_lower search state)
+        (cond_either IsInRange search.again (to_ask search.oid search.level state) (one_lower search state)
         (with_search (Some (search_at search.oid search.level)) state (record { oid = fine.oid; level = fine.level }) range)
         (lower_range search state fine range))
 
 searching_range : (search : Search) (state : RecoveryState) → IsSearchInRange search → IsInRange state → IsInRange (searching search state)
 searching_range search state fine range =
-    either IsInRange (list_any (is_of_search search.oid) state.recovery.unanswered)
+    cond_either IsInRange (list_any (is_of_search search.oid) state.recovery.unanswered)
     (record state { recovery = record state.recovery { search = Some search } }) (level_over search state)
     (with_search (Some search) state fine range) (judged_range search state fine range)
 
@@ -331,24 +299,13 @@ searching_on_range None state fine range = range
 searching_on_range (Some search) state fine range = searching_range search state fine range
 
 with_messages_range : (messages : List Message) (state : RecoveryState) → IsInRange state → IsInRange (with_messages messages state)
-with_messages_range messages state range = record {
-  me = range.me;
-  epoch = range.epoch;
-  settled = range.settled;
-  waiting = range.waiting;
-  policies = range.policies;
-  targets = range.targets;
-  named = range.named;
-  kept = range.kept;
-  pending = range.pending;
-  search = range.search;
-}
+with_messages_range messages state range = with_others _ _ _ _ _ _ state range.search range.kept range.pending range
 
 pub ticked_in_range : (first : ℕ) (state : RecoveryState) → MayTick first state → IsInRange state → IsInRange (state_after_tick first state)
 unfolding state_after_tick
 ticked_in_range first state may range =
     let sent = with_messages_range (tick_messages first state) state range in
-    either IsInRange (is_listed state.recovery)
+    cond_either IsInRange (is_listed state.recovery)
     (searching_on (next_search state) (with_messages (tick_messages first state) state))
     (with_messages (tick_messages first state) state)
     (searching_on_range (next_search state) (with_messages (tick_messages first state) state) (next_search_fine state range may.work) sent)
@@ -369,21 +326,11 @@ union_all P oids others one other =
 
 listed_range : (state : RecoveryState) → IsInRange state → IsInRange (when_listed state)
 listed_range state range =
-    either IsInRange (is_listed state.recovery) (record state { shown = shown_with_pending (to_recover state) state.shown }) state
-    (record {
-      me = range.me;
-      epoch = range.epoch;
-      settled = range.settled;
-      waiting = range.waiting;
-      policies = range.policies;
-      targets = range.targets;
-      named = range.named;
-      kept = range.kept;
-      pending = All-filter (is_to_recover state.recovery.me state.recovery.epoch state.shown) IsOid
-          (union state.recovery.lists.objects (tree.keys state.shown.rows))
-          (union_all IsOid state.recovery.lists.objects (tree.keys state.shown.rows) range.named range.kept);
-      search = range.search;
-    })
+    cond_either IsInRange (is_listed state.recovery) (record state { shown = shown_with_pending (to_recover state) state.shown }) state
+    (with_others _ _ _ _ _ (Some (to_recover state)) state range.search range.kept
+    (All-filter (is_to_recover state.recovery.me state.recovery.epoch state.shown) IsOid
+    (union state.recovery.lists.objects (tree.keys state.shown.rows))
+    (union_all IsOid state.recovery.lists.objects (tree.keys state.shown.rows) range.named range.kept)) range)
     range
 
 pub begun_in_range : (epoch : ℕ) (members : List NodeId) (state : RecoveryState) → MayBegin epoch members state → epoch < 2 ^ 32
@@ -413,18 +360,7 @@ begun_in_range epoch members state may below range =
     })
 
 without_message_range : (number : ℕ) (state : RecoveryState) → IsInRange state → IsInRange (without_unanswered number state)
-without_message_range number state range = record {
-  me = range.me;
-  epoch = range.epoch;
-  settled = range.settled;
-  waiting = range.waiting;
-  policies = range.policies;
-  targets = range.targets;
-  named = range.named;
-  kept = range.kept;
-  pending = range.pending;
-  search = range.search;
-}
+without_message_range number state range = with_others _ _ _ _ _ _ state range.search range.kept range.pending range
 
 named_range : (from : NodeId) (oids : List ℕ) (state : RecoveryState) → All IsOid oids → IsInRange state → IsInRange (with_list_of from oids state)
 named_range from oids state ids range =
@@ -446,38 +382,28 @@ named_range from oids state ids range =
     })
 
 after_list_range : (from : NodeId) (said : Option PeerSay) (state : RecoveryState) → IfSome said NamesIds → IsInRange state → IsInRange (after_list from said state)
-after_list_range from None state ids range = range
-after_list_range from (Some says.Success) state ids range = range
-after_list_range from (Some (says.Piece bytes)) state ids range = range
 after_list_range from (Some (says.Objects oids)) state ids range = named_range from oids state ids range
-after_list_range from (Some (says.Row row)) state ids range = range
-after_list_range from (Some says.NoRow) state ids range = range
-after_list_range from (Some (says.Refused refusal)) state ids range = range
+after_list_range from said state ids range = range
 
 heard_fine : (from : NodeId) (said : Option PeerSay) (search : Search) → IsSearchInRange search → IsSearchInRange (search_after_answer from said search)
-heard_fine from None search fine = record { oid = fine.oid; level = fine.level }
 heard_fine from (Some says.Success) search fine = fine
 heard_fine from (Some (says.Piece bytes)) search fine = fine
 heard_fine from (Some (says.Objects oids)) search fine = fine
-heard_fine from (Some (says.Row row)) search fine = record { oid = fine.oid; level = fine.level }
-heard_fine from (Some says.NoRow) search fine = record { oid = fine.oid; level = fine.level }
-heard_fine from (Some (says.Refused refusal)) search fine = record { oid = fine.oid; level = fine.level }
+heard_fine from said search fine = record { oid = fine.oid; level = fine.level }
 
 after_read_range : (oid : ℕ) (from : NodeId) (said : Option PeerSay) (search : Option Search) (state : RecoveryState) → IsFine search → IsInRange state
     → IsInRange (after_read oid from said search state)
 after_read_range oid from said None state fine range = range
 after_read_range oid from said (Some search) state fine range =
-    either IsInRange (search.oid == oid) (searching (search_after_answer from said search) state) state
+    cond_either IsInRange (search.oid == oid) (searching (search_after_answer from said search) state) state
     (searching_range (search_after_answer from said search) state (heard_fine from said search fine) range) range
 
 after_ask_range : (ask : PeerAsk) (from : NodeId) (said : Option PeerSay) (state : RecoveryState) → IfSome said NamesIds → IsInRange state
     → IsInRange (after_ask ask from said state)
-after_ask_range (asks.Create key size offset bytes) from said state ids range = range
-after_ask_range (asks.Write key offset bytes) from said state ids range = range
-after_ask_range (asks.Read key offset size) from said state ids range = range
 after_ask_range asks.List from said state ids range = after_list_range from said state ids range
 after_ask_range (asks.RecoverRead oid level) from said state ids range =
     after_read_range oid from said (search_on state) state (still_fine state.shown.pending state.recovery.search range.search) range
+after_ask_range ask from said state ids range = range
 
 after_message_range : (message : Option Message) (said : Option PeerSay) (state : RecoveryState) → IfSome said NamesIds → IsInRange state
     → IsInRange (after_message message said state)

@@ -3,6 +3,7 @@ use Rattle.std.proofs.Common.{◌≡◌, ◌≢◌, ◌⊎◌, inl, inr, ℕ, �
 use Rattle.std.specs.Option.{option_map_or}
 use Rattle.std.specs.List.{list_any, range_with_len}
 use Rattle.std.proofs.lemmas.Bool.{cond-true, eqb-true, ltb-true, ltb-false}
+use Rattle.proof_tools.proofs.Booleans.{cond_either}
 use Rattle.object_id.specs.declared.node.Epoch.{Epoch}
 use Rattle.object_id.specs.declared.node.NodeId.{NodeId}
 use Rattle.object_id.specs.declared.policy.Policy.{Policy}
@@ -24,11 +25,6 @@ use Rattle.recovery.specs.Tick.{messages_to, lists_asked, level_asked, level_mes
 use Rattle.recovery.specs.Frame.{frame}
 use Rattle.recovery.specs.Steps.{to_recover, when_listed, at_start, recovery_from_epoch, without_unanswered, search_after_answer, after_list, after_read, after_ask, after_message, message_end}
 
--- what holds of both holds of the one that is chosen
-pub either : {A : Type 0} (P : A → Type 0) (b : Bool) (x y : A) → P x → P y → P (cond b x y)
-either P true x y one other = one
-either P false x y one other = other
-
 -- a level comes to a found row, a missing object, or a level to ask
 pub judged_each : (P : RecoveryState → Type 0) (search : Search) (state : RecoveryState) → P state
     → ((index : ℕ) (bytes : List ℕ) → P (with_part_found search.oid index bytes state)) → P (with_object_missing search.oid state)
@@ -39,11 +35,11 @@ judged_each P search state same there gone again = of_policy (live_policy state.
     of_policy : (policy : Option Policy) → P (level_over_of policy search state)
     of_policy None = same
     of_policy (Some policy) =
-        either P (are_enough policy (kind_of search.oid) (rows_found state policy search))
+        cond_either P (are_enough policy (kind_of search.oid) (rows_found state policy search))
         (with_part_found search.oid (own_index policy search state) (own_part policy search (rows_found state policy search) state) state)
         (level_without_part search state)
         (there (own_index policy search state) (own_part policy search (rows_found state policy search) state))
-        (either P _ _ _ (again _) (either P _ _ _ gone (again _)))
+        (cond_either P _ _ _ (again _) (cond_either P _ _ _ gone (again _)))
 
 abbrev SameFrame : RecoveryState → RecoveryState → Type 0
 SameFrame old new = frame new ≡ frame old
@@ -53,7 +49,7 @@ judged_frame search state = judged_each (SameFrame state) search state refl (λ 
 
 pub searching_frame : (search : Search) (state : RecoveryState) → SameFrame state (searching search state)
 searching_frame search state =
-    either (SameFrame state)
+    cond_either (SameFrame state)
     (list_any (is_of_search search.oid) state.recovery.unanswered)
     (record state { recovery = record state.recovery { search = Some search } }) (level_over search state)
     refl (judged_frame search state)
@@ -74,7 +70,7 @@ AreNumbered first messages =
 pub numbers_of_tick : (first : ℕ) (state : RecoveryState) → AreNumbered first (tick_messages first state)
 unfolding tick_messages
 numbers_of_tick first state =
-    either (AreNumbered first) (is_listed state.recovery)
+    cond_either (AreNumbered first) (is_listed state.recovery)
     (option_map_or (level_messages first state) (next_search state) []) (lists_asked first state.recovery)
     (of_search (next_search state))
     (numbers_of_messages state.recovery first 0 asks.List state.recovery.lists.waiting)
@@ -92,7 +88,7 @@ numbers_of_tick first state =
 pub frame_of_tick : (first : ℕ) (state : RecoveryState) → frame (state_after_tick first state) ≡ frame (with_messages (tick_messages first state) state)
 unfolding state_after_tick
 frame_of_tick first state =
-    either (SameFrame (with_messages (tick_messages first state) state)) (is_listed state.recovery)
+    cond_either (SameFrame (with_messages (tick_messages first state) state)) (is_listed state.recovery)
     (searching_on (next_search state) (with_messages (tick_messages first state) state))
     (with_messages (tick_messages first state) state)
     (of_search (next_search state)) refl
@@ -106,32 +102,25 @@ frame_of_tick first state =
 
 listed_frame : (state : RecoveryState) → SameFrame state (when_listed state)
 listed_frame state =
-    either (SameFrame state) (is_listed state.recovery)
+    cond_either (SameFrame state) (is_listed state.recovery)
     (record state { shown = shown_with_pending (to_recover state) state.shown }) state refl refl
 
 after_list_frame : (from : NodeId) (said : Option PeerSay) (state : RecoveryState) → SameFrame state (after_list from said state)
-after_list_frame from None state = refl
-after_list_frame from (Some says.Success) state = refl
-after_list_frame from (Some (says.Piece bytes)) state = refl
 after_list_frame from (Some (says.Objects oids)) state =
     listed_frame (record state { recovery = record state.recovery { lists = gathered_with_answer from oids state.recovery.lists } })
-after_list_frame from (Some (says.Row row)) state = refl
-after_list_frame from (Some says.NoRow) state = refl
-after_list_frame from (Some (says.Refused refusal)) state = refl
+after_list_frame from said state = refl
 
 after_read_frame : (oid : ℕ) (from : NodeId) (said : Option PeerSay) (search : Option Search) (state : RecoveryState)
     → SameFrame state (after_read oid from said search state)
 after_read_frame oid from said None state = refl
 after_read_frame oid from said (Some search) state =
-    either (SameFrame state) (search.oid == oid) (searching (search_after_answer from said search) state) state
+    cond_either (SameFrame state) (search.oid == oid) (searching (search_after_answer from said search) state) state
     (searching_frame (search_after_answer from said search) state) refl
 
 after_ask_frame : (ask : PeerAsk) (from : NodeId) (said : Option PeerSay) (state : RecoveryState) → SameFrame state (after_ask ask from said state)
-after_ask_frame (asks.Create key size offset bytes) from said state = refl
-after_ask_frame (asks.Write key offset bytes) from said state = refl
-after_ask_frame (asks.Read key offset size) from said state = refl
 after_ask_frame asks.List from said state = after_list_frame from said state
 after_ask_frame (asks.RecoverRead oid level) from said state = after_read_frame oid from said (search_on state) state
+after_ask_frame ask from said state = refl
 
 after_message_frame : (message : Option Message) (said : Option PeerSay) (state : RecoveryState) → SameFrame state (after_message message said state)
 after_message_frame None said state = refl
@@ -148,7 +137,7 @@ pub begun_hears_nothing : (epoch : ℕ) (members : List NodeId) (state : Recover
 unfolding recovery_from_epoch
 begun_hears_nothing epoch members state =
     let start : RecoveryState = at_start epoch members state in
-    either (λ (s : RecoveryState). (s.recovery.unanswered ≡ []) × (s.recovery.older ≡ all_unanswered state.recovery)) (is_listed start.recovery)
+    cond_either (λ (s : RecoveryState). (s.recovery.unanswered ≡ []) × (s.recovery.older ≡ all_unanswered state.recovery)) (is_listed start.recovery)
     (record start { shown = shown_with_pending (to_recover start) start.shown }) start
     (refl, refl) (refl, refl)
 

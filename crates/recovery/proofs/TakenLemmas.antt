@@ -4,6 +4,7 @@ use Rattle.std.specs.List.{filter_map, cons_option}
 use Rattle.std.proofs.lemmas.Bool.{leb-true}
 use Rattle.std.proofs.lemmas.List.{length-take-le, take-append-drop}
 use Rattle.std.proofs.lemmas.List.Elements.{Contains-append_left, Contains-append_right}
+use Rattle.proof_tools.proofs.Lists.{Contains-head, Contains-cons, Contains-nil, Contains-cons_cases}
 use Rattle.object_id.specs.declared.node.NodeId.{NodeId}
 use Rattle.object_id.specs.declared.oid.Kind.{Kind}
 use Rattle.object_id.specs.declared.oid.Kind.TheVariants.{Block, Inode}
@@ -15,28 +16,10 @@ use Rattle.recovery.specs.Shown.{own_row}
 use Rattle.recovery.specs.State.{Search, RecoveryState}
 use Rattle.recovery.specs.Level.{row_of_target, rows_found, put_by_index, rows_in_order, rows_taken, are_enough}
 
--- an element of a list is its first or in its rest
-
-contains_head : {X : Type 0} (x : X) (xs : List X) → Contains (x ∷ xs) x
-contains_head x xs = (0, omega arith, refl)
-
-contains_cons : {X : Type 0} (y : X) (xs : List X) (x : X) → Contains xs x → Contains (y ∷ xs) x
-contains_cons y xs x there = Contains-append_right (y ∷ []) xs x there
-
-contains_nil : {X : Type 0} (x : X) → Contains [] x → ⊥
-contains_nil x there = let within : there.0 < 0 = there.1 in omega arith
-
-contains_cases : {X : Type 0} (y : X) (xs : List X) (x : X) → Contains (y ∷ xs) x → (y ≡ x) ⊎ Contains xs x
-contains_cases y xs x there = by_place there.0 there.1 there.2
-  where
-    by_place : (k : ℕ) → k < length (y ∷ xs) → get_or (y ∷ xs) k x ≡ x → (y ≡ x) ⊎ Contains xs x
-    by_place zero within is = inl is
-    by_place (suc k) within is = inr (k, omega arith, is)
-
 -- a row that is put is new or was there
 
 put_only : (rows : List RowCopy) (row r : RowCopy) → Contains (put_by_index rows row) r → Contains rows r ⊎ (row ≡ r)
-put_only [] row r there = turned (contains_cases row [] r there)
+put_only [] row r there = turned (Contains-cons_cases row [] r there)
   where
     turned : (row ≡ r) ⊎ Contains [] r → Contains [] r ⊎ (row ≡ r)
     turned (inl same) = inr same
@@ -44,18 +27,18 @@ put_only [] row r there = turned (contains_cases row [] r there)
 put_only (first ∷ rest) row r there = by_order (put_only rest row r) (nat_lt row.index first.index) there
   where
     further : Contains rest r ⊎ (row ≡ r) → Contains (first ∷ rest) r ⊎ (row ≡ r)
-    further (inl now) = inl (contains_cons first rest r now)
+    further (inl now) = inl (Contains-cons first rest r now)
     further (inr same) = inr same
 
     behind_first : (Contains (put_by_index rest row) r → Contains rest r ⊎ (row ≡ r)) → (first ≡ r) ⊎ Contains (put_by_index rest row) r
         → Contains (first ∷ rest) r ⊎ (row ≡ r)
-    behind_first later (inl same) = inl (subst (λ (z : RowCopy). Contains (first ∷ rest) z) same (contains_head first rest))
+    behind_first later (inl same) = inl (subst (λ (z : RowCopy). Contains (first ∷ rest) z) same (Contains-head first rest))
     behind_first later (inr now) = further (later now)
 
     by_index_of_first : (Contains (put_by_index rest row) r → Contains rest r ⊎ (row ≡ r)) → (b : Bool)
         → Contains (cond b (first ∷ rest) (first ∷ put_by_index rest row)) r → Contains (first ∷ rest) r ⊎ (row ≡ r)
     by_index_of_first later true now = inl now
-    by_index_of_first later false now = behind_first later (contains_cases first (put_by_index rest row) r now)
+    by_index_of_first later false now = behind_first later (Contains-cons_cases first (put_by_index rest row) r now)
 
     new_first : (row ≡ r) ⊎ Contains (first ∷ rest) r → Contains (first ∷ rest) r ⊎ (row ≡ r)
     new_first (inl same) = inr same
@@ -64,7 +47,7 @@ put_only (first ∷ rest) row r there = by_order (put_only rest row r) (nat_lt r
     by_order : (Contains (put_by_index rest row) r → Contains rest r ⊎ (row ≡ r)) → (b : Bool)
         → Contains (cond b (row ∷ first ∷ rest) (cond (row.index == first.index) (first ∷ rest) (first ∷ put_by_index rest row))) r
         → Contains (first ∷ rest) r ⊎ (row ≡ r)
-    by_order later true now = new_first (contains_cases row (first ∷ rest) r now)
+    by_order later true now = new_first (Contains-cons_cases row (first ∷ rest) r now)
     by_order later false now = by_index_of_first later (row.index == first.index) now
 
 fold_only : (start rows : List RowCopy) (r : RowCopy) → Contains (fold put_by_index start rows) r → Contains start r ⊎ Contains rows r
@@ -73,18 +56,18 @@ fold_only start (row ∷ rows) r there = by_start (fold_only (put_by_index start
   where
     by_put : Contains start r ⊎ (row ≡ r) → Contains start r ⊎ Contains (row ∷ rows) r
     by_put (inl now) = inl now
-    by_put (inr same) = inr (subst (λ (z : RowCopy). Contains (row ∷ rows) z) same (contains_head row rows))
+    by_put (inr same) = inr (subst (λ (z : RowCopy). Contains (row ∷ rows) z) same (Contains-head row rows))
 
     by_start : Contains (put_by_index start row) r ⊎ Contains rows r → Contains start r ⊎ Contains (row ∷ rows) r
     by_start (inl now) = by_put (put_only start row r now)
-    by_start (inr now) = inr (contains_cons row rows r now)
+    by_start (inr now) = inr (Contains-cons row rows r now)
 
 in_turn_only : (policy : Policy) (kind : Kind) (rows : List RowCopy) (r : RowCopy) → Contains (rows_in_order policy kind rows) r → Contains rows r
 in_turn_only (Copies copies) kind rows r there = there
 in_turn_only (Coded d p) Block rows r there = not_before (fold_only [] rows r there)
   where
     not_before : Contains [] r ⊎ Contains rows r → Contains rows r
-    not_before (inl none) = absurd (contains_nil r none)
+    not_before (inl none) = absurd (Contains-nil r none)
     not_before (inr now) = now
 in_turn_only (Coded d p) Inode rows r there = there
 
@@ -105,21 +88,21 @@ taken_are_as_many policy kind rows enough =
 
 filter_map_only : {A B : Type 0} (h : A → Option B) (xs : List A) (y : B) → Contains (filter_map h xs) y
     → (x : A) × Contains xs x × (h x ≡ Some y)
-filter_map_only h [] y there = absurd (contains_nil y there)
+filter_map_only h [] y there = absurd (Contains-nil y there)
 filter_map_only {A} {B} h (x ∷ xs) y there = by_value (filter_map_only h xs y) (h x) refl there
   where
     further : (z : A) × Contains xs z × (h z ≡ Some y) → (z : A) × Contains (x ∷ xs) z × (h z ≡ Some y)
-    further at = (at.0, contains_cons x xs at.0 at.1, at.2)
+    further at = (at.0, Contains-cons x xs at.0 at.1, at.2)
 
     by_case : (Contains (filter_map h xs) y → (z : A) × Contains xs z × (h z ≡ Some y)) → (v : B) → h x ≡ Some v
         → (v ≡ y) ⊎ Contains (filter_map h xs) y → (z : A) × Contains (x ∷ xs) z × (h z ≡ Some y)
-    by_case later v is (inl same) = (x, contains_head x xs, is ∙ ap (λ (w : B). Some w) same)
+    by_case later v is (inl same) = (x, Contains-head x xs, is ∙ ap (λ (w : B). Some w) same)
     by_case later v is (inr now) = further (later now)
 
     by_value : (Contains (filter_map h xs) y → (z : A) × Contains xs z × (h z ≡ Some y)) → (o : Option B) → h x ≡ o
         → Contains (cons_option o (filter_map h xs)) y → (z : A) × Contains (x ∷ xs) z × (h z ≡ Some y)
     by_value later None is now = further (later now)
-    by_value later (Some v) is now = by_case later v is (contains_cases v (filter_map h xs) y now)
+    by_value later (Some v) is now = by_case later v is (Contains-cons_cases v (filter_map h xs) y now)
 
 pub found_at_targets : (state : RecoveryState) (policy : Policy) (search : Search) (row : RowCopy) → Contains (rows_found state policy search) row
     → (node : NodeId) × Contains (state.shown.targets search.level search.oid policy) node

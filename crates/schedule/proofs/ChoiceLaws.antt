@@ -4,6 +4,7 @@ use Rattle.std.proofs.lemmas.Bool.{le-leb, lt-leb}
 use Rattle.std.proofs.lemmas.Option.{unwrap_or-slice_get}
 use Rattle.std.proofs.lemmas.List.Elements.{Contains-get_or}
 use Rattle.std.proofs.Math.Nat.{mod-lt}
+use Rattle.proof_tools.proofs.Booleans.{has_value}
 use Rattle.rand_xoshiro.specs.SplitMix64.{mix_u64}
 use Rattle.cluster_script.specs.declared.statement.Statement.{Statement}
 use Rattle.cluster_script.specs.Settings.{limit_of}
@@ -46,17 +47,13 @@ pub choice-drawn_choice : (statements : List Statement) (draft : Draft) → enab
 unfolding choice
 choice-drawn_choice statements draft some room = next_choice-drawn_choice (limit_of statements) draft (enabled_events statements draft.world) some room
 
-pub some_of : {X : Type 0} (o : Option X) → is_some o ≡ true → (x : X) × (o ≡ Some x)
-some_of None is = absurd (cc (is))
-some_of (Some x) is = (x, refl)
-
 module _ (statements : List Statement) (draft : Draft) where
   abbrev MayBeMade : Event → Type 0
   MayBeMade event = (made : EventOutcome) × (step statements event draft.world ≡ Some made)
 
   phase-may : may_end_phase statements draft.world ≡ true → MayBeMade Phase
   unfolding is_enabled
-  phase-may may = some_of (step statements Phase draft.world) (is_some-step statements draft.world Phase ∙ may)
+  phase-may may = has_value (step statements Phase draft.world) (is_some-step statements draft.world Phase ∙ may)
 
   chosen-may : (limit : ℕ) (events : List Event) → ((event : Event) → Contains events event → MayBeMade event)
       → may_end_phase statements draft.world ≡ true → MayBeMade (next_choice limit draft events).event

@@ -5,7 +5,7 @@ use Rattle.std.specs.Option.{option_or}
 use Rattle.std.proofs.lemmas.List.Sums.{fold-append}
 use Rattle.std.proofs.lemmas.Grind.{common_steps}
 use Rattle.cluster_script.specs.declared.statement.Statement.{Statement}
-use Rattle.cluster_script.specs.declared.statement.Statement.TheVariants.{Cluster, Session, Create, OpenDisk, Close, Read, Write, Snapshot, Clone, Delete}
+use Rattle.cluster_script.specs.declared.statement.Statement.TheVariants.{Cluster, Session, Create, OpenDisk, Close, Read, Write, Snapshot, Clone, Delete, Check}
 use Rattle.cluster_script.specs.Statements.{disk_size, size_made, requests_of, disk_name, name_made}
 use Rattle.cluster_script.specs.OneDisk.{MayFollow}
 use Rattle.sheep.specs.declared.disk.Disk.{Disk}
@@ -48,44 +48,41 @@ disk_size-kept before s none = disk_size-snoc before s ∙ ap (option_or (disk_s
 pub disk_name-kept : (before : List Statement) (s : Statement) → name_made s ≡ None → disk_name (before ++ s ∷ []) ≡ disk_name before
 disk_name-kept before s none = disk_name-snoc before s ∙ ap (option_or (disk_name before)) none ∙ none_behind (disk_name before)
 
+-- of statements without a request none names a disk, gives it a size, or is laid on a block
+no_requests : (P : List Statement → Type 0) → P []
+    → ((s : Statement) (before : List Statement) → name_made s ≡ None → size_made s ≡ None
+    → ((size block : ℕ) → laid_on size block s ≡ None) → P before → P (s ∷ before))
+    → (before : List Statement) → requests_of before ≡ [] → P before
+no_requests P start step [] none = start
+no_requests P start step (Create session policy shift name size ∷ before) none = absurd (cc)
+no_requests P start step (OpenDisk session name tag ∷ before) none = absurd (cc)
+no_requests P start step (Close session ∷ before) none = absurd (cc)
+no_requests P start step (Read session offset length ∷ before) none = absurd (cc)
+no_requests P start step (Write session offset length pattern ∷ before) none = absurd (cc)
+no_requests P start step (Snapshot session tag ∷ before) none = absurd (cc)
+no_requests P start step (Clone session base tag name ∷ before) none = absurd (cc)
+no_requests P start step (Delete session name tag ∷ before) none = absurd (cc)
+no_requests P start step (Check session ∷ before) none = absurd (cc)
+no_requests P start step (s ∷ before) none =
+    step s before refl refl (λ size block. refl) (no_requests P start step before none)
+
 -- without a request no disk is made
 pub disk_name-no_requests : (before : List Statement) → requests_of before ≡ [] → disk_name before ≡ None
-disk_name-no_requests [] none = refl
-disk_name-no_requests (Create session policy shift name size ∷ before) none = absurd (cc)
-disk_name-no_requests (OpenDisk session name tag ∷ before) none = absurd (cc)
-disk_name-no_requests (Close session ∷ before) none = absurd (cc)
-disk_name-no_requests (Read session offset length ∷ before) none = absurd (cc)
-disk_name-no_requests (Write session offset length pattern ∷ before) none = absurd (cc)
-disk_name-no_requests (Snapshot session tag ∷ before) none = absurd (cc)
-disk_name-no_requests (Clone session base tag name ∷ before) none = absurd (cc)
-disk_name-no_requests (Delete session name tag ∷ before) none = absurd (cc)
-disk_name-no_requests (s ∷ before) none = disk_name-no_requests before none
+disk_name-no_requests = no_requests (λ before. disk_name before ≡ None) refl
+    (λ s before name size laid rest. ap (λ made. option_or made (disk_name before)) name ∙ rest)
 
 pub disk_size-no_requests : (before : List Statement) → requests_of before ≡ [] → disk_size before ≡ None
-disk_size-no_requests [] none = refl
-disk_size-no_requests (Create session policy shift name size ∷ before) none = absurd (cc)
-disk_size-no_requests (OpenDisk session name tag ∷ before) none = absurd (cc)
-disk_size-no_requests (Close session ∷ before) none = absurd (cc)
-disk_size-no_requests (Read session offset length ∷ before) none = absurd (cc)
-disk_size-no_requests (Write session offset length pattern ∷ before) none = absurd (cc)
-disk_size-no_requests (Snapshot session tag ∷ before) none = absurd (cc)
-disk_size-no_requests (Clone session base tag name ∷ before) none = absurd (cc)
-disk_size-no_requests (Delete session name tag ∷ before) none = absurd (cc)
-disk_size-no_requests (s ∷ before) none = disk_size-no_requests before none
+disk_size-no_requests = no_requests (λ before. disk_size before ≡ None) refl
+    (λ s before name size laid rest. ap (λ made. option_or made (disk_size before)) size ∙ rest)
 
 -- and nothing is laid on a block
 laid-no_requests : (before : List Statement) (size block : ℕ) (bytes : List ℕ) → requests_of before ≡ []
     → fold (λ bytes s. unwrap_or (laid_on size block s) bytes) bytes before ≡ bytes
-laid-no_requests [] size block bytes none = refl
-laid-no_requests (Create session policy shift name bytes' ∷ before) size block bytes none = absurd (cc)
-laid-no_requests (OpenDisk session name tag ∷ before) size block bytes none = absurd (cc)
-laid-no_requests (Close session ∷ before) size block bytes none = absurd (cc)
-laid-no_requests (Read session offset length ∷ before) size block bytes none = absurd (cc)
-laid-no_requests (Write session offset length pattern ∷ before) size block bytes none = absurd (cc)
-laid-no_requests (Snapshot session tag ∷ before) size block bytes none = absurd (cc)
-laid-no_requests (Clone session base tag name ∷ before) size block bytes none = absurd (cc)
-laid-no_requests (Delete session name tag ∷ before) size block bytes none = absurd (cc)
-laid-no_requests (s ∷ before) size block bytes none = laid-no_requests before size block bytes none
+laid-no_requests before size block bytes none = no_requests
+    (λ before. (bytes : List ℕ) → fold (λ bytes s. unwrap_or (laid_on size block s) bytes) bytes before ≡ bytes) (λ bytes. refl)
+    (λ s before name made laid rest bytes.
+    ap (λ (first : Option (List ℕ)). fold (λ bytes s. unwrap_or (laid_on size block s) bytes) (unwrap_or first bytes) before) (laid size block) ∙ rest bytes)
+    before none bytes
 
 pub block_after-no_requests : (before : List Statement) (size block : ℕ) → requests_of before ≡ [] → block_after size before block ≡ zero_block
 block_after-no_requests before size block none = laid-no_requests before size block zero_block none

@@ -95,12 +95,6 @@ length-block_after : (size : ℕ) (before : List Statement) (block : ℕ) → le
 length-block_after size before block = go before zero_block (length-replicate {A = ℕ} 512 0)
   where
     laid : (s : Statement) (bytes : List ℕ) → length bytes ≡ 512 → length (unwrap_or (laid_on size block s) bytes) ≡ 512
-    laid (Cluster nodes) bytes long = long
-    laid (Session session node) bytes long = long
-    laid (Create session policy shift name bytes') bytes long = long
-    laid (OpenDisk session name tag) bytes long = long
-    laid (Close session) bytes long = long
-    laid (Read session offset span) bytes long = long
     laid (Write session offset length' pattern) bytes long = either (ends_inside_disk size offset length' && covers_block offset length' block)
       where
         either : (lays : Bool) → length (unwrap_or (if lays then Some (block_of pattern offset block) else None) bytes) ≡ 512

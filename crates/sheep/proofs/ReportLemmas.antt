@@ -37,15 +37,9 @@ reply_is : (before : List Statement) (disk : Disk) (s : Statement) → Holds bef
 reply_is before disk s held = ap (λ size. reply_on size (stored_block disk.blocks) s) held.size ∙ by_kind (size_after before) s
   where
     by_kind : (size : ℕ) (s : Statement) → reply_on size (stored_block disk.blocks) s ≡ reply_on size (block_after (size_after before) before) s
-    by_kind size (Cluster nodes) = refl
-    by_kind size (Session session node) = refl
-    by_kind size (Create session policy shift name bytes) = refl
-    by_kind size (OpenDisk session name tag) = refl
-    by_kind size (Close session) = refl
     by_kind size (Read session offset length) =
         ap (λ bytes. if ends_inside_disk size offset length then codes " ok" ++ runs_text bytes else refused_text)
         (flat_map-same (stored_block disk.blocks) (block_after (size_after before) before) (piece_blocks offset length) held.blocks)
-    by_kind size (Write session offset length pattern) = refl
     by_kind size s = refl
 
 -- the disk is the one that the statements leave, and the lines are theirs

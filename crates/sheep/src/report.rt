@@ -28,7 +28,8 @@ fn is_request(statement: &Statement) -> bool
         | Statement::Write { .. }
         | Statement::Snapshot { .. }
         | Statement::Clone { .. }
-        | Statement::Delete { .. } => true,
+        | Statement::Delete { .. }
+        | Statement::Check { .. } => true,
         _ => false,
     }
 }

@@ -1,10 +1,19 @@
 pub mod Numbers
-pub mod Sound
-pub mod SoundWorks
-pub mod SoundWaits
-pub mod SoundReading
-pub mod SoundSteps
 pub mod StepLaws
-pub mod LogLaws
-pub mod SameLaws
+pub mod AwaitedEntryLaws
 pub mod StartLaws
+pub mod AwaitedWorks
+pub mod OneWorkParts
+pub mod OneWorkChanges
+pub mod StepChain
+pub mod MessageNumbers
+pub mod NumberChanges
+pub mod OwnEntryChanges
+pub mod QueueChanges
+pub mod RequestChanges
+pub mod PeerLog
+pub mod StepEffects
+pub mod StepResults
+pub mod LogLaws
+mod RefusalLaws
+pub mod NodeLaws

@@ -1,13 +1,19 @@
 -- A node's epoch, its settled epoch and the members of its epochs are those of the entries that it has read.
 use Rattle.std.proofs.Common.{◌≡◌, ℕ, zero, suc, ◌+◌, ◌<◌, ◌≤◌, nat_lt, Bool, true, false, cond, List, [], ◌∷◌, ◌++◌, length, filter, refl, ap, sym, subst, ◌∙◌, arith}
 use Rattle.std.proofs.lemmas.Bool.{ltb-false}
+use Rattle.proof_tools.proofs.Booleans.{cond_either}
 use Rattle.object_id.specs.declared.node.NodeId.{NodeId}
 use Rattle.object_id.specs.declared.entry.Entry.{Entry}
 use Rattle.object_id.specs.declared.entry.Entry.TheVariants.{Format, Join, Leave, Reweight, Recovered, Reserve, Publish, Clone, Snapshot, Delete, Lock, Unlock}
 use Rattle.epoch_log.specs.Epochs.{begins_epoch, epoch_of, settled_of}
 use Rattle.epoch_log.specs.Appending.{is_format}
 use Rattle.epoch_log.proofs.EpochLemmas.{epoch_of-append, members_in-append, settled_of-begun, settled_of-append}
+use Rattle.object_id.specs.declared.policy.Policy.{Policy}
 use Rattle.vnode_table.specs.Epochs.{EpochMembers}
+use Rattle.vnode_table.specs.Targets.{targets_in}
+use Rattle.gateway.specs.State as gateways
+use Rattle.recovery.specs.Steps as recovery_steps
+use Rattle.peer_service.specs.State.{Peer}
 use Rattle.peer_service.specs.Epochs as peers
 use Rattle.peer_service.specs.Epochs.{peer_settled_to}
 use Rattle.peer_service.specs.LogReading.{without_objects, read_entry}
@@ -15,12 +21,17 @@ use Rattle.peer_service.specs.Back.{closed_at_end, come_back}
 use Rattle.sheep_node.specs.declared.input.Input.{Input}
 use Rattle.sheep_node.specs.declared.input.Input.TheVariants as inputs
 use Rattle.sheep_node.specs.State.{Node, initial_node}
-use Rattle.sheep_node.specs.LogReading.{is_epoch_member, entered_in, with_peer, with_epoch_members, peer_entered, recovery_begun_if, epoch_entered, entered_by, entry_read, epochs_up_to, on_back}
-use Rattle.sheep_node.specs.Step.{node_step}
+use Rattle.sheep_node.specs.LogReading.{entered_in, epochs_with_entry, peer_with_entry, recovery_with_entry, entry_read, epochs_up_to, on_back}
+use Rattle.sheep_node.specs.RecoveryView.{recovery_state_of, with_recovered_rows}
+use Rattle.sheep_node.specs.StepState.{StepState, at_first}
+use Rattle.sheep_node.specs.Step.{on_request, recovery_stepped, on_put, on_recover_tick, node_step}
 use Rattle.sheep_node.specs.May.{MayRead, Meets, May}
 use Rattle.sheep_node.specs.StepFacts.{epochs_of, FollowsLog, IsByTheLog}
-use Rattle.sheep_node.proofs.Sound.{Place}
-use Rattle.sheep_node.proofs.SoundSteps.{after, stepped_place}
+use Rattle.sheep_node.specs.OneWork.{HasOneWorkPerRequest}
+use Rattle.sheep_node.specs.Changes.{input_received}
+use Rattle.sheep_node.proofs.PeerLog.{Log, served_same}
+use Rattle.sheep_node.proofs.StepChain.{needs_by_may}
+use Rattle.sheep_node.proofs.StepResults.{step_peer, step_epochs}
 
 -- the epochs of entries, with one more
 
@@ -87,32 +98,23 @@ record Entering (entries : List Entry) (epoch : ℕ) (epochs : List EpochMembers
   read_so : read ≡ entries
   settled_so : settled ≡ before
 
-abbrev Enters : List Entry → ℕ → Node → Type 0
-Enters entries before node = Entering entries node.peer.epoch node.epochs node.peer.entries node.peer.settled before
+abbrev Enters : List Entry → ℕ → Peer → List EpochMembers → Type 0
+Enters entries before peer epochs = Entering entries peer.epoch epochs peer.entries peer.settled before
 
-recovery_enters : (entries : List Entry) (before : ℕ) (member : Bool) (node : Node) → Enters entries before node
-    → Enters entries before (recovery_begun_if member node)
-recovery_enters entries before true node h = h
-recovery_enters entries before false node h = h
-
--- the node with a peer that has read one more entry
-abbrev reading : Entry → Node → Node
-reading entry node = with_peer (read_entry entry node.peer) node
-
-epoch_enters : (entry : Entry) (node : Node) → 1 ≤ length node.peer.entries → begins_epoch entry ≡ true → IsByTheLog node
-    → Enters (node.peer.entries ++ entry ∷ []) node.peer.settled (epoch_entered (reading entry node))
+epoch_enters : (targets : ℕ → ℕ → Policy → List NodeId) (entry : Entry) (node : Node) → 1 ≤ length node.peer.entries → begins_epoch entry ≡ true → IsByTheLog node
+    → Enters (node.peer.entries ++ entry ∷ []) node.peer.settled (peers.peer_in_next_epoch node.me targets (read_entry entry node.peer))
+    (entered_in (node.peer.entries ++ entry ∷ []) (epoch_of (node.peer.entries ++ entry ∷ [])) ∷ node.epochs)
 unfolding read_entry without_objects peers.peer_in_next_epoch
-epoch_enters entry node some e h =
+epoch_enters targets entry node some e h =
     let all : List Entry = node.peer.entries ++ entry ∷ [] in
-    let entered : Node = peer_entered (with_epoch_members (epoch_of all) (reading entry node)) in
     let more : epoch_of all ≡ suc (epoch_of node.peer.entries) = epoch_more node.peer.entries entry e in
     let before : node.peer.epoch ≡ epoch_of node.peer.entries = h.epoch_so in
-    recovery_enters all node.peer.settled (is_epoch_member entered) entered (record {
+    record {
       epoch_so = omega arith;
       epochs_so = ap (λ epochs. entered_in all (epoch_of all) ∷ epochs) h.epochs_so ∙ sym (epochs_more node.peer.entries entry some e);
       read_so = refl;
       settled_so = refl;
-    })
+    }
 
 -- an entry that may be read after others isn't the first, and one that may be read first is
 later_one : (entries : List Entry) (entry : Entry) → MayRead entries entry → 1 ≤ length entries → is_format entry ≡ false
@@ -164,7 +166,8 @@ first_epochs (first ∷ later) entry epochs none e h = absurd (cc (none))
 
 other_enters : (entry : Entry) (node : Node) (b : Bool) → is_format entry ≡ b → MayRead node.peer.entries entry → begins_epoch entry ≡ false
     → IsByTheLog node
-    → Enters (node.peer.entries ++ entry ∷ []) node.peer.settled (cond b (with_epoch_members 1 (reading entry node)) (reading entry node))
+    → Enters (node.peer.entries ++ entry ∷ []) node.peer.settled (read_entry entry node.peer)
+    (cond b (entered_in (node.peer.entries ++ entry ∷ []) 1 ∷ node.epochs) node.epochs)
 unfolding read_entry without_objects
 other_enters entry node true format may e h = record {
   epoch_so = h.epoch_so ∙ sym (epoch_kept node.peer.entries entry e);
@@ -179,12 +182,13 @@ other_enters entry node false later may e h = record {
   settled_so = refl;
 }
 
-entered_enters : (entry : Entry) (node : Node) (b : Bool) → begins_epoch entry ≡ b → MayRead node.peer.entries entry → IsByTheLog node
+entered_enters : (targets : ℕ → ℕ → Policy → List NodeId) (entry : Entry) (node : Node) (b : Bool) → begins_epoch entry ≡ b → MayRead node.peer.entries entry → IsByTheLog node
     → Enters (node.peer.entries ++ entry ∷ []) node.peer.settled
-    (cond b (epoch_entered (reading entry node)) (cond (is_format entry) (with_epoch_members 1 (reading entry node)) (reading entry node)))
-entered_enters entry node true e may h =
-    epoch_enters entry node (begins_later node.peer.entries entry may e) e h
-entered_enters entry node false e may h = other_enters entry node (is_format entry) refl may e h
+    (cond b (peers.peer_in_next_epoch node.me targets (read_entry entry node.peer)) (read_entry entry node.peer))
+    (cond b (entered_in (node.peer.entries ++ entry ∷ []) (epoch_of (node.peer.entries ++ entry ∷ [])) ∷ node.epochs)
+    (cond (is_format entry) (entered_in (node.peer.entries ++ entry ∷ []) 1 ∷ node.epochs) node.epochs))
+entered_enters targets entry node true e may h = epoch_enters targets entry node (begins_later node.peer.entries entry may e) e h
+entered_enters targets entry node false e may h = other_enters entry node (is_format entry) refl may e h
 
 -- what is settled never falls
 settled_grows : (entries : List Entry) (entry : Entry) → settled_of entries ≤ settled_of (entries ++ entry ∷ [])
@@ -194,18 +198,19 @@ settled_grows [] entry =
     omega arith
 settled_grows (first ∷ later) entry = settled_of-append (first ∷ later) (entry ∷ []) (omega arith)
 
-settled_follows : (entries : List Entry) (settled : ℕ) (node : Node) (b : Bool) → nat_lt node.peer.settled settled ≡ b
-    → settled ≡ settled_of entries → node.peer.settled ≤ settled → Enters entries node.peer.settled node
-    → IsByTheLog (cond b (with_peer (peer_settled_to settled node.peer) node) node)
+settled_follows : (entries : List Entry) (settled : ℕ) (peer : Peer) (epochs : List EpochMembers) (b : Bool) → nat_lt peer.settled settled ≡ b
+    → settled ≡ settled_of entries → peer.settled ≤ settled → Enters entries peer.settled peer epochs
+    → FollowsLog (cond b (peer_settled_to settled peer) peer).epoch (cond b (peer_settled_to settled peer) peer).settled epochs
+    (cond b (peer_settled_to settled peer) peer).entries
 unfolding peer_settled_to
-settled_follows entries settled node true e is_so grows h = record {
+settled_follows entries settled peer epochs true e is_so grows h = record {
   epoch_so = h.epoch_so ∙ ap epoch_of (sym h.read_so);
   settled_so = is_so ∙ ap settled_of (sym h.read_so);
   epochs_so = h.epochs_so ∙ ap epochs_of (sym h.read_so);
 }
-settled_follows entries settled node false e is_so grows h =
-    let back_again : settled ≤ node.peer.settled = ltb-false node.peer.settled settled e in
-    let same : node.peer.settled ≡ settled = omega arith in
+settled_follows entries settled peer epochs false e is_so grows h =
+    let back_again : settled ≤ peer.settled = ltb-false peer.settled settled e in
+    let same : peer.settled ≡ settled = omega arith in
     record {
       epoch_so = h.epoch_so ∙ ap epoch_of (sym h.read_so);
       settled_so = same ∙ is_so ∙ ap settled_of (sym h.read_so);
@@ -216,11 +221,12 @@ reads_follow : (entry : Entry) (node : Node) → MayRead node.peer.entries entry
 unfolding entry_read read_entry without_objects
 reads_follow entry node may h =
     let all : List Entry = node.peer.entries ++ entry ∷ [] in
-    let entered : Node = entered_by entry (reading entry node) in
-    let enters : Enters all node.peer.settled entered = entered_enters entry node (begins_epoch entry) refl may h in
-    let grows : entered.peer.settled ≤ settled_of all =
+    let peer : Peer = with_recovered_rows (recovery_with_entry entry node) (peer_with_entry entry node) in
+    let enters : Enters all node.peer.settled (peer_with_entry entry node) (epochs_with_entry entry node) =
+    entered_enters (targets_in (epochs_with_entry entry node)) entry node (begins_epoch entry) refl may h in
+    let grows : peer.settled ≤ settled_of all =
     subst (λ (k : ℕ). k ≤ settled_of all) (sym (enters.settled_so ∙ h.settled_so)) (settled_grows node.peer.entries entry) in
-    settled_follows all (settled_of all) entered (nat_lt entered.peer.settled (settled_of all)) refl refl grows
+    settled_follows all (settled_of all) peer (epochs_with_entry entry node) (nat_lt peer.settled (settled_of all)) refl refl grows
     (record { epoch_so = enters.epoch_so; epochs_so = enters.epochs_so; read_so = enters.read_so; settled_so = refl })
 
 -- coming back
@@ -228,30 +234,48 @@ reads_follow entry node may h =
 back_follows : (entries : List Entry) (node : Node) → 1 < epoch_of entries → IsByTheLog (on_back entries node)
 unfolding on_back come_back closed_at_end peer_settled_to without_objects
 back_follows entries node above =
-    record { epoch_so = refl; settled_so = refl; epochs_so = sym (epochs_there entries (some_of entries above)) }
+    record { epoch_so = refl; settled_so = refl; epochs_so = sym (epochs_there entries (has_value entries above)) }
   where
-    some_of : (entries : List Entry) → 1 < epoch_of entries → 1 ≤ length entries
-    some_of [] above = absurd (omega arith)
-    some_of (first ∷ later) above = omega arith
+    has_value : (entries : List Entry) → 1 < epoch_of entries → 1 ≤ length entries
+    has_value [] above = absurd (omega arith)
+    has_value (first ∷ later) above = omega arith
 
 -- each step
 
-after_follows : (input : Input) (node : Node) → Meets input node → IsByTheLog node → IsByTheLog (after input node)
-after_follows (inputs.Guest req session ask) node may h = h
-after_follows (inputs.Request request) node may h = h
-after_follows (inputs.Reply rsp) node may h = h
-after_follows (inputs.Lost number) node may h = h
-after_follows (inputs.LogEntry entry) node may h = reads_follow entry node may h
-after_follows inputs.Put node may h = h
-after_follows inputs.RecoverTick node may h = h
-after_follows inputs.RetryTick node may h = h
-after_follows (inputs.Back entries) node may h = back_follows entries node may.above_1
+received_follows : (input : Input) (node : Node) → Meets input node → IsByTheLog node → IsByTheLog (input_received input (at_first node)).node
+unfolding on_request on_recover_tick
+received_follows (inputs.Guest req session ask) node may h = h
+received_follows (inputs.Request request) node may h =
+    subst (λ (log : Log). FollowsLog log.epoch log.settled node.epochs log.entries) (sym (served_same node.peer request)) h
+received_follows (inputs.Reply rsp) node may h =
+    cond_either (λ (start : StepState). IsByTheLog start.node) (gateways.gateway_awaits rsp.number node.gateway) (at_first node)
+    (recovery_stepped (recovery_steps.recovery_on_reply rsp (recovery_state_of node)) (at_first node)) h
+    (record { epoch_so = h.epoch_so; settled_so = h.settled_so; epochs_so = h.epochs_so })
+received_follows (inputs.Lost number) node may h =
+    cond_either (λ (start : StepState). IsByTheLog start.node) (gateways.gateway_awaits number node.gateway) (at_first node)
+    (recovery_stepped (recovery_steps.recovery_on_loss number (recovery_state_of node)) (at_first node)) h
+    (record { epoch_so = h.epoch_so; settled_so = h.settled_so; epochs_so = h.epochs_so })
+received_follows (inputs.LogEntry entry) node may h = reads_follow entry node may h
+received_follows inputs.Put node may h = by_outbox node.outbox
+  where
+    by_outbox : (outbox : List Entry) → IsByTheLog (on_put outbox (at_first node)).node
+    by_outbox [] = h
+    by_outbox (entry ∷ later) = record { epoch_so = h.epoch_so; settled_so = h.settled_so; epochs_so = h.epochs_so }
+received_follows inputs.RecoverTick node may h =
+    record { epoch_so = h.epoch_so; settled_so = h.settled_so; epochs_so = h.epochs_so }
+received_follows inputs.RetryTick node may h = h
+received_follows (inputs.Back entries) node may h = back_follows entries node may.above_1
 
 -- a node stays where the entries that it has read have it
-pub stepped_follows : (input : Input) (node : Node) → May input node → IsByTheLog node → IsByTheLog (node_step input node).node
-stepped_follows input node may h =
-    subst (λ (place : Place). FollowsLog place.epoch place.settled place.epochs place.entries) (sym (stepped_place input node))
-    (after_follows input node may.condition h)
+pub step_follows : (input : Input) (node : Node) → May input node → HasOneWorkPerRequest node → IsByTheLog node
+    → IsByTheLog (node_step input node).node
+step_follows input node may one_work h =
+    let start = (input_received input (at_first node)).node in
+    let needs = needs_by_may input node may one_work in
+    subst (λ (peer : Peer). FollowsLog peer.epoch peer.settled (node_step input node).node.epochs peer.entries)
+    (sym (step_peer input node needs one_work))
+    (subst (λ (epochs : List EpochMembers). FollowsLog start.peer.epoch start.peer.settled epochs start.peer.entries)
+    (sym (step_epochs input node needs one_work)) (received_follows input node may.condition h))
 
 -- so it opens
 pub opening_follows : (me : NodeId) (tries : ℕ) → IsByTheLog (initial_node me tries)

@@ -3,7 +3,7 @@ use Rattle.std.specs.Prelude.{ℕ, Bool, false, List, Option, Some, None}
 use Rattle.inode.specs.Layout.{Content}
 use Rattle.peer_proto.specs.declared.guest.DiskAsk.{DiskAsk}
 use Rattle.peer_proto.specs.declared.guest.VdiAsk.{VdiAsk}
-use Rattle.peer_proto.specs.declared.guest.VdiAsk.TheVariants.{Create, Attach, Close, Snapshot, Clone, Delete}
+use Rattle.peer_proto.specs.declared.guest.VdiAsk.TheVariants.{Create, Attach, Close, Snapshot, Clone, Delete, Check}
 use Rattle.vdi_directory.specs.declared.decision.Decision.{Decision}
 use Rattle.peer_service.specs.State.{effects_of}
 use Rattle.guest_driver.specs.declared.disk.Disk.{Disk}
@@ -18,7 +18,7 @@ use Rattle.vdi_ops.specs.Op as ops
 use Rattle.vdi_ops.specs.Op.{Op, opened_inode}
 use Rattle.vdi_ops.specs.Steps.{on_decision, op_on_done}
 use Rattle.sheep_node.specs.State.{Course, Waiting, Driving, Commanding}
-use Rattle.sheep_node.specs.StepState.{StepState, with_outbox_entry, session_in, with_disk, with_course, request_ended}
+use Rattle.sheep_node.specs.StepState.{StepState, with_outbox_entry, with_session, session_in, with_disk, with_course, request_ended}
 use Rattle.sheep_node.specs.RequestWorks.{work_asked}
 
 -- a driver's act: a work is come to, or the request ends
@@ -26,18 +26,21 @@ abbrev pub driver_acted : ℕ → ℕ → DriverAct → StepState → StepState
 driver_acted number req (driver_acts.Work work) so_far = work_asked number req work so_far
 driver_acted number req (driver_acts.Reply reply) so_far = request_ended number req reply so_far
 
--- a read or write goes on by a step of its driver, which leaves the session's disk with the inode that it returns
+-- a read or write has taken a step, with the inode that this leaves to the session's disk
+abbrev pub after_driver_step : ℕ → ℕ → Disk → drivers.DriverStep → StepState → StepState
+after_driver_step number req disk step so_far =
+    with_course number req (Driving step.driver) (with_disk number (Some (record disk { inode = step.inode })) so_far)
+
+-- a read or write goes on by a step of its driver
 unfoldable pub driver_stepped : ℕ → ℕ → Disk → drivers.DriverStep → StepState → StepState
-driver_stepped number req disk step so_far =
-    driver_acted number req step.act
-    (with_course number req (Driving step.driver) (with_disk number (Some (record disk { inode = step.inode })) so_far))
+driver_stepped number req disk step so_far = driver_acted number req step.act (after_driver_step number req disk step so_far)
 
 -- a driver that waits for a work goes on
 abbrev pub driver_went_on : ℕ → ℕ → Disk → Option drivers.DriverStep → StepState → StepState
 driver_went_on number req disk None so_far = so_far
 driver_went_on number req disk (Some step) so_far = driver_stepped number req disk step so_far
 
--- the same on the disk that the session has open
+-- a read or write goes on, on the disk that the session has open
 abbrev pub disk_went_on : ℕ → ℕ → List ℕ → Driver → Option Disk → StepState → StepState
 disk_went_on number req bytes driver None so_far = so_far
 disk_went_on number req bytes driver (Some disk) so_far =
@@ -62,20 +65,35 @@ disk_after Close inode disk = None
 disk_after (Snapshot tag) inode disk = opened_disk_or false inode disk
 disk_after (Clone base tag name) inode disk = disk
 disk_after (Delete name tag) inode disk = disk
+disk_after Check inode disk = disk
+
+-- what is open with an act of a command: its reply leaves another disk
+abbrev pub disk_with_act : VdiAsk → Op → OpAct → Option Disk → Option Disk
+disk_with_act ask op (op_acts.Append entry) disk = disk
+disk_with_act ask op (op_acts.Work work) disk = disk
+disk_with_act ask op (op_acts.Reply reply) disk = disk_after ask (opened_inode op) disk
+
+-- a command has taken a step: it is the session's command, and with its reply another disk is open
+abbrev pub after_command_step : ℕ → ℕ → VdiAsk → ops.OpStep → StepState → StepState
+after_command_step number req ask step so_far = with_session
+    number
+    (record (session_in number so_far) {
+      disk = disk_with_act ask step.op step.act (session_in number so_far).disk;
+      command = Some req;
+    })
+    (with_course number req (Commanding ask step.op) so_far)
 
 -- a command's act: its entry stands in the outbox, a work is come to, or the request ends
-abbrev pub command_acted : ℕ → ℕ → VdiAsk → Op → OpAct → StepState → StepState
-command_acted number req ask op (op_acts.Append entry) so_far = with_outbox_entry entry so_far
-command_acted number req ask op (op_acts.Work work) so_far = work_asked number req work so_far
-command_acted number req ask op (op_acts.Reply reply) so_far =
-    request_ended number req reply (with_disk number (disk_after ask (opened_inode op) (session_in number so_far).disk) so_far)
+abbrev pub command_acted : ℕ → ℕ → OpAct → StepState → StepState
+command_acted number req (op_acts.Append entry) so_far = with_outbox_entry entry so_far
+command_acted number req (op_acts.Work work) so_far = work_asked number req work so_far
+command_acted number req (op_acts.Reply reply) so_far = request_ended number req reply so_far
 
 -- a command goes on by a step
 unfoldable pub command_stepped : ℕ → ℕ → VdiAsk → ops.OpStep → StepState → StepState
-command_stepped number req ask step so_far =
-    command_acted number req ask step.op step.act (with_course number req (Commanding ask step.op) so_far)
+command_stepped number req ask step so_far = command_acted number req step.act (after_command_step number req ask step so_far)
 
--- the same, if there is one
+-- a command goes on by a step, if there is one
 abbrev pub command_went_on : ℕ → ℕ → VdiAsk → Option ops.OpStep → StepState → StepState
 command_went_on number req ask None so_far = so_far
 command_went_on number req ask (Some step) so_far = command_stepped number req ask step so_far

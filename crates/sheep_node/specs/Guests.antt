@@ -26,9 +26,9 @@ abbrev pub is_open_disk_deleted : Peer → Option Disk → Bool
 is_open_disk_deleted peer None = false
 is_open_disk_deleted peer (Some disk) = is_gone (state_of (effects_of peer) disk.inode.vid)
 
--- whether what a session has open is a snapshot, if it has a disk open
-abbrev pub snapshot_open : Option Disk → Option Bool
-snapshot_open disk = option_map (λ (disk : Disk). disk.snapshot) disk
+-- what a session has open, as a command sees it
+abbrev pub seen_by_command : Option Disk → Option entries.OpenDisk
+seen_by_command disk = option_map (λ (disk : Disk). record { inode = disk.inode; snapshot = disk.snapshot }) disk
 
 -- the inode of what it has open
 abbrev pub inode_open : Option Disk → Option Content
@@ -37,7 +37,9 @@ inode_open disk = option_map (λ (disk : Disk). disk.inode) disk
 -- why a request is refused on the spot
 abbrev pub request_refusal : Peer → Option Disk → Ask → Option Cause
 request_refusal peer disk (asks.Disk ask) = disk_refusals.disk_refusal disk (is_open_disk_deleted peer disk) ask
-request_refusal peer disk (asks.Vdi ask) = entries.command_refusal (snapshot_open disk) ask
+request_refusal peer disk (asks.Vdi ask) = entries.command_refusal (seen_by_command disk) ask
+request_refusal peer disk (asks.Object work) = None
+request_refusal peer disk (asks.Entry entry) = None
 
 -- a read or write among the session's: the first and the last object that it touches; objects have 2^shift bytes
 abbrev pub queued_as : ℕ → ℕ → DiskAsk → Queued
@@ -55,13 +57,16 @@ with_queued_request number req ask (Some disk) so_far = with_session
     (record (session_in number so_far) { queue = (session_in number so_far).queue ++ queued_as disk.inode.spec.shift req ask ∷ [] })
     so_far
 
--- a request that isn't refused: a read or write begins, if it may run; a command begins with its entry in the outbox
+-- a request that isn't refused: a read or write begins, if it may run; a command begins with its entry in the outbox. A check,
+-- a work and an entry from outside aren't begun yet
 abbrev pub request_taken : ℕ → ℕ → Ask → StepState → StepState
 request_taken number req (asks.Disk ask) so_far =
     course_begun number req (Waiting ask)
     (with_queued_request number req ask (session_in number so_far).disk (with_course number req (Waiting ask) so_far))
 request_taken number req (asks.Vdi ask) so_far =
     command_went_on number req ask (begin_command so_far.node.me number ask (inode_open (session_in number so_far).disk)) so_far
+request_taken number req (asks.Object work) so_far = so_far
+request_taken number req (asks.Entry entry) so_far = so_far
 
 -- a request is refused for a cause, if there is one
 abbrev pub request_taken_unless : Option Cause → ℕ → ℕ → Ask → StepState → StepState

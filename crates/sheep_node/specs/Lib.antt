@@ -1,7 +1,7 @@
 pub mod State
 pub mod RecoveryView
 pub mod StepState
-pub mod Same
+pub mod AwaitedEntry
 pub mod RequestWorks
 pub mod Courses
 pub mod Waiting
@@ -10,3 +10,9 @@ pub mod LogReading
 pub mod Step
 pub mod May
 pub mod StepFacts
+pub mod RecoveryRange
+pub mod OneWork
+pub mod Changes
+pub mod OwnEntries
+pub mod SessionQueues
+pub mod NodeInvariant

@@ -1,5 +1,5 @@
 -- A node reads the next entry of the log; and a lost node comes back, and reads the log whole.
-use Rattle.std.specs.Prelude.{ℕ, zero, suc, nat_lt, Bool, false, List, [], ◌∷◌, map, Option, Some, None, if◌then◌else◌}
+use Rattle.std.specs.Prelude.{ℕ, zero, suc, nat_lt, ◌&&◌, Bool, false, List, [], ◌∷◌, map, Option, Some, None, if◌then◌else◌}
 use Rattle.std.specs.List.{find}
 use Rattle.std.specs.FinMap as tree
 use Rattle.object_id.specs.declared.entry.Member.{Member}
@@ -17,11 +17,12 @@ use Rattle.peer_service.specs.LogReading.{read_entry, decision_on}
 use Rattle.peer_service.specs.Back.{come_back}
 use Rattle.gateway.specs.State as gateways
 use Rattle.recovery.specs.State as recoveries
+use Rattle.recovery.specs.State.{RecoveryState}
 use Rattle.recovery.specs.Steps.{recovery_from_epoch}
 use Rattle.sheep_node.specs.State.{Request, Node}
-use Rattle.sheep_node.specs.RecoveryView.{recovery_state_of, with_state}
+use Rattle.sheep_node.specs.RecoveryView.{recovery_state_of, with_recovered_rows, with_state}
 use Rattle.sheep_node.specs.StepState.{StepState, with_node}
-use Rattle.sheep_node.specs.Same.{waits_for_entry}
+use Rattle.sheep_node.specs.AwaitedEntry.{waits_for_entry}
 use Rattle.sheep_node.specs.Courses.{course_decided}
 use Rattle.sheep_node.specs.Waiting.{let_begin}
 
@@ -41,45 +42,52 @@ entered_in entries epoch = record { epoch = epoch; members = members_in entries 
 abbrev pub with_peer : Peer → Node → Node
 with_peer peer node = record node { peer = peer }
 
--- an epoch has its members
-abbrev pub with_epoch_members : ℕ → Node → Node
-with_epoch_members epoch node = record node { epochs = entered_in node.peer.entries epoch ∷ node.epochs }
+-- the epochs that have begun by an entry: the log's first one opens epoch 1, and one that begins an epoch is behind those before it
+abbrev pub epochs_with_entry : Entry → Node → List EpochMembers
+epochs_with_entry entry node =
+    if begins_epoch entry
+    then entered_in (read_entry entry node.peer).entries (epoch_of (read_entry entry node.peer).entries) ∷ node.epochs
+    else if is_format entry then entered_in (read_entry entry node.peer).entries 1 ∷ node.epochs else node.epochs
 
--- the peer goes to the next epoch, whose members are known
-abbrev pub peer_entered : Node → Node
-peer_entered node = with_peer (peers.peer_in_next_epoch node.me (targets_in node.epochs) node.peer) node
+-- the peer has read an entry, and is in the epoch that this begins, if it begins one
+abbrev pub peer_with_entry : Entry → Node → Peer
+peer_with_entry entry node =
+    if begins_epoch entry
+    then peers.peer_in_next_epoch node.me (targets_in (epochs_with_entry entry node)) (read_entry entry node.peer)
+    else read_entry entry node.peer
 
--- the recovery of the node's epoch begins
-abbrev pub recovery_begun : Node → Node
-recovery_begun node = record (with_state
-    (recovery_from_epoch node.peer.epoch (map (λ (member : Member). member.node) (epoch_members node)) (recovery_state_of node))
-    node) { recovered = false }
+-- the node then
+abbrev pub node_with_entry : Entry → Node → Node
+node_with_entry entry node = record node { peer = peer_with_entry entry node; epochs = epochs_with_entry entry node }
 
--- a node that is no member of its new epoch has nothing to recover
-abbrev pub recovery_begun_if : Bool → Node → Node
-recovery_begun_if member node = if member then recovery_begun node else node
+-- how the recovery of a node's epoch begins
+abbrev pub recovery_in_epoch : Node → RecoveryState
+recovery_in_epoch node =
+    recovery_from_epoch node.peer.epoch (map (λ (member : Member). member.node) (epoch_members node)) (recovery_state_of node)
 
--- the peer is in the next epoch: its recovery begins
-abbrev pub after_epoch : Node → Node
-after_epoch node = recovery_begun_if (is_epoch_member node) node
+-- whether an entry begins a recovery: where it begins an epoch with the node as a member. The first epoch is nobody's to recover
+abbrev pub begins_recovery : Entry → Node → Bool
+begins_recovery entry node = begins_epoch entry && is_epoch_member (node_with_entry entry node)
 
--- the node enters its next epoch
-abbrev pub epoch_entered : Node → Node
-epoch_entered node = after_epoch (peer_entered (with_epoch_members (epoch_of node.peer.entries) node))
+-- the recovery, once an entry was read
+abbrev pub recovery_with_entry : Entry → Node → RecoveryState
+recovery_with_entry entry node =
+    if begins_recovery entry node then recovery_in_epoch (node_with_entry entry node) else recovery_state_of (node_with_entry entry node)
 
--- what an entry makes of the epochs: the log's first one opens epoch 1, which is nobody's to recover
-abbrev pub entered_by : Entry → Node → Node
-entered_by entry node =
-    if begins_epoch entry then epoch_entered node else if is_format entry then with_epoch_members 1 node else node
+-- a peer, once an epoch is settled that may be a later one than before
+abbrev pub with_settled : ℕ → Peer → Peer
+with_settled settled peer = if nat_lt peer.settled settled then peer_settled_to settled peer else peer
 
--- an epoch is settled, where that is a later one than before
-abbrev pub settled_by : ℕ → Node → Node
-settled_by settled node = if nat_lt node.peer.settled settled then with_peer (peer_settled_to settled node.peer) node else node
-
--- the node has read an entry: the peer reads it, then the epoch that it begins is entered, then the epoch that it settles
+-- the node has read an entry: the peer reads it, then the epoch that it begins is entered and its recovery begins, then the epoch
+-- that it settles is settled
 unfoldable pub entry_read : Entry → Node → Node
-entry_read entry node =
-    settled_by (settled_of (read_entry entry node.peer).entries) (entered_by entry (with_peer (read_entry entry node.peer) node))
+entry_read entry node = record node {
+  peer = with_settled (settled_of (read_entry entry node.peer).entries)
+      (with_recovered_rows (recovery_with_entry entry node) (peer_with_entry entry node));
+  epochs = epochs_with_entry entry node;
+  recovery = (recovery_with_entry entry node).recovery;
+  recovered = if begins_recovery entry node then false else node.recovered;
+}
 
 -- the request that waits for exactly this entry
 abbrev pub asker_of : Entry → Node → Option (ℕ × Request)
@@ -118,4 +126,5 @@ come_back_with entries node = record {
 
 -- a lost node comes back, has read all these entries, and recovers their last epoch
 unfoldable pub on_back : List Entry → Node → Node
-on_back entries node = recovery_begun (come_back_with entries node)
+on_back entries node =
+    record (with_state (recovery_in_epoch (come_back_with entries node)) (come_back_with entries node)) { recovered = false }

@@ -1,6 +1,6 @@
 -- When a node may step on an input.
-use Rattle.std.specs.Prelude.{◌≡◌, ℕ, ◌-◌, ◌^◌, ◌<◌, ◌==◌, nat_lt, nat_le, Bool, true, false, not, ◌&&◌, ◌||◌, IsTrue, List, [], ◌∷◌, ◌++◌, length, filter}
-use Rattle.std.specs.List.{list_all}
+use Rattle.std.specs.Prelude.{◌≡◌, ℕ, ◌-◌, ◌<◌, ◌==◌, nat_le, Bool, true, false, not, ◌&&◌, ◌||◌, IsTrue, List, [], ◌∷◌, ◌++◌, length}
+use Rattle.std.specs.Prelude.{is_none}
 use Rattle.std.specs.FinMap as tree
 use Rattle.object_id.specs.declared.entry.Entry.{Entry}
 use Rattle.object_id.specs.declared.entry.Entry.TheVariants.{Format}
@@ -19,7 +19,7 @@ use Rattle.sheep_node.specs.declared.input.Input.{Input}
 use Rattle.sheep_node.specs.declared.limits.TheConstants.{REQUESTS_AT_ONCE, SENDS_MAX}
 use Rattle.sheep_node.specs.declared.input.Input.TheVariants as inputs
 use Rattle.peer_proto.specs.declared.say.PeerRsp.{PeerRsp}
-use Rattle.sheep_node.specs.State.{Course, Waiting, Driving, Commanding, Request, Node}
+use Rattle.sheep_node.specs.State.{Course, Waiting, Driving, Commanding, Session, Node, session_at}
 use Rattle.sheep_node.specs.RecoveryView.{recovery_state_of}
 use Rattle.sheep_node.specs.LogReading.{is_epoch_member}
 
@@ -51,43 +51,35 @@ node_awaits number node = gateways.gateway_awaits number node.gateway || recover
 abbrev pub fits_node : PeerRsp → Node → Bool
 fits_node rsp node = gateways.fits_gateway rsp node.gateway || recovery_fits.fits_recovery rsp (recovery_state_of node)
 
--- a session's requests without reply
-abbrev pub session_requests : ℕ → Node → List Request
-session_requests session node =
-    filter (λ (request : Request). request.session == session) (tree.values node.requests)
-
 -- whether a request is a read or write
 abbrev pub is_disk_course : Course → Bool
 is_disk_course (Waiting ask) = true
 is_disk_course (Driving driver) = true
 is_disk_course (Commanding ask op) = false
 
--- whether what is asked is a read or write
-abbrev pub asks_disk : Ask → Bool
-asks_disk (asks.Disk ask) = true
-asks_disk (asks.Vdi ask) = false
+-- how many reads and writes of a session may be without reply where a request comes: none at a command, and at another one fewer
+-- than may be at once
+abbrev pub queued_at_most : Ask → ℕ
+queued_at_most (asks.Disk ask) = REQUESTS_AT_ONCE - 1
+queued_at_most (asks.Vdi ask) = 0
+queued_at_most (asks.Object work) = 0
+queued_at_most (asks.Entry entry) = 0
 
--- whether these and the next one are all reads and writes
-abbrev pub are_on_disk : List Request → Ask → Bool
-are_on_disk requests ask = asks_disk ask && list_all (λ (request : Request). is_disk_course request.course) requests
+-- whether the session has room for a request: no command of it is without reply
+abbrev pub has_room_for : Ask → Session → Bool
+has_room_for ask session = is_none session.command && nat_le (length session.queue) (queued_at_most ask)
 
--- whether there is room for one more beside these: there are fewer than may be at once, and all are reads and writes with it,
--- or there are none
-abbrev pub is_room : List Request → Ask → Bool
-is_room requests ask = nat_lt (length requests) REQUESTS_AT_ONCE && (length requests == 0 || are_on_disk requests ask)
-
--- whether the session has room for a request
-abbrev pub has_room_for : ℕ → Ask → Node → Bool
-has_room_for session ask node = is_room (session_requests session node) ask
-
--- what is asked is as it may be: whole blocks and one at least, and names, tags and specs that may be such
+-- what is asked is as it may be: whole blocks and one at least, and names, tags and specs that may be such. A work or an entry
+-- from outside isn't taken yet
 abbrev pub IsGuestAsk : Ask → Type 0
 IsGuestAsk (asks.Disk ask) = IsTrue (is_ask ask)
 IsGuestAsk (asks.Vdi ask) = IsVdiAsk ask
+IsGuestAsk (asks.Object work) = ⊥
+IsGuestAsk (asks.Entry entry) = ⊥
 
 -- what a guest's request must meet
 pub record MayGuest (req session : ℕ) (ask : Ask) (node : Node) : Type 0 where
-  pub room : IsTrue (has_room_for session ask node)
+  pub room : IsTrue (has_room_for ask (session_at session node))
   pub number : IsTrue (not (tree.contains_key node.requests req))
   pub member : IsTrue (is_epoch_member node)
   pub asked : IsGuestAsk ask

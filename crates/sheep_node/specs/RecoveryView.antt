@@ -1,7 +1,7 @@
 -- What a node's recovery sees of its node, and the node with what the recovery made of that.
 use Rattle.vnode_table.specs.Targets.{targets_in}
 use Rattle.peer_service.specs.State as peers
-use Rattle.peer_service.specs.State.{is_dead_object, length_of_rows}
+use Rattle.peer_service.specs.State.{Peer, is_dead_object, length_of_rows}
 use Rattle.recovery.specs.Shown.{NodeView}
 use Rattle.recovery.specs.State.{RecoveryState}
 use Rattle.sheep_node.specs.State.{Node}
@@ -23,9 +23,10 @@ shown_node node = record {
 abbrev pub recovery_state_of : Node → RecoveryState
 recovery_state_of node = record { recovery = node.recovery; shown = shown_node node }
 
--- the node after a step of its recovery: rows and what is pending go back to the peer
+-- rows and what is pending go back from the recovery to the peer
+abbrev pub with_recovered_rows : RecoveryState → Peer → Peer
+with_recovered_rows state peer = record peer { rows = state.shown.rows; pending = state.shown.pending }
+
+-- the node after a step of its recovery
 abbrev pub with_state : RecoveryState → Node → Node
-with_state state node = record node {
-  recovery = state.recovery;
-  peer = record node.peer { rows = state.shown.rows; pending = state.shown.pending };
-}
+with_state state node = record node { recovery = state.recovery; peer = with_recovered_rows state node.peer }

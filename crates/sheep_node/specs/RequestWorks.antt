@@ -11,7 +11,8 @@ use Rattle.guest_driver.specs.InodeQueue.{may_open_work, queue_with_open, queue_
 use Rattle.vdi_ops.specs.declared.end.OpEnd.{OpEnd}
 use Rattle.vdi_ops.specs.Steps.{on_refusal}
 use Rattle.sheep_node.specs.State.{Course, Waiting, Driving, Commanding, Request, Node}
-use Rattle.sheep_node.specs.StepState.{StepState, with_sends, with_optional_entry, with_gateway, session_in, with_inode_queue, request_ended}
+use Rattle.sheep_node.specs.StepState.{StepState, with_sends, with_optional_entry, with_gateway, session_in, with_inode_queue}
+use Rattle.sheep_node.specs.StepState.{request_ended}
 
 -- a command ends with the refusal of its work: the granted id is given back by an entry in the outbox
 abbrev pub command_refused : ℕ → ℕ → Option OpEnd → StepState → StepState
@@ -24,7 +25,7 @@ course_refused number req cause (Waiting ask) so_far = so_far
 course_refused number req cause (Driving driver) so_far = request_ended number req (Refused cause) so_far
 course_refused number req cause (Commanding ask op) so_far = command_refused number req (on_refusal cause op) so_far
 
--- the same of a request that was looked up
+-- a request that was looked up ends so, if it is there
 abbrev pub request_refused : ℕ → Cause → Option Request → StepState → StepState
 request_refused req cause None so_far = so_far
 request_refused req cause (Some request) so_far = course_refused request.session req cause request.course so_far
@@ -34,11 +35,11 @@ abbrev pub queue_left : ℕ → ObjWork → StepState → StepState
 queue_left number work so_far = with_inode_queue number (queue_after_end (session_in number so_far).inode_queue work) so_far
 
 -- what the start of a work comes to: it is sent, or for want of members waits or is refused; it isn't done at once
-abbrev pub after_start : ℕ → ℕ → ObjWork → Act → StepState → StepState
-after_start number req work (acts.Send sends) so_far = with_sends sends.list so_far
-after_start number req work acts.Wait so_far = so_far
-after_start number req work (acts.Done done) so_far = so_far
-after_start number req work (acts.Refused of cause) so_far =
+abbrev pub after_start : ℕ → Act → StepState → StepState
+after_start number (acts.Send sends) so_far = with_sends sends.list so_far
+after_start number acts.Wait so_far = so_far
+after_start number (acts.Done work done) so_far = so_far
+after_start number (acts.Refused work req cause) so_far =
     request_refused req cause (tree.get so_far.node.requests req) (queue_left number work so_far)
 
 -- how the gateway starts a work: in the node's epoch, its messages numbered from the count of sends
@@ -49,7 +50,7 @@ start_of req work node =
 -- a request's work begins
 unfoldable pub work_begun : ℕ → ℕ → ObjWork → StepState → StepState
 work_begun number req work so_far =
-    after_start number req work (start_of req work so_far.node).act (with_gateway (start_of req work so_far.node).gateway so_far)
+    after_start number (start_of req work so_far.node).act (with_gateway (start_of req work so_far.node).gateway so_far)
 
 -- a request comes to a work: that begins, or waits in the session's line
 unfoldable pub work_asked : ℕ → ℕ → ObjWork → StepState → StepState

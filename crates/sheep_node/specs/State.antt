@@ -33,10 +33,12 @@ pub record Request : Type 0 where
   pub session : ℕ
   pub course : Course
 
--- a session: the disk that it has open, the objects of its reads and writes, and the line of works on its disk's inode
+-- a session: the disk that it has open, its reads and writes without reply with their objects, its command without reply, and the
+-- works on its disk's inode
 pub record Session : Type 0 where
   pub disk : Option Disk
   pub queue : List Queued
+  pub command : Option ℕ
   pub inode_queue : InodeQueue
 
 -- a node: the peer that others ask, the epochs that it entered with their members, its works, its recovery, and whether
@@ -56,7 +58,7 @@ pub record Node : Type 0 where
 
 -- a session that has asked nothing
 abbrev pub new_session : Session
-new_session = record { disk = None; queue = []; inode_queue = empty_inode_queue }
+new_session = record { disk = None; queue = []; command = None; inode_queue = empty_inode_queue }
 
 -- the session of a number
 abbrev pub session_at : ℕ → Node → Session

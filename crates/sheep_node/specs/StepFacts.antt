@@ -74,7 +74,7 @@ abbrev pub AscendFrom : ℕ → List (ℕ × GuestRsp) → Type 0
 AscendFrom low [] = Unit {0}
 AscendFrom low (reply ∷ later) = (low ≤ reply.0) × AscendFrom reply.0 later
 
--- the same of all replies
+-- replies by ascending request
 abbrev pub Ascend : List (ℕ × GuestRsp) → Type 0
 Ascend replies = AscendFrom 0 replies
 
@@ -89,6 +89,6 @@ pub record FollowsLog (epoch settled : ℕ) (epochs : List EpochMembers) (read :
   pub settled_so : settled ≡ settled_of read
   pub epochs_so : epochs ≡ epochs_of read
 
--- the same of a node, and the entries that it has read
+-- a node is in the epoch of the entries that it has read, with what they settle and the members of their epochs
 abbrev pub IsByTheLog : Node → Type 0
 IsByTheLog node = FollowsLog node.peer.epoch node.peer.settled node.epochs node.peer.entries

@@ -1,5 +1,5 @@
 -- A step in the making: the node as far as it has come, and what was put out so far.
-use Rattle.std.specs.Prelude.{ℕ, ◌+◌, nat_lt, List, [], ◌∷◌, ◌++◌, length, Option, Some, None, if◌then◌else◌}
+use Rattle.std.specs.Prelude.{ℕ, ◌+◌, nat_lt, List, [], ◌∷◌, ◌++◌, length, option_to_list, Option, Some, None, if◌then◌else◌}
 use Rattle.std.specs.FinMap as tree
 use Rattle.object_id.specs.declared.node.NodeId.{NodeId}
 use Rattle.object_id.specs.declared.entry.Entry.{Entry}
@@ -47,10 +47,10 @@ with_guest_reply req reply so_far =
 abbrev pub with_outbox_entry : Entry → StepState → StepState
 with_outbox_entry entry so_far = record so_far { node = record so_far.node { outbox = so_far.node.outbox ++ entry ∷ [] } }
 
--- the same of an entry, if there is one
+-- an entry, if there is one, stands there
 abbrev pub with_optional_entry : Option Entry → StepState → StepState
-with_optional_entry None so_far = so_far
-with_optional_entry (Some entry) so_far = with_outbox_entry entry so_far
+with_optional_entry entry so_far =
+    record so_far { node = record so_far.node { outbox = so_far.node.outbox ++ option_to_list entry } }
 
 -- its gateway is so
 abbrev pub with_gateway : Gateway → StepState → StepState
@@ -79,11 +79,11 @@ with_course number req course so_far = record so_far {
   node = record so_far.node { requests = tree.insert so_far.node.requests req (record { session = number; course = course }) };
 }
 
--- a request is no more: the gateway forgets it, and it leaves the requests and the session's queue
+-- a request is no more: the gateway forgets it, it leaves the requests and the session's queue, or was the session's command
 abbrev pub without_request : ℕ → ℕ → StepState → StepState
 without_request number req so_far = with_session
     number
-    (record (session_in number so_far) { queue = queue_without req (session_in number so_far).queue })
+    (record (session_in number so_far) { queue = queue_without req (session_in number so_far).queue; command = None })
     (record so_far {
       node = record so_far.node { gateway = without_touch req so_far.node.gateway; requests = tree.remove so_far.node.requests req };
     })

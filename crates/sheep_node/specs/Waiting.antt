@@ -1,17 +1,17 @@
 -- What waited begins in the step that ends its waiting: first the request whose work ended goes on, then a work that waits
--- for the inode begins, then the session's waiting requests.
-use Rattle.std.specs.Prelude.{ℕ, ◌==◌, List, fold, Option, Some, None, if◌then◌else◌}
+-- for the inode begins, then the session's reads and writes that wait.
+use Rattle.std.specs.Prelude.{ℕ, List, map, fold, Option, Some, None, if◌then◌else◌}
 use Rattle.std.specs.FinMap as tree
 use Rattle.object_id.specs.declared.cause.Cause.{Cause}
+use Rattle.peer_proto.specs.declared.work.ObjWork.{ObjWork}
 use Rattle.gateway.specs.declared.act.Act.{Act}
 use Rattle.gateway.specs.declared.act.Act.TheVariants as acts
-use Rattle.gateway.specs.State as gateways
-use Rattle.gateway.specs.State.{Gateway}
 use Rattle.gateway.specs.Step as gateway_steps
+use Rattle.gateway_queue.specs.declared.queue.Queued.{Queued}
 use Rattle.gateway_queue.specs.Queue.{may_run}
 use Rattle.guest_driver.specs.InodeQueue as lines
 use Rattle.guest_driver.specs.InodeQueue.{next_work, queue_after_start}
-use Rattle.sheep_node.specs.State.{Course, Waiting, Driving, Commanding, Request}
+use Rattle.sheep_node.specs.State.{Course, Waiting, Driving, Commanding, Request, Session}
 use Rattle.sheep_node.specs.StepState.{StepState, with_sends, with_gateway, session_in, with_inode_queue}
 use Rattle.sheep_node.specs.RequestWorks.{request_refused, queue_left, work_begun}
 use Rattle.sheep_node.specs.Courses.{disk_begun, course_went_on}
@@ -30,51 +30,48 @@ course_begun number req (Waiting ask) so_far =
 course_begun number req (Driving driver) so_far = so_far
 course_begun number req (Commanding ask op) so_far = so_far
 
--- the same of a request that was looked up, if it is of the session
-abbrev pub found_request_begun : ℕ → ℕ → Option Request → StepState → StepState
-found_request_begun number req None so_far = so_far
-found_request_begun number req (Some request) so_far =
-    if request.session == number then course_begun number req request.course so_far else so_far
+-- a request begins, if it is there and waits
+abbrev pub found_request_begun : ℕ → Option Request → StepState → StepState
+found_request_begun req None so_far = so_far
+found_request_begun req (Some request) so_far = course_begun request.session req request.course so_far
 
--- the same of a request, as it is by now
-abbrev pub begun_if_may : ℕ → StepState → ℕ → StepState
-begun_if_may number so_far req = found_request_begun number req (tree.get so_far.node.requests req) so_far
+-- a request, as it is by now
+abbrev pub begun_if_may : StepState → ℕ → StepState
+begun_if_may so_far req = found_request_begun req (tree.get so_far.node.requests req) so_far
 
--- the session's waiting requests in one pass, by ascending number; one that ends at once may let later ones begin
-unfoldable pub passed_over : ℕ → List ℕ → StepState → StepState
-passed_over number reqs so_far = fold (begun_if_may number) so_far reqs
+-- requests in one pass, in this order; one that ends at once may let later ones begin
+unfoldable pub passed_over : List ℕ → StepState → StepState
+passed_over reqs so_far = fold begun_if_may so_far reqs
+
+-- the numbers of a session's reads and writes without reply, as they came
+abbrev pub queued_requests : Session → List ℕ
+queued_requests session = map (λ (queued : Queued). queued.req) session.queue
 
 -- what waited in the session begins
 unfoldable pub let_begin : ℕ → StepState → StepState
 let_begin number so_far =
-    passed_over number (tree.keys so_far.node.requests) (next_begun number (next_work (session_in number so_far).inode_queue) so_far)
-
--- a work that has ended leaves its session's line
-abbrev pub queue_left_by : ℕ → Option gateways.Work → StepState → StepState
-queue_left_by number None so_far = so_far
-queue_left_by number (Some work) so_far = queue_left number work.work so_far
+    passed_over (queued_requests (session_in number so_far))
+    (next_begun number (next_work (session_in number so_far).inode_queue) so_far)
 
 -- a request goes on with what its work gave
-abbrev pub work_done : Option gateways.Work → ℕ → List ℕ → Option Request → StepState → StepState
+abbrev pub work_done : ObjWork → ℕ → List ℕ → Option Request → StepState → StepState
 work_done work req bytes None so_far = so_far
 work_done work req bytes (Some request) so_far =
-    let_begin request.session (course_went_on request.session req bytes request.course (queue_left_by request.session work so_far))
+    let_begin request.session (course_went_on request.session req bytes request.course (queue_left request.session work so_far))
 
 -- a request ends, since its work is refused
-abbrev pub work_refused : Option gateways.Work → ℕ → Cause → Option Request → StepState → StepState
+abbrev pub work_refused : ObjWork → ℕ → Cause → Option Request → StepState → StepState
 work_refused work req cause None so_far = so_far
 work_refused work req cause (Some request) so_far =
-    let_begin request.session (request_refused req cause (Some request) (queue_left_by request.session work so_far))
+    let_begin request.session (request_refused req cause (Some request) (queue_left request.session work so_far))
 
--- what an act of the gateway comes to; before the act the gateway was this
-abbrev pub after_act : Gateway → Act → StepState → StepState
-after_act before (acts.Send sends) so_far = with_sends sends.list so_far
-after_act before acts.Wait so_far = so_far
-after_act before (acts.Done done) so_far =
-    work_done (tree.get before.works done.req) done.req done.bytes (tree.get so_far.node.requests done.req) so_far
-after_act before (acts.Refused req cause) so_far =
-    work_refused (tree.get before.works req) req cause (tree.get so_far.node.requests req) so_far
+-- what an act of the gateway comes to
+abbrev pub after_act : Act → StepState → StepState
+after_act (acts.Send sends) so_far = with_sends sends.list so_far
+after_act acts.Wait so_far = so_far
+after_act (acts.Done work done) so_far = work_done work done.req done.bytes (tree.get so_far.node.requests done.req) so_far
+after_act (acts.Refused work req cause) so_far = work_refused work req cause (tree.get so_far.node.requests req) so_far
 
 -- a step of the gateway, and what comes of it
 unfoldable pub after_gateway_step : gateway_steps.GatewayStep → StepState → StepState
-after_gateway_step step so_far = after_act so_far.node.gateway step.act (with_gateway step.gateway so_far)
+after_gateway_step step so_far = after_act step.act (with_gateway step.gateway so_far)

@@ -1,7 +1,7 @@
 -- The first 16 bytes of a header: spelling what is read gives them back, and reading what is spelled gives the fields.
 use Rattle.std.proofs.Common.{◌≡◌, ℕ, ◌≤◌, Bool, true, false, cond, ltb, eqb, not, List, ◌++◌, length, drop, Result, Ok, Err, refl, sym, ap, subst, ◌∙◌, arith}
 use Rattle.std.specs.Prelude.{IfOk}
-use Rattle.std.proofs.lemmas.Bool.{ltb-false, le-ltb, eqb-true}
+use Rattle.std.proofs.lemmas.Bool.{ltb-false, le-ltb, eqb-true, not-false}
 use Rattle.std.proofs.lemmas.Nat.{from_le_bytes-to_le_bytes_2, from_le_bytes-to_le_bytes_4}
 use Rattle.object_id.specs.Fields.{u8_bytes, u16_bytes, u32_bytes, u8_at, u16_at, u32_at, AreBytes, Stands}
 use Rattle.object_id.proofs.FieldLemmas.{stands-then, stands-u8, stands-u16, stands-u32, u16-below, u32-below}
@@ -15,10 +15,6 @@ use Rattle.sheep_proto.specs.Headers.{common_bytes, common_at, common_of, IsComm
 pub passed : {A : Type 0} (b : Bool) (fault : HeaderFault) (x : Result A HeaderFault) (y : A) → cond b (Err fault) x ≡ Ok y → (b ≡ false) × (x ≡ Ok y)
 passed true fault x y e = absurd cc
 passed false fault x y e = (refl, e)
-
-pub not-false : (b : Bool) → not b ≡ false → b ≡ true
-not-false true e = refl
-not-false false e = absurd cc
 
 -- the fields of the first 16 bytes fit
 pub common-fits : (bytes : List ℕ) → AreBytes bytes → IsCommon (common_at bytes)

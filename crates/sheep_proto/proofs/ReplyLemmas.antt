@@ -1,7 +1,7 @@
 -- Replies: what is read is spelled at the front of the bytes, and what is spelled there is read.
 use Rattle.std.proofs.Common.{◌≡◌, ℕ, ◌≤◌, Bool, true, false, cond, ltb, eqb, not, ◌||◌, List, ◌++◌, length, take, drop, Result, Ok, Err, refl, sym, ap, subst, ◌∙◌, arith}
 use Rattle.std.specs.Prelude.{IfOk}
-use Rattle.std.proofs.lemmas.Bool.{ltb-false, le-ltb, eqb-true}
+use Rattle.std.proofs.lemmas.Bool.{ltb-false, le-ltb, eqb-true, not-false}
 use Rattle.std.proofs.lemmas.List.{length-append, length-take-le, length-drop}
 use Rattle.std.proofs.lemmas.Nat.{from_le_bytes-to_le_bytes_2, from_le_bytes-to_le_bytes_4}
 use Rattle.object_id.specs.Fields.{u32_bytes, u8_at, u16_at, u32_at, zeros, AreBytes, Stands}
@@ -12,7 +12,7 @@ use Rattle.sheep_proto.specs.declared.fault.HeaderFault.TheVariants.{ShortHeader
 use Rattle.sheep_proto.specs.declared.reply.VdiRsp.{VdiRsp}
 use Rattle.sheep_proto.specs.Headers.{common_bytes, common_at, is_object_opcode, is_vdi_opcode}
 use Rattle.sheep_proto.specs.Replies.{rsp_common, reply_bytes, rsp_at, reply_in_bytes, SpellsReply, IsVdiRsp}
-use Rattle.sheep_proto.proofs.HeaderLemmas.{passed, not-false, common-fits, common-stands}
+use Rattle.sheep_proto.proofs.HeaderLemmas.{passed, common-fits, common-stands}
 
 -- ---- what is read is spelled
 

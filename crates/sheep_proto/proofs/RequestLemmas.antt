@@ -1,7 +1,7 @@
 -- Requests: what is read is spelled at the front of the bytes, and what is spelled there is read.
 use Rattle.std.proofs.Common.{◌≡◌, ℕ, ◌≤◌, Bool, true, false, cond, ltb, eqb, not, List, ◌++◌, length, take, drop, Result, Ok, Err, refl, sym, ap, subst, ◌∙◌, arith, inl, inr}
 use Rattle.std.specs.Prelude.{IfOk}
-use Rattle.std.proofs.lemmas.Bool.{ltb-false, le-ltb, eqb-true}
+use Rattle.std.proofs.lemmas.Bool.{ltb-false, le-ltb, eqb-true, not-false}
 use Rattle.std.proofs.lemmas.Bool.Decides.{eqb_tells}
 use Rattle.std.proofs.lemmas.List.{length-append, length-take-le, length-drop}
 use Rattle.std.proofs.lemmas.Nat.{from_le_bytes-to_le_bytes_2, from_le_bytes-to_le_bytes_4, from_le_bytes-to_le_bytes_8}
@@ -16,7 +16,7 @@ use Rattle.sheep_proto.specs.declared.request.Request.{Request}
 use Rattle.sheep_proto.specs.declared.request.Request.TheVariants.{Obj, Vdi}
 use Rattle.sheep_proto.specs.Headers.{common_bytes, common_at, is_object_opcode, is_vdi_opcode}
 use Rattle.sheep_proto.specs.Requests.{obj_common, obj_bytes, vdi_bytes, request_bytes, reserved_of, obj_at, vdi_at, request_in_bytes, SpellsRequest, IsObjReq, IsVdiReq, IsRequest}
-use Rattle.sheep_proto.proofs.HeaderLemmas.{passed, not-false, common-fits, common-stands}
+use Rattle.sheep_proto.proofs.HeaderLemmas.{passed, common-fits, common-stands}
 
 -- ---- what is read is spelled
 

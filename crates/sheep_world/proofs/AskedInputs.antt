@@ -47,6 +47,7 @@ has_input req (lines.Write session offset length pattern) is = refl
 has_input req (lines.Snapshot session tag) is = refl
 has_input req (lines.Clone session base tag name) is = refl
 has_input req (lines.Delete session name tag) is = refl
+has_input req (lines.Check session) is = refl
 has_input req s is = absurd (cc (is))
 
 input_if : (statements : List Statement) (req : ℕ) (o : Option Statement) → request_at statements req ≡ o

@@ -5,8 +5,11 @@ use Rattle.std.specs.Prelude.{Result, Ok, Err, unwrap_or}
 use Rattle.std.specs.Option.{option_map_or, option_and_then}
 use Rattle.std.specs.Ordering.{nat_cmp}
 use Rattle.std.specs.FinMap as tree
-use Rattle.std.proofs.lemmas.Bool.{eqb-true, and_parts}
+use Rattle.std.proofs.lemmas.Bool.{eqb-true, and_parts, cases_eq}
 use Rattle.std.proofs.lemmas.Option.{cond_some}
+use Rattle.proof_tools.proofs.Booleans.{cond_either}
+use Rattle.proof_tools.proofs.FiniteMaps.{get-insert_same, get-insert_other, get-insert_cases}
+use Rattle.proof_tools.proofs.Lists.{find-contains}
 use Rattle.object_id.specs.declared.entry.Entry.{Entry}
 use Rattle.cluster_script.specs.declared.statement.Statement.{Statement}
 use Rattle.cluster_script.specs.NumberedRequests.{session_of, request_at}
@@ -19,8 +22,6 @@ use Rattle.peer_proto.specs.declared.guest.GuestRsp.{GuestRsp}
 use Rattle.peer_proto.specs.declared.say.PeerRsp.{PeerRsp}
 use Rattle.peer_proto.specs.Ask.{ask_in}
 use Rattle.peer_proto.specs.Say.{say_in}
-use Rattle.gateway.proofs.TryLaws.{found-passes}
-use Rattle.recovery.proofs.StepLemmas.{either}
 use Rattle.sheep_node.specs.declared.ask.Ask.{Ask}
 use Rattle.sheep_node.specs.declared.event.Event.{Event}
 use Rattle.sheep_node.specs.declared.event.Event.TheVariants as events
@@ -45,12 +46,10 @@ use Rattle.sheep_world.specs.Step.{EventOutcome, step, only, with_replies, guest
 use Rattle.sheep_world.specs.OneWork.{IsNewRequest}
 use Rattle.sheep_world.specs.BegunRequests.{begun_count, IsBegun, HasOnlyBegun, AllHaveOnlyBegun, RequestsWereBegun}
 use Rattle.sheep_world.proofs.EnabledLaws.{looked_up}
-use Rattle.sheep_world.proofs.NumberTools.{same_or_not, got_own, got_other}
 use Rattle.sheep_world.proofs.InFlightOpening.{opening_found}
 use Rattle.sheep_world.proofs.InFlightPut.{next_host}
 use Rattle.sheep_world.proofs.RequestsAfterSteps.{IsOfInput, stepped_are, none_are, back_are}
 use Rattle.sheep_world.proofs.SessionNumbers.{once}
-use Rattle.sheep_world.proofs.InFlightEvents.{got_insert}
 
 -- the next request of a session is new to its gateway
 pub new-begun : (statements : List Statement) (number : ℕ) (world : World) → RequestsWereBegun statements world
@@ -80,14 +79,14 @@ grown_with guests number guest more q = ⊎_elim
     (λ (own : q ≡ number).
     let is : begun_count q (tree.insert guests number guest) ≡ guest.begun
     = ap (λ (k : ℕ). begun_count k (tree.insert guests number guest)) own
-    ∙ ap (λ (o : Option SessionProgress). (unwrap_or o no_progress).begun) (got_own guests number guest) in
+    ∙ ap (λ (o : Option SessionProgress). (unwrap_or o no_progress).begun) (get-insert_same guests number guest) in
     let was : begun_count q guests ≡ begun_count number guests = ap (λ (k : ℕ). begun_count k guests) own in
     omega (arith, is, was, more))
     (λ (other : q ≢ number).
     let is : begun_count q (tree.insert guests number guest) ≡ begun_count q guests
-    = ap (λ (o : Option SessionProgress). (unwrap_or o no_progress).begun) (got_other guests number guest q other) in
+    = ap (λ (o : Option SessionProgress). (unwrap_or o no_progress).begun) (get-insert_other guests number guest q other) in
     omega (arith, is))
-    (same_or_not q number)
+    (cases_eq q number)
 
 grown_answered : (req : ℕ) (session : Option ℕ) (guests : tree.FinMap nat_cmp SessionProgress) → Grows guests (progress_after_reply_in req session guests)
 grown_answered req None guests = λ q. omega arith
@@ -138,7 +137,7 @@ with_host statements hosts guests n host own others q at got = ⊎_elim
     subst (λ (at : Host). HasOnlyBegun statements guests q at) same.1
     (subst (λ (k : ℕ). HasOnlyBegun statements guests k host) (sym same.0) own))
     (λ (other : (q ≢ n) × (tree.get hosts q ≡ Some at)). others q at other.0 other.1)
-    (got_insert hosts n host q at got)
+    (get-insert_cases hosts n host q at got)
 
 -- a node steps
 abbrev IsInputBegun : List Statement → World → ℕ → Input → Type 0
@@ -197,7 +196,7 @@ module _ (statements : List Statement) (number : ℕ) (world : World) (session :
         before =
             let is : begun_count session.number (begun_world req).guests ≡ (progress_at session.number world).begun + 1
             = ap (λ (o : Option SessionProgress). (unwrap_or o no_progress).begun)
-            (got_own world.guests session.number
+            (get-insert_same world.guests session.number
             (progress_with_started (record { req = req; disk = disk_open session world }) (progress_at session.number world))) in
             omega (arith, is);
         there = next;
@@ -244,7 +243,7 @@ asked_kept : (statements : List Statement) (world : World) (number : ℕ) → co
 unfolding guest_effect
 asked_kept statements world number may was =
     let (session, found, asks) = looked_up (λ session. may_ask statements session world) (session_numbered statements number) may in
-    let same : session.number ≡ number = eqb-true session.number number (found-passes (has_session_number number) (sessions_of statements) session found) in
+    let same : session.number ≡ number = eqb-true session.number number (find-contains (has_session_number number) (sessions_of statements) session found).1 in
     subst
     (λ (o : Option ScriptSession). RequestsWereBegun statements
     (gateway_node_stepped statements o (next_input statements number world) (requests_started statements o (at_rest world))))
@@ -266,7 +265,7 @@ delivered_kept statements name (Some (worlds.Request to bytes)) world was = by_r
     by_request (Ok request) =
         let after = node_stepped statements to.0 (inputs.Request request) (at_rest world) in
         let there = node_begun statements (at_rest world) to.0 (inputs.Request request) (λ host at. tt) was in
-        either (RequestsWereBegun statements) (is_up name.sender.0 after) (with_reply_packet name to after.outputs.say after) (without_message name after)
+        cond_either (RequestsWereBegun statements) (is_up name.sender.0 after) (with_reply_packet name to after.outputs.say after) (without_message name after)
         (by_say after.outputs.say after there) there
     by_request (Err fault) = was
 delivered_kept statements name (Some (Reply from bytes)) world was = by_reply (say_in bytes)
@@ -278,7 +277,7 @@ delivered_kept statements name (Some (Reply from bytes)) world was = by_reply (s
 told_kept : (statements : List Statement) (name : MessageName) (world : World) → RequestsWereBegun statements world
     → RequestsWereBegun statements (loss_told statements name world)
 told_kept statements name world was =
-    either (RequestsWereBegun statements) (is_up name.sender.0 world) (node_stepped statements name.sender.0 (inputs.Lost name.number) world) world
+    cond_either (RequestsWereBegun statements) (is_up name.sender.0 world) (node_stepped statements name.sender.0 (inputs.Lost name.number) world) world
     (node_begun statements world name.sender.0 (inputs.Lost name.number) (λ host at. tt) was) was
 
 lost_kept : (statements : List Statement) (name : MessageName) (world : World) → RequestsWereBegun statements world
@@ -290,7 +289,7 @@ lost_kept statements name world was =
     by_packet : (o : Option Packet) → RequestsWereBegun statements (loss_used name o (at_rest world))
     by_packet None = was
     by_packet (Some packet) =
-        either (RequestsWereBegun statements) (are_ends_up name packet (at_rest world)) (record (at_rest world) { losses = world.losses - 1 })
+        cond_either (RequestsWereBegun statements) (are_ends_up name packet (at_rest world)) (record (at_rest world) { losses = world.losses - 1 })
         (at_rest world) was was
 
 -- ---- the other events
@@ -324,7 +323,7 @@ handed_kept statements world after n host log hosts_so guests_so was =
     (λ q other apart there.
     subst (λ (guests : tree.FinMap nat_cmp SessionProgress). HasOnlyBegun statements guests q other) (sym guests_so)
     (was q other
-    (sym (got_other world.hosts n (revived_host host) q apart) ∙ ap (λ (hosts : tree.FinMap nat_cmp Host). tree.get hosts q) (sym hosts_so) ∙ there))))
+    (sym (get-insert_other world.hosts n (revived_host host) q apart) ∙ ap (λ (hosts : tree.FinMap nat_cmp Host). tree.get hosts q) (sym hosts_so) ∙ there))))
 
 -- its join stands at the log's end
 abbrev joined_again : List Statement → ℕ → World → World
@@ -345,7 +344,7 @@ back_by statements world n None at was =
 back_by statements world n (Some host) at was =
     let after = seated_again statements n world (Some host) in
     subst (λ (o : Option Host). RequestsWereBegun statements (host_stepped statements n (inputs.Back after.log) o after))
-    (sym (got_own world.hosts n (revived_host host)))
+    (sym (get-insert_same world.hosts n (revived_host host)))
     (handed_kept statements world after n host after.log refl refl was)
 
 back_kept : (statements : List Statement) (world : World) (n : ℕ) → RequestsWereBegun statements world

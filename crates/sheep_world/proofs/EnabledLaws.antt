@@ -5,7 +5,9 @@ use Rattle.std.specs.FinMap as tree
 use native.Mathlib.Omega.{arith}
 use Rattle.std.proofs.lemmas.Bool.{eqb-true, and_parts}
 use Rattle.std.proofs.lemmas.List.Elements.{All-nil, All-cons, All-append, All-filter, All-contains, Contains-append_left, Contains-append_right, filter_passes}
-use Rattle.gateway.proofs.TryLaws.{found-passes}
+use Rattle.proof_tools.proofs.Booleans.{has_value}
+use Rattle.proof_tools.proofs.Lists.{Contains-first, Contains-cons, Contains-filter, find-contains, Contains-map, Contains-flat_map}
+use Rattle.proof_tools.proofs.FiniteMaps.{entries-contain, keys-contain}
 use Rattle.object_id.specs.declared.node.NodeId.{NodeId}
 use Rattle.cluster_script.specs.declared.statement.Statement.{Statement}
 use Rattle.cluster_script.specs.declared.statement.Statement.TheVariants as lines
@@ -19,8 +21,7 @@ use Rattle.sheep_world.specs.World.{Packet, Request, Reply, Host, World, host_at
 use Rattle.sheep_world.specs.Conditions.{may_ask, may_guest, may_deliver, may_go, is_request_packet, may_lose_request, may_lose_reply, fails, joins, reweights, is_next_control, has_end_in_wire}
 use Rattle.sheep_world.specs.Step.{EventOutcome, step}
 use Rattle.sheep_world.specs.Enabled.{is_enabled, guest_events, loss_of, message_events, node_events, control_event, looked_at, enabled_events}
-use Rattle.sheep_world.proofs.ListTools.{has-here, has-later, has-map, has-flat_map, has-filter, has-found}
-use Rattle.sheep_world.proofs.NameTools.{same_name, entries-got, keys-got}
+use Rattle.sheep_world.proofs.NameTools.{same_name}
 
 made_if : (b : Bool) (made : EventOutcome) → is_some (cond b (Some made) None) ≡ b
 made_if true made = refl
@@ -43,10 +44,6 @@ is_some-step statements world (events.Join node) = made_if _ _
 is_some-step statements world (events.Reweight node) = made_if _ _
 is_some-step statements world (events.Back node) = made_if _ _
 is_some-step statements world events.Phase = made_if _ _
-
-pub some_of : {X : Type 0} (o : Option X) → is_some o ≡ true → (x : X) × (o ≡ Some x)
-some_of None is = absurd (cc (is))
-some_of (Some x) is = (x, refl)
 
 -- what is looked up, where it passes a test
 pub looked_up : {X : Type 0} (test : X → Bool) (o : Option X) → option_map_or test o false ≡ true → (x : X) × (o ≡ Some x) × (test x ≡ true)
@@ -89,28 +86,28 @@ module _ (statements : List Statement) (world : World) where
   guest_there number may =
       let (session, found, asks) = looked_up (λ session. may_ask statements session world) (session_numbered statements number) may in
       let same : session.number ≡ number
-      = eqb-true session.number number (found-passes (has_session_number number) (sessions_of statements) session found) in
+      = eqb-true session.number number (find-contains (has_session_number number) (sessions_of statements) session found).1 in
       subst (λ (k : ℕ). Contains (guest_events statements) (events.Guest k)) same
-      (has-map (λ (session : ScriptSession). events.Guest session.number) (sessions_of statements) session
-      (has-found (has_session_number number) (sessions_of statements) session found))
+      (Contains-map (λ (session : ScriptSession). events.Guest session.number) (sessions_of statements) session
+      (find-contains (has_session_number number) (sessions_of statements) session found).0)
 
   -- an event of a message in the wire
   message_there : (name : MessageName) (packet : Packet) (event : Event) → message_at name world ≡ Some packet
       → Contains (message_events (name, packet)) event → Contains (of_messages world) event
   message_there name packet event is h =
-      has-flat_map message_events (tree.entries world.wire) (name, packet) event (entries-got same_name world.wire name packet is) h
+      Contains-flat_map message_events (tree.entries world.wire) (name, packet) event (entries-contain same_name world.wire name packet is) h
 
   deliver_there : (name : MessageName) → may_deliver name world ≡ true → Contains (of_messages world) (events.Deliver name.sender name.number)
   deliver_there name may =
       let (packet, is, up) = looked_up (λ packet. is_up (receiver_of name packet).0 world) (message_at name world) may in
       message_there name packet (events.Deliver name.sender name.number) is
-      (has-here (events.Deliver name.sender name.number) (events.Deliver name.sender name.number) (loss_of name packet ∷ []) refl)
+      (Contains-first (events.Deliver name.sender name.number) (events.Deliver name.sender name.number) (loss_of name packet ∷ []) refl)
 
   request_loss : (name : MessageName) (packet : Packet) → is_request_packet packet ≡ true
       → Contains (message_events (name, packet)) (events.LoseRequest name.sender name.number)
   request_loss name (Request to bytes) is =
       let loss = events.LoseRequest name.sender name.number in
-      has-later (events.Deliver name.sender name.number) loss (loss ∷ []) (has-here loss loss [] refl)
+      Contains-cons (events.Deliver name.sender name.number) (loss ∷ []) loss (Contains-first loss loss [] refl)
   request_loss name (Reply from bytes) is = absurd (cc (is))
 
   reply_loss : (name : MessageName) (packet : Packet) → not (is_request_packet packet) ≡ true
@@ -118,7 +115,7 @@ module _ (statements : List Statement) (world : World) where
   reply_loss name (Request to bytes) is = absurd (cc (is))
   reply_loss name (Reply from bytes) is =
       let loss = events.LoseReply name.sender name.number in
-      has-later (events.Deliver name.sender name.number) loss (loss ∷ []) (has-here loss loss [] refl)
+      Contains-cons (events.Deliver name.sender name.number) (loss ∷ []) loss (Contains-first loss loss [] refl)
 
   lose_request_there : (name : MessageName) → may_lose_request name world ≡ true
       → Contains (of_messages world) (events.LoseRequest name.sender name.number)
@@ -138,7 +135,7 @@ module _ (statements : List Statement) (world : World) where
   node_there : (node : ℕ) (host : Host) (event : Event) → host_at node world ≡ Some host → Contains (node_events node) event
       → Contains (of_nodes world) event
   node_there node host event is h =
-      has-flat_map node_events (tree.keys world.hosts) node event (keys-got tree.nat_cmp-IsAntisymmetric world.hosts node host is) h
+      Contains-flat_map node_events (tree.keys world.hosts) node event (keys-contain tree.nat_cmp-IsAntisymmetric world.hosts node host is) h
 
   up_there : (passes : Node → Bool) (node : ℕ) (event : Event) → is_up_with passes node world ≡ true → Contains (node_events node) event
       → Contains (of_nodes world) event
@@ -160,22 +157,22 @@ module _ (statements : List Statement) (world : World) where
 
 fail_makes : (node : NodeId) (s : Statement) → fails node.0 s ≡ true → Contains (control_event s) (events.Lost node)
 fail_makes node (lines.Fail number) is =
-    has-here (events.Lost (record { 0 = number })) (events.Lost node) [] (ap (λ k. events.Lost (record { 0 = k })) (eqb-true number node.0 is))
+    Contains-first (events.Lost (record { 0 = number })) (events.Lost node) [] (ap (λ k. events.Lost (record { 0 = k })) (eqb-true number node.0 is))
 fail_makes node s is = absurd (cc (is))
 
 join_makes : (node : NodeId) (s : Statement) → joins node.0 s ≡ true → Contains (control_event s) (events.Join node)
 join_makes node (lines.Join number) is =
-    has-here (events.Join (record { 0 = number })) (events.Join node) [] (ap (λ k. events.Join (record { 0 = k })) (eqb-true number node.0 is))
+    Contains-first (events.Join (record { 0 = number })) (events.Join node) [] (ap (λ k. events.Join (record { 0 = k })) (eqb-true number node.0 is))
 join_makes node s is = absurd (cc (is))
 
 reweight_makes : (node : NodeId) (s : Statement) → reweights node.0 s ≡ true → Contains (control_event s) (events.Reweight node)
 reweight_makes node (lines.Reweight number vnodes) is =
-    has-here (events.Reweight (record { 0 = number })) (events.Reweight node) [] (ap (λ k. events.Reweight (record { 0 = k })) (eqb-true number node.0 is))
+    Contains-first (events.Reweight (record { 0 = number })) (events.Reweight node) [] (ap (λ k. events.Reweight (record { 0 = k })) (eqb-true number node.0 is))
 reweight_makes node s is = absurd (cc (is))
 
 back_makes : (node : NodeId) (s : Statement) → brings_back node.0 s ≡ true → Contains (control_event s) (events.Back node)
 back_makes node (lines.Back number) is =
-    has-here (events.Back (record { 0 = number })) (events.Back node) [] (ap (λ k. events.Back (record { 0 = k })) (eqb-true number node.0 is))
+    Contains-first (events.Back (record { 0 = number })) (events.Back node) [] (ap (λ k. events.Back (record { 0 = k })) (eqb-true number node.0 is))
 back_makes node s is = absurd (cc (is))
 
 -- the five events of a node, in their places
@@ -241,7 +238,7 @@ pub enabled_events-has : (statements : List Statement) (world : World) (event : 
 unfolding enabled_events
 enabled_events-has statements world event made is other =
     let may : is_enabled statements world event ≡ true = sym (is_some-step statements world event) ∙ ap is_some is in
-    has-filter (is_enabled statements world) (looked_at statements world) event (there statements world event may other) may
+    Contains-filter (is_enabled statements world) (looked_at statements world) event (there statements world event may other) may
 
 -- and what it has makes something
 pub enabled_events-makes : (statements : List Statement) (world : World) (event : Event) → Contains (enabled_events statements world) event
@@ -251,7 +248,7 @@ enabled_events-makes statements world event h =
     let may : is_enabled statements world event ≡ true
     = All-contains (λ (event : Event). is_enabled statements world event ≡ true) (enabled_events statements world) event
     (filter_passes (is_enabled statements world) (looked_at statements world)) h in
-    some_of (step statements event world) (is_some-step statements world event ∙ may)
+    has_value (step statements event world) (is_some-step statements world event ∙ may)
 
 -- Phase isn't looked at
 is_phase : Event → Bool

@@ -6,9 +6,11 @@ use Rattle.std.specs.Cmp.{nat_cmp_total}
 use Rattle.std.specs.List.{list_any, enumerate_from}
 use Rattle.std.specs.FinMap as tree
 use Rattle.std.specs.FinMap.Entries.{by_order}
-use Rattle.std.proofs.lemmas.Bool.{eqb-true, eq-eqb, ne_eqb, or_left, or_right}
+use Rattle.std.proofs.lemmas.Bool.{eqb-true, eq-eqb, ne_eqb, or_left, or_right, cases_eq, cases_lt}
 use Rattle.std.proofs.lemmas.Option.{same_Some}
 use Rattle.std.proofs.lemmas.List.Elements.{Contains-append_left, Contains-append_right, Contains-append_cases}
+use Rattle.proof_tools.proofs.FiniteMaps.{get-insert_same, get-insert_other}
+use Rattle.proof_tools.proofs.Lists.{Contains-first, Contains-cons, Contains-cons_cases, Contains-nil}
 use Rattle.object_id.specs.declared.node.Epoch.{Epoch}
 use Rattle.object_id.specs.declared.node.NodeId.{NodeId}
 use Rattle.peer_proto.specs.declared.ask.PeerReq.{PeerReq}
@@ -23,9 +25,7 @@ use Rattle.gateway.specs.Step.{next_attempt}
 use Rattle.recovery.specs.State.{Recovery}
 use Rattle.sheep_node.specs.State.{Node}
 use Rattle.sheep_world.specs.WireMatch.{unanswered_in}
-use Rattle.sheep_world.specs.OneWork.{NumbersAreOfOneWork, NumbersAreBelow}
-use Rattle.sheep_world.proofs.NumberTools.{same_or_not, below_or_not, got_own, got_other}
-use Rattle.sheep_world.proofs.ListTools.{has-here, has-later, has-none, has_cases}
+use Rattle.sheep_node.specs.OneWork.{NumbersAreOfOneWork, NumbersAreBelow}
 use Rattle.sheep_world.proofs.InFlightSends.{Sends}
 
 abbrev pub Works : Type 0
@@ -138,7 +138,7 @@ module _ (me : NodeId) (epoch : Epoch) (work : ObjWork) where
   fresh_awaited : (first : ℕ) (targets : List (ℕ × NodeId)) (send : NodeId × PeerReq)
       → Contains (map (send_of me epoch work) (map (message_for work) (enumerate_from first targets))) send
       → list_any (is_awaited_message send.1.number) (map (message_for work) (enumerate_from first targets)) ≡ true
-  fresh_awaited first [] send there = has-none send there
+  fresh_awaited first [] send there = absurd (Contains-nil send there)
   fresh_awaited first (target ∷ targets) send there = ⊎_elim
       (λ (same : send_of me epoch work (message_for work (first, target)) ≡ send).
       or_left (is_awaited_message send.1.number (message_for work (first, target)))
@@ -148,8 +148,7 @@ module _ (me : NodeId) (epoch : Epoch) (work : ObjWork) where
       or_right (is_awaited_message send.1.number (message_for work (first, target)))
       (list_any (is_awaited_message send.1.number) (map (message_for work) (enumerate_from (first + 1) targets)))
       (fresh_awaited (first + 1) targets send later))
-      (has_cases (send_of me epoch work (message_for work (first, target))) send
-      (map (send_of me epoch work) (map (message_for work) (enumerate_from (first + 1) targets))) there)
+      (Contains-cons_cases (send_of me epoch work (message_for work (first, target))) (map (send_of me epoch work) (map (message_for work) (enumerate_from (first + 1) targets))) send there)
 
   fresh_apart : (first : ℕ) (targets : List (ℕ × NodeId)) (number : ℕ) → number < first
       → list_any (is_awaited_message number) (map (message_for work) (enumerate_from first targets)) ≡ false
@@ -178,11 +177,11 @@ module _ (me : NodeId) (epoch : Epoch) (work : ObjWork) where
           omega (arith, later)
 
   fresh_own : (messages : List Message) (send : NodeId × PeerReq) → Contains (map (send_of me epoch work) messages) send → send.1.from ≡ me
-  fresh_own [] send there = has-none send there
+  fresh_own [] send there = absurd (Contains-nil send there)
   fresh_own (message ∷ messages) send there = ⊎_elim
       (λ (same : send_of me epoch work message ≡ send). ap (λ (s : NodeId × PeerReq). s.1.from) (sym same))
       (λ (later : Contains (map (send_of me epoch work) messages) send). fresh_own messages send later)
-      (has_cases (send_of me epoch work message) send (map (send_of me epoch work) messages) there)
+      (Contains-cons_cases (send_of me epoch work message) (map (send_of me epoch work) messages) send there)
 
   -- the unanswered ones are some of all
   unanswered_all : (messages : List Message) (send : NodeId × PeerReq)
@@ -199,12 +198,11 @@ module _ (me : NodeId) (epoch : Epoch) (work : ObjWork) where
           → Contains (map (send_of me epoch work) (message ∷ messages)) send
       by_status true rest there = ⊎_elim
           (λ (same : send_of me epoch work message ≡ send).
-          has-here (send_of me epoch work message) send (map (send_of me epoch work) messages) same)
+          Contains-first (send_of me epoch work message) send (map (send_of me epoch work) messages) same)
           (λ (later : Contains (map (send_of me epoch work) (filter (λ (message : Message). is_unanswered message.status) messages)) send).
-          has-later (send_of me epoch work message) send (map (send_of me epoch work) messages) (rest later))
-          (has_cases (send_of me epoch work message) send
-          (map (send_of me epoch work) (filter (λ (message : Message). is_unanswered message.status) messages)) there)
-      by_status false rest there = has-later (send_of me epoch work message) send (map (send_of me epoch work) messages) (rest there)
+          Contains-cons (send_of me epoch work message) (map (send_of me epoch work) messages) send (rest later))
+          (Contains-cons_cases (send_of me epoch work message) (map (send_of me epoch work) (filter (λ (message : Message). is_unanswered message.status) messages)) send there)
+      by_status false rest there = Contains-cons (send_of me epoch work message) (map (send_of me epoch work) messages) send (rest there)
 
 -- ---- a step that sends
 
@@ -253,30 +251,30 @@ module _ (old : Node) (me own_me : NodeId) (m : Works) (count : ℕ) (recovery :
         absurd (cc (new, none))
 
     own_now : (q : ℕ) (work : Work) → q ≡ req → tree.get (tree.insert m req now) q ≡ Some work → now ≡ work
-    own_now q work own got = same_Some now work (sym (ap (tree.get (tree.insert m req now)) own ∙ got_own m req now) ∙ got)
+    own_now q work own got = same_Some now work (sym (ap (tree.get (tree.insert m req now)) own ∙ get-insert_same m req now) ∙ got)
 
     once_now : NumbersAreOfOneWork (tree.insert m req now)
     once_now number one other work later got_one got_two awaits_one awaits_two = ⊎_elim
         (λ (own : one ≡ req). ⊎_elim
         (λ (own_too : other ≡ req). own ∙ sym own_too)
-        (λ (apart : other ≢ req). not_new number other later (sym (got_other m req now other apart) ∙ got_two) awaits_two
+        (λ (apart : other ≢ req). not_new number other later (sym (get-insert_other m req now other apart) ∙ got_two) awaits_two
         (ap (is_awaited_in number) (own_now one work own got_one) ∙ awaits_one))
-        (same_or_not other req))
+        (cases_eq other req))
         (λ (apart : one ≢ req). ⊎_elim
-        (λ (own_too : other ≡ req). not_new number one work (sym (got_other m req now one apart) ∙ got_one) awaits_one
+        (λ (own_too : other ≡ req). not_new number one work (sym (get-insert_other m req now one apart) ∙ got_one) awaits_one
         (ap (is_awaited_in number) (own_now other later own_too got_two) ∙ awaits_two))
-        (λ (apart_too : other ≢ req). going.once number one other work later (sym (got_other m req now one apart) ∙ got_one)
-        (sym (got_other m req now other apart_too) ∙ got_two) awaits_one awaits_two)
-        (same_or_not other req))
-        (same_or_not one req)
+        (λ (apart_too : other ≢ req). going.once number one other work later (sym (get-insert_other m req now one apart) ∙ got_one)
+        (sym (get-insert_other m req now other apart_too) ∙ got_two) awaits_one awaits_two)
+        (cases_eq other req))
+        (cases_eq one req)
 
     given_now : (last : ℕ) → count ≤ last → ((number : ℕ) → is_awaited_in number now ≡ true → number < last) → NumbersAreBelow last (tree.insert m req now)
     given_now last more below number q work got awaited = ⊎_elim
         (λ (own : q ≡ req). below number (ap (is_awaited_in number) (own_now q work own got) ∙ awaited))
         (λ (apart : q ≢ req).
-        let before : number < count = going.given number q work (sym (got_other m req now q apart) ∙ got) awaited in
+        let before : number < count = going.given number q work (sym (get-insert_other m req now q apart) ∙ got) awaited in
         omega (arith, before, more))
-        (same_or_not q req)
+        (cases_eq q req)
 
     news_now : (number q : ℕ) (work : Work) → tree.get (tree.insert m req now) q ≡ Some work → is_awaited_in number work ≡ true
         → WaitedBefore number old.gateway.works ⊎ (old.sends ≤ number)
@@ -287,9 +285,9 @@ module _ (old : Node) (me own_me : NodeId) (m : Works) (count : ℕ) (recovery :
         let new : is_awaited_in number now ≡ true = ap (is_awaited_in number) (own_now q work own got) ∙ awaited in
         absurd (cc (new, none)))
         (λ (more : count ≤ number). let first : old.sends ≤ count = going.counted in inr (omega (arith, first, more)))
-        (below_or_not number count))
-        (λ (apart : q ≢ req). going.news number q work (sym (got_other m req now q apart) ∙ got) awaited)
-        (same_or_not q req)
+        (cases_lt number count))
+        (λ (apart : q ≢ req). going.news number q work (sym (get-insert_other m req now q apart) ∙ got) awaited)
+        (cases_eq q req)
 
   -- a work's attempt begins
   pub going_opened : (work : Work) (epoch : Epoch) (targets : List NodeId)
@@ -353,7 +351,7 @@ module _ (old : Node) (me own_me : NodeId) (m : Works) (count : ℕ) (recovery :
         counted = going.counted;
         own = going.own;
         asked = λ send there. ⊎_elim
-            (λ (fresh : Contains (unanswered_in me now now.stage) send). has-none send fresh)
+            (λ (fresh : Contains (unanswered_in me now now.stage) send). absurd (Contains-nil send fresh))
             (λ (other : Contains (asked_in me m) send). going.asked send other)
             (asked_after me m req now send there);
         waits_on = λ number waits. found_still (is_awaited_in number) m req (idle_at number) now (going.waits_on number waits);

@@ -5,9 +5,12 @@ use Rattle.std.specs.Option.{option_map_or}
 use Rattle.std.specs.Ordering.{nat_cmp, eq_by_cmp}
 use Rattle.std.specs.Cmp.{nat_cmp_total, unsigned_tied}
 use Rattle.std.specs.FinMap as tree
-use Rattle.std.proofs.lemmas.Bool.{eqb-false, ne_eqb, eq-eqb, and_parts}
+use Rattle.std.proofs.lemmas.Bool.{eqb-false, ne_eqb, eq-eqb, and_parts, or_parts, not-true}
 use Rattle.std.proofs.lemmas.Option.{cond_some}
 use Rattle.std.proofs.lemmas.List.Elements.{All-nil}
+use Rattle.proof_tools.proofs.Booleans.{cond_either}
+use Rattle.proof_tools.proofs.Lists.{list_any-none, Contains-first}
+use Rattle.proof_tools.proofs.FiniteMaps.{insert-insert, entries-contain, get-insert_cases}
 use Rattle.object_id.specs.declared.node.NodeId.{NodeId}
 use Rattle.object_id.specs.declared.entry.Entry.{Entry}
 use Rattle.object_id.specs.declared.entry.Member.{Member}
@@ -33,38 +36,19 @@ use Rattle.sheep_world.specs.Effects.{with_entries}
 use Rattle.sheep_world.specs.MembershipChanges.{control_taken, host_changed, join_of, last_weight, revived_host, came_back}
 use Rattle.sheep_world.specs.Step.{EventOutcome, step, only}
 use Rattle.sheep_world.specs.WireMatch.{asked_by, asked_by_gateway, own_name, IsInFlight, AllAwaitedIsInFlight, IsNumberGiven, WireMatchesHosts, WireMatchesNodes}
-use Rattle.sheep_world.proofs.ListTools.{has-none, has_cases, has-here}
-use Rattle.sheep_world.proofs.NameTools.{same_name, entries-got}
-use Rattle.sheep_world.proofs.InFlightEvents.{got_insert, asked_by-opening}
-
-or_parts : (a b : Bool) → (a || b) ≡ false → (a ≡ false) × (b ≡ false)
-or_parts true b is = absurd (cc (is))
-or_parts false b is = (refl, is)
-
--- where no element passes a test, none does
-none_passes : {X : Type 0} (test : X → Bool) (xs : List X) (x : X) → list_any test xs ≡ false → Contains xs x → test x ≡ false
-none_passes test [] x none there = has-none x there
-none_passes {X} test (y ∷ xs) x none there =
-    let (first, later) = or_parts (test y) (list_any test xs) none in
-    ⊎_elim
-    (λ (same : y ≡ x). ap test (sym same) ∙ first)
-    (λ (rest : Contains xs x). none_passes test xs x later rest)
-    (has_cases y x xs there)
-
-not_so : (b : Bool) → not b ≡ true → b ≡ false
-not_so true is = absurd (cc (is))
-not_so false is = refl
+use Rattle.sheep_world.proofs.NameTools.{same_name}
+use Rattle.sheep_world.proofs.InFlightEvents.{asked_by-opening}
 
 -- no message in the wire is a request of a node that is no end there, or the reply to one
 no_sender : (world : World) (n : ℕ) → not (has_end_in_wire n world) ≡ true → (name : MessageName) (packet : Packet)
     → tree.get world.wire name ≡ Some packet → name.sender.0 ≢ n
 no_sender world n none name packet got =
     let no_end : has_end n name packet ≡ false
-    = none_passes (λ (found : MessageName × Packet). has_end n found.0 found.1) (tree.entries world.wire) (name, packet)
-    (not_so (has_end_in_wire n world) none) (entries-got same_name world.wire name packet got) in
+    = list_any-none (λ (found : MessageName × Packet). has_end n found.0 found.1) (tree.entries world.wire) (name, packet)
+    (not-true (has_end_in_wire n world) none) (entries-contain same_name world.wire name packet got) in
     eqb-false name.sender.0 n
-    (none_passes (λ (other : NodeId). other.0 == n) (name.sender ∷ asked_node packet ∷ []) name.sender no_end
-    (has-here name.sender name.sender (asked_node packet ∷ []) refl))
+    (list_any-none (λ (other : NodeId). other.0 == n) (name.sender ∷ asked_node packet ∷ []) name.sender no_end
+    (Contains-first name.sender name.sender (asked_node packet ∷ []) refl))
 
 -- the host of a node with nothing in the wire, that waits for nothing
 module _ (hosts : tree.FinMap nat_cmp Host) (wire : tree.FinMap name_cmp Packet) (n : ℕ) (host : Host) where
@@ -81,36 +65,19 @@ module _ (hosts : tree.FinMap nat_cmp Host) (wire : tree.FinMap name_cmp Packet)
     numbered = λ q at got. ⊎_elim
         (λ (own : (q ≡ n) × (host ≡ at)). ap (λ (host : Host). host.node.me.0) (sym own.1) ∙ me ∙ sym own.0)
         (λ (other : (q ≢ n) × (tree.get hosts q ≡ Some at)). wired.numbered q at other.1)
-        (got_insert hosts n host q at got);
+        (get-insert_cases hosts n host q at got);
     on_the_way = λ q at got up. ⊎_elim
         (λ (own : (q ≡ n) × (host ≡ at)). subst
         (λ (host : Host). AllAwaitedIsInFlight host.node wire) own.1
         (subst (λ (sends : List (NodeId × PeerReq)). All (λ (send : NodeId × PeerReq). IsInFlight host.node send (tree.get wire (own_name host.node send))) sends)
         (sym idle) (All-nil (λ (send : NodeId × PeerReq). IsInFlight host.node send (tree.get wire (own_name host.node send))))))
         (λ (other : (q ≢ n) × (tree.get hosts q ≡ Some at)). wired.on_the_way q at other.1 up)
-        (got_insert hosts n host q at got);
+        (get-insert_cases hosts n host q at got);
     awaited = λ name packet at got here up. ⊎_elim
         (λ (own : (name.sender.0 ≡ n) × (host ≡ at)). absurd (absent name packet got own.0))
         (λ (other : (name.sender.0 ≢ n) × (tree.get hosts name.sender.0 ≡ Some at)). wired.awaited name packet at got other.1 up)
-        (got_insert hosts n host name.sender.0 at here);
+        (get-insert_cases hosts n host name.sender.0 at here);
   }
-
--- of two values at one key the later one stays
-insert_twice : {X : Type 0} (m : tree.FinMap nat_cmp X) (key : ℕ) (one other : X)
-    → tree.insert (tree.insert m key one) key other ≡ tree.insert m key other
-insert_twice m key one other = tree.same_map nat_cmp_total tree.nat_cmp-IsAntisymmetric
-    (tree.insert (tree.insert m key one) key other) (tree.insert m key other)
-    (λ (q : ℕ). tree.get-insert nat_cmp_total (tree.insert m key one) key other q
-    ∙ by_tie (eq_by_cmp nat_cmp q key) (tree.get m q) (tree.get (tree.insert m key one) q) one other (tree.get-insert nat_cmp_total m key one q)
-    ∙ sym (tree.get-insert nat_cmp_total m key other q))
-  where
-    by_tie : {X : Type 0} (b : Bool) (old mid : Option X) (one other : X) → mid ≡ cond b (Some one) old → cond b (Some other) mid ≡ cond b (Some other) old
-    by_tie true old mid one other is = refl
-    by_tie false old mid one other is = is
-
-either : {X : Type 0} (P : X → Type 0) (b : Bool) (x y : X) → P x → P y → P (cond b x y)
-either P true x y one other = one
-either P false x y one other = other
 
 -- what waits for nothing: a new gateway, and a recovery without messages
 record Renewed (me : NodeId) (tries : ℕ) (node : Node) : Type 0 where
@@ -131,7 +98,7 @@ begun_none : (epoch : ℕ) (members : List NodeId) (state : recoveries.RecoveryS
 unfolding recovery_from_epoch
 begun_none epoch members state none =
     let start = at_start epoch members state in
-    either NoMessages (recoveries.is_listed start.recovery) (record start { shown = shown_with_pending (to_recover start) start.shown }) start
+    cond_either NoMessages (recoveries.is_listed start.recovery) (record start { shown = shown_with_pending (to_recover start) start.shown }) start
     (refl, none) (refl, none)
 
 back_renewed : (entries : List Entry) (node : Node) → Renewed node.me node.gateway.tries (on_back entries node)
@@ -149,7 +116,7 @@ record IsRenewal (me : NodeId) (tries : ℕ) (so_far : StepState) : Type 0 where
 put_renewed : (me : NodeId) (tries : ℕ) (so_far : StepState) → IsRenewal me tries so_far → IsRenewal me tries (recovered_put so_far)
 unfolding recovered_put
 put_renewed me tries so_far new =
-    either (IsRenewal me tries) (is_due so_far.node) (with_recovered so_far) so_far
+    cond_either (IsRenewal me tries) (is_due so_far.node) (with_recovered so_far) so_far
     (record {
       node_so = record {
         me_so = new.node_so.me_so;
@@ -182,7 +149,7 @@ wired_handed statements hosts world n host o there is absent me wired =
     subst (λ (o : Option Host). WireMatchesNodes (host_stepped statements n (inputs.Back world.log) o world)) (sym there)
     (subst (λ (sends : List (NodeId × PeerReq)). WireMatchesHosts (tree.insert world.hosts n last) (fold wire_with_request world.wire sends)) (sym new.silent)
     (subst (λ (s : tree.FinMap nat_cmp Host). WireMatchesHosts (tree.insert s n last) world.wire) (sym is)
-    (subst (λ (s : tree.FinMap nat_cmp Host). WireMatchesHosts s world.wire) (sym (insert_twice hosts n (revived_host host) last)) at_last)))
+    (subst (λ (s : tree.FinMap nat_cmp Host). WireMatchesHosts s world.wire) (sym (insert-insert hosts n (revived_host host) last)) at_last)))
 
 wired_back_of : (statements : List Statement) (world : World) (n : ℕ) (o : Option Host) → host_at n world ≡ o
     → option_map_or (λ (host : Host). host.is_lost) o false ≡ true → not (has_end_in_wire n world) ≡ true → WireMatchesNodes world

@@ -8,6 +8,7 @@ use Rattle.std.specs.FinMap as tree
 use Rattle.std.proofs.lemmas.Bool.{eqb-true, eqb-false, ne_eqb, and_parts}
 use Rattle.std.proofs.lemmas.Option.{same_Some, cond_some}
 use Rattle.std.proofs.lemmas.List.Elements.{All-nil, All-weaker}
+use Rattle.proof_tools.proofs.FiniteMaps.{get-insert_cases}
 use Rattle.object_id.specs.declared.node.NodeId.{NodeId}
 use Rattle.cluster_script.specs.declared.statement.Statement.{Statement}
 use Rattle.peer_proto.specs.declared.ask.PeerReq.{PeerReq}
@@ -25,17 +26,6 @@ use Rattle.sheep_world.specs.MembershipChanges.{lost_host, control_taken, host_c
 use Rattle.sheep_world.specs.Step.{EventOutcome, step, only, loss_made}
 use Rattle.sheep_world.specs.WireMatch.{asked_by, unanswered_in, own_name, IsInFlight, AllAwaitedIsInFlight, IsNumberGiven, WireMatchesHosts, WireMatchesNodes}
 use Rattle.sheep_world.proofs.NameTools.{same_name}
-
--- what a map has after one insertion: the new value, or what it had at another key
-pub got_insert : {X : Type 0} (m : tree.FinMap nat_cmp X) (key : ℕ) (value : X) (q : ℕ) (x : X) → tree.get (tree.insert m key value) q ≡ Some x
-    → ((q ≡ key) × (value ≡ x)) ⊎ ((q ≢ key) × (tree.get m q ≡ Some x))
-got_insert {X} m key value q x is =
-    by_tie (q == key) refl (sym (ap (λ b. cond b (Some value) (tree.get m q)) (unsigned_tied q key)) ∙ sym (tree.get-insert nat_cmp_total m key value q) ∙ is)
-  where
-    by_tie : (b : Bool) → (q == key) ≡ b → cond b (Some value) (tree.get m q) ≡ Some x
-        → ((q ≡ key) × (value ≡ x)) ⊎ ((q ≢ key) × (tree.get m q ≡ Some x))
-    by_tie true tie got = inl (eqb-true q key tie, same_Some value x got)
-    by_tie false tie got = inr (eqb-false q key tie, got)
 
 -- what a map has at a key that stays
 retained : {X : Type 0} (m : tree.FinMap name_cmp X) (stays : MessageName → Bool) (q : MessageName)
@@ -85,18 +75,18 @@ module _ (hosts : tree.FinMap nat_cmp Host) (wire : tree.FinMap name_cmp Packet)
     numbered = λ q host got. ⊎_elim
         (λ (own : (q ≡ n) × (initial_host node ≡ host)). ap (λ (host : Host). host.node.me.0) (sym own.1) ∙ me ∙ sym own.0)
         (λ (other : (q ≢ n) × (tree.get hosts q ≡ Some host)). wired.numbered q host other.1)
-        (got_insert hosts n (initial_host node) q host got);
+        (get-insert_cases hosts n (initial_host node) q host got);
     on_the_way = λ q host got up. ⊎_elim
         (λ (own : (q ≡ n) × (initial_host node ≡ host)). subst
         (λ (host : Host). AllAwaitedIsInFlight host.node wire) own.1
         (subst (λ (sends : List (NodeId × PeerReq)). All (λ (send : NodeId × PeerReq). IsInFlight node send (tree.get wire (own_name node send))) sends)
         (sym idle) (All-nil (λ (send : NodeId × PeerReq). IsInFlight node send (tree.get wire (own_name node send))))))
         (λ (other : (q ≢ n) × (tree.get hosts q ≡ Some host)). wired.on_the_way q host other.1 up)
-        (got_insert hosts n (initial_host node) q host got);
+        (get-insert_cases hosts n (initial_host node) q host got);
     awaited = λ name packet host got there up. ⊎_elim
         (λ (own : (name.sender.0 ≡ n) × (initial_host node ≡ host)). given_none wired none name packet got own.0)
         (λ (other : (name.sender.0 ≢ n) × (tree.get hosts name.sender.0 ≡ Some host)). wired.awaited name packet host got other.1 up)
-        (got_insert hosts n (initial_host node) name.sender.0 host there);
+        (get-insert_cases hosts n (initial_host node) name.sender.0 host there);
   }
 
 pub none_there : {A : Type 0} (xs : List A) → length xs ≡ 0 → xs ≡ []
@@ -161,16 +151,16 @@ module _ (hosts : tree.FinMap nat_cmp Host) (wire : tree.FinMap name_cmp Packet)
     numbered = λ q host got. ⊎_elim
         (λ (own : (q ≡ n) × (lost_host lost ≡ host)). ap (λ (host : Host). host.node.me.0) (sym own.1) ∙ wired.numbered n lost there ∙ sym own.0)
         (λ (other : (q ≢ n) × (tree.get hosts q ≡ Some host)). wired.numbered q host other.1)
-        (got_insert hosts n (lost_host lost) q host got);
+        (get-insert_cases hosts n (lost_host lost) q host got);
     on_the_way = λ q host got up. ⊎_elim
         (λ (own : (q ≡ n) × (lost_host lost ≡ host)). not_failed lost (ap is_host_up own.1 ∙ up))
         (λ (other : (q ≢ n) × (tree.get hosts q ≡ Some host)). still_on_the_way wired q host other.0 other.1 up)
-        (got_insert hosts n (lost_host lost) q host got);
+        (get-insert_cases hosts n (lost_host lost) q host got);
     awaited = λ name packet host got at up. ⊎_elim
         (λ (own : (name.sender.0 ≡ n) × (lost_host lost ≡ host)). not_failed lost (ap is_host_up own.1 ∙ up))
         (λ (other : (name.sender.0 ≢ n) × (tree.get hosts name.sender.0 ≡ Some host)).
         wired.awaited name packet host (got_before name packet got) other.1 up)
-        (got_insert hosts n (lost_host lost) name.sender.0 host at);
+        (get-insert_cases hosts n (lost_host lost) name.sender.0 host at);
   }
 
 -- what an event makes, where it may happen

@@ -5,6 +5,8 @@ use Rattle.std.specs.Ordering.{nat_cmp}
 use Rattle.std.specs.List.{list_any}
 use Rattle.std.specs.FinMap as tree
 use Rattle.std.specs.FinSet as set
+use Rattle.proof_tools.proofs.Booleans.{cond_either, has_value}
+use Rattle.proof_tools.proofs.FiniteMaps.{get-remove_same}
 use Rattle.object_id.specs.declared.cause.Cause.{Cause}
 use Rattle.object_id.specs.declared.node.NodeId.{NodeId}
 use Rattle.peer_proto.specs.declared.ask.PeerReq.{PeerReq}
@@ -30,7 +32,6 @@ use Rattle.vdi_ops.proofs.StepLemmas.{done_awaited}
 use Rattle.recovery.specs.State as recoveries
 use Rattle.recovery.specs.Fits as recovery_fits
 use Rattle.recovery.specs.Steps as recovery_steps
-use Rattle.recovery.proofs.StepLemmas.{either}
 use Rattle.sheep_node.specs.declared.input.Input.{Input}
 use Rattle.sheep_node.specs.declared.input.Input.TheVariants as inputs
 use Rattle.sheep_node.specs.State.{Course, Waiting, Driving, Commanding, Request, Node}
@@ -38,16 +39,17 @@ use Rattle.sheep_node.specs.RecoveryView.{recovery_state_of}
 use Rattle.sheep_node.specs.May.{fits_node}
 use Rattle.sheep_node.specs.StepState.{StepState, at_first, session_in, with_gateway}
 use Rattle.sheep_node.specs.Courses.{driver_went_on, disk_went_on, course_went_on}
-use Rattle.sheep_node.specs.Waiting.{queue_left_by, work_done, after_act, after_gateway_step}
+use Rattle.sheep_node.specs.RequestWorks.{queue_left}
+use Rattle.sheep_node.specs.Waiting.{work_done, after_act, after_gateway_step}
 use Rattle.sheep_node.specs.Step as steps
 use Rattle.sheep_node.specs.Step.{recovery_stepped, on_input, is_due, with_recovered, recovered_put, node_step}
-use Rattle.sheep_node.proofs.SoundSteps.{stepped_numbers, stepped_counts}
-use Rattle.sheep_world.specs.OneWork.{HasOneWorkPerRequest}
+use Rattle.sheep_node.proofs.StepChain.{ChainNeeds}
+use Rattle.sheep_node.proofs.StepResults.{step_numbers, step_counts}
+use Rattle.sheep_node.specs.OneWork.{HasOneWorkPerRequest}
 use Rattle.sheep_world.proofs.InFlightSends.{Asking}
 use Rattle.sheep_world.proofs.InFlightRecoveryAnswer.{Other, left_now, lost_asks, replied_asks}
-use Rattle.sheep_world.proofs.NumberTools.{got_removed}
-use Rattle.sheep_world.proofs.OneWorkLaws.{IsGood, IsFree, IsFreeIn, driver_stepped_good, let_begin_good, left_by_good, left_by_free, work_refused_good}
-use Rattle.sheep_world.proofs.InFlightRetryTick.{found_got, some_of, good_first, good_at_end, good_so_far_asks, good_driven, asks_after}
+use Rattle.sheep_world.proofs.OneWorkLaws.{IsGood, IsFree, IsFreeIn, driver_stepped_good, let_begin_good, left_good, left_free, work_refused_good}
+use Rattle.sheep_world.proofs.InFlightRetryTick.{found_got, good_first, good_at_end, good_so_far_asks, good_driven, asks_after}
 use Rattle.sheep_world.proofs.InFlightGuest.{command_went_on_good}
 use Rattle.sheep_world.proofs.MarkedMessages.{Marks, marks_open, marks_ended, marks_removed, marked_asks, marked_driven}
 
@@ -73,13 +75,13 @@ course_went_on_good old number req bytes (Driving driver) so_far free good =
 course_went_on_good old number req bytes (Commanding ask op) so_far free good =
     command_went_on_good old number req ask (op_on_done bytes op) so_far (done_awaited bytes op) free good
 
-work_done_good : (old : Node) (work : Option Work) (req : ℕ) (bytes : List ℕ) (request : Option Request) (so_far : StepState) → IsFreeIn req so_far
+work_done_good : (old : Node) (work : ObjWork) (req : ℕ) (bytes : List ℕ) (request : Option Request) (so_far : StepState) → IsFreeIn req so_far
     → IsGood old so_far → IsGood old (work_done work req bytes request so_far)
 work_done_good old work req bytes None so_far free good = good
 work_done_good old work req bytes (Some request) so_far free good =
-    let_begin_good old request.session (course_went_on request.session req bytes request.course (queue_left_by request.session work so_far))
-    (course_went_on_good old request.session req bytes request.course (queue_left_by request.session work so_far)
-    (left_by_free req request.session work so_far free) (left_by_good old request.session work so_far good))
+    let_begin_good old request.session (course_went_on request.session req bytes request.course (queue_left request.session work so_far))
+    (course_went_on_good old request.session req bytes request.course (queue_left request.session work so_far)
+    (left_free req request.session work so_far free) (left_good old request.session work so_far good))
 
 -- ---- what a known message comes to
 
@@ -88,7 +90,7 @@ record Settles (node : Node) (number : ℕ) (step : gateway_steps.GatewayStep) :
   marks : Marks number node.gateway.works step.gateway.works
   me_so : step.gateway.me ≡ node.gateway.me
   good : HasOneWorkPerRequest (record node { gateway = step.gateway })
-      → IsGood (record node { gateway = step.gateway }) (after_act node.gateway step.act (with_gateway step.gateway (at_first node)))
+      → IsGood (record node { gateway = step.gateway }) (after_act step.act (with_gateway step.gateway (at_first node)))
 
 module _ (node : Node) (driven : HasOneWorkPerRequest node) (number : ℕ) (status : Status) (settled : is_unanswered status ≡ false)
     (req : ℕ) (work : Work) (there : tree.get node.gateway.works req ≡ Some work) (awaited : is_awaited_in number work ≡ true) where
@@ -98,7 +100,7 @@ module _ (node : Node) (driven : HasOneWorkPerRequest node) (number : ℕ) (stat
   -- without its work the request is free
   free_without : (touched : set.FinSet nat_cmp) → IsFree req (tree.remove node.gateway.works req) node.sessions
   free_without touched = record {
-    idle = got_removed node.gateway.works req;
+    idle = get-remove_same node.gateway.works req;
     out = λ inode_queue waiting_step waits same.
         let none : tree.get node.gateway.works req ≡ None
         = ap (tree.get node.gateway.works) (sym same) ∙ driven.driven.waiting_free inode_queue waiting_step waits in
@@ -119,7 +121,7 @@ module _ (node : Node) (driven : HasOneWorkPerRequest node) (number : ℕ) (stat
           marks = marks_removed node.gateway.works number status settled req work attempt there open_so one_work over;
           me_so = refl;
           good = λ now.
-              work_refused_good after (tree.get node.gateway.works req) req cause (tree.get node.requests req) (at_first after)
+              work_refused_good after work.work req cause (tree.get node.requests req) (at_first after)
               (free_without touched) (good_first after now);
         }
 
@@ -128,14 +130,14 @@ module _ (node : Node) (driven : HasOneWorkPerRequest node) (number : ℕ) (stat
     goes_so = by_over (is_over (messages_with_status number status attempt.messages)) refl
       where
         by_done : is_over (messages_with_status number status attempt.messages) ≡ true → (bytes : List ℕ) (cause : Option Cause) (b : Bool)
-            → Settles node number (cond b (done_step (record node.gateway { touched = touched }) req bytes) (failure_step (record node.gateway { touched = touched }) req work cause))
+            → Settles node number (cond b (done_step (record node.gateway { touched = touched }) req work.work bytes) (failure_step (record node.gateway { touched = touched }) req work cause))
         by_done over bytes cause true =
             let after = record node { gateway = without_work req (record node.gateway { touched = touched }) } in
             record {
               marks = marks_removed node.gateway.works number status settled req work attempt there open_so one_work over;
               me_so = refl;
               good = λ now.
-                  work_done_good after (tree.get node.gateway.works req) req bytes (tree.get node.requests req) (at_first after)
+                  work_done_good after work.work req bytes (tree.get node.requests req) (at_first after)
                   (free_without touched) (good_first after now);
             }
         by_done over bytes cause false = ends_so over cause
@@ -143,7 +145,7 @@ module _ (node : Node) (driven : HasOneWorkPerRequest node) (number : ℕ) (stat
         by_over : (b : Bool) → is_over (messages_with_status number status attempt.messages) ≡ b
             → Settles node number (cond b
             (cond (is_done work.work (messages_with_status number status attempt.messages))
-            (done_step (record node.gateway { touched = touched }) req (bytes_given work.work (messages_with_status number status attempt.messages)))
+            (done_step (record node.gateway { touched = touched }) req work.work (bytes_given work.work (messages_with_status number status attempt.messages)))
             (failure_step (record node.gateway { touched = touched }) req work
             (refusal_after_attempt (record node.gateway { touched = touched }) req work.work (work.ended + 1) (attempt_with_status number status attempt))))
             (waiting_step (with_work req (record work { stage = Open (attempt_with_status number status attempt) }) (record node.gateway { touched = touched }))))
@@ -161,10 +163,7 @@ module _ (node : Node) (driven : HasOneWorkPerRequest node) (number : ℕ) (stat
   known_so : (stage : WorkStage) → work.stage ≡ stage
       → Settles node number (status_step_in (touched_by req work.work status node.gateway) req work number status stage)
   known_so (Open attempt) is =
-      either (λ (gateway : Gateway). Settles node number (attempt_continued gateway req work (attempt_with_status number status attempt)))
-      (is_making work.work && may_be_made status)
-      (record node.gateway { touched = set.insert node.gateway.touched req }) node.gateway
-      (goes_so (set.insert node.gateway.touched req) attempt is) (goes_so node.gateway.touched attempt is)
+      goes_so (touched_by req work.work status node.gateway).touched attempt is
   known_so Ended is =
       let none : is_awaited_in number work ≡ false = ap (λ (stage : WorkStage). list_any (is_awaited_message number) (open_messages stage)) is in
       absurd (cc (awaited, none))
@@ -177,7 +176,7 @@ module _ (node : Node) (driven : HasOneWorkPerRequest node) (number : ℕ) (stat
   answered_so : Settles node number (message_ended node.gateway number status)
   unfolding message_ended
   answered_so =
-      let (found, is) = some_of (asker number node.gateway) waits in
+      let (found, is) = has_value (asker number node.gateway) waits in
       let (there, awaited) = found_got number node.gateway.works found is in
       subst (λ (o : Option (ℕ × Work)). Settles node number (status_step_by node.gateway number status o)) (sym is)
       (known_so node driven number status settled found.0 found.1 there awaited found.1.stage refl)
@@ -207,15 +206,16 @@ pub record EndsWell (number : ℕ) (input : Input) (node : Node) : Type 0 where
 
 -- a step that a gateway makes so
 ends_by : (number : ℕ) (input : Input) (node between : Node) (so_far : StepState) → node_step input node ≡ recovered_put so_far → between.sends ≡ node.sends
-    → Asking (Other number) node between [] → HasOneWorkPerRequest between → IsGood between so_far → EndsWell number input node
-ends_by number input node between so_far is same first there good =
+    → ChainNeeds input node → HasOneWorkPerRequest node → Asking (Other number) node between [] → HasOneWorkPerRequest between → IsGood between so_far
+    → EndsWell number input node
+ends_by number input node between so_far is same needs driven first there good =
     let last : IsGood between (node_step input node) = subst (IsGood between) (sym is) (good_at_end between so_far good) in
     record {
       asks = λ requests.
           asks_after (Other number) node between (node_step input node).node (node_step input node).outputs.sends first
           (good_so_far_asks between (node_step input node)
-          (subst (λ (n : ℕ). AreNumberedFrom n (node_step input node).outputs.sends) (sym same) (stepped_numbers input node))
-          (stepped_counts input node ∙ ap (λ (n : ℕ). n + length (node_step input node).outputs.sends) (sym same))
+          (subst (λ (n : ℕ). AreNumberedFrom n (node_step input node).outputs.sends) (sym same) (step_numbers input node needs driven))
+          (step_counts input node needs driven ∙ ap (λ (n : ℕ). n + length (node_step input node).outputs.sends) (sym same))
           last requests);
       driven = good_driven between (node_step input node) there last;
     }
@@ -248,7 +248,7 @@ recovery_driven : (node : Node) (number : ℕ) (said : Option PeerSay) → gatew
 unfolding recovered_put
 recovery_driven node number said none driven =
     let so_far = recovery_stepped (recovery_steps.message_end number said (recovery_state_of node)) (at_first node) in
-    either (λ (so_far : StepState). HasOneWorkPerRequest so_far.node) (is_due so_far.node) (with_recovered so_far) so_far
+    cond_either (λ (so_far : StepState). HasOneWorkPerRequest so_far.node) (is_due so_far.node) (with_recovered so_far) so_far
     (record { own = driven.own; driven = driven.driven; once = driven.once; given = driven.given; recovers = λ q waits. apart q waits; recovering = λ q waits. below q waits })
     (record { own = driven.own; driven = driven.driven; once = driven.once; given = driven.given; recovers = λ q waits. apart q waits; recovering = λ q waits. below q waits })
   where
@@ -280,7 +280,7 @@ lost_well node number driven = by_waits (gateways.gateway_awaits number node.gat
         (after_gateway_step (message_ended node.gateway number Lost) (at_first node))
         (ap (λ (b : Bool). recovered_put (cond b (after_gateway_step (message_ended node.gateway number Lost) (at_first node))
         (recovery_stepped (recovery_steps.recovery_on_loss number (recovery_state_of node)) (at_first node)))) waits)
-        refl (settled_asks node driven number Lost refl waits) (settled_driven node driven number Lost refl waits) (settled_good node driven number Lost refl waits)
+        refl tt driven (settled_asks node driven number Lost refl waits) (settled_driven node driven number Lost refl waits) (settled_good node driven number Lost refl waits)
     by_waits false none = record {
       asks = λ requests. lost_asks node number none;
       driven = subst (λ (so_far : StepState). HasOneWorkPerRequest so_far.node)
@@ -327,7 +327,7 @@ replied_well node rsp driven fit = by_waits (gateways.gateway_awaits rsp.number 
         (after_gateway_step (message_ended node.gateway rsp.number status) (at_first node))
         (ap (λ (b : Bool). recovered_put (cond b (after_gateway_step (message_ended node.gateway rsp.number status) (at_first node))
         (recovery_stepped (recovery_steps.recovery_on_reply rsp (recovery_state_of node)) (at_first node)))) waits)
-        refl (settled_asks node driven rsp.number status settled waits) (settled_driven node driven rsp.number status settled waits) (settled_good node driven rsp.number status settled waits)
+        refl (λ awaits. settled) driven (settled_asks node driven rsp.number status settled waits) (settled_driven node driven rsp.number status settled waits) (settled_good node driven rsp.number status settled waits)
     by_waits false none = record {
       asks = λ requests. replied_asks node rsp none;
       driven = subst (λ (so_far : StepState). HasOneWorkPerRequest so_far.node)

@@ -4,6 +4,8 @@ use Rattle.std.specs.List.{list_any}
 use Rattle.std.specs.FinMap as tree
 use Rattle.std.proofs.lemmas.Bool.{eqb-true, eqb-false, or_left, or_right, or_cases}
 use Rattle.std.proofs.lemmas.List.Elements.{Contains-append_cases}
+use Rattle.proof_tools.proofs.Lists.{Contains-first, Contains-cons, Contains-cons_cases, Contains-nil, Contains-flat_map}
+use Rattle.proof_tools.proofs.FiniteMaps.{entries-contain, get-entry}
 use Rattle.object_id.specs.declared.node.Epoch.{Epoch}
 use Rattle.object_id.specs.declared.node.NodeId.{NodeId}
 use Rattle.peer_proto.specs.declared.ask.PeerReq.{PeerReq}
@@ -12,11 +14,8 @@ use Rattle.gateway.specs.declared.message.Status.{Status}
 use Rattle.gateway.specs.Attempt.{is_unanswered, is_awaited_message, is_over, messages_with_status, send_of}
 use Rattle.gateway.specs.State.{Work}
 use Rattle.sheep_world.specs.WireMatch.{unanswered_in}
-use Rattle.sheep_world.proofs.ListTools.{has-here, has-later, has-none, has_cases, has-flat_map}
-use Rattle.sheep_world.proofs.NameTools.{entries-got}
 use Rattle.sheep_world.proofs.InFlightRecoveryAnswer.{open_of}
 use Rattle.sheep_world.proofs.GatewaySteps.{Works, asked_in}
-use Rattle.sheep_world.proofs.InFlightRetryTick.{got_entry}
 
 -- ---- the messages of an attempt, of which one is marked
 
@@ -74,13 +73,13 @@ module _ (number : ℕ) (status : Status) (settled : is_unanswered status ≡ fa
   pub marked_sends : (me : NodeId) (work : Work) (epoch : Epoch) (messages : List Message) (send : NodeId × PeerReq)
       → Contains (map (send_of me epoch work.work) (open_of (messages_with_status number status messages))) send
       → Contains (map (send_of me epoch work.work) (open_of messages)) send × (send.1.number ≢ number)
-  marked_sends me work epoch [] send there = has-none send there
+  marked_sends me work epoch [] send there = absurd (Contains-nil send there)
   marked_sends me work epoch (message ∷ messages) send there =
       by_tie (message.number == number) refl (is_unanswered message.status) refl (marked_sends me work epoch messages send) there
     where
       later : (b : Bool) → Contains (map (send_of me epoch work.work) (open_of messages)) send × (send.1.number ≢ number)
           → Contains (map (send_of me epoch work.work) (cond b (message ∷ open_of messages) (open_of messages))) send × (send.1.number ≢ number)
-      later true found = (has-later (send_of me epoch work.work message) send (map (send_of me epoch work.work) (open_of messages)) found.0, found.1)
+      later true found = (Contains-cons (send_of me epoch work.work message) (map (send_of me epoch work.work) (open_of messages)) send found.0, found.1)
       later false found = found
 
       -- a message of another number
@@ -91,11 +90,11 @@ module _ (number : ℕ) (status : Status) (settled : is_unanswered status ≡ fa
           → Contains (map (send_of me epoch work.work) (cond b (message ∷ open_of messages) (open_of messages))) send × (send.1.number ≢ number)
       other tie true rest there = ⊎_elim
           (λ (same : send_of me epoch work.work message ≡ send). (
-            has-here (send_of me epoch work.work message) send (map (send_of me epoch work.work) (open_of messages)) same,
+            Contains-first (send_of me epoch work.work message) send (map (send_of me epoch work.work) (open_of messages)) same,
             λ (is : send.1.number ≡ number). eqb-false message.number number tie (ap (λ (s : NodeId × PeerReq). s.1.number) same ∙ is),
           ))
           (λ (behind : Contains (map (send_of me epoch work.work) (open_of (messages_with_status number status messages))) send). later true (rest behind))
-          (has_cases (send_of me epoch work.work message) send (map (send_of me epoch work.work) (open_of (messages_with_status number status messages))) there)
+          (Contains-cons_cases (send_of me epoch work.work message) (map (send_of me epoch work.work) (open_of (messages_with_status number status messages))) send there)
       other tie false rest there = rest there
 
       by_tie : (b : Bool) → (message.number == number) ≡ b → (c : Bool) → is_unanswered message.status ≡ c
@@ -134,12 +133,12 @@ over_none q (message ∷ messages) over =
 asked_among : (me : NodeId) (es : List (ℕ × Work)) (send : NodeId × PeerReq)
     → Contains (flat_map (λ (entry : ℕ × Work). unanswered_in me entry.1 entry.1.stage) es) send
     → (e : ℕ × Work) × Contains es e × Contains (unanswered_in me e.1 e.1.stage) send
-asked_among me [] send there = has-none send there
+asked_among me [] send there = absurd (Contains-nil send there)
 asked_among me (e ∷ es) send there = ⊎_elim
-    (λ (own : Contains (unanswered_in me e.1 e.1.stage) send). (e, has-here e e es refl, own))
+    (λ (own : Contains (unanswered_in me e.1 e.1.stage) send). (e, Contains-first e e es refl, own))
     (λ (later : Contains (flat_map (λ (entry : ℕ × Work). unanswered_in me entry.1 entry.1.stage) es) send).
     let (f, there, asked) = asked_among me es send later in
-    (f, has-later e f es there, asked))
+    (f, Contains-cons e es f there, asked))
     (Contains-append_cases (unanswered_in me e.1 e.1.stage)
     (flat_map (λ (entry : ℕ × Work). unanswered_in me entry.1 entry.1.stage) es) send there)
 
@@ -147,10 +146,10 @@ pub asked_at : (me : NodeId) (m : Works) (send : NodeId × PeerReq) → Contains
     → (e : ℕ × Work) × (tree.get m e.0 ≡ Some e.1) × Contains (unanswered_in me e.1 e.1.stage) send
 asked_at me m send there =
     let (e, among, asked) = asked_among me (tree.entries m) send there in
-    (e, got_entry m e among, asked)
+    (e, get-entry m e among, asked)
 
 pub asked_of : (me : NodeId) (m : Works) (req : ℕ) (work : Work) (send : NodeId × PeerReq) → tree.get m req ≡ Some work
     → Contains (unanswered_in me work work.stage) send → Contains (asked_in me m) send
 asked_of me m req work send there asks =
-    has-flat_map (λ (entry : ℕ × Work). unanswered_in me entry.1 entry.1.stage) (tree.entries m) (req, work) send
-    (entries-got tree.nat_cmp-IsAntisymmetric m req work there) asks
+    Contains-flat_map (λ (entry : ℕ × Work). unanswered_in me entry.1 entry.1.stage) (tree.entries m) (req, work) send
+    (entries-contain tree.nat_cmp-IsAntisymmetric m req work there) asks

@@ -4,6 +4,7 @@ use Rattle.std.specs.Option.{option_map_or, option_and_then, IfSome}
 use Rattle.std.specs.FinMap as tree
 use Rattle.std.proofs.lemmas.Bool.{eq-eqb, and_parts}
 use Rattle.std.proofs.lemmas.Option.{cond_some}
+use Rattle.proof_tools.proofs.FiniteMaps.{get-insert_same}
 use Rattle.object_id.specs.declared.cause.Cause.{Cause}
 use Rattle.cluster_script.specs.declared.statement.Statement.{Statement}
 use Rattle.cluster_script.specs.NumberedRequests.{session_of, request_at}
@@ -26,7 +27,7 @@ use Rattle.sheep_node.specs.declared.input.Input.{Input}
 use Rattle.sheep_node.specs.declared.input.Input.TheVariants as inputs
 use Rattle.sheep_node.specs.State.{Waiting, Commanding, Request, Node}
 use Rattle.sheep_node.specs.StepState.{StepState, at_first, session_in, with_disk, with_course}
-use Rattle.sheep_node.specs.Courses.{disk_after, command_acted, command_stepped, command_went_on}
+use Rattle.sheep_node.specs.Courses.{disk_with_act, after_command_step, command_acted, command_stepped, command_went_on}
 use Rattle.sheep_node.specs.Guests as nodes
 use Rattle.sheep_node.specs.Guests.{request_refusal, inode_open, queued_as, with_queued_request, request_taken, request_taken_unless}
 use Rattle.sheep_node.specs.LogReading.{is_epoch_member}
@@ -39,9 +40,9 @@ use Rattle.sheep_world.specs.NodeSteps.{node_stepped, node_stepped_if, at_rest}
 use Rattle.sheep_world.specs.Effects.{request_started, requests_started, next_input, gateway_node_stepped, guest_effect}
 use Rattle.sheep_world.specs.Step.{EventOutcome, step, guest_made}
 use Rattle.sheep_world.specs.WireMatch.{WireMatchesNodes}
-use Rattle.sheep_world.specs.OneWork.{may_work_at, may_work_of, HasOneWorkPerRequest, NodesHaveOneWorkPerRequest, IsSentInRange, IsNewRequest}
+use Rattle.sheep_node.specs.OneWork.{may_work_at, may_work_of, HasOneWorkPerRequest}
+use Rattle.sheep_world.specs.OneWork.{NodesHaveOneWorkPerRequest, IsSentInRange, IsNewRequest}
 use Rattle.sheep_world.proofs.EnabledLaws.{looked_up}
-use Rattle.sheep_world.proofs.NumberTools.{got_own}
 use Rattle.sheep_world.proofs.OneWorkLaws.{IsGood, IsFreeIn, free_session, good_session, good_course, ended_good, work_asked_good, course_begun_good}
 use Rattle.sheep_world.proofs.InFlightRetryTick.{good_first, good_at_end, DoesWell, good_well, step_together, StaysTogether}
 
@@ -56,7 +57,7 @@ no_entry work (Answered opened_inode) awaited = refl
 
 command_acted_good : (old : Node) (number req : ℕ) (ask : VdiAsk) (op : Op) (act : OpAct) (so_far : StepState) → IsAwaitedAtOpStage act op.stage
     → tree.get so_far.node.requests req ≡ Some (record { session = number; course = Commanding ask op })
-    → IsFreeIn req so_far → IsGood old so_far → IsGood old (command_acted number req ask op act so_far)
+    → IsFreeIn req so_far → IsGood old so_far → IsGood old (command_acted number req act so_far)
 command_acted_good old number req ask op (op_acts.Append entry) so_far awaited there free good = record { going = good.going; driven = good.driven }
 command_acted_good old number req ask op (op_acts.Work work) so_far awaited there free good =
     work_asked_good old number req work so_far free
@@ -64,20 +65,22 @@ command_acted_good old number req ask op (op_acts.Work work) so_far awaited ther
     ∙ ap (λ (b : Bool). b && is_none (entry_wanted op)) (eq-eqb number number refl)
     ∙ no_entry work op.stage awaited)
     good
-command_acted_good old number req ask op (op_acts.Reply reply) so_far awaited there free good =
-    let disk = disk_after ask (opened_inode op) (session_in number so_far).disk in
-    let session = record (session_in number so_far) { disk = disk } in
-    ended_good old number req reply (with_disk number disk so_far)
-    (free_session req so_far.node.gateway.works so_far.node.sessions number session refl free)
-    (good_session old number session so_far refl good)
+command_acted_good old number req ask op (op_acts.Reply reply) so_far awaited there free good = ended_good old number req reply so_far free good
 
 command_stepped_good : (old : Node) (number req : ℕ) (ask : VdiAsk) (step : ops.OpStep) (so_far : StepState) → IsAwaitedByCommand step → IsFreeIn req so_far
     → IsGood old so_far → IsGood old (command_stepped number req ask step so_far)
 unfolding command_stepped
 command_stepped_good old number req ask step so_far awaited free good =
     let request : Request = record { session = number; course = Commanding ask step.op } in
-    command_acted_good old number req ask step.op step.act (with_course number req (Commanding ask step.op) so_far) awaited
-    (got_own so_far.node.requests req request) free (good_course old number req (Commanding ask step.op) so_far free good)
+    let course = with_course number req (Commanding ask step.op) so_far in
+    let session = record (session_in number so_far) {
+      disk = disk_with_act ask step.op step.act (session_in number so_far).disk;
+      command = Some req;
+    } in
+    command_acted_good old number req ask step.op step.act (after_command_step number req ask step so_far) awaited
+    (get-insert_same so_far.node.requests req request)
+    (free_session req so_far.node.gateway.works so_far.node.sessions number session refl free)
+    (good_session old number session course refl (good_course old number req (Commanding ask step.op) so_far free good))
 
 pub command_went_on_good : (old : Node) (number req : ℕ) (ask : VdiAsk) (step : Option ops.OpStep) (so_far : StepState) → IfSome step IsAwaitedByCommand
     → IsFreeIn req so_far → IsGood old so_far → IsGood old (command_went_on number req ask step so_far)
@@ -108,6 +111,8 @@ taken_good old number req (asks.Disk ask) so_far free good =
 taken_good old number req (asks.Vdi ask) so_far free good =
     command_went_on_good old number req ask (begin_command so_far.node.me number ask (inode_open (session_in number so_far).disk)) so_far
     (begin_awaited so_far.node.me number ask (inode_open (session_in number so_far).disk)) free good
+taken_good old number req (asks.Object work) so_far free good = good
+taken_good old number req (asks.Entry entry) so_far free good = good
 
 taken_unless_good : (old : Node) (cause : Option Cause) (number req : ℕ) (ask : Ask) (so_far : StepState) → IsFreeIn req so_far → IsGood old so_far
     → IsGood old (request_taken_unless cause number req ask so_far)
@@ -161,7 +166,7 @@ module _ (statements : List Statement) (number : ℕ) (world : World) (session :
   well_by req next (Some of) (Some ask) =
       λ host at. (
         is_served host at,
-        good_well (inputs.Guest req of ask) host.node (driven session.node host at)
+        good_well (inputs.Guest req of ask) host.node (new session req host found next at) (driven session.node host at)
             (guest_good host.node req of ask (driven session.node host at) (new session req host found next at)),
       )
 

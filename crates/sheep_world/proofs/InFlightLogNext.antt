@@ -5,7 +5,11 @@ use Rattle.std.specs.Option.{option_map, option_map_or}
 use Rattle.std.specs.FinMap as tree
 use Rattle.std.proofs.lemmas.Bool.{eqb-true, and_parts, or_cases, or_left, or_right}
 use Rattle.std.proofs.lemmas.Option.{cond_some, same_Some}
+use Rattle.proof_tools.proofs.Booleans.{cond_either}
+use Rattle.proof_tools.proofs.Lists.{Contains-nil, find-contains}
+use Rattle.proof_tools.proofs.FiniteMaps.{get-entry}
 use Rattle.object_id.specs.declared.entry.Entry.{Entry}
+use Rattle.object_id.specs.Same.{is_same_entry}
 use Rattle.object_id.specs.declared.entry.Member.{Member}
 use Rattle.object_id.specs.declared.entry.VdiSpec.{VdiSpec}
 use Rattle.object_id.specs.declared.node.NodeId.{NodeId}
@@ -41,7 +45,6 @@ use Rattle.recovery.specs.State as recoveries
 use Rattle.recovery.specs.State.{Message}
 use Rattle.recovery.specs.Fits as recovery_fits
 use Rattle.recovery.specs.Steps.{at_start, recovery_from_epoch, to_recover}
-use Rattle.recovery.proofs.StepLemmas.{either}
 use Rattle.vdi_ops.specs.Op.{entry_wanted}
 use Rattle.vdi_ops.specs.Steps.{on_decision}
 use Rattle.vdi_ops.proofs.StepLemmas.{decision_awaited}
@@ -50,27 +53,27 @@ use Rattle.sheep_node.specs.declared.input.Input.TheVariants as inputs
 use Rattle.sheep_node.specs.State.{Course, Waiting, Driving, Commanding, Request, Node}
 use Rattle.sheep_node.specs.RecoveryView.{recovery_state_of}
 use Rattle.sheep_node.specs.May.{fits_node}
-use Rattle.sheep_node.specs.Same.{is_wanted, waits_for_entry}
+use Rattle.sheep_node.specs.AwaitedEntry.{waits_for_entry}
 use Rattle.sheep_node.specs.StepState.{StepState, at_first}
 use Rattle.sheep_node.specs.Courses.{course_decided}
 use Rattle.sheep_node.specs.LogReading as nodes
-use Rattle.sheep_node.specs.LogReading.{is_epoch_member, epoch_members, with_peer, with_epoch_members, peer_entered, recovery_begun, recovery_begun_if, epoch_entered, entered_by, settled_by, asker_of, decision_told, on_log_entry}
+use Rattle.sheep_node.specs.LogReading.{asker_of, decision_told, on_log_entry}
 use Rattle.sheep_node.specs.Step.{on_input, node_step}
-use Rattle.sheep_node.proofs.SoundReading.{entries_reading}
-use Rattle.sheep_node.proofs.SoundSteps.{stepped_numbers, stepped_counts}
+use Rattle.sheep_node.proofs.MessageNumbers.{unanswered_reading}
+use Rattle.sheep_node.proofs.PeerLog.{entries_reading}
+use Rattle.sheep_node.proofs.StepResults.{step_numbers, step_counts}
 use Rattle.sheep_world.specs.World.{Host, World, host_at, node_at, is_host_up}
 use Rattle.sheep_world.specs.Conditions.{may_log_next}
 use Rattle.sheep_world.specs.NodeSteps.{node_stepped, node_stepped_if, at_rest}
 use Rattle.sheep_world.specs.Effects.{next_entry, log_next_effect}
 use Rattle.sheep_world.specs.Step.{EventOutcome, step, with_replies}
 use Rattle.sheep_world.specs.WireMatch.{asked_by_gateway, WireMatchesNodes}
-use Rattle.sheep_world.specs.OneWork.{may_work, HaveOneWorkPerRequest, NumbersAreOfOneWork, NumbersAreBelow, HasOneWorkPerRequest, NodesHaveOneWorkPerRequest, IsSentInRange}
-use Rattle.sheep_world.proofs.ListTools.{has-none, has-found}
+use Rattle.sheep_node.specs.OneWork.{may_work, HaveOneWorkPerRequest, NumbersAreOfOneWork, NumbersAreBelow, HasOneWorkPerRequest}
+use Rattle.sheep_world.specs.OneWork.{NodesHaveOneWorkPerRequest, IsSentInRange}
 use Rattle.sheep_world.proofs.InFlightSends.{Sends, Asking}
 use Rattle.sheep_world.proofs.InFlightRecoverTick.{Any}
-use Rattle.gateway.proofs.TryLaws.{found-passes}
 use Rattle.sheep_world.proofs.OneWorkLaws.{Requests, Sessions, IsGood, IsFreeIn, free_of, let_begin_good}
-use Rattle.sheep_world.proofs.InFlightRetryTick.{got_entry, good_first, good_at_end, good_so_far_asks, good_driven, DoesWell, asks_after, step_together, StaysTogether}
+use Rattle.sheep_world.proofs.InFlightRetryTick.{good_first, good_at_end, good_so_far_asks, good_driven, DoesWell, asks_after, step_together, StaysTogether}
 use Rattle.sheep_world.proofs.InFlightGuest.{command_went_on_good}
 
 -- ---- the length of an object's rows stays known
@@ -95,7 +98,7 @@ header_stays entries entry vid header is =
         → HasSpecOf header (cond b (Some grant.header) (Some header))
     by_id grant what true same =
         let new : is_used (log_effects entries) grant.reservation.vid.0 ≡ false = (grant_outcome-unused entries entry grant what).1 in
-        let used : is_used (log_effects entries) vid ≡ true = (inode_queue-log_effects entries).known vid ∙ ap is_some is in
+        let used : is_used (log_effects entries) vid ≡ true = (line-log_effects entries).known vid ∙ ap is_some is in
         let unused : is_used (log_effects entries) vid ≡ false
         = ap (is_used (log_effects entries)) (sym (eqb-true grant.reservation.vid.0 vid same)) ∙ new in
         absurd (cc (used, unused))
@@ -106,7 +109,7 @@ header_stays entries entry vid header is =
     by_effect (effects.Reserved grant) what = by_id grant what (grant.reservation.vid.0 == vid) refl
     by_effect (effects.Published id name) what = refl
     by_effect (effects.Snapped snap) what =
-        either (HasSpecOf header) (snap.old.0 == vid) (Some (record header { tag = snap.tag })) (Some header) refl refl
+        cond_either (HasSpecOf header) (snap.old.0 == vid) (Some (record header { tag = snap.tag })) (Some header) refl refl
     by_effect (effects.Deleted id name) what = refl
     by_effect (effects.Held id holder) what = refl
     by_effect (effects.Freed id) what = refl
@@ -167,65 +170,16 @@ record Keeps (old new : Node) : Type 0 where
   sends_so : new.sends ≡ old.sends
   messages_so : recoveries.all_unanswered new.recovery ≡ recoveries.all_unanswered old.recovery
 
-pub begun_same : (epoch : ℕ) (members : List NodeId) (state : recoveries.RecoveryState)
-    → recoveries.all_unanswered (recovery_from_epoch epoch members state).recovery ≡ recoveries.all_unanswered state.recovery
-unfolding recovery_from_epoch
-begun_same epoch members state =
-    let start = at_start epoch members state in
-    either (λ (after : recoveries.RecoveryState). recoveries.all_unanswered after.recovery ≡ recoveries.all_unanswered state.recovery)
-    (recoveries.is_listed start.recovery) (record start { shown = shown_with_pending (to_recover start) start.shown }) start refl refl
-
-begun_keeps : (old : Node) (member : Bool) (node : Node) → Keeps old node → Keeps old (recovery_begun_if member node)
-begun_keeps old true node h = record {
-  me_so = h.me_so;
-  gateway_so = h.gateway_so;
-  requests_so = h.requests_so;
-  sessions_so = h.sessions_so;
-  sends_so = h.sends_so;
-  messages_so =
-      begun_same node.peer.epoch (map (λ (member : Member). member.node) (epoch_members node)) (recovery_state_of node) ∙ h.messages_so;
-}
-begun_keeps old false node h = h
-
-same_keeps : (old node : Node) (peer : Peer) → Keeps old node → Keeps old (with_peer peer node)
-same_keeps old node peer h = record {
-  me_so = h.me_so;
-  gateway_so = h.gateway_so;
-  requests_so = h.requests_so;
-  sessions_so = h.sessions_so;
-  sends_so = h.sends_so;
-  messages_so = h.messages_so;
-}
-
-placed_keeps : (old : Node) (epoch : ℕ) (node : Node) → Keeps old node → Keeps old (with_epoch_members epoch node)
-placed_keeps old epoch node h = record {
-  me_so = h.me_so;
-  gateway_so = h.gateway_so;
-  requests_so = h.requests_so;
-  sessions_so = h.sessions_so;
-  sends_so = h.sends_so;
-  messages_so = h.messages_so;
-}
-
-entered_keeps : (old : Node) (entry : Entry) (node : Node) → Keeps old node → Keeps old (entered_by entry node)
-entered_keeps old entry node h =
-    let there = with_epoch_members (epoch_of node.peer.entries) node in
-    either (Keeps old) (begins_epoch entry) (epoch_entered node) (cond (is_format entry) (with_epoch_members 1 node) node)
-    (begun_keeps old (is_epoch_member (peer_entered there)) (peer_entered there)
-    (same_keeps old there (peers.peer_in_next_epoch there.me (targets_in there.epochs) there.peer) (placed_keeps old (epoch_of node.peer.entries) node h)))
-    (either (Keeps old) (is_format entry) (with_epoch_members 1 node) node (placed_keeps old 1 node h) h)
-
 read_keeps : (entry : Entry) (node : Node) → Keeps node (nodes.entry_read entry node)
 unfolding nodes.entry_read
-read_keeps entry node =
-    let read = with_peer (read_entry entry node.peer) node in
-    let entered = entered_by entry read in
-    let settled = settled_of (read_entry entry node.peer).entries in
-    let kept : Keeps node read
-    = record { me_so = refl; gateway_so = refl; requests_so = refl; sessions_so = refl; sends_so = refl; messages_so = refl } in
-    let then : Keeps node entered = entered_keeps node entry read kept in
-    either (Keeps node) (nat_lt entered.peer.settled settled) (with_peer (peer_settled_to settled entered.peer) entered) entered
-    (same_keeps node entered (peer_settled_to settled entered.peer) then) then
+read_keeps entry node = record {
+  me_so = refl;
+  gateway_so = refl;
+  requests_so = refl;
+  sessions_so = refl;
+  sends_so = refl;
+  messages_so = unanswered_reading entry node;
+}
 
 -- a node that has read an entry waits for the same as before
 read_asks : (entry : Entry) (node : Node) → Asking Any node (nodes.entry_read entry node) []
@@ -237,8 +191,8 @@ read_asks entry node =
       me_so = kept.me_so;
       count_so = kept.sends_so ∙ no_more;
       numbers = refl;
-      own = λ send there. has-none send there;
-      read = λ send there. has-none send there;
+      own = λ send there. absurd (Contains-nil send there);
+      read = λ send there. absurd (Contains-nil send there);
       asked = λ send there. inl (
         subst (λ (sends : Sends). Contains sends send)
             (λ i. asked_by_gateway (kept.me_so i) (kept.gateway_so i)
@@ -247,7 +201,7 @@ read_asks entry node =
       );
       waits_on = λ number waits stays.
           (λ i. gateways.gateway_awaits number (kept.gateway_so i) || is_some (recoveries.message_of number (kept.messages_so i))) ∙ waits;
-      waits_too = λ send there. has-none send there;
+      waits_too = λ send there. absurd (Contains-nil send there);
       fits_on = λ rsp below stays fit. ⊎_elim
           (λ (works : gateways.fits_gateway rsp node.gateway ≡ true).
           or_left (gateways.fits_gateway rsp after.gateway) (recovery_fits.fits_recovery rsp (recovery_state_of after)) (ap (gateways.fits_gateway rsp) kept.gateway_so ∙ works))
@@ -286,7 +240,7 @@ wanted_never entry (Waiting ask) waits = absurd (cc (waits))
 wanted_never entry (Driving driver) waits = absurd (cc (waits))
 wanted_never entry (Commanding ask op) waits = by_entry (entry_wanted op) waits
   where
-    by_entry : (o : Option Entry) → is_wanted entry o ≡ true → is_none o ≡ false
+    by_entry : (o : Option Entry) → option_map_or (λ (wanted : Entry). is_same_entry wanted entry) o false ≡ true → is_none o ≡ false
     by_entry None waits = absurd (cc (waits))
     by_entry (Some wanted) waits = refl
 
@@ -305,10 +259,10 @@ told_good entry decision node so_far None is same old good = good
 told_good entry decision node so_far (Some found) is same old good =
     let there : tree.get so_far.node.requests found.0 ≡ Some found.1
     = ap (λ (requests : Requests). tree.get requests found.0) same
-    ∙ got_entry node.requests found
-    (has-found (λ (found : ℕ × Request). waits_for_entry entry found.1.course) (tree.entries node.requests) found is) in
+    ∙ get-entry node.requests found
+    (find-contains (λ (found : ℕ × Request). waits_for_entry entry found.1.course) (tree.entries node.requests) found is).0 in
     let never = wanted_never entry found.1.course
-    (found-passes (λ (found : ℕ × Request). waits_for_entry entry found.1.course) (tree.entries node.requests) found is) in
+    (find-contains (λ (found : ℕ × Request). waits_for_entry entry found.1.course) (tree.entries node.requests) found is).1 in
     let_begin_good old found.1.session (course_decided found.1.session found.0 decision found.1.course so_far)
     (decided_good old found.1.session found.0 decision found.1.course so_far (free_of old found.0 found.1 so_far there never good) good)
 
@@ -332,8 +286,8 @@ reads_well entry node driven =
       asks = λ requests.
           asks_after Any node after so_far.node so_far.outputs.sends (read_asks entry node)
           (good_so_far_asks after so_far
-          (subst (λ (n : ℕ). AreNumberedFrom n so_far.outputs.sends) (sym same) (stepped_numbers (inputs.LogEntry entry) node))
-          (stepped_counts (inputs.LogEntry entry) node ∙ ap (λ (n : ℕ). n + length so_far.outputs.sends) (sym same))
+          (subst (λ (n : ℕ). AreNumberedFrom n so_far.outputs.sends) (sym same) (step_numbers (inputs.LogEntry entry) node tt driven))
+          (step_counts (inputs.LogEntry entry) node tt driven ∙ ap (λ (n : ℕ). n + length so_far.outputs.sends) (sym same))
           good requests);
       driven = good_driven after so_far (read_driven entry node driven) good;
     }

@@ -3,12 +3,12 @@ use Rattle.std.proofs.Common.{◌≡◌, ℕ, ◌-◌, Bool, true, false, cond, 
 use Rattle.std.specs.Option.{option_map_or}
 use Rattle.std.specs.FinMap as tree
 use Rattle.std.proofs.lemmas.Option.{cond_some}
+use Rattle.proof_tools.proofs.Booleans.{cond_either}
 use Rattle.object_id.specs.declared.node.NodeId.{NodeId}
 use Rattle.cluster_script.specs.declared.statement.Statement.{Statement}
 use Rattle.peer_proto.specs.declared.fault.PeerFault.{PeerFault}
 use Rattle.peer_proto.specs.declared.say.PeerRsp.{PeerRsp}
 use Rattle.peer_proto.specs.Say.{say_in}
-use Rattle.recovery.proofs.StepLemmas.{either}
 use Rattle.sheep_node.specs.declared.event.Event.TheVariants as events
 use Rattle.sheep_node.specs.declared.input.Input.TheVariants as inputs
 use Rattle.sheep_node.specs.May.{fits_node}
@@ -66,7 +66,7 @@ lost_together statements name world driven wired = by_packet (message_at name wo
     by_packet None = told_together statements name (at_rest world) driven wired
     by_packet (Some packet) =
         let fewer = record (at_rest world) { losses = world.losses - 1 } in
-        either (λ (w : World). StaysTogether (loss_told statements name (without_message name w))) (are_ends_up name packet (at_rest world)) fewer (at_rest world)
+        cond_either (λ (w : World). StaysTogether (loss_told statements name (without_message name w))) (are_ends_up name packet (at_rest world)) fewer (at_rest world)
         (told_together statements name fewer driven wired) (told_together statements name (at_rest world) driven wired)
 
 pub wired-lose_request : (statements : List Statement) (world : World) (made : EventOutcome) (node : NodeId) (number : ℕ)

@@ -5,6 +5,7 @@ use Rattle.std.specs.Cmp.{nat_cmp_total}
 use Rattle.std.specs.FinMap as tree
 use Rattle.std.proofs.lemmas.Option.{same_Some}
 use Rattle.std.proofs.lemmas.List.Elements.{All-nil}
+use Rattle.proof_tools.proofs.Booleans.{cond_either}
 use Rattle.object_id.specs.declared.node.NodeId.{NodeId}
 use Rattle.object_id.specs.declared.entry.Entry.{Entry}
 use Rattle.object_id.specs.declared.entry.Entry.TheVariants.{Format}
@@ -18,13 +19,12 @@ use Rattle.sheep_node.specs.declared.input.Input.TheVariants as inputs
 use Rattle.sheep_node.specs.State as nodes
 use Rattle.sheep_node.specs.State.{Node, Request}
 use Rattle.sheep_node.specs.StepState.{StepState, at_first, with_node}
-use Rattle.sheep_node.specs.LogReading.{asker_of, decision_told, entry_read, on_log_entry, settled_by, entered_by, with_peer}
-use Rattle.sheep_node.specs.Same.{waits_for_entry}
-use Rattle.peer_service.specs.Epochs.{peer_settled_to}
-use Rattle.peer_service.specs.LogReading.{read_entry, decision_on}
-use Rattle.epoch_log.specs.Epochs.{settled_of}
+use Rattle.sheep_node.specs.LogReading.{asker_of, decision_told, entry_read, on_log_entry}
+use Rattle.sheep_node.specs.AwaitedEntry.{waits_for_entry}
+use Rattle.peer_service.specs.LogReading.{decision_on}
 use Rattle.sheep_node.specs.Step.{on_input, is_due, with_recovered, recovered_put, node_step}
-use Rattle.sheep_node.proofs.SoundSteps.{stepped_own}
+use Rattle.sheep_node.proofs.NumberChanges.{one_work_at_opening}
+use Rattle.sheep_node.proofs.StepResults.{step_me}
 use Rattle.sheep_world.specs.declared.name.MessageName.{MessageName}
 use Rattle.sheep_world.specs.World.{name_cmp, Packet, Host}
 use Rattle.sheep_world.specs.Opening as worlds
@@ -43,28 +43,15 @@ asked_by-idle : (me : NodeId) (tries : ℕ) (node : Node) → Idle me tries node
 asked_by-idle me tries node idle =
     (λ i. asked_by_gateway (idle.me_so i) (idle.gateway_so i) ++ asked_by_recovery (idle.recovery_so i)) ∙ asked_by-opening me tries
 
-either : {X : Type 0} (P : X → Type 0) (b : Bool) (x y : X) → P x → P y → P (cond b x y)
-either P true x y one other = one
-either P false x y one other = other
-
-settled_idle : (me : NodeId) (tries settled : ℕ) (node : Node) → Idle me tries node → Idle me tries (settled_by settled node)
-settled_idle me tries settled node idle =
-    either (Idle me tries) (nat_lt node.peer.settled settled) (with_peer (peer_settled_to settled node.peer) node) node
-    (record { me_so = idle.me_so; gateway_so = idle.gateway_so; recovery_so = idle.recovery_so }) idle
-
 -- the log's first entry leaves a new node's works and recovery as they are
 read_idle : (me : NodeId) (tries : ℕ) (members : List Member) → Idle me tries (entry_read (Format members) (nodes.initial_node me tries))
 unfolding entry_read
-read_idle me tries members =
-    let node = nodes.initial_node me tries in
-    let peer = read_entry (Format members) node.peer in
-    settled_idle me tries (settled_of peer.entries) (entered_by (Format members) (with_peer peer node))
-    (record { me_so = refl; gateway_so = refl; recovery_so = refl })
+read_idle me tries members = record { me_so = refl; gateway_so = refl; recovery_so = refl }
 
 put_idle : (me : NodeId) (tries : ℕ) (so_far : StepState) → Idle me tries so_far.node → Idle me tries (recovered_put so_far).node
 unfolding recovered_put
 put_idle me tries so_far idle =
-    either (λ (so_far : StepState). Idle me tries so_far.node) (is_due so_far.node) (with_recovered so_far) so_far
+    cond_either (λ (so_far : StepState). Idle me tries so_far.node) (is_due so_far.node) (with_recovered so_far) so_far
     (record { me_so = idle.me_so; gateway_so = idle.gateway_so; recovery_so = idle.recovery_so }) idle
 
 pub nobody_asks : (entry : Entry) (me : NodeId) (tries : ℕ) → asker_of entry (nodes.initial_node me tries) ≡ None
@@ -120,7 +107,8 @@ module _ (statements : List Statement) where
     numbered = λ q host got.
         let (member, own, is) = opening_found q host got in
         ap (λ (host : Host). host.node.me.0) (sym is)
-        ∙ ap (λ (me : NodeId). me.0) (stepped_own (inputs.LogEntry (format_entry statements)) (nodes.initial_node member.node (tries_of statements)))
+        ∙ ap (λ (me : NodeId). me.0) (step_me (inputs.LogEntry (format_entry statements)) (nodes.initial_node member.node (tries_of statements)) tt
+        (one_work_at_opening member.node (tries_of statements)))
         ∙ sym own;
     on_the_way = λ q host got up.
         let (member, own, is) = opening_found q host got in

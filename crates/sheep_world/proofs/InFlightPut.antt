@@ -6,6 +6,7 @@ use Rattle.std.specs.FinMap as tree
 use Rattle.std.proofs.lemmas.Bool.{eqb-true}
 use Rattle.std.proofs.lemmas.Option.{cond_some}
 use Rattle.std.proofs.lemmas.List.Elements.{All-weaker}
+use Rattle.proof_tools.proofs.FiniteMaps.{get-insert_cases}
 use Rattle.object_id.specs.declared.node.NodeId.{NodeId}
 use Rattle.object_id.specs.declared.entry.Entry.{Entry}
 use Rattle.cluster_script.specs.declared.statement.Statement.{Statement}
@@ -25,7 +26,6 @@ use Rattle.sheep_world.specs.NodeSteps.{wire_with_request, host_stepped, node_st
 use Rattle.sheep_world.specs.Effects.{put_effect}
 use Rattle.sheep_world.specs.Step.{EventOutcome, step, put_made}
 use Rattle.sheep_world.specs.WireMatch.{asked_by, own_name, IsInFlight, AllAwaitedIsInFlight, IsNumberGiven, WireMatchesHosts, WireMatchesNodes}
-use Rattle.sheep_world.proofs.InFlightEvents.{got_insert}
 
 -- two nodes that wait for the same
 pub record Alike (old new : Node) : Type 0 where
@@ -89,20 +89,20 @@ module _ (hosts : tree.FinMap nat_cmp Host) (wire : tree.FinMap name_cmp Packet)
         (λ (own : (q ≡ n) × (next_host host node ≡ at)). ap (λ (host : Host). host.node.me.0) (sym own.1)
         ∙ ap (λ (me : NodeId). me.0) alike.me_so ∙ wired.numbered n host there ∙ sym own.0)
         (λ (other : (q ≢ n) × (tree.get hosts q ≡ Some at)). wired.numbered q at other.1)
-        (got_insert hosts n (next_host host node) q at got);
+        (get-insert_cases hosts n (next_host host node) q at got);
     on_the_way = λ q at got up. ⊎_elim
         (λ (own : (q ≡ n) × (next_host host node ≡ at)). subst (λ (host : Host). AllAwaitedIsInFlight host.node wire) own.1
         (on_the_way_still wire host.node node alike
         (wired.on_the_way n host there (sym (up_still host host.node node alike.sends_so refl) ∙ ap is_host_up own.1 ∙ up))))
         (λ (other : (q ≢ n) × (tree.get hosts q ≡ Some at)). wired.on_the_way q at other.1 up)
-        (got_insert hosts n (next_host host node) q at got);
+        (get-insert_cases hosts n (next_host host node) q at got);
     awaited = λ name packet at got here up. ⊎_elim
         (λ (own : (name.sender.0 ≡ n) × (next_host host node ≡ at)).
         ap (λ (host : Host). node_awaits name.number host.node) (sym own.1) ∙ alike.waits_so name.number
         ∙ wired.awaited name packet host got (ap (tree.get hosts) own.0 ∙ there)
         (sym (up_still host host.node node alike.sends_so refl) ∙ ap is_host_up own.1 ∙ up))
         (λ (other : (name.sender.0 ≢ n) × (tree.get hosts name.sender.0 ≡ Some at)). wired.awaited name packet at got other.1 up)
-        (got_insert hosts n (next_host host node) name.sender.0 at here);
+        (get-insert_cases hosts n (next_host host node) name.sender.0 at here);
   }
 
 -- a step that sends nothing, and whose node waits for the same

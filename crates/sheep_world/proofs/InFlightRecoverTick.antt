@@ -8,6 +8,9 @@ use Rattle.std.proofs.lemmas.Bool.{eq-eqb, eqb-true, leb-true, and_parts, or_lef
 use Rattle.std.proofs.lemmas.Option.{cond_some}
 use Rattle.std.proofs.lemmas.List.{append-nil}
 use Rattle.std.proofs.lemmas.List.Elements.{All-contains, Contains-append_left, Contains-append_cases}
+use Rattle.proof_tools.proofs.Booleans.{cond_either}
+use Rattle.proof_tools.proofs.Lists.{Contains-cons_cases, Contains-nil}
+use Rattle.proof_tools.proofs.FiniteMaps.{get-insert_cases}
 use Rattle.object_id.specs.declared.node.NodeId.{NodeId}
 use Rattle.cluster_script.specs.declared.statement.Statement.{Statement}
 use Rattle.peer_proto.specs.declared.ask.PeerReq.{PeerReq}
@@ -20,7 +23,7 @@ use Rattle.recovery.specs.State.{Message}
 use Rattle.recovery.specs.Fits as recovery_fits
 use Rattle.recovery.specs.Tick.{tick_messages, tick_sends, state_after_tick}
 use Rattle.recovery.specs.Frame.{Frame}
-use Rattle.recovery.proofs.StepLemmas.{either, frame_of_tick}
+use Rattle.recovery.proofs.StepLemmas.{frame_of_tick}
 use Rattle.recovery.proofs.RangeLemmas.{asked_by_own, asked_in_range, ticked_in_range}
 use Rattle.sheep_node.specs.declared.limits.TheConstants.{SENDS_MAX}
 use Rattle.sheep_node.specs.declared.event.Event.TheVariants as events
@@ -38,9 +41,9 @@ use Rattle.sheep_world.specs.NodeSteps.{host_stepped, node_stepped, at_rest}
 use Rattle.sheep_world.specs.Effects.{recover_tick_effect}
 use Rattle.sheep_world.specs.Step.{EventOutcome, step, with_replies}
 use Rattle.sheep_world.specs.WireMatch.{asked_by_gateway, asked_by_recovery, WireMatchesNodes}
-use Rattle.sheep_world.specs.Ranges.{RecoversInRange, AllRecoverInRange, RecoveriesAreInRange}
-use Rattle.sheep_world.proofs.ListTools.{has-none, has_cases}
-use Rattle.sheep_world.proofs.InFlightEvents.{got_insert, none_there}
+use Rattle.sheep_node.specs.RecoveryRange.{RecoversInRange}
+use Rattle.sheep_world.specs.Ranges.{AllRecoverInRange, RecoveriesAreInRange}
+use Rattle.sheep_world.proofs.InFlightEvents.{none_there}
 use Rattle.sheep_world.proofs.InFlightPut.{next_host}
 use Rattle.sheep_world.proofs.InFlightSends.{Sends, Asking, Leaves, wired_asking}
 
@@ -55,7 +58,7 @@ AsksFrom Stays old so_far = Asking Stays old so_far.node so_far.outputs.sends
 pub asks_at_end : (Stays : ℕ → Type 0) (old : Node) (so_far : StepState) → AsksFrom Stays old so_far → AsksFrom Stays old (recovered_put so_far)
 unfolding recovered_put
 asks_at_end Stays old so_far asking =
-    either (AsksFrom Stays old) (is_due so_far.node) (with_recovered so_far) so_far
+    cond_either (AsksFrom Stays old) (is_due so_far.node) (with_recovered so_far) so_far
     (record {
       me_so = asking.me_so;
       count_so = asking.count_so;
@@ -72,7 +75,7 @@ asks_at_end Stays old so_far asking =
 pub range_at_end : (so_far : StepState) → RecoversInRange so_far.node → RecoversInRange (recovered_put so_far).node
 unfolding recovered_put
 range_at_end so_far range =
-    either (λ (so_far : StepState). RecoversInRange so_far.node) (is_due so_far.node) (with_recovered so_far) so_far
+    cond_either (λ (so_far : StepState). RecoversInRange so_far.node) (is_due so_far.node) (with_recovered so_far) so_far
     (record { own = range.own; range = range.range }) range
 
 none_both : {X : Type 0} (xs ys : List X) → xs ++ ys ≡ [] → (xs ≡ []) × (ys ≡ [])
@@ -87,14 +90,14 @@ or_first false b none is = absurd (cc (none, is))
 pub numbered_there : (messages : List Message) (send : NodeId × PeerReq)
     → Contains (map (λ (message : Message). (message.to, message.request)) messages) send
     → is_some (recoveries.message_of send.1.number messages) ≡ true
-numbered_there [] send there = has-none send there
+numbered_there [] send there = absurd (Contains-nil send there)
 numbered_there (message ∷ messages) send there = ⊎_elim
     (λ (same : (message.to, message.request) ≡ send).
     here (message.request.number == send.1.number)
     (eq-eqb message.request.number send.1.number (ap (λ (s : NodeId × PeerReq). s.1.number) same)))
     (λ (later : Contains (map (λ (message : Message). (message.to, message.request)) messages) send).
     by_tie (message.request.number == send.1.number) (numbered_there messages send later))
-    (has_cases (message.to, message.request) send (map (λ (message : Message). (message.to, message.request)) messages) there)
+    (Contains-cons_cases (message.to, message.request) (map (λ (message : Message). (message.to, message.request)) messages) send there)
   where
     here : (b : Bool) → b ≡ true → is_some (cond b (Some message) (recoveries.message_of send.1.number messages)) ≡ true
     here true is = refl
@@ -210,7 +213,7 @@ pub range_after : (hosts : tree.FinMap nat_cmp Host) (n : ℕ) (host : Host) →
 range_after hosts n host own range q at got = ⊎_elim
     (λ (same : (q ≡ n) × (host ≡ at)). subst (λ (host : Host). RecoversInRange host.node) same.1 own)
     (λ (other : (q ≢ n) × (tree.get hosts q ≡ Some at)). range q at other.1)
-    (got_insert hosts n host q at got)
+    (get-insert_cases hosts n host q at got)
 
 -- nothing leaves the wire
 pub nothing_leaves : (n : ℕ) (wire : tree.FinMap name_cmp Packet) → Leaves Any n wire wire

@@ -8,6 +8,8 @@ use Rattle.std.specs.FinMap as tree
 use Rattle.std.proofs.lemmas.Bool.{eq-eqb, eqb-true, eqb-false, cond-false, or_cases, or_left, or_right}
 use Rattle.std.proofs.lemmas.Option.{cond_some}
 use Rattle.std.proofs.lemmas.List.Elements.{All-weaker, Contains-append_left, Contains-append_right, Contains-append_cases, filter-append}
+use Rattle.proof_tools.proofs.Booleans.{cond_either}
+use Rattle.proof_tools.proofs.Lists.{Contains-first, Contains-cons, Contains-cons_cases, Contains-nil}
 use Rattle.object_id.specs.declared.node.Epoch.{Epoch}
 use Rattle.object_id.specs.declared.node.NodeId.{NodeId}
 use Rattle.object_store.specs.declared.row.RowCopy.{RowCopy}
@@ -29,7 +31,7 @@ use Rattle.recovery.specs.State.{Message}
 use Rattle.recovery.specs.Fits as recovery_fits
 use Rattle.recovery.specs.Steps as recovery_steps
 use Rattle.recovery.specs.Steps.{messages_without, message_end}
-use Rattle.recovery.proofs.StepLemmas.{either, frame_of_end}
+use Rattle.recovery.proofs.StepLemmas.{frame_of_end}
 use Rattle.sheep_node.specs.declared.event.Event.TheVariants as events
 use Rattle.sheep_node.specs.declared.input.Input.TheVariants as inputs
 use Rattle.sheep_node.specs.State.{Node}
@@ -48,7 +50,6 @@ use Rattle.sheep_world.specs.Messages.{without_message, loss_used, loss_told, me
 use Rattle.sheep_world.specs.Step.{EventOutcome, step, with_replies}
 use Rattle.sheep_world.specs.WireMatch.{unanswered_in, asked_by, asked_by_gateway, asked_by_recovery, own_name, IsInFlight, is_of_work, WireMatchesHosts, WireMatchesNodes}
 use Rattle.sheep_world.proofs.NameTools.{name_cmp_total}
-use Rattle.sheep_world.proofs.ListTools.{has-here, has-later, has-none, has_cases}
 use Rattle.sheep_world.proofs.InFlightSends.{Sends, Wire, Leaves, wired_asking, name_apart, name_itself}
 use Rattle.sheep_world.proofs.InFlightRecoverTick.{AsksFrom, asks_at_end}
 
@@ -65,7 +66,7 @@ open_of messages = filter (λ (message : Sent). is_unanswered message.status) me
 awaited_among : (me : NodeId) (work : Work) (epoch : Epoch) (messages : List Sent) (send : NodeId × PeerReq)
     → Contains (map (send_of me epoch work.work) (open_of messages)) send
     → list_any (is_awaited_message send.1.number) messages ≡ true
-awaited_among me work epoch [] send there = has-none send there
+awaited_among me work epoch [] send there = absurd (Contains-nil send there)
 awaited_among me work epoch (message ∷ messages) send there =
     by_status (is_unanswered message.status) refl (awaited_among me work epoch messages send) there
   where
@@ -85,14 +86,14 @@ awaited_among me work epoch (message ∷ messages) send there =
         (λ (same : send_of me epoch work.work message ≡ send).
         here (message.number == send.1.number) (eq-eqb message.number send.1.number (ap (λ (s : NodeId × PeerReq). s.1.number) same)) unanswered)
         (λ (behind_it : Contains (map (send_of me epoch work.work) (open_of messages)) send). behind (is_awaited_message send.1.number message) (later behind_it))
-        (has_cases (send_of me epoch work.work message) send (map (send_of me epoch work.work) (open_of messages)) there)
+        (Contains-cons_cases (send_of me epoch work.work message) (map (send_of me epoch work.work) (open_of messages)) send there)
     by_status false answered later there = behind (is_awaited_message send.1.number message) (later there)
 
 pub awaited_at : (me : NodeId) (work : Work) (stage : WorkStage) (send : NodeId × PeerReq) → Contains (unanswered_in me work stage) send
     → list_any (is_awaited_message send.1.number) (open_messages stage) ≡ true
 awaited_at me work (Open attempt) send there = awaited_among me work attempt.epoch attempt.messages send there
-awaited_at me work Ended send there = has-none send there
-awaited_at me work (WaitsForMembers epoch) send there = has-none send there
+awaited_at me work Ended send there = absurd (Contains-nil send there)
+awaited_at me work (WaitsForMembers epoch) send there = absurd (Contains-nil send there)
 
 abbrev asker_in : ℕ → List (ℕ × Work) → Option (ℕ × Work)
 asker_in number entries = find (λ (entry : ℕ × Work). is_awaited_in number entry.1) entries
@@ -100,7 +101,7 @@ asker_in number entries = find (λ (entry : ℕ × Work). is_awaited_in number e
 found_for : (me : NodeId) (entries : List (ℕ × Work)) (send : NodeId × PeerReq)
     → Contains (flat_map (λ (entry : ℕ × Work). unanswered_in me entry.1 entry.1.stage) entries) send
     → is_some (find (λ (entry : ℕ × Work). is_awaited_in send.1.number entry.1) entries) ≡ true
-found_for me [] send there = has-none send there
+found_for me [] send there = absurd (Contains-nil send there)
 found_for me (entry ∷ entries) send there = ⊎_elim
     (λ (own : Contains (unanswered_in me entry.1 entry.1.stage) send). here (is_awaited_in send.1.number entry.1) (awaited_at me entry.1 entry.1.stage send own))
     (λ (later : Contains (flat_map (λ (entry : ℕ × Work). unanswered_in me entry.1 entry.1.stage) entries) send).
@@ -130,12 +131,12 @@ pairs_of messages = map (λ (message : Message). (message.to, message.request)) 
 kept_apart : (number : ℕ) (messages : List Message) (send : NodeId × PeerReq)
     → Contains (pairs_of (messages_without number messages)) send
     → Contains (pairs_of messages) send × (send.1.number ≢ number)
-kept_apart number [] send there = has-none send there
+kept_apart number [] send there = absurd (Contains-nil send there)
 kept_apart number (message ∷ messages) send there =
     by_tie (message.request.number == number) refl (kept_apart number messages send) there
   where
     later : Contains (pairs_of messages) send × (send.1.number ≢ number) → Contains ((message.to, message.request) ∷ pairs_of messages) send × (send.1.number ≢ number)
-    later (there, apart) = (has-later (message.to, message.request) send (pairs_of messages) there, apart)
+    later (there, apart) = (Contains-cons (message.to, message.request) (pairs_of messages) send there, apart)
 
     by_tie : (b : Bool) → (message.request.number == number) ≡ b → (Contains (pairs_of (messages_without number messages)) send → Contains (pairs_of messages) send × (send.1.number ≢ number))
         → Contains (pairs_of (cond (not b) (message ∷ messages_without number messages) (messages_without number messages))) send
@@ -143,11 +144,11 @@ kept_apart number (message ∷ messages) send there =
     by_tie true tie rest there = later (rest there)
     by_tie false tie rest there = ⊎_elim
         (λ (same : (message.to, message.request) ≡ send). (
-          has-here (message.to, message.request) send (pairs_of messages) same,
+          Contains-first (message.to, message.request) send (pairs_of messages) same,
           λ (is : send.1.number ≡ number). eqb-false message.request.number number tie (ap (λ (s : NodeId × PeerReq). s.1.number) same ∙ is),
         ))
         (λ (behind : Contains (pairs_of (messages_without number messages)) send). later (rest behind))
-        (has_cases (message.to, message.request) send (pairs_of (messages_without number messages)) there)
+        (Contains-cons_cases (message.to, message.request) (pairs_of (messages_without number messages)) send there)
 
 -- a message of another number is found as before
 same_message : (number q : ℕ) (messages : List Message) → q ≢ number
@@ -206,8 +207,8 @@ module _ (node : Node) (number : ℕ) (said : Option PeerSay) (none : gateways.g
         me_so = refl;
         count_so = no_more;
         numbers = refl;
-        own = λ send there. has-none send there;
-        read = λ send there. has-none send there;
+        own = λ send there. absurd (Contains-nil send there);
+        read = λ send there. absurd (Contains-nil send there);
         asked = λ send there. inl (⊎_elim
             (λ (held : Contains gateway send). (
               Contains-append_left gateway (asked_by_recovery node.recovery) send held,
@@ -230,7 +231,7 @@ module _ (node : Node) (number : ℕ) (said : Option PeerSay) (none : gateways.g
             (ap (λ (messages : List Message). is_some (recoveries.message_of q messages)) left_now
             ∙ ap is_some (same_message number q (recoveries.all_unanswered node.recovery) apart) ∙ waited))
             (or_cases (gateways.gateway_awaits q node.gateway) (recoveries.recovery_awaits q node.recovery) waits);
-        waits_too = λ send there. has-none send there;
+        waits_too = λ send there. absurd (Contains-nil send there);
         fits_on = λ rsp below apart fit. ⊎_elim
             (λ (held : gateways.fits_gateway rsp node.gateway ≡ true).
             or_left (gateways.fits_gateway rsp node.gateway) (recovery_fits.fits_recovery rsp (recovery_state_of (recovery_stepped state (at_first node)).node)) held)
@@ -359,7 +360,7 @@ lost_wired statements name world none wired = by_packet (message_at name world)
     by_packet None = told_wired statements name (at_rest world) wired none
     by_packet (Some packet) =
         let fewer = record (at_rest world) { losses = world.losses - 1 } in
-        either (λ (w : World). WireMatchesNodes (loss_told statements name (without_message name w))) (are_ends_up name packet (at_rest world)) fewer (at_rest world)
+        cond_either (λ (w : World). WireMatchesNodes (loss_told statements name (without_message name w))) (are_ends_up name packet (at_rest world)) fewer (at_rest world)
         (told_wired statements name fewer wired none) (told_wired statements name (at_rest world) wired none)
 
 pub wired-lose_idle_request : (statements : List Statement) (world : World) (made : EventOutcome) (node : NodeId) (number : ℕ)

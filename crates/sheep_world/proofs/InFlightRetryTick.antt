@@ -2,19 +2,21 @@
 use Rattle.std.proofs.Common.{◌≡◌, ◌<◌, ◌≤◌, ◌≢◌, inl, inr, ℕ, nat_lt, Bool, true, false, not, ◌&&◌, cond, T, List, [], ◌∷◌, flat_map, All, Contains, Option, Some, None, is_some, Ordering, Less, Equal, Greater, refl, sym, ap, subst, ◌∙◌, ⊎_elim, ◌+◌, length}
 use native.Mathlib.Omega.{arith}
 use Rattle.std.specs.Ordering.{nat_cmp, is_eq, is_lt, eq_by_cmp}
-use Rattle.std.specs.Cmp.{nat_cmp_total}
+use Rattle.std.specs.Cmp.{nat_cmp_total, eq_by_cmp_equiv}
 use Rattle.std.specs.Option.{option_map_or}
 use Rattle.std.specs.FinMap as tree
 use Rattle.std.specs.FinMap.Entries.{below_all, is_sorted, where_key, is_sorted-where_key, find-where_key}
-use Rattle.std.proofs.lemmas.Bool.{and_parts, or_cases, or_left, or_right}
+use Rattle.std.proofs.lemmas.Bool.{and_parts, or_cases, or_left, or_right, cases_eq}
 use Rattle.std.proofs.lemmas.Cmp.{tied_itself}
 use Rattle.std.proofs.lemmas.Option.{cond_some, same_Some}
 use Rattle.std.proofs.lemmas.List.Elements.{All-contains, Contains-append_left, Contains-append_right, Contains-append_cases}
+use Rattle.proof_tools.proofs.FiniteMaps.{entries-from_entries, get-remove_same, get-remove_other, entries-contain, get-insert_cases, get-entry}
+use Rattle.proof_tools.proofs.Booleans.{cond_either, has_value}
+use Rattle.proof_tools.proofs.Lists.{Contains-first, Contains-cons, Contains-cons_cases, Contains-nil, find-contains}
 use Rattle.object_id.specs.declared.cause.Cause.{Cause}
 use Rattle.object_id.specs.declared.cause.Cause.TheVariants.{Halt}
 use Rattle.object_id.specs.declared.node.Epoch.{Epoch}
 use Rattle.object_id.specs.declared.node.NodeId.{NodeId}
-use Rattle.object_store.proofs.MapLemmas.{entries-from_entries, turned_key}
 use Rattle.cluster_script.specs.declared.statement.Statement.{Statement}
 use Rattle.hash_ring.specs.Placement.{zone_count}
 use Rattle.vnode_table.specs.Epochs.{members_at}
@@ -30,12 +32,10 @@ use Rattle.gateway.specs.State as gateways
 use Rattle.gateway.specs.State.{WorkStage, Open, Ended, WaitsForMembers, Work, is_touched, is_awaited_in, fits_asker, may_try, next_try}
 use Rattle.gateway.specs.Step as gateway_steps
 use Rattle.gateway.specs.Step.{with_work, without_work, waiting_step, refusal_step, halt_step, open_step, next_attempt, attempt_step, retry_step_of, retry_step}
-use Rattle.gateway.proofs.TryLaws.{found-passes}
 use Rattle.guest_driver.specs.InodeQueue as lines
 use Rattle.recovery.specs.State as recoveries
 use Rattle.recovery.specs.State.{Recovery, Message}
 use Rattle.recovery.specs.Fits as recovery_fits
-use Rattle.recovery.proofs.StepLemmas.{either}
 use Rattle.sheep_node.specs.declared.event.Event.TheVariants as events
 use Rattle.sheep_node.specs.declared.input.Input.{Input}
 use Rattle.sheep_node.specs.declared.input.Input.TheVariants as inputs
@@ -46,65 +46,22 @@ use Rattle.sheep_node.specs.Waiting.{after_act, after_gateway_step}
 use Rattle.sheep_node.specs.May.{has_work_to_retry}
 use Rattle.sheep_node.specs.Step as steps
 use Rattle.sheep_node.specs.Step.{is_due, with_recovered, recovered_put, on_input, node_step}
-use Rattle.sheep_node.proofs.SoundSteps.{stepped_numbers, stepped_counts}
+use Rattle.sheep_node.proofs.StepChain.{ChainNeeds}
+use Rattle.sheep_node.proofs.StepResults.{step_numbers, step_counts}
 use Rattle.sheep_world.specs.World.{Host, World, host_at, is_host_up}
 use Rattle.sheep_world.specs.Conditions as conditions
 use Rattle.sheep_world.specs.NodeSteps.{host_stepped, node_stepped, at_rest}
 use Rattle.sheep_world.specs.Effects.{retry_tick_effect}
 use Rattle.sheep_world.specs.Step.{EventOutcome, step, with_replies}
 use Rattle.sheep_world.specs.WireMatch.{unanswered_in, asked_by, asked_by_recovery, WireMatchesNodes}
-use Rattle.sheep_world.specs.OneWork.{may_work_at, waiting_in, HaveOneWorkPerRequest, HasOneWorkPerRequest, NodesHaveOneWorkPerRequest, IsSentInRange}
-use Rattle.sheep_world.proofs.ListTools.{has-here, has-none, has-later, has_cases, has-found}
-use Rattle.sheep_world.proofs.NameTools.{entries-got}
-use Rattle.sheep_world.proofs.InFlightEvents.{got_insert}
+use Rattle.sheep_node.specs.OneWork.{may_work_at, waiting_in, HaveOneWorkPerRequest, HasOneWorkPerRequest}
+use Rattle.sheep_world.specs.OneWork.{NodesHaveOneWorkPerRequest, IsSentInRange}
 use Rattle.sheep_world.proofs.InFlightPut.{next_host}
 use Rattle.sheep_world.proofs.InFlightSends.{Sends, Asking, wired_asking}
 use Rattle.sheep_world.proofs.InFlightRecoverTick.{Any, nothing_leaves}
 use Rattle.sheep_world.proofs.InFlightRecoveryAnswer.{same_fit}
 use Rattle.sheep_world.proofs.GatewaySteps.{Works, WaitedBefore, found_by, asked_in, Going, IsIdle, idle_number, going_opened, going_short}
-use Rattle.sheep_world.proofs.NumberTools.{same_or_not, got_removed, got_left}
 use Rattle.sheep_world.proofs.OneWorkLaws.{Requests, Sessions, IsGood, driven_insert, work_refused_good}
-
--- ---- the entries of a map
-
-first_true : (a b : Bool) → T (a && b) → T a
-first_true true b p = tt
-first_true false b p = absurd p
-
-second_true : (a b : Bool) → T (a && b) → T b
-second_true true b p = p
-second_true false b p = absurd p
-
-less_all : {X : Type 0} (x : ℕ) (es : List (ℕ × X)) (e : ℕ × X) → T (below_all nat_cmp x es) → Contains es e → T (is_lt (nat_cmp x e.0))
-less_all x [] e below there = has-none e there
-less_all {X} x (f ∷ es) e below there = ⊎_elim
-    (λ (same : f ≡ e). subst (λ (g : ℕ × X). T (is_lt (nat_cmp x g.0))) same (first_true (is_lt (nat_cmp x f.0)) (below_all nat_cmp x es) below))
-    (λ (later : Contains es e). less_all x es e (second_true (is_lt (nat_cmp x f.0)) (below_all nat_cmp x es) below) later)
-    (has_cases f e es there)
-
-not_less : (x : ℕ) → T (is_lt (nat_cmp x x)) → ⊥
-not_less x less = subst (λ (o : Ordering). T (is_lt o)) (tied_itself nat_cmp_total x) less
-
-entry_found : {X : Type 0} (es : List (ℕ × X)) (e : ℕ × X) → T (is_sorted nat_cmp es) → Contains es e → tree.find nat_cmp e.0 es ≡ Some e.1
-entry_found [] e sorted there = has-none e there
-entry_found {X} (f ∷ es) e sorted there = ⊎_elim
-    (λ (same : f ≡ e). subst (λ (g : ℕ × X). tree.find nat_cmp g.0 (f ∷ es) ≡ Some g.1) same
-    (ap (λ (o : Ordering). cond (is_eq o) (Some f.1) (tree.find nat_cmp f.0 es)) (tied_itself nat_cmp_total f.0)))
-    (λ (later : Contains es e).
-    by_tie (nat_cmp e.0 f.0) refl (less_all f.0 es e (first_true (below_all nat_cmp f.0 es) (is_sorted nat_cmp es) sorted) later)
-    (entry_found es e (second_true (below_all nat_cmp f.0 es) (is_sorted nat_cmp es) sorted) later))
-    (has_cases f e es there)
-  where
-    by_tie : (o : Ordering) → nat_cmp e.0 f.0 ≡ o → T (is_lt (nat_cmp f.0 e.0)) → tree.find nat_cmp e.0 es ≡ Some e.1
-        → cond (is_eq o) (Some f.1) (tree.find nat_cmp e.0 es) ≡ Some e.1
-    by_tie Less tie less rest = rest
-    by_tie Equal tie less rest =
-        absurd (not_less f.0 (subst (λ (k : ℕ). T (is_lt (nat_cmp f.0 k))) (tree.nat_cmp-IsAntisymmetric e.0 f.0 tie) less))
-    by_tie Greater tie less rest = rest
-
--- what is among the entries is got
-pub got_entry : {X : Type 0} (m : tree.FinMap nat_cmp X) (e : ℕ × X) → Contains (tree.entries m) e → tree.get m e.0 ≡ Some e.1
-got_entry m e there = tree.get-entries m e.0 ∙ entry_found (tree.entries m) e (tree.entries_sorted m) there
 
 -- ---- the works that await a number
 
@@ -112,16 +69,16 @@ got_entry m e there = tree.get-entries m e.0 ∙ entry_found (tree.entries m) e 
 pub found_got : (q : ℕ) (m : Works) (found : ℕ × Work) → found_by (is_awaited_in q) (tree.entries m) ≡ Some found
     → (tree.get m found.0 ≡ Some found.1) × (is_awaited_in q found.1 ≡ true)
 found_got q m found is = (
-  got_entry m found (has-found (λ (entry : ℕ × Work). is_awaited_in q entry.1) (tree.entries m) found is),
-  found-passes (λ (entry : ℕ × Work). is_awaited_in q entry.1) (tree.entries m) found is,
+  get-entry m found (find-contains (λ (entry : ℕ × Work). is_awaited_in q entry.1) (tree.entries m) found is).0,
+  (find-contains (λ (entry : ℕ × Work). is_awaited_in q entry.1) (tree.entries m) found is).1,
 )
 
 any_found : (q : ℕ) (es : List (ℕ × Work)) (e : ℕ × Work) → Contains es e → is_awaited_in q e.1 ≡ true → is_some (found_by (is_awaited_in q) es) ≡ true
-any_found q [] e there awaited = has-none e there
+any_found q [] e there awaited = absurd (Contains-nil e there)
 any_found q (f ∷ es) e there awaited = ⊎_elim
     (λ (same : f ≡ e). here (is_awaited_in q f.1) (ap (λ (g : ℕ × Work). is_awaited_in q g.1) same ∙ awaited))
     (λ (later : Contains es e). behind (is_awaited_in q f.1) (any_found q es e later awaited))
-    (has_cases f e es there)
+    (Contains-cons_cases f es e there)
   where
     here : (b : Bool) → b ≡ true → is_some (cond b (Some f) (found_by (is_awaited_in q) es)) ≡ true
     here true is = refl
@@ -134,11 +91,7 @@ any_found q (f ∷ es) e there awaited = ⊎_elim
 pub got_found : (q : ℕ) (m : Works) (req : ℕ) (work : Work) → tree.get m req ≡ Some work → is_awaited_in q work ≡ true
     → is_some (found_by (is_awaited_in q) (tree.entries m)) ≡ true
 got_found q m req work there awaited =
-    any_found q (tree.entries m) (req, work) (entries-got tree.nat_cmp-IsAntisymmetric m req work there) awaited
-
-pub some_of : {X : Type 0} (o : Option X) → is_some o ≡ true → (x : X) × (o ≡ Some x)
-some_of None is = absurd (cc (is))
-some_of (Some x) is = (x, refl)
+    any_found q (tree.entries m) (req, work) (entries-contain tree.nat_cmp-IsAntisymmetric m req work there) awaited
 
 -- the keys but one
 abbrev not_at : ℕ → ℕ → Bool
@@ -151,7 +104,7 @@ entries-remove m k =
     tree.same_map nat_cmp_total tree.nat_cmp-IsAntisymmetric (tree.remove m k) (tree.from_entries es)
     (λ (q : ℕ). tree.get-remove nat_cmp_total m k q
     ∙ by_tie q (eq_by_cmp nat_cmp q k) (tree.get m q)
-    ∙ ap (λ (b : Bool). cond (not b) (tree.get m q) None) (turned_key q k)
+    ∙ ap (λ (b : Bool). cond (not b) (tree.get m q) None) ((eq_by_cmp_equiv nat_cmp_total).symm q k)
     ∙ ap (λ (o : Option Work). cond (not_at k q) o None) (tree.get-entries m q)
     ∙ sym (find-where_key nat_cmp (not_at k) q (λ (x : ℕ) (tie : nat_cmp q x ≡ Equal). ap (not_at k) (sym (tree.nat_cmp-IsAntisymmetric q x tie))) (tree.entries m))
     ∙ sym (tree.get-from_entries nat_cmp_total es q)) in
@@ -168,13 +121,13 @@ find_kept : (test : Work → Bool) (p : ℕ → Bool) (es : List (ℕ × Work)) 
     → found_by test (where_key nat_cmp p es) ≡ found_by test es
 find_kept test p [] idle = refl
 find_kept test p (e ∷ es) idle =
-    by_key (p e.0) refl (find_kept test p es (λ (f : ℕ × Work) (there : Contains es f) (gone : p f.0 ≡ false). idle f (has-later e f es there) gone))
+    by_key (p e.0) refl (find_kept test p es (λ (f : ℕ × Work) (there : Contains es f) (gone : p f.0 ≡ false). idle f (Contains-cons e es f there) gone))
   where
     by_key : (b : Bool) → p e.0 ≡ b → found_by test (where_key nat_cmp p es) ≡ found_by test es
         → found_by test (cond b (e ∷ where_key nat_cmp p es) (where_key nat_cmp p es)) ≡ found_by test (e ∷ es)
     by_key true stays rest = ap (λ (o : Option (ℕ × Work)). cond (test e.1) (Some e) o) rest
     by_key false gone rest =
-        rest ∙ sym (ap (λ b. cond b (Some e) (found_by test es)) (idle e (has-here e e es refl) gone))
+        rest ∙ sym (ap (λ b. cond b (Some e) (found_by test es)) (idle e (Contains-first e e es refl) gone))
 
 asked_kept : (me : NodeId) (p : ℕ → Bool) (es : List (ℕ × Work)) (send : NodeId × PeerReq)
     → Contains (flat_map (λ (entry : ℕ × Work). unanswered_in me entry.1 entry.1.stage) (where_key nat_cmp p es)) send
@@ -206,7 +159,7 @@ module _ (m : Works) (req : ℕ) (idle : (w : Work) → tree.get m req ≡ Some 
       ap (found_by (is_awaited_in number)) (entries-remove m req)
       ∙ find_kept (is_awaited_in number) (not_at req) (tree.entries m)
       (λ (e : ℕ × Work) (there : Contains (tree.entries m) e) (gone : not_at req e.0 ≡ false).
-      idle_number e.1 number (idle e.1 (ap (tree.get m) (at_own (nat_cmp req e.0) refl gone) ∙ got_entry m e there)))
+      idle_number e.1 number (idle e.1 (ap (tree.get m) (at_own (nat_cmp req e.0) refl gone) ∙ get-entry m e there)))
     where
       at_own : {k : ℕ} (o : Ordering) → nat_cmp req k ≡ o → not (is_eq o) ≡ false → req ≡ k
       at_own Less tie gone = absurd (cc (gone))
@@ -216,10 +169,10 @@ module _ (m : Works) (req : ℕ) (idle : (w : Work) → tree.get m req ≡ Some 
   left_got : (q : ℕ) (work : Work) → tree.get (tree.remove m req) q ≡ Some work → tree.get m q ≡ Some work
   left_got q work got = ⊎_elim
       (λ (own : q ≡ req).
-      let none : tree.get (tree.remove m req) q ≡ None = ap (tree.get (tree.remove m req)) own ∙ got_removed m req in
+      let none : tree.get (tree.remove m req) q ≡ None = ap (tree.get (tree.remove m req)) own ∙ get-remove_same m req in
       absurd (cc (got, none)))
-      (λ (apart : q ≢ req). sym (got_left m req q apart) ∙ got)
-      (same_or_not q req)
+      (λ (apart : q ≢ req). sym (get-remove_other m req q apart) ∙ got)
+      (cases_eq q req)
 
   pub going_removed : (old : Node) (me own_me : NodeId) (count : ℕ) (recovery : Recovery) (peer : Peer) (sends : Sends)
       → Going old me own_me m count recovery peer sends → Going old me own_me (tree.remove m req) count recovery peer sends
@@ -250,15 +203,15 @@ pub driven_removed : (works : Works) (requests : Requests) (sessions : Sessions)
 driven_removed works requests sessions req driven = record {
   open_works = λ q work there. ⊎_elim
       (λ (own : q ≡ req).
-      let none : tree.get (tree.remove works req) q ≡ None = ap (tree.get (tree.remove works req)) own ∙ got_removed works req in
+      let none : tree.get (tree.remove works req) q ≡ None = ap (tree.get (tree.remove works req)) own ∙ get-remove_same works req in
       absurd (cc (there, none)))
-      (λ (other : q ≢ req). driven.open_works q work (sym (got_left works req q other) ∙ there))
-      (same_or_not q req);
+      (λ (other : q ≢ req). driven.open_works q work (sym (get-remove_other works req q other) ∙ there))
+      (cases_eq q req);
   waiting_works = driven.waiting_works;
   waiting_free = λ number waiting_step there. ⊎_elim
-      (λ (own : waiting_step.req ≡ req). ap (tree.get (tree.remove works req)) own ∙ got_removed works req)
-      (λ (other : waiting_step.req ≢ req). got_left works req waiting_step.req other ∙ driven.waiting_free number waiting_step there)
-      (same_or_not waiting_step.req req);
+      (λ (own : waiting_step.req ≡ req). ap (tree.get (tree.remove works req)) own ∙ get-remove_same works req)
+      (λ (other : waiting_step.req ≢ req). get-remove_other works req waiting_step.req other ∙ driven.waiting_free number waiting_step there)
+      (cases_eq waiting_step.req req);
   apart = driven.apart;
 }
 
@@ -273,10 +226,10 @@ good_first node driven = record {
     recovery_so = refl;
     peer_so = refl;
     counted = omega arith;
-    own = λ send there. has-none send there;
+    own = λ send there. absurd (Contains-nil send there);
     asked = λ send there. inl there;
     waits_on = λ number waits. waits;
-    waits_too = λ send there. has-none send there;
+    waits_too = λ send there. absurd (Contains-nil send there);
     fits_on = λ rsp below fit. fit;
     once = driven.once;
     given = driven.given;
@@ -288,7 +241,7 @@ good_first node driven = record {
 pub good_at_end : (old : Node) (so_far : StepState) → IsGood old so_far → IsGood old (recovered_put so_far)
 unfolding recovered_put
 good_at_end old so_far good =
-    either (IsGood old) (is_due so_far.node) (with_recovered so_far) so_far (record { going = good.going; driven = good.driven }) good
+    cond_either (IsGood old) (is_due so_far.node) (with_recovered so_far) so_far (record { going = good.going; driven = good.driven }) good
 
 -- a good step asks what its node waits for, where what it sends can be spelled
 pub good_so_far_asks : (node : Node) (so_far : StepState) → AreNumberedFrom node.sends so_far.outputs.sends
@@ -337,11 +290,11 @@ good_so_far_asks node so_far numbers counts good requests =
           (or_cases (gateways.fits_gateway rsp node.gateway) (recovery_fits.fits_recovery rsp (recovery_state_of node)) fit);
     }
 
-pub good_asks : (input : Input) (node : Node) → IsGood node (node_step input node)
+pub good_asks : (input : Input) (node : Node) → ChainNeeds input node → HasOneWorkPerRequest node → IsGood node (node_step input node)
     → All (λ (send : NodeId × PeerReq). IsPeerReq send.1) (node_step input node).outputs.sends
     → Asking Any node (node_step input node).node (node_step input node).outputs.sends
-good_asks input node good requests =
-    good_so_far_asks node (node_step input node) (stepped_numbers input node) (stepped_counts input node) good requests
+good_asks input node needs driven good requests =
+    good_so_far_asks node (node_step input node) (step_numbers input node needs driven) (step_counts input node needs driven) good requests
 
 -- what a good step drives its node to
 pub good_driven : (old : Node) (so_far : StepState) → HasOneWorkPerRequest old → IsGood old so_far → HasOneWorkPerRequest so_far.node
@@ -353,7 +306,7 @@ good_driven old so_far before good =
       once = going.once;
       given = going.given;
       recovers = λ number waits.
-          let (found, is) = some_of (found_by (is_awaited_in number) (tree.entries so_far.node.gateway.works)) waits in
+          let (found, is) = has_value (found_by (is_awaited_in number) (tree.entries so_far.node.gateway.works)) waits in
           let (got, awaited) = found_got number so_far.node.gateway.works found is in
           ap (λ (recovery : Recovery). recoveries.recovery_awaits number recovery) going.recovery_so
           ∙ ⊎_elim
@@ -380,7 +333,7 @@ pub driven_after : (world : World) (n : ℕ) (host : Host) → HasOneWorkPerRequ
 driven_after world n host own driven q at got = ⊎_elim
     (λ (same : (q ≡ n) × (host ≡ at)). subst (λ (host : Host). HasOneWorkPerRequest host.node) same.1 own)
     (λ (other : (q ≢ n) × (tree.get world.hosts q ≡ Some at)). driven q at other.1)
-    (got_insert world.hosts n host q at got)
+    (get-insert_cases world.hosts n host q at got)
 
 -- what is asked on one way, and then on another
 pub asks_after : (Stays : ℕ → Type 0) (one two three : Node) (sends : Sends) → Asking Stays one two [] → Asking Any two three sends
@@ -397,7 +350,7 @@ asks_after Stays one two three sends first then =
       asked = λ send there. ⊎_elim
           (λ (old : Contains (asked_by two) send × Unit {0}). ⊎_elim
           (λ (older : Contains (asked_by one) send × Stays send.1.number). inl older)
-          (λ (new : Contains [] send). has-none send new)
+          (λ (new : Contains [] send). absurd (Contains-nil send new))
           (first.asked send old.0))
           (λ (new : Contains sends send). inr new)
           (then.asked send there);
@@ -414,9 +367,9 @@ pub record DoesWell (input : Input) (node : Node) : Type 0 where
   pub driven : HasOneWorkPerRequest (node_step input node).node
 
 -- a good step does well
-pub good_well : (input : Input) (node : Node) → HasOneWorkPerRequest node → IsGood node (node_step input node) → DoesWell input node
-good_well input node driven good =
-    record { asks = λ requests. good_asks input node good requests; driven = good_driven node (node_step input node) driven good }
+pub good_well : (input : Input) (node : Node) → ChainNeeds input node → HasOneWorkPerRequest node → IsGood node (node_step input node) → DoesWell input node
+good_well input node needs driven good =
+    record { asks = λ requests. good_asks input node needs driven good requests; driven = good_driven node (node_step input node) driven good }
 
 -- a node steps, and what it sends can be spelled
 abbrev pub StaysTogether : World → Type 0
@@ -443,7 +396,7 @@ idle_stage epoch work (WaitsForMembers since) is may = ap gateways.open_messages
 
 -- what the next attempt of a work comes to is good
 abbrev Tries : Node → gateway_steps.GatewayStep → Type 0
-Tries node step = IsGood node (after_act node.gateway step.act (with_gateway step.gateway (at_first node)))
+Tries node step = IsGood node (after_act step.act (with_gateway step.gateway (at_first node)))
 
 tried_good : (node : Node) (driven : HasOneWorkPerRequest node) (found : ℕ × Work) → next_try (record { 0 = node.peer.epoch }) node.gateway ≡ Some found
     → Tries node (attempt_step node.epochs node.gateway found.0 found.1 node.sends (record { 0 = node.peer.epoch }))
@@ -456,10 +409,10 @@ tried_good node driven found is =
     let zones = zone_count (members_at node.epochs node.peer.epoch) in
     let targets = targets_in node.epochs node.peer.epoch (oid_of work.work) (policy_of work.work) in
     let good = good_first node driven in
-    either (Tries node) (nat_lt zones (zones_for work.work))
+    cond_either (Tries node) (nat_lt zones (zones_for work.work))
     (halt_step gateway req work epoch zones) (open_step gateway req work (next_attempt work node.sends epoch targets))
-    (either (Tries node) (is_touched req gateway)
-    (waiting_step (with_work req (record work { stage = WaitsForMembers epoch }) gateway)) (refusal_step gateway req (Halt zones (zones_for work.work)))
+    (cond_either (Tries node) (is_touched req gateway)
+    (waiting_step (with_work req (record work { stage = WaitsForMembers epoch }) gateway)) (refusal_step gateway req work.work (Halt zones (zones_for work.work)))
     (record {
       going = going_short node node.me gateway.me gateway.works node.sends node.recovery node.peer [] req idle good.going work epoch;
       driven = driven_insert gateway.works node.requests node.sessions req (record work { stage = WaitsForMembers epoch }) may out driven.driven;
@@ -473,13 +426,13 @@ tried_good node driven found is =
   where
     there : tree.get node.gateway.works found.0 ≡ Some found.1
     there =
-        got_entry node.gateway.works found
-        (has-found (λ (entry : ℕ × Work). may_try (record { 0 = node.peer.epoch }) entry.1.stage) (tree.entries node.gateway.works) found is)
+        get-entry node.gateway.works found
+        (find-contains (λ (entry : ℕ × Work). may_try (record { 0 = node.peer.epoch }) entry.1.stage) (tree.entries node.gateway.works) found is).0
 
     idle : (w : Work) → tree.get node.gateway.works found.0 ≡ Some w → IsIdle w
     idle w got =
         let passes : may_try (record { 0 = node.peer.epoch }) found.1.stage ≡ true
-        = found-passes (λ (entry : ℕ × Work). may_try (record { 0 = node.peer.epoch }) entry.1.stage) (tree.entries node.gateway.works) found is in
+        = (find-contains (λ (entry : ℕ × Work). may_try (record { 0 = node.peer.epoch }) entry.1.stage) (tree.entries node.gateway.works) found is).1 in
         subst IsIdle (same_Some found.1 w (sym there ∙ got))
         (idle_stage (record { 0 = node.peer.epoch }) found.1 found.1.stage refl passes)
 
@@ -492,11 +445,11 @@ tried_good node driven found is =
         = ap (tree.get node.gateway.works) (sym same) ∙ driven.driven.waiting_free number waiting_step waits in
         absurd (cc (there, none))
 
-    refused_again : (cause : Cause) → Tries node (refusal_step node.gateway found.0 cause)
+    refused_again : (cause : Cause) → Tries node (refusal_step node.gateway found.0 found.1.work cause)
     refused_again cause =
         let after = with_gateway (without_work found.0 node.gateway) (at_first node) in
-        work_refused_good node (tree.get node.gateway.works found.0) found.0 cause (tree.get node.requests found.0) after
-        (record { idle = got_removed node.gateway.works found.0; out = out })
+        work_refused_good node found.1.work found.0 cause (tree.get node.requests found.0) after
+        (record { idle = get-remove_same node.gateway.works found.0; out = out })
         (record {
           going = going_removed node.gateway.works found.0 idle node node.me node.gateway.me node.sends node.recovery node.peer [] (good_first node driven).going;
           driven = driven_removed node.gateway.works node.requests node.sessions found.0 driven.driven;
@@ -522,7 +475,7 @@ retried_well statements world n may driven wired =
     (λ host at.
     let (up, retries) = and_parts (is_host_up host) (has_work_to_retry host.node)
     (sym (ap (λ (o : Option Host). option_map_or (λ (host : Host). is_host_up host && has_work_to_retry host.node) o false) at) ∙ may) in
-    (up, good_well inputs.RetryTick host.node (driven n host at) (retry_good host.node (driven n host at))))
+    (up, good_well inputs.RetryTick host.node tt (driven n host at) (retry_good host.node (driven n host at))))
     driven wired
 
 pub wired-retry : (statements : List Statement) (world : World) (made : EventOutcome) (node : NodeId)

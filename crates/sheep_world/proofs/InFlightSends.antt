@@ -2,12 +2,14 @@
 use Rattle.std.proofs.Common.{◌≡◌, ◌≢◌, ◌⊎◌, inl, inr, ℕ, ◌+◌, ◌==◌, ◌<◌, ◌≤◌, Bool, true, false, cond, List, [], ◌∷◌, length, fold, Contains, Option, Some, None, Ordering, Less, Equal, Greater, Ok, refl, sym, ap, subst, ◌∙◌, ⊎_elim}
 use native.Mathlib.Omega.{arith}
 use Rattle.std.specs.Ordering.{nat_cmp, is_eq, eq_by_cmp}
-use Rattle.std.specs.Cmp.{nat_cmp_total, unsigned_tied}
+use Rattle.std.specs.Cmp.{nat_cmp_total, unsigned_tied, Equal-is}
 use Rattle.std.specs.FinMap as tree
 use Rattle.std.proofs.lemmas.Bool.{eqb-true, eqb-false, eq-eqb, ne_eqb}
 use Rattle.std.proofs.lemmas.Cmp.{tied_itself}
 use Rattle.std.proofs.lemmas.Option.{same_Some}
 use Rattle.std.proofs.lemmas.List.Elements.{All-weaker, All-contains, All-contains_itself}
+use Rattle.proof_tools.proofs.Lists.{Contains-first, Contains-cons, Contains-cons_cases, Contains-nil}
+use Rattle.proof_tools.proofs.FiniteMaps.{get-insert_cases}
 use Rattle.object_id.specs.declared.node.NodeId.{NodeId}
 use Rattle.peer_proto.specs.declared.ask.PeerReq.{PeerReq}
 use Rattle.peer_proto.specs.declared.say.PeerRsp.{PeerRsp}
@@ -19,9 +21,7 @@ use Rattle.sheep_world.specs.declared.name.MessageName.{MessageName}
 use Rattle.sheep_world.specs.World.{name_cmp, Packet, Request, Reply, Host, is_host_up}
 use Rattle.sheep_world.specs.NodeSteps.{request_name, wire_with_request}
 use Rattle.sheep_world.specs.WireMatch.{asked_by, own_name, IsReadablePacket, IsNumberGiven, IsInFlight, AllAwaitedIsInFlight, WireMatchesHosts}
-use Rattle.sheep_world.proofs.ListTools.{has-here, has-later, has-none, has_cases}
 use Rattle.sheep_world.proofs.NameTools.{name_cmp_total, same_name}
-use Rattle.sheep_world.proofs.InFlightEvents.{got_insert}
 use Rattle.sheep_world.proofs.InFlightPut.{next_host}
 
 abbrev pub Sends : Type 0
@@ -44,7 +44,7 @@ later_numbers (n ∷ ns) = ns
 pub numbers_within : (first : ℕ) (sends : Sends) (send : NodeId × PeerReq) → AreNumberedFrom first sends → Contains sends send
     → (first ≤ send.1.number) × (send.1.number < first + length sends)
 unfolding first_number later_numbers
-numbers_within first [] send numbers there = has-none send there
+numbers_within first [] send numbers there = absurd (Contains-nil send there)
 numbers_within first (one ∷ rest) send numbers there = ⊎_elim
     (λ (same : one ≡ send).
     let own : send.1.number ≡ first = ap (λ (s : NodeId × PeerReq). s.1.number) (sym same) ∙ ap first_number numbers in
@@ -52,14 +52,9 @@ numbers_within first (one ∷ rest) send numbers there = ⊎_elim
     (λ (later : Contains rest send).
     let (low, high) = numbers_within (first + 1) rest send (ap later_numbers numbers) later in
     (omega (arith, low), omega (arith, high)))
-    (has_cases one send rest there)
+    (Contains-cons_cases one rest send there)
 
 -- ---- the wire after sends
-
-equal_by : (o : Ordering) → is_eq o ≡ true → o ≡ Equal
-equal_by Less is = absurd (cc (is))
-equal_by Equal is = refl
-equal_by Greater is = absurd (cc (is))
 
 unequal_by : (q key : MessageName) (o : Ordering) → name_cmp q key ≡ o → q ≢ key → is_eq o ≡ false
 unequal_by q key Less tie apart = refl
@@ -67,7 +62,7 @@ unequal_by q key Equal tie apart = absurd (apart (same_name q key tie))
 unequal_by q key Greater tie apart = refl
 
 pub name_tied : (q key : MessageName) → eq_by_cmp name_cmp q key ≡ true → q ≡ key
-name_tied q key tie = same_name q key (equal_by (name_cmp q key) tie)
+name_tied q key tie = same_name q key ((Equal-is (name_cmp q key)).0 tie)
 
 pub name_apart : (q key : MessageName) → q ≢ key → eq_by_cmp name_cmp q key ≡ false
 name_apart q key apart = unequal_by q key (name_cmp q key) refl apart
@@ -98,14 +93,14 @@ pub sends_apart : (sends : Sends) (wire : Wire) (name : MessageName)
     → ((send : NodeId × PeerReq) → Contains sends send → request_name send.1 ≢ name) → tree.get (fold wire_with_request wire sends) name ≡ tree.get wire name
 sends_apart [] wire name apart = refl
 sends_apart (one ∷ rest) wire name apart =
-    sends_apart rest (wire_with_request wire one) name (λ (send : NodeId × PeerReq) (there : Contains rest send). apart send (has-later one send rest there))
-    ∙ send_apart wire one name (apart one (has-here one one rest refl))
+    sends_apart rest (wire_with_request wire one) name (λ (send : NodeId × PeerReq) (there : Contains rest send). apart send (Contains-cons one rest send there))
+    ∙ send_apart wire one name (apart one (Contains-first one one rest refl))
 
 -- each send that is numbered with the others is there
 pub sends_there : (first : ℕ) (sends : Sends) (wire : Wire) (send : NodeId × PeerReq) → AreNumberedFrom first sends → Contains sends send
     → tree.get (fold wire_with_request wire sends) (request_name send.1) ≡ Some (packet_of send)
 unfolding later_numbers first_number
-sends_there first [] wire send numbers there = has-none send there
+sends_there first [] wire send numbers there = absurd (Contains-nil send there)
 sends_there first (one ∷ rest) wire send numbers there = ⊎_elim
     (λ (same : one ≡ send). subst
     (λ (s : NodeId × PeerReq). tree.get (fold wire_with_request (wire_with_request wire one) rest) (request_name s.1) ≡ Some (packet_of s)) same
@@ -117,7 +112,7 @@ sends_there first (one ∷ rest) wire send numbers there = ⊎_elim
     absurd (omega (arith, own, low, equal)))
     ∙ send_itself wire one))
     (λ (later : Contains rest send). sends_there (first + 1) rest (wire_with_request wire one) send (ap later_numbers numbers) later)
-    (has_cases one send rest there)
+    (Contains-cons_cases one rest send there)
 
 -- a packet that is one of some sends
 abbrev pub IsSent : Sends → MessageName → Packet → Type 0
@@ -139,9 +134,9 @@ got_sent [] wire name packet got = inr got
 got_sent (one ∷ rest) wire name packet got = ⊎_elim
     (λ (found : IsSent rest name packet).
     let (send, there, named, is) = found in
-    inl (send, has-later one send rest there, named, is))
+    inl (send, Contains-cons one rest send there, named, is))
     (λ (before : tree.get (wire_with_request wire one) name ≡ Some packet). ⊎_elim
-    (λ (own : (request_name one.1 ≡ name) × (packet_of one ≡ packet)). inl (one, has-here one one rest refl, own.0, own.1))
+    (λ (own : (request_name one.1 ≡ name) × (packet_of one ≡ packet)). inl (one, Contains-first one one rest refl, own.0, own.1))
     (λ (old : tree.get wire name ≡ Some packet). inr old)
     (got_send wire one name packet before))
     (got_sent rest (wire_with_request wire one) name packet got)
@@ -304,11 +299,11 @@ module _ (Stays : ℕ → Type 0) (hosts : tree.FinMap nat_cmp Host) (wire left 
         (λ (own : (q ≡ n) × (next_host host node ≡ at)). ap (λ (host : Host). host.node.me.0) (sym own.1)
         ∙ ap (λ (me : NodeId). me.0) asking.me_so ∙ wired.numbered n host there ∙ sym own.0)
         (λ (other : (q ≢ n) × (tree.get hosts q ≡ Some at)). wired.numbered q at other.1)
-        (got_insert hosts n (next_host host node) q at got);
+        (get-insert_cases hosts n (next_host host node) q at got);
     on_the_way = λ q at got able. ⊎_elim
         (λ (own : (q ≡ n) × (next_host host node ≡ at)). subst (λ (host : Host). AllAwaitedIsInFlight host.node (fold wire_with_request left sends)) own.1 own_ways)
         (λ (other : (q ≢ n) × (tree.get hosts q ≡ Some at)). other_ways q at other.0 other.1 (wired.on_the_way q at other.1 able))
-        (got_insert hosts n (next_host host node) q at got);
+        (get-insert_cases hosts n (next_host host node) q at got);
     awaited = λ name packet at got here able. ⊎_elim
         (λ (own : (name.sender.0 ≡ n) × (next_host host node ≡ at)).
         subst (λ (host : Host). node_awaits name.number host.node ≡ true) own.1
@@ -323,5 +318,5 @@ module _ (Stays : ℕ → Type 0) (hosts : tree.FinMap nat_cmp Host) (wire left 
         (got_sent sends left name packet got)))
         (λ (other : (name.sender.0 ≢ n) × (tree.get hosts name.sender.0 ≡ Some at)).
         wired.awaited name packet at (sym (others_after name other.0) ∙ got) other.1 able)
-        (got_insert hosts n (next_host host node) name.sender.0 at here);
+        (get-insert_cases hosts n (next_host host node) name.sender.0 at here);
   }

@@ -1,4 +1,3 @@
-pub mod ListTools
 pub mod NameTools
 pub mod EnabledLaws
 pub mod RunLaws
@@ -8,7 +7,6 @@ pub mod InFlightPut
 pub mod InFlightSends
 pub mod InFlightRecoverTick
 pub mod InFlightRecoveryAnswer
-pub mod NumberTools
 pub mod GatewaySteps
 pub mod OneWorkLaws
 pub mod InFlightRetryTick

@@ -3,9 +3,12 @@ use Rattle.std.proofs.Common.{◌≡◌, ◌≢◌, inl, ℕ, ◌+◌, true, fal
 use native.Mathlib.Omega.{arith}
 use Rattle.std.specs.List.{list_any}
 use Rattle.std.specs.FinMap as tree
-use Rattle.std.proofs.lemmas.Bool.{or_cases, or_left, or_right}
+use Rattle.std.proofs.lemmas.Bool.{or_cases, or_left, or_right, cases_eq}
 use Rattle.std.proofs.lemmas.Option.{same_Some}
 use Rattle.std.proofs.lemmas.List.Elements.{Contains-append_left, Contains-append_right, Contains-append_cases}
+use Rattle.proof_tools.proofs.FiniteMaps.{get-insert_same, get-insert_other, get-remove_same, get-remove_other}
+use Rattle.proof_tools.proofs.Lists.{Contains-nil}
+use Rattle.proof_tools.proofs.Booleans.{has_value}
 use Rattle.object_id.specs.declared.node.NodeId.{NodeId}
 use Rattle.peer_proto.specs.declared.ask.PeerReq.{PeerReq}
 use Rattle.peer_proto.specs.declared.say.PeerRsp.{PeerRsp}
@@ -19,14 +22,12 @@ use Rattle.recovery.specs.Fits as recovery_fits
 use Rattle.sheep_node.specs.State.{Node}
 use Rattle.sheep_node.specs.RecoveryView.{recovery_state_of}
 use Rattle.sheep_world.specs.WireMatch.{unanswered_in, asked_by_recovery}
-use Rattle.sheep_world.specs.OneWork.{HasOneWorkPerRequest}
-use Rattle.sheep_world.proofs.ListTools.{has-none}
+use Rattle.sheep_node.specs.OneWork.{HasOneWorkPerRequest}
 use Rattle.sheep_world.proofs.InFlightSends.{Asking}
 use Rattle.sheep_world.proofs.InFlightRecoverTick.{numbered_there}
 use Rattle.sheep_world.proofs.InFlightRecoveryAnswer.{Other, awaited_at}
 use Rattle.sheep_world.proofs.GatewaySteps.{Works, found_by, asked_in}
-use Rattle.sheep_world.proofs.NumberTools.{same_or_not, got_own, got_other, got_removed, got_left}
-use Rattle.sheep_world.proofs.InFlightRetryTick.{found_got, got_found, some_of}
+use Rattle.sheep_world.proofs.InFlightRetryTick.{found_got, got_found}
 use Rattle.sheep_world.proofs.InFlightGatewayAnswer.{all_before, all_still, marked_sends, over_none, asked_at, asked_of}
 
 -- what a work is after one message is known, by what it was: the same but for that number
@@ -75,19 +76,19 @@ module _ (m : Works) (number : ℕ) (status : Status) (settled : is_unanswered s
     was = λ q new got. ⊎_elim
         (λ (own : q ≡ req).
         let same : now ≡ new
-        = same_Some now new (sym (ap (tree.get (tree.insert m req now)) own ∙ got_own m req now) ∙ got) in
+        = same_Some now new (sym (ap (tree.get (tree.insert m req now)) own ∙ get-insert_same m req now) ∙ got) in
         (work, ap (tree.get m) own ∙ there, subst (λ (new : Work). WasWork number new work) same so))
-        (λ (other : q ≢ req). other_was q new other (sym (got_other m req now q other) ∙ got))
-        (same_or_not q req);
+        (λ (other : q ≢ req). other_was q new other (sym (get-insert_other m req now q other) ∙ got))
+        (cases_eq q req);
     still = λ q other w apart got awaited. ⊎_elim
         (λ (own : other ≡ req).
         let same : work ≡ w = same_Some work w (sym (ap (tree.get m) own ∙ there) ∙ got) in (
           now,
-          ap (tree.get (tree.insert m req now)) own ∙ got_own m req now,
+          ap (tree.get (tree.insert m req now)) own ∙ get-insert_same m req now,
           awaits q apart (open_awaited q w same awaited),
         ))
-        (λ (different : other ≢ req). (w, got_other m req now other different ∙ got, awaited))
-        (same_or_not other req);
+        (λ (different : other ≢ req). (w, get-insert_other m req now other different ∙ got, awaited))
+        (cases_eq other req);
   }
 
   pub marks_open : Marks number m (tree.insert m req (record work { stage = Open (attempt_with_status number status attempt) }))
@@ -114,22 +115,22 @@ module _ (m : Works) (number : ℕ) (status : Status) (settled : is_unanswered s
 
     pub marks_ended : (ended : ℕ) → Marks number m (tree.insert m req (record work { ended = ended; stage = Ended }))
     marks_ended ended = marks_by (record work { ended = ended; stage = Ended })
-        (record { same = refl; asked = λ me send asks. has-none send asks; awaited = λ q awaited. absurd (cc (awaited)) })
+        (record { same = refl; asked = λ me send asks. absurd (Contains-nil send asks); awaited = λ q awaited. absurd (cc (awaited)) })
         (λ q apart awaited. none_left q apart awaited)
 
     pub marks_removed : Marks number m (tree.remove m req)
     marks_removed = record {
       was = λ q new got. ⊎_elim
           (λ (own : q ≡ req).
-          let none : tree.get (tree.remove m req) q ≡ None = ap (tree.get (tree.remove m req)) own ∙ got_removed m req in
+          let none : tree.get (tree.remove m req) q ≡ None = ap (tree.get (tree.remove m req)) own ∙ get-remove_same m req in
           absurd (cc (got, none)))
-          (λ (other : q ≢ req). other_was q new other (sym (got_left m req q other) ∙ got))
-          (same_or_not q req);
+          (λ (other : q ≢ req). other_was q new other (sym (get-remove_other m req q other) ∙ got))
+          (cases_eq q req);
       still = λ q other w apart got awaited. ⊎_elim
           (λ (own : other ≡ req).
           none_left q apart (open_awaited q w (same_Some work w (sym (ap (tree.get m) own ∙ there) ∙ got)) awaited))
-          (λ (different : other ≢ req). (w, got_left m req other different ∙ got, awaited))
-          (same_or_not other req);
+          (λ (different : other ≢ req). (w, get-remove_other m req other different ∙ got, awaited))
+          (cases_eq other req);
     }
 
 -- ---- the node with such a gateway
@@ -138,7 +139,7 @@ module _ (node : Node) (gateway : Gateway) (number : ℕ) (marks : Marks number 
     (waits : gateways.gateway_awaits number node.gateway ≡ true) where
   waits_still : (q : ℕ) → q ≢ number → gateways.gateway_awaits q node.gateway ≡ true → gateways.gateway_awaits q gateway ≡ true
   waits_still q apart waited =
-      let (found, is) = some_of (found_by (is_awaited_in q) (tree.entries node.gateway.works)) waited in
+      let (found, is) = has_value (found_by (is_awaited_in q) (tree.entries node.gateway.works)) waited in
       let (got, awaited) = found_got q node.gateway.works found is in
       let (now, there, awaits) = marks.still q found.0 found.1 apart got awaited in
       got_found q gateway.works found.0 now there awaits
@@ -152,7 +153,7 @@ module _ (node : Node) (gateway : Gateway) (number : ℕ) (marks : Marks number 
       by_found (Some found) is fit =
           let (got, awaited) = found_got rsp.number node.gateway.works found is in
           let (now, there, awaits) = marks.still rsp.number found.0 found.1 apart got awaited in
-          let (new, new_is) = some_of (found_by (is_awaited_in rsp.number) (tree.entries gateway.works))
+          let (new, new_is) = has_value (found_by (is_awaited_in rsp.number) (tree.entries gateway.works))
           (got_found rsp.number gateway.works found.0 now there awaits) in
           let (new_got, new_awaited) = found_got rsp.number gateway.works new new_is in
           let (work, work_got, so) = marks.was new.0 new.1 new_got in
@@ -170,8 +171,8 @@ module _ (node : Node) (gateway : Gateway) (number : ℕ) (marks : Marks number 
         me_so = refl;
         count_so = no_more;
         numbers = refl;
-        own = λ send there. has-none send there;
-        read = λ send there. has-none send there;
+        own = λ send there. absurd (Contains-nil send there);
+        read = λ send there. absurd (Contains-nil send there);
         asked = λ send there. inl (⊎_elim
             (λ (works : Contains (asked_in node.me gateway.works) send).
             let (e, got, asks) = asked_at node.me gateway.works send works in
@@ -197,7 +198,7 @@ module _ (node : Node) (gateway : Gateway) (number : ℕ) (marks : Marks number 
             (λ (recovers : recoveries.recovery_awaits q node.recovery ≡ true).
             or_right (gateways.gateway_awaits q gateway) (recoveries.recovery_awaits q node.recovery) recovers)
             (or_cases (gateways.gateway_awaits q node.gateway) (recoveries.recovery_awaits q node.recovery) waited);
-        waits_too = λ send there. has-none send there;
+        waits_too = λ send there. absurd (Contains-nil send there);
         fits_on = λ rsp below apart fit. ⊎_elim
             (λ (works : gateways.fits_gateway rsp node.gateway ≡ true).
             or_left (gateways.fits_gateway rsp gateway) (recovery_fits.fits_recovery rsp (recovery_state_of node)) (fits_still rsp apart works))
@@ -225,7 +226,7 @@ module _ (node : Node) (gateway : Gateway) (number : ℕ) (marks : Marks number 
         let (work, was, so) = marks.was req now got in
         once.given q req work was (so.awaited q awaited);
     recovers = λ q waited.
-        let (found, is) = some_of (found_by (is_awaited_in q) (tree.entries gateway.works)) waited in
+        let (found, is) = has_value (found_by (is_awaited_in q) (tree.entries gateway.works)) waited in
         let (got, awaited) = found_got q gateway.works found is in
         let (work, was, so) = marks.was found.0 found.1 got in
         once.recovers q (got_found q node.gateway.works found.0 work was (so.awaited q awaited));

@@ -4,6 +4,8 @@ use Rattle.std.specs.List.{list_any}
 use Rattle.std.specs.FinMap as tree
 use Rattle.std.proofs.lemmas.Bool.{eqb-true, and_parts, or_cases}
 use Rattle.std.proofs.lemmas.List.Elements.{All-contains, Contains-append_left, Contains-append_right}
+use Rattle.proof_tools.proofs.Lists.{Contains-first, Contains-cons, Contains-filter, find-contains, Contains-map, Contains-flat_map}
+use Rattle.proof_tools.proofs.Booleans.{has_value}
 use Rattle.object_id.specs.declared.node.NodeId.{NodeId}
 use Rattle.peer_proto.specs.declared.ask.PeerReq.{PeerReq}
 use Rattle.peer_proto.specs.declared.say.PeerRsp.{PeerRsp}
@@ -12,7 +14,6 @@ use Rattle.gateway.specs.declared.message.Message.{Message}
 use Rattle.gateway.specs.Attempt.{is_unanswered, is_awaited_message, send_of}
 use Rattle.gateway.specs.State as gateways
 use Rattle.gateway.specs.State.{Work, WorkStage, Open, Ended, WaitsForMembers, open_messages, is_awaited_in}
-use Rattle.gateway.proofs.TryLaws.{found-passes}
 use Rattle.recovery.specs.State as recoveries
 use Rattle.sheep_node.specs.declared.input.Input.TheVariants as inputs
 use Rattle.sheep_node.specs.State.{Node}
@@ -23,8 +24,7 @@ use Rattle.sheep_world.specs.World.{Packet, Reply, Host, World, host_at, is_host
 use Rattle.sheep_world.specs.Conditions.{may_put, may_recover, may_retry}
 use Rattle.sheep_world.specs.Meets.{MayStepOn}
 use Rattle.sheep_world.specs.WireMatch.{unanswered_in, asked_by_gateway, asked_by_recovery, asked_by, own_name, IsInFlight, WireMatchesNodes}
-use Rattle.sheep_world.proofs.ListTools.{has-here, has-later, has-map, has-flat_map, has-filter, has-found}
-use Rattle.sheep_world.proofs.EnabledLaws.{looked_up, some_of}
+use Rattle.sheep_world.proofs.EnabledLaws.{looked_up}
 
 numbers_left : (host : Host) → is_host_up host ≡ true → has_numbers host.node ≡ true
 numbers_left host up = (and_parts (not host.is_lost) (has_numbers host.node) up).1
@@ -62,10 +62,10 @@ Passes {X} test xs = (x : X) × Contains xs x × (test x ≡ true)
 
 any_if : {X : Type 0} (test : X → Bool) (y : X) (xs : List X) (b : Bool) → test y ≡ b → (list_any test xs ≡ true → Passes test xs)
     → (b || list_any test xs) ≡ true → Passes test (y ∷ xs)
-any_if test y xs true passes rest is = (y, has-here y y xs refl, passes)
+any_if test y xs true passes rest is = (y, Contains-first y y xs refl, passes)
 any_if test y xs false passes rest is =
     let (x, there, so) = rest is in
-    (x, has-later y x xs there, so)
+    (x, Contains-cons y xs x there, so)
 
 -- where some element passes a test, there is one
 any_of : {X : Type 0} (test : X → Bool) (xs : List X) → list_any test xs ≡ true → Passes test xs
@@ -90,8 +90,8 @@ stage_asks me number work (Open attempt) is =
     let (message, there, awaited) = any_of (is_awaited_message number) attempt.messages is in
     let (same, unanswered) = awaited_parts number message awaited in (
       send_of me attempt.epoch work.work message,
-      has-map (send_of me attempt.epoch work.work) (filter (λ (message : Message). is_unanswered message.status) attempt.messages) message
-          (has-filter (λ (message : Message). is_unanswered message.status) attempt.messages message there unanswered),
+      Contains-map (send_of me attempt.epoch work.work) (filter (λ (message : Message). is_unanswered message.status) attempt.messages) message
+          (Contains-filter (λ (message : Message). is_unanswered message.status) attempt.messages message there unanswered),
       same,
     )
 stage_asks me number work Ended is = absurd (cc (is))
@@ -101,23 +101,23 @@ gateway_asks : (me : NodeId) (number : ℕ) (gateway : gateways.Gateway) → gat
     → Asks number (asked_by_gateway me gateway)
 gateway_asks me number gateway is =
     let test : ℕ × Work → Bool = λ (entry : ℕ × Work). is_awaited_in number entry.1 in
-    let (entry, found) = some_of (find test (tree.entries gateway.works)) is in
-    let (send, there, same) = stage_asks me number entry.1 entry.1.stage (found-passes test (tree.entries gateway.works) entry found) in (
+    let (entry, found) = has_value (find test (tree.entries gateway.works)) is in
+    let (send, there, same) = stage_asks me number entry.1 entry.1.stage (find-contains test (tree.entries gateway.works) entry found).1 in (
       send,
-      has-flat_map (λ (entry : ℕ × Work). unanswered_in me entry.1 entry.1.stage) (tree.entries gateway.works) entry send
-          (has-found test (tree.entries gateway.works) entry found) there,
+      Contains-flat_map (λ (entry : ℕ × Work). unanswered_in me entry.1 entry.1.stage) (tree.entries gateway.works) entry send
+          (find-contains test (tree.entries gateway.works) entry found).0 there,
       same,
     )
 
 recovery_asks : (number : ℕ) (recovery : recoveries.Recovery) → recoveries.recovery_awaits number recovery ≡ true
     → Asks number (asked_by_recovery recovery)
 recovery_asks number recovery is =
-    let (message, found) = some_of (recoveries.message_of number (recoveries.all_unanswered recovery)) is in
+    let (message, found) = has_value (recoveries.message_of number (recoveries.all_unanswered recovery)) is in
     let numbered : (message.request.number == number) ≡ true
-    = found-passes (recoveries.has_number number) (recoveries.all_unanswered recovery) message found in (
+    = (find-contains (recoveries.has_number number) (recoveries.all_unanswered recovery) message found).1 in (
       (message.to, message.request),
-      has-map (λ (message : recoveries.Message). (message.to, message.request)) (recoveries.all_unanswered recovery) message
-          (has-found (recoveries.has_number number) (recoveries.all_unanswered recovery) message found),
+      Contains-map (λ (message : recoveries.Message). (message.to, message.request)) (recoveries.all_unanswered recovery) message
+          (find-contains (recoveries.has_number number) (recoveries.all_unanswered recovery) message found).0,
       eqb-true message.request.number number numbered,
     )
 

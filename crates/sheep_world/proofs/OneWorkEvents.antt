@@ -6,6 +6,8 @@ use Rattle.std.specs.Option.{option_map_or}
 use Rattle.std.specs.FinMap as tree
 use Rattle.std.proofs.lemmas.Bool.{eqb-true, and_parts}
 use Rattle.std.proofs.lemmas.Option.{cond_some}
+use Rattle.proof_tools.proofs.Booleans.{cond_either, has_value}
+use Rattle.proof_tools.proofs.Lists.{Contains-first, Contains-cons, Contains-nil}
 use Rattle.object_id.specs.declared.entry.Entry.{Entry}
 use Rattle.object_id.specs.declared.entry.Member.{Member}
 use Rattle.object_id.specs.declared.node.NodeId.{NodeId}
@@ -22,14 +24,13 @@ use Rattle.gateway.specs.State.{Work, is_awaited_in}
 use Rattle.recovery.specs.State as recoveries
 use Rattle.recovery.specs.State.{Message}
 use Rattle.recovery.specs.Tick.{tick_messages, tick_sends, state_after_tick}
-use Rattle.recovery.proofs.StepLemmas.{either}
 use Rattle.sheep_node.specs.declared.event.Event.TheVariants as events
 use Rattle.sheep_node.specs.declared.input.Input.TheVariants as inputs
 use Rattle.sheep_node.specs.State as nodes
 use Rattle.sheep_node.specs.State.{Node, Session, new_session}
 use Rattle.sheep_node.specs.RecoveryView.{recovery_state_of}
 use Rattle.sheep_node.specs.LogReading as reading
-use Rattle.sheep_node.specs.LogReading.{come_back_with, epoch_members, recovery_begun}
+use Rattle.sheep_node.specs.LogReading.{come_back_with}
 use Rattle.sheep_node.specs.May.{may_tick}
 use Rattle.sheep_node.specs.StepState.{StepState, at_first, with_node}
 use Rattle.sheep_node.specs.Step as steps
@@ -44,16 +45,17 @@ use Rattle.sheep_world.specs.Opening as worlds
 use Rattle.sheep_world.specs.Opening.{format_entry, initial_host}
 use Rattle.sheep_world.specs.MembershipChanges.{lost_host, control_taken, host_changed, without_replies, node_lost, node_left, node_joined, node_reweighted, join_of, last_weight, revived_host, node_rejoined, came_back, phase_ended}
 use Rattle.sheep_world.specs.Step.{EventOutcome, step, only, put_made, loss_made, with_replies}
-use Rattle.sheep_world.specs.OneWork.{waiting_in, AreOfDifferentRequests, HaveOneWorkPerRequest, NumbersAreOfOneWork, NumbersAreBelow, HasOneWorkPerRequest, NodesHaveOneWorkPerRequest}
-use Rattle.sheep_world.proofs.ListTools.{has-none, has-here, has-later}
+use Rattle.sheep_node.specs.OneWork.{waiting_in, AreOfDifferentRequests, HaveOneWorkPerRequest, NumbersAreOfOneWork, NumbersAreBelow, HasOneWorkPerRequest}
+use Rattle.sheep_world.specs.OneWork.{NodesHaveOneWorkPerRequest}
 use Rattle.sheep_world.proofs.InFlightPut.{next_host}
 use Rattle.sheep_world.proofs.InFlightSends.{numbers_within}
 use Rattle.sheep_world.proofs.InFlightRecoverTick.{asked_now}
-use Rattle.sheep_world.proofs.InFlightRetryTick.{found_got, some_of, driven_after}
+use Rattle.sheep_world.proofs.InFlightRetryTick.{found_got, driven_after}
 use Rattle.sheep_world.proofs.GatewaySteps.{Works, found_by}
 use Rattle.sheep_world.proofs.OneWorkLaws.{Sessions}
 use Rattle.sheep_world.proofs.InFlightOpening.{opening_found}
-use Rattle.sheep_world.proofs.InFlightLogNext.{begun_same, reads_well}
+use Rattle.sheep_node.proofs.MessageNumbers.{unanswered_in_epoch}
+use Rattle.sheep_world.proofs.InFlightLogNext.{reads_well}
 
 -- Phase, Leave and Reweight leave the nodes alone
 pub driven-phase : (statements : List Statement) (world : World) (made : EventOutcome) → step statements events.Phase world ≡ Some made
@@ -98,7 +100,7 @@ driven-lost statements world made node is driven = subst
 driven_at_end : (so_far : StepState) → HasOneWorkPerRequest so_far.node → HasOneWorkPerRequest (recovered_put so_far).node
 unfolding recovered_put
 driven_at_end so_far driven =
-    either (λ (so_far : StepState). HasOneWorkPerRequest so_far.node) (is_due so_far.node) (with_recovered so_far) so_far
+    cond_either (λ (so_far : StepState). HasOneWorkPerRequest so_far.node) (is_due so_far.node) (with_recovered so_far) so_far
     (record {
       own = driven.own;
       driven = driven.driven;
@@ -153,12 +155,12 @@ numbered_send q (message ∷ messages) is = by_tie (message.request.number == q)
         → (send : NodeId × PeerReq) × Contains (map (λ (message : Message). (message.to, message.request)) (message ∷ messages)) send × (send.1.number ≡ q)
     by_tie true tie rest is = (
       (message.to, message.request),
-      has-here (message.to, message.request) (message.to, message.request) (map (λ (message : Message). (message.to, message.request)) messages) refl,
+      Contains-first (message.to, message.request) (message.to, message.request) (map (λ (message : Message). (message.to, message.request)) messages) refl,
       eqb-true message.request.number q tie,
     )
     by_tie false tie rest is =
         let (send, there, same) = rest is in
-        (send, has-later (message.to, message.request) send (map (λ (message : Message). (message.to, message.request)) messages) there, same)
+        (send, Contains-cons (message.to, message.request) (map (λ (message : Message). (message.to, message.request)) messages) send there, same)
 
 module _ (node : Node) (may : may_tick node ≡ true) (driven : HasOneWorkPerRequest node) where
   -- a recovery waits then for the numbers of the tick alone
@@ -186,7 +188,7 @@ module _ (node : Node) (may : may_tick node ≡ true) (driven : HasOneWorkPerReq
         let below : q < node.sends = driven.given q req work got awaited in
         omega (arith, below);
     recovers = λ q waits.
-        let (found, is) = some_of (found_by (is_awaited_in q) (tree.entries node.gateway.works)) waits in
+        let (found, is) = has_value (found_by (is_awaited_in q) (tree.entries node.gateway.works)) waits in
         let (got, awaited) = found_got q node.gateway.works found is in
         not_ticked q (driven.given q found.0 found.1 got awaited)
         (recoveries.recovery_awaits q (state_after_tick node.sends (recovery_state_of node)).recovery) refl;
@@ -219,8 +221,7 @@ none_found q work got = absurd (cc (sym (tree.get-empty nat_cmp q) ∙ got))
 
 none_waits : {P : Type 0} (q : ℕ) (waiting : lines.Waiting) → Contains (waiting_in q tree.empty) waiting → P
 none_waits q waiting there =
-    has-none waiting
-    (subst (λ (o : Option Session). Contains (unwrap_or o new_session).inode_queue.waiting waiting) (tree.get-empty nat_cmp q) there)
+    absurd (Contains-nil waiting (subst (λ (o : Option Session). Contains (unwrap_or o new_session).inode_queue.waiting waiting) (tree.get-empty nat_cmp q) there))
 
 -- a node that has nothing open, and waits for nothing
 idle_driven : (me : NodeId) (tries : ℕ) (node : Node) → node.me ≡ me → node.gateway ≡ gateways.initial_gateway me tries → node.requests ≡ tree.empty
@@ -270,8 +271,8 @@ back_driven : (entries : List Entry) (node : Node) → HasOneWorkPerRequest (rea
 unfolding reading.on_back
 back_driven entries node =
     let lone = come_back_with entries node in
-    idle_driven node.me node.gateway.tries (recovery_begun lone) refl refl refl refl
-    (begun_same lone.peer.epoch (map (λ (member : Member). member.node) (epoch_members lone)) (recovery_state_of lone))
+    idle_driven node.me node.gateway.tries (reading.on_back entries node) refl refl refl refl
+    (unanswered_in_epoch lone)
 
 came_driven : (entries : List Entry) (node : Node) → HasOneWorkPerRequest (node_step (inputs.Back entries) node).node
 unfolding node_step on_input
@@ -326,7 +327,7 @@ unfolding node_stepped
 got_all statements name to (Ok request) world driven =
     let after = node_stepped statements to.0 (inputs.Request request) world in
     let there = served_all statements world to.0 request (host_at to.0 world) refl driven in
-    either NodesHaveOneWorkPerRequest (is_up name.sender.0 after) (with_reply_packet name to after.outputs.say after) (without_message name after)
+    cond_either NodesHaveOneWorkPerRequest (is_up name.sender.0 after) (with_reply_packet name to after.outputs.say after) (without_message name after)
     (replied_all name to after.outputs.say after there) there
 got_all statements name to (Err fault) world driven = driven
 

@@ -2,8 +2,11 @@
 use Rattle.std.proofs.Common.{◌≡◌, ◌≢◌, ◌⊎◌, inl, inr, ℕ, ◌==◌, nat_lt, Bool, true, false, ◌&&◌, cond, List, [], ◌∷◌, ◌++◌, fold, Contains, Option, Some, None, is_none, unwrap_or, refl, sym, ap, subst, ◌∙◌, ⊎_elim}
 use Rattle.std.specs.Ordering.{nat_cmp}
 use Rattle.std.specs.FinMap as tree
-use Rattle.std.proofs.lemmas.Bool.{eqb-true, eq-eqb, and_parts}
+use Rattle.std.proofs.lemmas.Bool.{eqb-true, eq-eqb, and_parts, cases_eq}
 use Rattle.std.proofs.lemmas.List.Elements.{Contains-push_cases}
+use Rattle.proof_tools.proofs.Booleans.{cond_either}
+use Rattle.proof_tools.proofs.FiniteMaps.{get-insert_same, get-insert_other, get-remove_other, remove-none}
+use Rattle.proof_tools.proofs.Lists.{Contains-first, Contains-cons, Contains-nil}
 use Rattle.object_id.specs.declared.cause.Cause.{Cause}
 use Rattle.object_id.specs.declared.cause.Cause.TheVariants.{Halt}
 use Rattle.object_id.specs.declared.entry.Entry.{Entry}
@@ -29,15 +32,12 @@ use Rattle.guest_driver.specs.InodeQueue as lines
 use Rattle.guest_driver.specs.InodeQueue.{InodeQueue, may_open_work, queue_with_open, queue_with_waiting, queue_after_end, is_on_inode, first_waiting, next_work, taken_from, queue_after_start}
 use Rattle.vdi_ops.specs.declared.end.OpEnd.{OpEnd}
 use Rattle.vdi_ops.specs.Steps.{on_refusal}
-use Rattle.recovery.proofs.StepLemmas.{either}
 use Rattle.sheep_node.specs.State.{Course, Waiting, Driving, Commanding, Request, Session, Node, new_session}
 use Rattle.sheep_node.specs.StepState.{StepState, with_optional_entry, with_session, session_in, with_gateway, with_inode_queue, with_disk, with_course, request_ended}
 use Rattle.sheep_node.specs.RequestWorks.{command_refused, course_refused, request_refused, queue_left, after_start, work_begun, work_asked}
 use Rattle.sheep_node.specs.Courses.{driver_acted, driver_stepped, disk_begun}
-use Rattle.sheep_node.specs.Waiting.{next_begun, course_begun, found_request_begun, begun_if_may, passed_over, let_begin, queue_left_by, work_refused}
-use Rattle.sheep_world.specs.OneWork.{may_work, may_work_at, may_work_of, waiting_in, AreOfDifferentRequests, HaveOneWorkPerRequest}
-use Rattle.sheep_world.proofs.NumberTools.{same_or_not, got_own, got_other, got_left, removed_none}
-use Rattle.sheep_world.proofs.ListTools.{has-here, has-later, has-none}
+use Rattle.sheep_node.specs.Waiting.{next_begun, course_begun, found_request_begun, begun_if_may, passed_over, queued_requests, let_begin, work_refused}
+use Rattle.sheep_node.specs.OneWork.{may_work, may_work_at, may_work_of, waiting_in, AreOfDifferentRequests, HaveOneWorkPerRequest}
 use Rattle.sheep_world.proofs.GatewaySteps.{Works, Going, IsIdle, going_opened, going_short}
 
 abbrev pub Requests : Type 0
@@ -72,10 +72,10 @@ same_waiting : (sessions : Sessions) (number : ℕ) (session : Session) → sess
 same_waiting sessions number session same q = ⊎_elim
     (λ (own : q ≡ number).
     ap (λ (k : ℕ). waiting_in k (tree.insert sessions number session)) own
-    ∙ ap (λ (o : Option Session). (unwrap_or o new_session).inode_queue.waiting) (got_own sessions number session)
+    ∙ ap (λ (o : Option Session). (unwrap_or o new_session).inode_queue.waiting) (get-insert_same sessions number session)
     ∙ same ∙ ap (λ (k : ℕ). waiting_in k sessions) (sym own))
-    (λ (other : q ≢ number). ap (λ (o : Option Session). (unwrap_or o new_session).inode_queue.waiting) (got_other sessions number session q other))
-    (same_or_not q number)
+    (λ (other : q ≢ number). ap (λ (o : Option Session). (unwrap_or o new_session).inode_queue.waiting) (get-insert_other sessions number session q other))
+    (cases_eq q number)
 
 driven_session : (works : Works) (requests : Requests) (sessions : Sessions) (number : ℕ) (session : Session)
     → session.inode_queue.waiting ≡ waiting_in number sessions → HaveOneWorkPerRequest works requests sessions → HaveOneWorkPerRequest works requests (tree.insert sessions number session)
@@ -118,10 +118,10 @@ good_course old number req course so_far free good =
             (λ (own : q ≡ req).
             let none : tree.get so_far.node.gateway.works q ≡ None = ap (tree.get so_far.node.gateway.works) own ∙ free.idle in
             absurd (cc (there, none)))
-            (λ (other : q ≢ req). ap may_work_at (got_other requests req request q other) ∙ good.driven.open_works q work there)
-            (same_or_not q req);
+            (λ (other : q ≢ req). ap may_work_at (get-insert_other requests req request q other) ∙ good.driven.open_works q work there)
+            (cases_eq q req);
         waiting_works = λ inode_queue waiting_step there.
-            ap (may_work_of inode_queue) (got_other requests req request waiting_step.req (free.out inode_queue waiting_step there)) ∙ good.driven.waiting_works inode_queue waiting_step there;
+            ap (may_work_of inode_queue) (get-insert_other requests req request waiting_step.req (free.out inode_queue waiting_step there)) ∙ good.driven.waiting_works inode_queue waiting_step there;
         waiting_free = good.driven.waiting_free;
         apart = good.driven.apart;
       };
@@ -135,10 +135,10 @@ good_gone old req so_far free good = record {
       (λ (own : q ≡ req).
       let none : tree.get so_far.node.gateway.works q ≡ None = ap (tree.get so_far.node.gateway.works) own ∙ free.idle in
       absurd (cc (there, none)))
-      (λ (other : q ≢ req). ap may_work_at (got_left so_far.node.requests req q other) ∙ good.driven.open_works q work there)
-      (same_or_not q req);
+      (λ (other : q ≢ req). ap may_work_at (get-remove_other so_far.node.requests req q other) ∙ good.driven.open_works q work there)
+      (cases_eq q req);
   waiting_works = λ inode_queue waiting_step there.
-      ap (may_work_of inode_queue) (got_left so_far.node.requests req waiting_step.req (free.out inode_queue waiting_step there)) ∙ good.driven.waiting_works inode_queue waiting_step there;
+      ap (may_work_of inode_queue) (get-remove_other so_far.node.requests req waiting_step.req (free.out inode_queue waiting_step there)) ∙ good.driven.waiting_works inode_queue waiting_step there;
   waiting_free = good.driven.waiting_free;
   apart = good.driven.apart;
 }
@@ -149,16 +149,14 @@ unfolding request_ended
 ended_good old number req reply so_far free good = record {
   going = good.going;
   driven = driven_session so_far.node.gateway.works (tree.remove so_far.node.requests req) so_far.node.sessions number
-      (record (session_in number so_far) { queue = queue_without req (session_in number so_far).queue }) refl (good_gone old req so_far free good);
+      (record (session_in number so_far) { queue = queue_without req (session_in number so_far).queue; command = None }) refl (good_gone old req so_far free good);
 }
 
 good_appended : (old : Node) (entry : Option Entry) (so_far : StepState) → IsGood old so_far → IsGood old (with_optional_entry entry so_far)
-good_appended old None so_far good = good
-good_appended old (Some entry) so_far good = record { going = good.going; driven = good.driven }
+good_appended old entry so_far good = record { going = good.going; driven = good.driven }
 
 free_appended : (req : ℕ) (entry : Option Entry) (so_far : StepState) → IsFreeIn req so_far → IsFreeIn req (with_optional_entry entry so_far)
-free_appended req None so_far free = free
-free_appended req (Some entry) so_far free = free
+free_appended req entry so_far free = free
 
 command_refused_good : (old : Node) (number req : ℕ) (end : Option OpEnd) (so_far : StepState) → IsFreeIn req so_far → IsGood old so_far
     → IsGood old (command_refused number req end so_far)
@@ -180,8 +178,7 @@ request_refused_good old req cause (Some request) so_far free good =
 
 -- a work has left the line, in which the same wait
 finished_waiting : (inode_queue : InodeQueue) (work : ObjWork) → (queue_after_end inode_queue work).waiting ≡ inode_queue.waiting
-finished_waiting inode_queue work =
-    either (λ (after : InodeQueue). after.waiting ≡ inode_queue.waiting) (is_on_inode work) (record inode_queue { current = None }) inode_queue refl refl
+finished_waiting inode_queue work = refl
 
 pub left_good : (old : Node) (number : ℕ) (work : ObjWork) (so_far : StepState) → IsGood old so_far → IsGood old (queue_left number work so_far)
 left_good old number work so_far good =
@@ -208,16 +205,16 @@ pub driven_insert : (works : Works) (requests : Requests) (sessions : Sessions) 
 driven_insert works requests sessions req work may out driven = record {
   open_works = λ q other_work there. ⊎_elim
       (λ (own : q ≡ req). ap (λ (k : ℕ). may_work_at (tree.get requests k)) own ∙ may)
-      (λ (other : q ≢ req). driven.open_works q other_work (sym (got_other works req work q other) ∙ there))
-      (same_or_not q req);
+      (λ (other : q ≢ req). driven.open_works q other_work (sym (get-insert_other works req work q other) ∙ there))
+      (cases_eq q req);
   waiting_works = driven.waiting_works;
-  waiting_free = λ number waiting_step there. got_other works req work waiting_step.req (out number waiting_step there) ∙ driven.waiting_free number waiting_step there;
+  waiting_free = λ number waiting_step there. get-insert_other works req work waiting_step.req (out number waiting_step there) ∙ driven.waiting_free number waiting_step there;
   apart = driven.apart;
 }
 
 -- what the start of a work comes to is good
-abbrev Begins : Node → ℕ → ℕ → ObjWork → StepState → gateways.GatewayStep → Type 0
-Begins old number req work so_far step = IsGood old (after_start number req work step.act (with_gateway step.gateway so_far))
+abbrev Begins : Node → ℕ → StepState → gateways.GatewayStep → Type 0
+Begins old number so_far step = IsGood old (after_start number step.act (with_gateway step.gateway so_far))
 
 pub work_begun_good : (old : Node) (number req : ℕ) (work : ObjWork) (so_far : StepState) → IsFreeIn req so_far → MayWorkIn number req so_far → IsGood old so_far
     → IsGood old (work_begun number req work so_far)
@@ -229,10 +226,10 @@ work_begun_good old number req work so_far free may good =
     let zones = zone_count (members_at node.epochs node.peer.epoch) in
     let asked : Work = record { work = work; ended = 0; stage = Ended } in
     let targets = targets_in node.epochs node.peer.epoch (oid_of work) (policy_of work) in
-    either (Begins old number req work so_far) (nat_lt zones (zones_for work))
+    cond_either (Begins old number so_far) (nat_lt zones (zones_for work))
     (halt_step gateway req asked epoch zones) (open_step gateway req asked (next_attempt asked node.sends epoch targets))
-    (either (Begins old number req work so_far) (is_touched req gateway)
-    (waiting_step (with_work req (record asked { stage = WaitsForMembers epoch }) gateway)) (refusal_step gateway req (Halt zones (zones_for work)))
+    (cond_either (Begins old number so_far) (is_touched req gateway)
+    (waiting_step (with_work req (record asked { stage = WaitsForMembers epoch }) gateway)) (refusal_step gateway req work (Halt zones (zones_for work)))
     (record {
       going = going_short old node.me gateway.me gateway.works node.sends node.recovery node.peer so_far.outputs.sends req none_open good.going asked epoch;
       driven = driven_insert gateway.works node.requests node.sessions req (record asked { stage = WaitsForMembers epoch })
@@ -248,9 +245,9 @@ work_begun_good old number req work so_far free may good =
     none_open : (w : Work) → tree.get so_far.node.gateway.works req ≡ Some w → IsIdle w
     none_open w there = let none : tree.get so_far.node.gateway.works req ≡ None = free.idle in absurd (cc (there, none))
 
-    refused_start : (cause : Cause) → Begins old number req work so_far (refusal_step so_far.node.gateway req cause)
+    refused_start : (cause : Cause) → Begins old number so_far (refusal_step so_far.node.gateway req work cause)
     refused_start cause =
-        let same : so_far.node.gateway.works ≡ tree.remove so_far.node.gateway.works req = sym (removed_none so_far.node.gateway.works req free.idle) in
+        let same : so_far.node.gateway.works ≡ tree.remove so_far.node.gateway.works req = sym (remove-none so_far.node.gateway.works req free.idle) in
         let after = with_gateway (without_work req so_far.node.gateway) so_far in
         let good_after : IsGood old after = record {
           going = subst (λ (works : Works). Going old so_far.node.me so_far.node.gateway.me works so_far.node.sends so_far.node.recovery so_far.node.peer so_far.outputs.sends) same good.going;
@@ -264,14 +261,14 @@ work_begun_good old number req work so_far free may good =
 
 pushed_apart : (list : List lines.Waiting) (new : lines.Waiting) → ((waiting_step : lines.Waiting) → Contains list waiting_step → waiting_step.req ≢ new.req)
     → AreOfDifferentRequests list → AreOfDifferentRequests (list ++ new ∷ [])
-pushed_apart [] new out apart = (λ other there. has-none other there, tt)
+pushed_apart [] new out apart = (λ other there. absurd (Contains-nil other there), tt)
 pushed_apart (first ∷ later) new out apart = (
   λ other there. ⊎_elim
       (λ (old : Contains later other). apart.0 other old)
       (λ (own : new ≡ other) (same : other.req ≡ first.req).
-      out first (has-here first first later refl) (sym same ∙ ap (λ (w : lines.Waiting). w.req) (sym own)))
+      out first (Contains-first first first later refl) (sym same ∙ ap (λ (w : lines.Waiting). w.req) (sym own)))
       (Contains-push_cases later new other there),
-  pushed_apart later new (λ waiting_step there. out waiting_step (has-later first waiting_step later there)) apart.1,
+  pushed_apart later new (λ waiting_step there. out waiting_step (Contains-cons first later waiting_step there)) apart.1,
 )
 
 -- a work waits behind the others of its session
@@ -280,11 +277,11 @@ module _ (works : Works) (requests : Requests) (sessions : Sessions) (number : �
   own_inode_queue : (q : ℕ) → q ≡ number → waiting_in q (tree.insert sessions number session) ≡ waiting_in number sessions ++ new ∷ []
   own_inode_queue q own =
       ap (λ (k : ℕ). waiting_in k (tree.insert sessions number session)) own
-      ∙ ap (λ (o : Option Session). (unwrap_or o new_session).inode_queue.waiting) (got_own sessions number session)
+      ∙ ap (λ (o : Option Session). (unwrap_or o new_session).inode_queue.waiting) (get-insert_same sessions number session)
       ∙ behind
 
   other_inode_queue : (q : ℕ) → q ≢ number → waiting_in q (tree.insert sessions number session) ≡ waiting_in q sessions
-  other_inode_queue q other = ap (λ (o : Option Session). (unwrap_or o new_session).inode_queue.waiting) (got_other sessions number session q other)
+  other_inode_queue q other = ap (λ (o : Option Session). (unwrap_or o new_session).inode_queue.waiting) (get-insert_other sessions number session q other)
 
   waits_there : (q : ℕ) (waiting_step : lines.Waiting) → Contains (waiting_in q (tree.insert sessions number session)) waiting_step
       → Contains (waiting_in q sessions) waiting_step ⊎ ((q ≡ number) × (new ≡ waiting_step))
@@ -296,7 +293,7 @@ module _ (works : Works) (requests : Requests) (sessions : Sessions) (number : �
       (Contains-push_cases (waiting_in number sessions) new waiting_step
       (subst (λ (list : List lines.Waiting). Contains list waiting_step) (own_inode_queue q own) there)))
       (λ (other : q ≢ number). inl (subst (λ (list : List lines.Waiting). Contains list waiting_step) (other_inode_queue q other) there))
-      (same_or_not q number)
+      (cases_eq q number)
 
   driven_queued : may_work_of number (tree.get requests new.req) ≡ true → IsFree new.req works sessions → HaveOneWorkPerRequest works requests sessions
       → HaveOneWorkPerRequest works requests (tree.insert sessions number session)
@@ -316,12 +313,11 @@ module _ (works : Works) (requests : Requests) (sessions : Sessions) (number : �
         (λ (own : q ≡ number). subst AreOfDifferentRequests (sym (own_inode_queue q own))
         (pushed_apart (waiting_in number sessions) new (free.out number) (driven.apart number)))
         (λ (other : q ≢ number). subst AreOfDifferentRequests (sym (other_inode_queue q other)) (driven.apart q))
-        (same_or_not q number);
+        (cases_eq q number);
   }
 
 began_waiting : (inode_queue : InodeQueue) (req : ℕ) (work : ObjWork) → (queue_with_open inode_queue req work).waiting ≡ inode_queue.waiting
-began_waiting inode_queue req work =
-    either (λ (after : InodeQueue). after.waiting ≡ inode_queue.waiting) (is_on_inode work) (record inode_queue { current = Some req }) inode_queue refl refl
+began_waiting inode_queue req work = refl
 
 pub work_asked_good : (old : Node) (number req : ℕ) (work : ObjWork) (so_far : StepState) → IsFreeIn req so_far → MayWorkIn number req so_far → IsGood old so_far
     → IsGood old (work_asked number req work so_far)
@@ -330,7 +326,7 @@ work_asked_good old number req work so_far free may good =
     let session = session_in number so_far in
     let taken = record session { inode_queue = queue_with_open session.inode_queue req work } in
     let kept = record session { inode_queue = queue_with_waiting session.inode_queue req work } in
-    either (IsGood old) (may_open_work session.inode_queue work)
+    cond_either (IsGood old) (may_open_work session.inode_queue work)
     (work_begun number req work (with_inode_queue number (queue_with_open session.inode_queue req work) so_far))
     (with_inode_queue number (queue_with_waiting session.inode_queue req work) so_far)
     (work_begun_good old number req work (with_inode_queue number (queue_with_open session.inode_queue req work) so_far)
@@ -356,7 +352,7 @@ driver_stepped_good old number req disk step so_far free good =
     let request : Request = record { session = number; course = Driving step.driver } in
     let free_there = free_session req so_far.node.gateway.works so_far.node.sessions number session refl free in
     driver_acted_good old number req step.act (with_course number req (Driving step.driver) on_disk) free_there
-    (ap (may_work_of number) (got_own so_far.node.requests req request) ∙ ap (λ (b : Bool). b && true) (eq-eqb number number refl))
+    (ap (may_work_of number) (get-insert_same so_far.node.requests req request) ∙ ap (λ (b : Bool). b && true) (eq-eqb number number refl))
     (good_course old number req (Driving step.driver) on_disk free_there (good_session old number session so_far refl good))
 
 pub disk_begun_good : (old : Node) (number req : ℕ) (ask : DiskAsk) (disk : Option Disk) (so_far : StepState) → IsFreeIn req so_far → IsGood old so_far
@@ -369,7 +365,7 @@ disk_begun_good old number req ask (Some disk) so_far free good = driver_stepped
 pub course_begun_good : (old : Node) (number req : ℕ) (course : Course) (so_far : StepState) → (may_work course ≡ false → IsFreeIn req so_far) → IsGood old so_far
     → IsGood old (course_begun number req course so_far)
 course_begun_good old number req (Waiting ask) so_far free good =
-    either (IsGood old) (may_run req (session_in number so_far).queue) (disk_begun number req ask (session_in number so_far).disk so_far) so_far
+    cond_either (IsGood old) (may_run req (session_in number so_far).queue) (disk_begun number req ask (session_in number so_far).disk so_far) so_far
     (disk_begun_good old number req ask (session_in number so_far).disk so_far (free refl) good) good
 course_begun_good old number req (Driving driver) so_far free good = good
 course_begun_good old number req (Commanding ask op) so_far free good = good
@@ -392,18 +388,17 @@ free_of old req request so_far there never good = record {
         let may : may_work request.course ≡ true = ap may_work_at (sym there) ∙ good.driven.open_works req work open_there in
         absurd (cc (may, never))
 
-request_begun_good : (old : Node) (number req : ℕ) (request : Option Request) (so_far : StepState) → tree.get so_far.node.requests req ≡ request → IsGood old so_far
-    → IsGood old (found_request_begun number req request so_far)
-request_begun_good old number req None so_far there good = good
-request_begun_good old number req (Some request) so_far there good =
-    either (IsGood old) (request.session == number) (course_begun number req request.course so_far) so_far
-    (course_begun_good old number req request.course so_far (λ never. free_of old req request so_far there never good) good) good
+request_begun_good : (old : Node) (req : ℕ) (request : Option Request) (so_far : StepState) → tree.get so_far.node.requests req ≡ request → IsGood old so_far
+    → IsGood old (found_request_begun req request so_far)
+request_begun_good old req None so_far there good = good
+request_begun_good old req (Some request) so_far there good =
+    course_begun_good old request.session req request.course so_far (λ never. free_of old req request so_far there never good) good
 
-all_begun_good : (old : Node) (number : ℕ) (reqs : List ℕ) (so_far : StepState) → IsGood old so_far → IsGood old (fold (begun_if_may number) so_far reqs)
-all_begun_good old number [] so_far good = good
-all_begun_good old number (req ∷ reqs) so_far good =
-    all_begun_good old number reqs (begun_if_may number so_far req)
-    (request_begun_good old number req (tree.get so_far.node.requests req) so_far refl good)
+all_begun_good : (old : Node) (reqs : List ℕ) (so_far : StepState) → IsGood old so_far → IsGood old (fold begun_if_may so_far reqs)
+all_begun_good old [] so_far good = good
+all_begun_good old (req ∷ reqs) so_far good =
+    all_begun_good old reqs (begun_if_may so_far req)
+    (request_begun_good old req (tree.get so_far.node.requests req) so_far refl good)
 
 -- the first work that waits leaves its line
 module _ (works : Works) (requests : Requests) (sessions : Sessions) (number : ℕ) (session : Session) (first : lines.Waiting) (later : List lines.Waiting)
@@ -411,20 +406,20 @@ module _ (works : Works) (requests : Requests) (sessions : Sessions) (number : �
   left_inode_queue_of : (q : ℕ) → q ≡ number → waiting_in q (tree.insert sessions number session) ≡ later
   left_inode_queue_of q own =
       ap (λ (k : ℕ). waiting_in k (tree.insert sessions number session)) own
-      ∙ ap (λ (o : Option Session). (unwrap_or o new_session).inode_queue.waiting) (got_own sessions number session)
+      ∙ ap (λ (o : Option Session). (unwrap_or o new_session).inode_queue.waiting) (get-insert_same sessions number session)
       ∙ now
 
   kept_inode_queue : (q : ℕ) → q ≢ number → waiting_in q (tree.insert sessions number session) ≡ waiting_in q sessions
-  kept_inode_queue q other = ap (λ (o : Option Session). (unwrap_or o new_session).inode_queue.waiting) (got_other sessions number session q other)
+  kept_inode_queue q other = ap (λ (o : Option Session). (unwrap_or o new_session).inode_queue.waiting) (get-insert_other sessions number session q other)
 
   waited_before : (q : ℕ) (waiting_step : lines.Waiting) → Contains (waiting_in q (tree.insert sessions number session)) waiting_step
       → Contains (waiting_in q sessions) waiting_step
   waited_before q waiting_step there = ⊎_elim
       (λ (own : q ≡ number).
       subst (λ (list : List lines.Waiting). Contains list waiting_step) (sym (ap (λ (k : ℕ). waiting_in k sessions) own ∙ was))
-      (has-later first waiting_step later (subst (λ (list : List lines.Waiting). Contains list waiting_step) (left_inode_queue_of q own) there)))
+      (Contains-cons first later waiting_step (subst (λ (list : List lines.Waiting). Contains list waiting_step) (left_inode_queue_of q own) there)))
       (λ (other : q ≢ number). subst (λ (list : List lines.Waiting). Contains list waiting_step) (kept_inode_queue q other) there)
-      (same_or_not q number)
+      (cases_eq q number)
 
   apart_there : AreOfDifferentRequests (first ∷ later)
   apart_there = subst AreOfDifferentRequests was (driven.apart number)
@@ -437,11 +432,11 @@ module _ (works : Works) (requests : Requests) (sessions : Sessions) (number : �
     apart = λ q. ⊎_elim
         (λ (own : q ≡ number). subst AreOfDifferentRequests (sym (left_inode_queue_of q own)) apart_there.1)
         (λ (other : q ≢ number). subst AreOfDifferentRequests (sym (kept_inode_queue q other)) (driven.apart q))
-        (same_or_not q number);
+        (cases_eq q number);
   }
 
   first_waits : Contains (waiting_in number sessions) first
-  first_waits = subst (λ (list : List lines.Waiting). Contains list first) (sym was) (has-here first first later refl)
+  first_waits = subst (λ (list : List lines.Waiting). Contains list first) (sym was) (Contains-first first first later refl)
 
   -- a request is of one session
   one_session : (q : ℕ) (request : Option Request) → may_work_of q request ≡ true → may_work_of number request ≡ true → q ≡ number
@@ -462,7 +457,7 @@ module _ (works : Works) (requests : Requests) (sessions : Sessions) (number : �
         (ap (λ (req : ℕ). may_work_of q (tree.get requests req)) (sym same)
         ∙ driven.waiting_works q waiting_step (subst (λ (list : List lines.Waiting). Contains list waiting_step) (kept_inode_queue q other) there))
         (driven.waiting_works number first first_waits)))
-        (same_or_not q number);
+        (cases_eq q number);
   }
 
 -- a work that waited begins, with its session's line as it is then
@@ -483,7 +478,7 @@ next_begun_good old number so_far good =
         let session = record (session_in number so_far) { inode_queue = taken } in
         work_begun_good old number first.req first.work (with_inode_queue number taken so_far)
         (free_taken so_far.node.gateway.works so_far.node.requests so_far.node.sessions number session first later is refl good.driven)
-        (good.driven.waiting_works number first (subst (λ (list : List lines.Waiting). Contains list first) (sym is) (has-here first first later refl)))
+        (good.driven.waiting_works number first (subst (λ (list : List lines.Waiting). Contains list first) (sym is) (Contains-first first first later refl)))
         (record {
           going = good.going;
           driven = driven_taken so_far.node.gateway.works so_far.node.requests so_far.node.sessions number session first later is refl good.driven;
@@ -498,22 +493,14 @@ next_begun_good old number so_far good =
 pub let_begin_good : (old : Node) (number : ℕ) (so_far : StepState) → IsGood old so_far → IsGood old (let_begin number so_far)
 unfolding let_begin passed_over
 let_begin_good old number so_far good =
-    all_begun_good old number (tree.keys so_far.node.requests) (next_begun number (next_work (session_in number so_far).inode_queue) so_far)
+    all_begun_good old (queued_requests (session_in number so_far)) (next_begun number (next_work (session_in number so_far).inode_queue) so_far)
     (next_begun_good old number so_far good)
 
-pub left_by_good : (old : Node) (number : ℕ) (work : Option Work) (so_far : StepState) → IsGood old so_far → IsGood old (queue_left_by number work so_far)
-left_by_good old number None so_far good = good
-left_by_good old number (Some work) so_far good = left_good old number work.work so_far good
-
-pub left_by_free : (req number : ℕ) (work : Option Work) (so_far : StepState) → IsFreeIn req so_far → IsFreeIn req (queue_left_by number work so_far)
-left_by_free req number None so_far free = free
-left_by_free req number (Some work) so_far free = left_free req number work.work so_far free
-
 -- a request whose work was refused ends, and what waited begins
-pub work_refused_good : (old : Node) (work : Option Work) (req : ℕ) (cause : Cause) (request : Option Request) (so_far : StepState) → IsFreeIn req so_far
+pub work_refused_good : (old : Node) (work : ObjWork) (req : ℕ) (cause : Cause) (request : Option Request) (so_far : StepState) → IsFreeIn req so_far
     → IsGood old so_far → IsGood old (work_refused work req cause request so_far)
 work_refused_good old work req cause None so_far free good = good
 work_refused_good old work req cause (Some request) so_far free good =
-    let_begin_good old request.session (request_refused req cause (Some request) (queue_left_by request.session work so_far))
-    (request_refused_good old req cause (Some request) (queue_left_by request.session work so_far)
-    (left_by_free req request.session work so_far free) (left_by_good old request.session work so_far good))
+    let_begin_good old request.session (request_refused req cause (Some request) (queue_left request.session work so_far))
+    (request_refused_good old req cause (Some request) (queue_left request.session work so_far)
+    (left_free req request.session work so_far free) (left_good old request.session work so_far good))

@@ -16,6 +16,7 @@ use Rattle.vnode_table.specs.Epochs.{members_at}
 use Rattle.vdi_directory.specs.Effects.{header_of}
 use Rattle.vdi_directory.specs.Decisions.{log_effects}
 use Rattle.std.specs.Option.{option_and_then}
+use Rattle.proof_tools.proofs.Booleans.{cond_either}
 use Rattle.cluster_script.specs.Settings.{tries_of}
 use Rattle.cluster_script.specs.NumberedRequests.{session_of, request_at}
 use Rattle.cluster_script.specs.Sessions.{ScriptSession, session_numbered}
@@ -41,7 +42,7 @@ use Rattle.recovery.specs.Range.{IsInRange}
 use Rattle.recovery.specs.Shown.{NodeView}
 use Rattle.recovery.specs.State.{Recovery}
 use Rattle.recovery.specs.Steps as recovery_steps
-use Rattle.recovery.proofs.StepLemmas.{either, frame_of_end}
+use Rattle.recovery.proofs.StepLemmas.{frame_of_end}
 use Rattle.recovery.proofs.RangeLemmas.{ended_in_range}
 use Rattle.sheep_node.specs.declared.event.Event.TheVariants as events
 use Rattle.sheep_node.specs.declared.input.Input.TheVariants as inputs
@@ -51,8 +52,7 @@ use Rattle.sheep_node.specs.StepState.{StepState, at_first}
 use Rattle.sheep_node.specs.Waiting.{after_gateway_step}
 use Rattle.sheep_node.specs.Step as steps
 use Rattle.sheep_node.specs.Step.{recovery_stepped, on_put, recovered_put, on_input, node_step}
-use Rattle.sheep_node.proofs.Sound.{Place}
-use Rattle.sheep_node.proofs.SoundSteps.{stepped_place}
+use Rattle.sheep_node.proofs.StepResults.{step_epochs_stay}
 use Rattle.sheep_world.specs.declared.name.MessageName.{MessageName}
 use Rattle.sheep_world.specs.World.{Packet, Host, World, host_at, is_up, message_at, are_ends_up}
 use Rattle.sheep_world.specs.Conditions as conditions
@@ -64,8 +64,10 @@ use Rattle.sheep_world.specs.Effects.{request_started, requests_started, next_in
 use Rattle.sheep_world.specs.Messages.{without_message, loss_used, loss_told, message_lost}
 use Rattle.sheep_world.specs.MembershipChanges.{lost_host, control_taken, host_changed, without_replies, node_lost, node_left, node_joined, node_reweighted, phase_ended}
 use Rattle.sheep_world.specs.Step.{EventOutcome, step, only, put_made, loss_made, guest_made, with_replies}
-use Rattle.sheep_world.specs.OneWork.{HasOneWorkPerRequest, NodesHaveOneWorkPerRequest, IsNewRequest}
-use Rattle.sheep_world.specs.Ranges.{RecoversInRange, AllRecoverInRange, RecoveriesAreInRange}
+use Rattle.sheep_node.specs.OneWork.{HasOneWorkPerRequest}
+use Rattle.sheep_world.specs.OneWork.{NodesHaveOneWorkPerRequest, IsNewRequest}
+use Rattle.sheep_node.specs.RecoveryRange.{RecoversInRange}
+use Rattle.sheep_world.specs.Ranges.{AllRecoverInRange, RecoveriesAreInRange}
 use Rattle.sheep_world.proofs.InFlightPut.{next_host}
 use Rattle.sheep_world.proofs.InFlightRecoverTick.{range_at_end, range_after}
 use Rattle.sheep_world.proofs.OneWorkLaws.{IsGood}
@@ -170,7 +172,7 @@ retry_all statements world n (Some host) at driven range =
     let so_far = node_step inputs.RetryTick host.node in
     range_after world.hosts n (next_host host so_far.node)
     (good_range host.node so_far (retry_good host.node (driven n host at))
-    (ap (λ (place : Place). place.epochs) (stepped_place inputs.RetryTick host.node)) (range n host at)) range
+    (step_epochs_stay inputs.RetryTick host.node tt (driven n host at) refl) (range n host at)) range
 
 pub range-retry : (statements : List Statement) (world : World) (made : EventOutcome) (node : NodeId) → step statements (events.RetryTick node) world ≡ Some made
     → NodesHaveOneWorkPerRequest world → RecoveriesAreInRange world → RecoveriesAreInRange made.world
@@ -215,7 +217,7 @@ told_range node number driven range = by_waits (gateways.gateway_awaits number n
         let good : IsGood between (node_step (inputs.Lost number) node)
         = subst (IsGood between) (sym is) (good_at_end between so_far (settled_good node driven number Lost refl waits)) in
         good_range between (node_step (inputs.Lost number) node) good
-        (ap (λ (place : Place). place.epochs) (stepped_place (inputs.Lost number) node)) (record { own = range.own; range = range.range })
+        (step_epochs_stay (inputs.Lost number) node tt driven refl) (record { own = range.own; range = range.range })
     by_waits false none =
         let is : node_step (inputs.Lost number) node ≡ recovered_put (recovery_stepped (recovery_steps.recovery_on_loss number (recovery_state_of node)) (at_first node))
         = ap (λ (b : Bool). recovered_put (cond b (after_gateway_step (message_ended node.gateway number Lost) (at_first node))
@@ -232,7 +234,7 @@ loss_range : (statements : List Statement) (name : MessageName) (world : World) 
     → RecoveriesAreInRange (loss_told statements name (without_message name world))
 unfolding node_stepped
 loss_range statements name world driven range =
-    either RecoveriesAreInRange (is_up name.sender.0 (without_message name world))
+    cond_either RecoveriesAreInRange (is_up name.sender.0 (without_message name world))
     (node_stepped statements name.sender.0 (inputs.Lost name.number) (without_message name world)) (without_message name world)
     (told_all statements (without_message name world) name.sender.0 name.number (host_at name.sender.0 world) refl driven range) range
 
@@ -245,7 +247,7 @@ lose_range statements name world driven range = by_packet (message_at name world
     by_packet None = loss_range statements name (at_rest world) driven range
     by_packet (Some packet) =
         let fewer = record (at_rest world) { losses = world.losses - 1 } in
-        either (λ (w : World). RecoveriesAreInRange (loss_told statements name (without_message name w))) (are_ends_up name packet (at_rest world)) fewer (at_rest world)
+        cond_either (λ (w : World). RecoveriesAreInRange (loss_told statements name (without_message name w))) (are_ends_up name packet (at_rest world)) fewer (at_rest world)
         (loss_range statements name fewer driven range) (loss_range statements name (at_rest world) driven range)
 
 pub range-lose_request : (statements : List Statement) (world : World) (made : EventOutcome) (node : NodeId) (number : ℕ)
@@ -326,7 +328,7 @@ module _ (statements : List Statement) (number : ℕ) (world : World) (session :
   range_by req next (Some of) (Some ask) =
       λ host at. good_range host.node (node_step (inputs.Guest req of ask) host.node)
       (guest_good host.node req of ask (driven session.node host at) (new session req host found next at))
-      (ap (λ (place : Place). place.epochs) (stepped_place (inputs.Guest req of ask) host.node)) (range session.node host at)
+      (step_epochs_stay (inputs.Guest req of ask) host.node (new session req host found next at) (driven session.node host at) refl) (range session.node host at)
 
   range_at : (req : ℕ) → next_request statements number world ≡ Some req → (inode_queue : Option Statement)
       → StepsInRange session.node (option_and_then (λ s. input_by req (session_of s) (ask_of_statement s)) inode_queue) world

@@ -35,7 +35,8 @@ use Rattle.sheep_node.specs.Step.{on_input, node_step}
 use Rattle.sheep_world.specs.World.{Host}
 use Rattle.sheep_world.specs.Opening as worlds
 use Rattle.sheep_world.specs.Opening.{initial_member_node, initial_host, initial_member_host, before_phases}
-use Rattle.sheep_world.specs.Ranges.{RecoversInRange, RecoveriesAreInRange}
+use Rattle.sheep_node.specs.RecoveryRange.{RecoversInRange}
+use Rattle.sheep_world.specs.Ranges.{RecoveriesAreInRange}
 use Rattle.sheep_world.proofs.InFlightEvents.{none_there}
 use Rattle.sheep_world.proofs.InFlightOpening.{nobody_asks, opening_found}
 use Rattle.sheep_world.proofs.InFlightRecoverTick.{range_at_end}

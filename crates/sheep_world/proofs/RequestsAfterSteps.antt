@@ -2,6 +2,10 @@
 use Rattle.std.proofs.Common.{◌≡◌, ◌≢◌, ℕ, ◌==◌, nat_lt, cond, List, [], ◌∷◌, fold, Option, Some, None, refl, sym, ap, subst, ◌∙◌, ⊎_elim}
 use Rattle.std.specs.Ordering.{nat_cmp}
 use Rattle.std.specs.FinMap as tree
+use Rattle.std.proofs.lemmas.Bool.{cases_eq}
+use Rattle.proof_tools.proofs.Booleans.{cond_either}
+use Rattle.proof_tools.proofs.FiniteMaps.{get-remove_same, get-remove_other, get-insert_cases, get-entry}
+use Rattle.proof_tools.proofs.Lists.{find-contains}
 use Rattle.object_id.specs.declared.cause.Cause.{Cause}
 use Rattle.object_id.specs.declared.entry.Entry.{Entry}
 use Rattle.epoch_log.specs.Epochs.{begins_epoch, epoch_of, settled_of}
@@ -21,7 +25,6 @@ use Rattle.gateway.specs.State as gateways
 use Rattle.gateway.specs.State.{Gateway}
 use Rattle.gateway.specs.Step as gateway_steps
 use Rattle.gateway_queue.specs.Queue.{may_run}
-use Rattle.recovery.proofs.StepLemmas.{either}
 use Rattle.recovery.specs.Steps as recovery_steps
 use Rattle.guest_driver.specs.declared.disk.Disk.{Disk}
 use Rattle.guest_driver.specs.declared.act.DriverAct.{DriverAct}
@@ -44,18 +47,14 @@ use Rattle.sheep_node.specs.State.{Course, Waiting, Driving, Commanding, Request
 use Rattle.sheep_node.specs.RecoveryView.{recovery_state_of}
 use Rattle.sheep_node.specs.StepState.{StepState, at_first, with_node, with_optional_entry, with_gateway, session_in, with_inode_queue, with_disk, with_course, request_ended}
 use Rattle.sheep_node.specs.RequestWorks.{command_refused, course_refused, request_refused, queue_left, after_start, start_of, work_begun, work_asked}
-use Rattle.sheep_node.specs.Courses.{driver_acted, driver_stepped, driver_went_on, disk_went_on, disk_begun, disk_after, command_acted, command_stepped, command_went_on, course_went_on, course_decided}
-use Rattle.sheep_node.specs.Waiting.{next_begun, course_begun, found_request_begun, begun_if_may, passed_over, let_begin, queue_left_by, work_done, work_refused, after_act, after_gateway_step}
+use Rattle.sheep_node.specs.Courses.{driver_acted, driver_stepped, driver_went_on, disk_went_on, disk_begun, after_command_step, command_acted, command_stepped, command_went_on, course_went_on, course_decided}
+use Rattle.sheep_node.specs.Waiting.{next_begun, course_begun, found_request_begun, begun_if_may, passed_over, queued_requests, let_begin, work_done, work_refused, after_act, after_gateway_step}
 use Rattle.sheep_node.specs.Guests as guests
 use Rattle.sheep_node.specs.Guests.{request_refusal, inode_open, with_queued_request, request_taken, request_taken_unless}
-use Rattle.sheep_node.specs.Same.{waits_for_entry}
-use Rattle.sheep_node.specs.LogReading.{with_peer, with_epoch_members, peer_entered, is_epoch_member, recovery_begun, epoch_entered, entered_by, settled_by, entry_read, asker_of, decision_told, on_log_entry, on_back}
+use Rattle.sheep_node.specs.AwaitedEntry.{waits_for_entry}
+use Rattle.sheep_node.specs.LogReading.{entry_read, asker_of, decision_told, on_log_entry, on_back}
 use Rattle.sheep_node.specs.Step as steps
 use Rattle.sheep_node.specs.Step.{on_request, recovery_stepped, on_reply, on_put, on_recover_tick, on_retry_tick, on_input, is_due, with_recovered, recovered_put, node_step}
-use Rattle.sheep_world.proofs.ListTools.{has-found}
-use Rattle.sheep_world.proofs.NumberTools.{same_or_not, got_removed, got_left}
-use Rattle.sheep_world.proofs.InFlightRetryTick.{got_entry}
-use Rattle.sheep_world.proofs.InFlightEvents.{got_insert}
 
 module _ (P : ℕ → Type 0) where
   -- each request among some is so
@@ -74,15 +73,15 @@ module _ (P : ℕ → Type 0) where
   are_with requests req request so all q at got = ⊎_elim
       (λ (own : (q ≡ req) × (request ≡ at)). subst P (sym own.0) so)
       (λ (other : (q ≢ req) × (tree.get requests q ≡ Some at)). all q at other.1)
-      (got_insert requests req request q at got)
+      (get-insert_cases requests req request q at got)
 
   are_left : (requests : tree.FinMap nat_cmp Request) (req : ℕ) → AllAre requests → AllAre (tree.remove requests req)
   are_left requests req all q at got = ⊎_elim
       (λ (own : q ≡ req).
-      let none : tree.get (tree.remove requests req) q ≡ None = ap (tree.get (tree.remove requests req)) own ∙ got_removed requests req in
+      let none : tree.get (tree.remove requests req) q ≡ None = ap (tree.get (tree.remove requests req)) own ∙ get-remove_same requests req in
       absurd (cc (none, got)))
-      (λ (other : q ≢ req). all q at (sym (got_left requests req q other) ∙ got))
-      (same_or_not q req)
+      (λ (other : q ≢ req). all q at (sym (get-remove_other requests req q other) ∙ got))
+      (cases_eq q req)
 
   -- ---- works
 
@@ -91,8 +90,7 @@ module _ (P : ℕ → Type 0) where
   ended_are number req reply so_far all = are_left so_far.node.requests req all
 
   appended_are : (entry : Option Entry) (so_far : StepState) → AreIn so_far → AreIn (with_optional_entry entry so_far)
-  appended_are None so_far all = all
-  appended_are (Some entry) so_far all = all
+  appended_are entry so_far all = all
 
   command_refused_are : (number req : ℕ) (end : Option OpEnd) (so_far : StepState) → AreIn so_far → AreIn (command_refused number req end so_far)
   command_refused_are number req None so_far all = all
@@ -110,22 +108,22 @@ module _ (P : ℕ → Type 0) where
   request_refused_are req cause None so_far all = all
   request_refused_are req cause (Some request) so_far all = course_refused_are request.session req cause request.course so_far all
 
-  after_start_are : (number req : ℕ) (work : ObjWork) (act : Act) (so_far : StepState) → AreIn so_far → AreIn (after_start number req work act so_far)
-  after_start_are number req work (acts.Send sends) so_far all = all
-  after_start_are number req work acts.Wait so_far all = all
-  after_start_are number req work (acts.Done done) so_far all = all
-  after_start_are number req work (acts.Refused of cause) so_far all =
+  after_start_are : (number : ℕ) (act : Act) (so_far : StepState) → AreIn so_far → AreIn (after_start number act so_far)
+  after_start_are number (acts.Send sends) so_far all = all
+  after_start_are number acts.Wait so_far all = all
+  after_start_are number (acts.Done work done) so_far all = all
+  after_start_are number (acts.Refused work req cause) so_far all =
       request_refused_are req cause (tree.get so_far.node.requests req) (queue_left number work so_far) all
 
   work_begun_are : (number req : ℕ) (work : ObjWork) (so_far : StepState) → AreIn so_far → AreIn (work_begun number req work so_far)
   unfolding work_begun
   work_begun_are number req work so_far all =
-      after_start_are number req work (start_of req work so_far.node).act (with_gateway (start_of req work so_far.node).gateway so_far) all
+      after_start_are number (start_of req work so_far.node).act (with_gateway (start_of req work so_far.node).gateway so_far) all
 
   work_asked_are : (number req : ℕ) (work : ObjWork) (so_far : StepState) → AreIn so_far → AreIn (work_asked number req work so_far)
   unfolding work_asked
   work_asked_are number req work so_far all =
-      either AreIn (may_open_work (session_in number so_far).inode_queue work)
+      cond_either AreIn (may_open_work (session_in number so_far).inode_queue work)
       (work_begun number req work (with_inode_queue number (queue_with_open (session_in number so_far).inode_queue req work) so_far))
       (with_inode_queue number (queue_with_waiting (session_in number so_far).inode_queue req work) so_far)
       (work_begun_are number req work (with_inode_queue number (queue_with_open (session_in number so_far).inode_queue req work) so_far) all) all
@@ -160,18 +158,16 @@ module _ (P : ℕ → Type 0) where
   disk_begun_are number req ask None so_far so all = all
   disk_begun_are number req ask (Some disk) so_far so all = driver_stepped_are number req disk (drivers.begin_driver disk ask) so_far so all
 
-  command_acted_are : (number req : ℕ) (ask : VdiAsk) (op : Op) (act : OpAct) (so_far : StepState) → AreIn so_far
-      → AreIn (command_acted number req ask op act so_far)
-  command_acted_are number req ask op (op_acts.Append entry) so_far all = all
-  command_acted_are number req ask op (op_acts.Work work) so_far all = work_asked_are number req work so_far all
-  command_acted_are number req ask op (op_acts.Reply reply) so_far all =
-      ended_are number req reply (with_disk number (disk_after ask (opened_inode op) (session_in number so_far).disk) so_far) all
+  command_acted_are : (number req : ℕ) (act : OpAct) (so_far : StepState) → AreIn so_far → AreIn (command_acted number req act so_far)
+  command_acted_are number req (op_acts.Append entry) so_far all = all
+  command_acted_are number req (op_acts.Work work) so_far all = work_asked_are number req work so_far all
+  command_acted_are number req (op_acts.Reply reply) so_far all = ended_are number req reply so_far all
 
   command_stepped_are : (number req : ℕ) (ask : VdiAsk) (step : ops.OpStep) (so_far : StepState) → P req → AreIn so_far
       → AreIn (command_stepped number req ask step so_far)
   unfolding command_stepped
   command_stepped_are number req ask step so_far so all =
-      command_acted_are number req ask step.op step.act (with_course number req (Commanding ask step.op) so_far)
+      command_acted_are number req step.act (after_command_step number req ask step so_far)
       (are_with so_far.node.requests req (record { session = number; course = Commanding ask step.op }) so all)
 
   command_went_on_are : (number req : ℕ) (ask : VdiAsk) (step : Option ops.OpStep) (so_far : StepState) → P req → AreIn so_far
@@ -199,22 +195,20 @@ module _ (P : ℕ → Type 0) where
 
   course_begun_are : (number req : ℕ) (course : Course) (so_far : StepState) → P req → AreIn so_far → AreIn (course_begun number req course so_far)
   course_begun_are number req (Waiting ask) so_far so all =
-      either AreIn (may_run req (session_in number so_far).queue) (disk_begun number req ask (session_in number so_far).disk so_far) so_far
+      cond_either AreIn (may_run req (session_in number so_far).queue) (disk_begun number req ask (session_in number so_far).disk so_far) so_far
       (disk_begun_are number req ask (session_in number so_far).disk so_far so all) all
   course_begun_are number req (Driving driver) so_far so all = all
   course_begun_are number req (Commanding ask op) so_far so all = all
 
-  request_begun_are : (number req : ℕ) (request : Option Request) (so_far : StepState) → tree.get so_far.node.requests req ≡ request → AreIn so_far
-      → AreIn (found_request_begun number req request so_far)
-  request_begun_are number req None so_far there all = all
-  request_begun_are number req (Some request) so_far there all =
-      either AreIn (request.session == number) (course_begun number req request.course so_far) so_far
-      (course_begun_are number req request.course so_far (all req request there) all) all
+  request_begun_are : (req : ℕ) (request : Option Request) (so_far : StepState) → tree.get so_far.node.requests req ≡ request → AreIn so_far
+      → AreIn (found_request_begun req request so_far)
+  request_begun_are req None so_far there all = all
+  request_begun_are req (Some request) so_far there all = course_begun_are request.session req request.course so_far (all req request there) all
 
-  all_begun_are : (number : ℕ) (reqs : List ℕ) (so_far : StepState) → AreIn so_far → AreIn (fold (begun_if_may number) so_far reqs)
-  all_begun_are number [] so_far all = all
-  all_begun_are number (req ∷ reqs) so_far all =
-      all_begun_are number reqs (begun_if_may number so_far req) (request_begun_are number req (tree.get so_far.node.requests req) so_far refl all)
+  all_begun_are : (reqs : List ℕ) (so_far : StepState) → AreIn so_far → AreIn (fold begun_if_may so_far reqs)
+  all_begun_are [] so_far all = all
+  all_begun_are (req ∷ reqs) so_far all =
+      all_begun_are reqs (begun_if_may so_far req) (request_begun_are req (tree.get so_far.node.requests req) so_far refl all)
 
   next_begun_are : (number : ℕ) (next : Option lines.Waiting) (so_far : StepState) → AreIn so_far → AreIn (next_begun number next so_far)
   next_begun_are number None so_far all = all
@@ -224,39 +218,32 @@ module _ (P : ℕ → Type 0) where
   let_begin_are : (number : ℕ) (so_far : StepState) → AreIn so_far → AreIn (let_begin number so_far)
   unfolding let_begin passed_over
   let_begin_are number so_far all =
-      all_begun_are number (tree.keys so_far.node.requests) (next_begun number (next_work (session_in number so_far).inode_queue) so_far)
+      all_begun_are (queued_requests (session_in number so_far)) (next_begun number (next_work (session_in number so_far).inode_queue) so_far)
       (next_begun_are number (next_work (session_in number so_far).inode_queue) so_far all)
 
-  left_by_are : (number : ℕ) (work : Option gateways.Work) (so_far : StepState) → AreIn so_far → AreIn (queue_left_by number work so_far)
-  left_by_are number None so_far all = all
-  left_by_are number (Some work) so_far all = all
-
-  work_done_are : (work : Option gateways.Work) (req : ℕ) (bytes : List ℕ) (request : Option Request) (so_far : StepState)
+  work_done_are : (work : ObjWork) (req : ℕ) (bytes : List ℕ) (request : Option Request) (so_far : StepState)
       → tree.get so_far.node.requests req ≡ request → AreIn so_far → AreIn (work_done work req bytes request so_far)
   work_done_are work req bytes None so_far there all = all
   work_done_are work req bytes (Some request) so_far there all =
-      let_begin_are request.session (course_went_on request.session req bytes request.course (queue_left_by request.session work so_far))
-      (course_went_on_are request.session req bytes request.course (queue_left_by request.session work so_far) (all req request there)
-      (left_by_are request.session work so_far all))
+      let_begin_are request.session (course_went_on request.session req bytes request.course (queue_left request.session work so_far))
+      (course_went_on_are request.session req bytes request.course (queue_left request.session work so_far) (all req request there) all)
 
-  work_refused_are : (work : Option gateways.Work) (req : ℕ) (cause : Cause) (request : Option Request) (so_far : StepState) → AreIn so_far
+  work_refused_are : (work : ObjWork) (req : ℕ) (cause : Cause) (request : Option Request) (so_far : StepState) → AreIn so_far
       → AreIn (work_refused work req cause request so_far)
   work_refused_are work req cause None so_far all = all
   work_refused_are work req cause (Some request) so_far all =
-      let_begin_are request.session (request_refused req cause (Some request) (queue_left_by request.session work so_far))
-      (request_refused_are req cause (Some request) (queue_left_by request.session work so_far) (left_by_are request.session work so_far all))
+      let_begin_are request.session (request_refused req cause (Some request) (queue_left request.session work so_far))
+      (request_refused_are req cause (Some request) (queue_left request.session work so_far) all)
 
-  acted_are : (before : Gateway) (act : Act) (so_far : StepState) → AreIn so_far → AreIn (after_act before act so_far)
-  acted_are before (acts.Send sends) so_far all = all
-  acted_are before acts.Wait so_far all = all
-  acted_are before (acts.Done done) so_far all =
-      work_done_are (tree.get before.works done.req) done.req done.bytes (tree.get so_far.node.requests done.req) so_far refl all
-  acted_are before (acts.Refused req cause) so_far all =
-      work_refused_are (tree.get before.works req) req cause (tree.get so_far.node.requests req) so_far all
+  acted_are : (act : Act) (so_far : StepState) → AreIn so_far → AreIn (after_act act so_far)
+  acted_are (acts.Send sends) so_far all = all
+  acted_are acts.Wait so_far all = all
+  acted_are (acts.Done work done) so_far all = work_done_are work done.req done.bytes (tree.get so_far.node.requests done.req) so_far refl all
+  acted_are (acts.Refused work req cause) so_far all = work_refused_are work req cause (tree.get so_far.node.requests req) so_far all
 
   gateway_stepped_are : (step : gateway_steps.GatewayStep) (so_far : StepState) → AreIn so_far → AreIn (after_gateway_step step so_far)
   unfolding after_gateway_step
-  gateway_stepped_are step so_far all = acted_are so_far.node.gateway step.act (with_gateway step.gateway so_far) all
+  gateway_stepped_are step so_far all = acted_are step.act (with_gateway step.gateway so_far) all
 
   -- ---- a guest's request
 
@@ -272,6 +259,8 @@ module _ (P : ℕ → Type 0) where
       (pushed_are number req ask disk waiting (are_with so_far.node.requests req (record { session = number; course = Waiting ask }) so all))
   taken_are number req (asks.Vdi ask) so_far so all =
       command_went_on_are number req ask (begin_command so_far.node.me number ask (inode_open (session_in number so_far).disk)) so_far so all
+  taken_are number req (asks.Object work) so_far so all = all
+  taken_are number req (asks.Entry entry) so_far so all = all
 
   taken_unless_are : (cause : Option Cause) (number req : ℕ) (ask : Ask) (so_far : StepState) → P req → AreIn so_far
       → AreIn (request_taken_unless cause number req ask so_far)
@@ -280,24 +269,9 @@ module _ (P : ℕ → Type 0) where
 
   -- ---- an entry of the log
 
-  settled_are : (settled : ℕ) (node : Node) → AreOf node → AreOf (settled_by settled node)
-  settled_are settled node all = either AreOf (nat_lt node.peer.settled settled) (with_peer (peer_settled_to settled node.peer) node) node all all
-
-  epoch_are : (node : Node) → AreOf node → AreOf (epoch_entered node)
-  epoch_are node all =
-      let entered = peer_entered (with_epoch_members (epoch_of node.peer.entries) node) in
-      either AreOf (is_epoch_member entered) (recovery_begun entered) entered all all
-
-  entered_are : (entry : Entry) (node : Node) → AreOf node → AreOf (entered_by entry node)
-  entered_are entry node all =
-      either AreOf (begins_epoch entry) (epoch_entered node) (cond (is_format entry) (with_epoch_members 1 node) node) (epoch_are node all)
-      (either AreOf (is_format entry) (with_epoch_members 1 node) node all all)
-
   entry_are : (entry : Entry) (node : Node) → AreOf node → AreOf (entry_read entry node)
   unfolding entry_read
-  entry_are entry node all =
-      settled_are (settled_of (read_entry entry node.peer).entries) (entered_by entry (with_peer (read_entry entry node.peer) node))
-      (entered_are entry (with_peer (read_entry entry node.peer) node) all)
+  entry_are entry node all = all
 
   told_are : (decision : Decision) (found : Option (ℕ × Request)) (so_far : StepState) → ((one : ℕ × Request) → found ≡ Some one → P one.0) → AreIn so_far
       → AreIn (decision_told decision found so_far)
@@ -312,8 +286,8 @@ module _ (P : ℕ → Type 0) where
       told_are (decision_on entry so_far.node.peer) (asker_of entry so_far.node) (with_node (entry_read entry so_far.node) so_far)
       (λ one is.
       all one.0 one.1
-      (got_entry so_far.node.requests one
-      (has-found (λ (found : ℕ × Request). waits_for_entry entry found.1.course) (tree.entries so_far.node.requests) one is)))
+      (get-entry so_far.node.requests one
+      (find-contains (λ (found : ℕ × Request). waits_for_entry entry found.1.course) (tree.entries so_far.node.requests) one is).0))
       (entry_are entry so_far.node all)
 
   -- ---- a step
@@ -337,11 +311,11 @@ module _ (P : ℕ → Type 0) where
       taken_unless_are (request_refusal so_far.node.peer (session_in number so_far).disk ask) number req ask so_far so all
   taken_in_are (inputs.Request request) so_far so all = all
   taken_in_are (inputs.Reply rsp) so_far so all =
-      either AreIn (gateways.gateway_awaits rsp.number so_far.node.gateway) (after_gateway_step (gateway_steps.gateway_on_reply so_far.node.gateway rsp) so_far)
+      cond_either AreIn (gateways.gateway_awaits rsp.number so_far.node.gateway) (after_gateway_step (gateway_steps.gateway_on_reply so_far.node.gateway rsp) so_far)
       (recovery_stepped (recovery_steps.recovery_on_reply rsp (recovery_state_of so_far.node)) so_far)
       (gateway_stepped_are (gateway_steps.gateway_on_reply so_far.node.gateway rsp) so_far all) all
   taken_in_are (inputs.Lost number) so_far so all =
-      either AreIn (gateways.gateway_awaits number so_far.node.gateway) (after_gateway_step (gateway_steps.gateway_on_loss so_far.node.gateway number) so_far)
+      cond_either AreIn (gateways.gateway_awaits number so_far.node.gateway) (after_gateway_step (gateway_steps.gateway_on_loss so_far.node.gateway number) so_far)
       (recovery_stepped (recovery_steps.recovery_on_loss number (recovery_state_of so_far.node)) so_far)
       (gateway_stepped_are (gateway_steps.gateway_on_loss so_far.node.gateway number) so_far all) all
   taken_in_are (inputs.LogEntry entry) so_far so all = log_are entry so_far all
@@ -353,7 +327,7 @@ module _ (P : ℕ → Type 0) where
 
   at_end_are : (so_far : StepState) → AreIn so_far → AreIn (recovered_put so_far)
   unfolding recovered_put
-  at_end_are so_far all = either AreIn (is_due so_far.node) (with_recovered so_far) so_far all all
+  at_end_are so_far all = cond_either AreIn (is_due so_far.node) (with_recovered so_far) so_far all all
 
   -- the requests of a node after a step are so, where those before it are and the guest's request is
   pub stepped_are : (input : Input) (node : Node) → IsOfInput input → AreOf node → AreOf (node_step input node).node

@@ -5,7 +5,7 @@ use Rattle.cluster_script.specs.declared.statement.Statement.{Statement}
 use Rattle.cluster_script.specs.declared.statement.Statement.TheVariants as lines
 use Rattle.cluster_script.specs.NumberedRequests.{session_of, request_at, payload_of}
 use Rattle.peer_proto.specs.declared.guest.DiskAsk.TheVariants.{Read, Write}
-use Rattle.peer_proto.specs.declared.guest.VdiAsk.TheVariants.{Create, Attach, Close, Snapshot, Clone, Delete}
+use Rattle.peer_proto.specs.declared.guest.VdiAsk.TheVariants.{Create, Attach, Close, Snapshot, Clone, Delete, Check}
 use Rattle.sheep_node.specs.declared.ask.Ask.{Ask}
 use Rattle.sheep_node.specs.declared.ask.Ask.TheVariants.{Disk, Vdi}
 use Rattle.sheep_node.specs.declared.input.Input.{Input}
@@ -22,6 +22,7 @@ ask_of_statement (lines.Write session offset length pattern) = Some (Disk (Write
 ask_of_statement (lines.Snapshot session tag) = Some (Vdi (Snapshot tag))
 ask_of_statement (lines.Clone session base tag name) = Some (Vdi (Clone base tag name))
 ask_of_statement (lines.Delete session name tag) = Some (Vdi (Delete name tag))
+ask_of_statement (lines.Check session) = Some (Vdi Check)
 ask_of_statement s = None
 
 -- the input of a request, which has a session and asks something

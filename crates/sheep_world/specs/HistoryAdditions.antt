@@ -73,6 +73,7 @@ write_ended req replies.Done = WriteDone req
 write_ended req (replies.Piece bytes) = WriteDone req
 write_ended req (replies.Refused cause) = WriteRefused req
 write_ended req (replies.Granted vid) = WriteDone req
+write_ended req (replies.Checked found) = WriteDone req
 
 -- the blocks that a reply gives, ascending
 abbrev pub blocks_read : ℕ → ℕ → GuestRsp → List HistEvent
@@ -80,6 +81,7 @@ blocks_read disk offset replies.Done = []
 blocks_read disk offset (replies.Piece bytes) = each_block (λ block piece. Read disk block piece) offset bytes
 blocks_read disk offset (replies.Refused cause) = []
 blocks_read disk offset (replies.Granted vid) = []
+blocks_read disk offset (replies.Checked found) = []
 
 -- what a reply adds: of a request that began on an open disk a write's end, or a read's blocks
 abbrev pub reply_adds : ℕ → GuestRsp → ℕ → Statement → List HistEvent

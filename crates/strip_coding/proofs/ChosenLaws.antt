@@ -1,6 +1,6 @@
 -- The chosen places lie within the indexes, and the indexes there all differ.
 use Rattle.std.proofs.Common.{◌≡◌, ◌≢◌, ℕ, zero, suc, ◌+◌, ◌^◌, ◌<◌, ◌≤◌, Bool, true, false, List, [], ◌∷◌, ◌++◌, length, get_or, map, take, drop, refl, sym, ap, ap₂, ◌∙◌, subst, arith, if◌then◌else◌, eq-eqb, add-zero, true≢false, suc-mul, ◌*◌, ◌/◌, ne_eqb, inl, inr, ⊎_elim, ◌⊎◌, eqb-true}
-use Rattle.std.proofs.lemmas.Bool.{cases_lt}
+use Rattle.std.proofs.lemmas.Bool.{cases_lt, or_right}
 use Rattle.std.specs.List.{Contains}
 use Rattle.gf256.proofs.Interpolation.{IsAmong}
 use Rattle.std.proofs.lemmas.List.{get_or_default}
@@ -15,6 +15,8 @@ use Rattle.gf256.proofs.Points.{Bytes, Avoids, Points, bytes_from, bytes_of_all,
 use Rattle.gf256.specs.Strip.{strip}
 use Rattle.gf256.proofs.StripLaws.{length-strip}
 use Rattle.std.specs.List.{flat_map, range_with_len}
+use Rattle.std.proofs.Math.Bool.{or-false}
+use Rattle.proof_tools.proofs.Lists.{Contains-cons}
 use Rattle.strip_coding.specs.Choice.{places_after, distinct_places, chosen_places, strip_at, HasStrips}
 use Rattle.strip_coding.proofs.ChoiceLaws.{is_seen, seen_step, new_step}
 
@@ -94,10 +96,6 @@ either_more : (b c d : Bool) → (c ≡ true → d ≡ true) → (b || c) ≡ tr
 either_more true c d f h = refl
 either_more false c d f h = f h
 
-either_right : (b c : Bool) → c ≡ true → (b || c) ≡ true
-either_right true c h = refl
-either_right false c h = h
-
 seen_more : (i j : ℕ) (seen : List ℕ) → is_seen i seen ≡ true → is_seen i (seen ++ j ∷ []) ≡ true
 seen_more i j [] h = cc
 seen_more i j (s ∷ seen) h =
@@ -105,7 +103,7 @@ seen_more i j (s ∷ seen) h =
 
 seen_last : (i : ℕ) (seen : List ℕ) → is_seen i (seen ++ i ∷ []) ≡ true
 seen_last i [] = ap (λ b. b || false) (eq-eqb i i refl)
-seen_last i (s ∷ seen) = either_right (s == i) (is_seen i (seen ++ i ∷ [])) (seen_last i seen)
+seen_last i (s ∷ seen) = or_right (s == i) (is_seen i (seen ++ i ∷ [])) (seen_last i seen)
 
 no_new : (seen : List ℕ) → new_indexes seen [] ≡ []
 unfolding new_indexes
@@ -287,16 +285,12 @@ distinct_first indexes = places_first indexes [] indexes 0 refl (none_before ind
 
 -- every index stands at one of them
 
-or_false : (b : Bool) → (b || false) ≡ true → b ≡ true
-or_false true h = refl
-or_false false h = h
-
 either : (b c d : Bool) (P : Type 0) → (d ≡ true → (c ≡ true) ⊎ P) → (b || d) ≡ true → ((b || c) ≡ true) ⊎ P
 either true c d P f h = inl refl
 either false c d P f h = f h
 
 last_or_seen : (i j : ℕ) (seen : List ℕ) → is_seen i (seen ++ j ∷ []) ≡ true → (is_seen i seen ≡ true) ⊎ (j ≡ i)
-last_or_seen i j [] h = inr (eqb-true j i (or_false (j == i) h))
+last_or_seen i j [] h = inr (eqb-true j i (sym (or-false (j == i)) ∙ h))
 last_or_seen i j (s ∷ seen) h = either (s == i) (is_seen i seen) (is_seen i (seen ++ j ∷ [])) (j ≡ i) (λ e. last_or_seen i j seen e) h
 
 new_has_next : (seen rest : List ℕ) (i x : ℕ)
@@ -322,13 +316,10 @@ new_has seen (i ∷ rest) zero l = new_has_first seen rest i (is_seen i seen) re
 new_has seen (i ∷ rest) (suc k) l =
     new_has_next seen rest i (get_or rest k 0) (λ before. new_has before rest k (omega arith)) (is_seen i seen) refl
 
-contains_next : (x y : ℕ) (ys : List ℕ) → Contains ys x → Contains (y ∷ ys) x
-contains_next x y ys h = (suc h.0, omega arith, h.2)
-
 among_contains : (x : ℕ) (ys : List ℕ) → IsAmong x ys → Contains ys x
 among_contains x [] h = absurd h
 among_contains x (y ∷ ys) h =
-    ⊎_elim (λ e. (0, omega arith, e)) (λ a. contains_next x y ys (among_contains x ys a)) h
+    ⊎_elim (λ e. (0, omega arith, e)) (λ a. Contains-cons y ys x (among_contains x ys a)) h
 
 pub distinct_complete : (indexes : List ℕ)
     → All (Contains (map (slice_index indexes) (distinct_places indexes))) indexes

@@ -5,6 +5,7 @@ use Rattle.std.specs.List.{All}
 use Rattle.std.proofs.lemmas.List.{length-take-le, take_at, drop_at, take-append-le, drop-append-le, nil_from_length, get_or-take, take-replicate, drop-replicate, replicate-append-replicate, length-replicate}
 use Rattle.std.proofs.lemmas.List.Elements.{All-take, All-drop, All-append, All-nil}
 use Rattle.std.proofs.Math.Nat.{zero-mul, mul-div_cancel}
+use Rattle.proof_tools.proofs.Lists.{map-agree}
 use Rattle.object_id.specs.declared.policy.Policy.{Policy}
 use Rattle.object_id.specs.declared.policy.Policy.TheVariants.{Copies, Coded}
 use Rattle.object_id.specs.declared.oid.Kind.{Kind}
@@ -263,10 +264,6 @@ bytes_of_parts-part (Coded d p) Block indexes bytes is distinct count are whole 
     ap (λ n. blocks_through d indexes n (map f indexes)) counted
     ∙ blocks_through-strips d blocks bytes indexes splits distinct count are (blocks_of (length bytes) whole)
 
-same_parts : (f g : ℕ → List ℕ) (xs : List ℕ) → All (λ x. f x ≡ g x) xs → map f xs ≡ map g xs
-same_parts f g [] e = refl
-same_parts f g (x ∷ xs) e = ap₂ ◌∷◌ (e 0 0 (omega arith)) (same_parts f g xs (λ k d l. e (suc k) d (omega arith)))
-
 points_front : (n : ℕ) (points : List ℕ) → n ≤ length points → ArePoints points → ArePoints (take n points)
 points_front n points h distinct = (
   bytes_of_all (take n points) (All-take (λ b. b < 2 ^ 8) n points (all_of_bytes points distinct.0)),
@@ -290,7 +287,7 @@ same_bytes policy kind indexes bytes other is distinct enough are are_other whol
     let count : length some ≡ need = length-take-le need indexes enough in
     sym (bytes_of_parts-part policy kind some bytes is points count are whole)
     ∙ ap (bytes_of_parts policy kind some)
-    (same_parts (λ index. part policy kind index bytes) (λ index. part policy kind index other) some
+    (map-agree (λ index. part policy kind index bytes) (λ index. part policy kind index other) some
     (All-take (λ index. part policy kind index bytes ≡ part policy kind index other) need indexes e))
     ∙ bytes_of_parts-part policy kind some other is points count are_other whole_other
 

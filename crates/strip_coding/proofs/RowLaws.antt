@@ -27,35 +27,9 @@ unfolding coefficients basis inverse squares times product remainder coefficient
 rows_of_16 = refl
 
 -- a row of a table
-row_of : (d count index : ℕ) → d ≤ index → index < d + count
-    → get_or (parity_rows d count) (index - d) [] ≡ coefficients (data_points d) (data_points d) index
-row_of d count index from below =
-    get_or-map-range_with_len (coefficients (data_points d) (data_points d)) d count (index - d) index [] (omega arith) (omega arith)
-
-pub row_of_2 : (d index : ℕ) → d ≡ 2 → d ≤ index → index < 31
-    → get_or PARITY_2 (index - 2) [] ≡ coefficients (data_points d) (data_points d) index
-row_of_2 d index e from below =
-    ap (λ rows. get_or rows (index - 2) []) rows_of_2
-    ∙ row_of 2 29 index (omega arith) below
-    ∙ ap (λ n. coefficients (data_points n) (data_points n) index) (sym e)
-
-pub row_of_4 : (d index : ℕ) → d ≡ 4 → d ≤ index → index < 31
-    → get_or PARITY_4 (index - 4) [] ≡ coefficients (data_points d) (data_points d) index
-row_of_4 d index e from below =
-    ap (λ rows. get_or rows (index - 4) []) rows_of_4
-    ∙ row_of 4 27 index (omega arith) below
-    ∙ ap (λ n. coefficients (data_points n) (data_points n) index) (sym e)
-
-pub row_of_8 : (d index : ℕ) → d ≡ 8 → d ≤ index → index < 31
-    → get_or PARITY_8 (index - 8) [] ≡ coefficients (data_points d) (data_points d) index
-row_of_8 d index e from below =
-    ap (λ rows. get_or rows (index - 8) []) rows_of_8
-    ∙ row_of 8 23 index (omega arith) below
-    ∙ ap (λ n. coefficients (data_points n) (data_points n) index) (sym e)
-
-pub row_of_16 : (d index : ℕ) → d ≡ 16 → d ≤ index → index < 31
-    → get_or PARITY_16 (index - 16) [] ≡ coefficients (data_points d) (data_points d) index
-row_of_16 d index e from below =
-    ap (λ rows. get_or rows (index - 16) []) rows_of_16
-    ∙ row_of 16 15 index (omega arith) below
-    ∙ ap (λ n. coefficients (data_points n) (data_points n) index) (sym e)
+pub row_of : (n count : ℕ) (table : List (List ℕ)) (d index : ℕ) → table ≡ parity_rows n count → d ≡ n → d ≤ index → index < n + count
+    → get_or table (index - n) [] ≡ coefficients (data_points d) (data_points d) index
+row_of n count table d index is same from below =
+    ap (λ rows. get_or rows (index - n) []) is
+    ∙ get_or-map-range_with_len (coefficients (data_points n) (data_points n)) n count (index - n) index [] (omega arith) (omega arith)
+    ∙ ap (λ m. coefficients (data_points m) (data_points m) index) (sym same)

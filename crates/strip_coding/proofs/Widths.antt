@@ -1,12 +1,9 @@
 -- The numbers of data strips: 2, 4, 8 and 16.
 use Rattle.std.proofs.Common.{◌≡◌, ◌≢◌, ℕ, ◌≤◌, ◌⊎◌, Bool, true, false, refl, sym, subst, arith, inl, inr, eqb-true, IsTrue}
 use Rattle.std.specs.Prelude.{◌==◌, ◌||◌}
+use Rattle.std.proofs.lemmas.Bool.{or_cases}
 use Rattle.object_id.specs.Policy.{is_width}
 use Rattle.gf256.specs.Strip.{Divides}
-
-or_cases : (a b : Bool) → (a || b) ≡ true → (a ≡ true) ⊎ (b ≡ true)
-or_cases true b h = inl refl
-or_cases false b h = inr h
 
 -- the four cases
 pub width_cases : (d : ℕ) → IsTrue (is_width d) → (d ≡ 2) ⊎ ((d ≡ 4) ⊎ ((d ≡ 8) ⊎ (d ≡ 16)))

@@ -8,6 +8,7 @@ use Rattle.std.proofs.lemmas.List.Elements.{All-from_get_or, All-cons, All-nil, 
 use Rattle.std.proofs.lemmas.List.Splits.{slice_split_none, slice_split_at, length-slice_split}
 use Rattle.std.proofs.lemmas.Str.Parse.{digit_at}
 use Rattle.std.proofs.lemmas.Fmt.{decimal_is_IsNumeral}
+use Rattle.trace_text.proofs.NumberLemmas.{first-fits, second-fits}
 use Rattle.object_id.specs.declared.node.NodeId.{NodeId}
 use Rattle.sheep_node.specs.declared.event.Event.{Event}
 use Rattle.sheep_node.specs.declared.event.Event.TheVariants.{Guest, Deliver, LoseRequest, LoseReply, LogNext, Put, RecoverTick, RetryTick, Lost, Leave, Join, Reweight, Back, Phase}
@@ -40,26 +41,20 @@ name sender n s_lt n_lt =
     (All-append (λ (byte : ℕ). (byte == 10) ≡ false) (decimal sender.0) (46 ∷ decimal n) (number sender.0 s_lt)
     (word (codes ".") (decimal n) refl (number n n_lt)))
 
-first : (n : ℕ) (rest : List ℕ) → All (λ number. number < 2 ^ 32) (n ∷ rest) → n < 2 ^ 32
-first n rest h = All-head (λ (number : ℕ). number < 2 ^ 32) n rest h
-
-second : (m n : ℕ) → All (λ number. number < 2 ^ 32) (m ∷ n ∷ []) → n < 2 ^ 32
-second m n h = first n [] (All-tail (λ (number : ℕ). number < 2 ^ 32) m (n ∷ []) h)
-
 one-line : (event : Event) → IsNamed event → IsLine (event_text event)
-one-line (Guest session) h = word (codes "guest ") (decimal session) refl (number session (first session [] h))
-one-line (Deliver sender n) h = word (codes "deliver ") (name_text sender n) refl (name sender n (first sender.0 (n ∷ []) h) (second sender.0 n h))
-one-line (LoseRequest sender n) h = word (codes "loserequest ") (name_text sender n) refl (name sender n (first sender.0 (n ∷ []) h) (second sender.0 n h))
-one-line (LoseReply sender n) h = word (codes "losereply ") (name_text sender n) refl (name sender n (first sender.0 (n ∷ []) h) (second sender.0 n h))
-one-line (LogNext node) h = word (codes "log ") (decimal node.0) refl (number node.0 (first node.0 [] h))
-one-line (Put node) h = word (codes "put ") (decimal node.0) refl (number node.0 (first node.0 [] h))
-one-line (RecoverTick node) h = word (codes "recover ") (decimal node.0) refl (number node.0 (first node.0 [] h))
-one-line (RetryTick node) h = word (codes "retry ") (decimal node.0) refl (number node.0 (first node.0 [] h))
-one-line (Lost node) h = word (codes "lost ") (decimal node.0) refl (number node.0 (first node.0 [] h))
-one-line (Leave node) h = word (codes "leave ") (decimal node.0) refl (number node.0 (first node.0 [] h))
-one-line (Join node) h = word (codes "join ") (decimal node.0) refl (number node.0 (first node.0 [] h))
-one-line (Reweight node) h = word (codes "reweight ") (decimal node.0) refl (number node.0 (first node.0 [] h))
-one-line (Back node) h = word (codes "back ") (decimal node.0) refl (number node.0 (first node.0 [] h))
+one-line (Guest session) h = word (codes "guest ") (decimal session) refl (number session (first-fits session [] h))
+one-line (Deliver sender n) h = word (codes "deliver ") (name_text sender n) refl (name sender n (first-fits sender.0 (n ∷ []) h) (second-fits sender.0 n h))
+one-line (LoseRequest sender n) h = word (codes "loserequest ") (name_text sender n) refl (name sender n (first-fits sender.0 (n ∷ []) h) (second-fits sender.0 n h))
+one-line (LoseReply sender n) h = word (codes "losereply ") (name_text sender n) refl (name sender n (first-fits sender.0 (n ∷ []) h) (second-fits sender.0 n h))
+one-line (LogNext node) h = word (codes "log ") (decimal node.0) refl (number node.0 (first-fits node.0 [] h))
+one-line (Put node) h = word (codes "put ") (decimal node.0) refl (number node.0 (first-fits node.0 [] h))
+one-line (RecoverTick node) h = word (codes "recover ") (decimal node.0) refl (number node.0 (first-fits node.0 [] h))
+one-line (RetryTick node) h = word (codes "retry ") (decimal node.0) refl (number node.0 (first-fits node.0 [] h))
+one-line (Lost node) h = word (codes "lost ") (decimal node.0) refl (number node.0 (first-fits node.0 [] h))
+one-line (Leave node) h = word (codes "leave ") (decimal node.0) refl (number node.0 (first-fits node.0 [] h))
+one-line (Join node) h = word (codes "join ") (decimal node.0) refl (number node.0 (first-fits node.0 [] h))
+one-line (Reweight node) h = word (codes "reweight ") (decimal node.0) refl (number node.0 (first-fits node.0 [] h))
+one-line (Back node) h = word (codes "back ") (decimal node.0) refl (number node.0 (first-fits node.0 [] h))
 one-line Phase h = word (codes "phase") [] refl (All-nil (λ (byte : ℕ). (byte == 10) ≡ false))
 
 -- no event's text is empty
@@ -69,19 +64,7 @@ goes-on event (line ∷ lines) lt = refl
 
 last_one : (event : Event) → whole_lines (event_text event ∷ []) ≡ event_text event ∷ []
 last_one (Guest session) = refl
-last_one (Deliver sender n) = refl
-last_one (LoseRequest sender n) = refl
-last_one (LoseReply sender n) = refl
-last_one (LogNext node) = refl
-last_one (Put node) = refl
-last_one (RecoverTick node) = refl
-last_one (RetryTick node) = refl
-last_one (Lost node) = refl
-last_one (Leave node) = refl
-last_one (Join node) = refl
-last_one (Reweight node) = refl
-last_one (Back node) = refl
-last_one Phase = refl
+last_one event = refl
 
 line_more : (event : Event) (rest : List ℕ) → IsNamed event → lines_in (event_text event ++ codes "\n" ++ rest) ≡ event_text event ∷ lines_in rest
 line_more event rest h =
@@ -100,7 +83,7 @@ pub last-may-lack : (events : List Event) (event : Event) → AllByRecursion IsN
     → lines_in (trace_text_of events ++ event_text event) ≡ map event_text events ++ event_text event ∷ []
 last-may-lack [] event h k =
     ap whole_lines (slice_split_none (λ (byte : ℕ). byte == 10) (event_text event) (one-line event k)) ∙ last_one event
-last-may-lack (first ∷ events) event h k =
-    ap lines_in (append_assoc (event_text first ++ codes "\n") (trace_text_of events) (event_text event))
-    ∙ line_more first (trace_text_of events ++ event_text event) h.0
-    ∙ ap (λ (lines : List (List ℕ)). event_text first ∷ lines) (last-may-lack events event h.1 k)
+last-may-lack (first-fits ∷ events) event h k =
+    ap lines_in (append_assoc (event_text first-fits ++ codes "\n") (trace_text_of events) (event_text event))
+    ∙ line_more first-fits (trace_text_of events ++ event_text event) h.0
+    ∙ ap (λ (lines : List (List ℕ)). event_text first-fits ∷ lines) (last-may-lack events event h.1 k)

@@ -9,7 +9,7 @@ use Rattle.std.proofs.lemmas.Str.Parse.{digit_at}
 use Rattle.std.proofs.lemmas.Fmt.{decimal_is_IsNumeral}
 use Rattle.std.proofs.lemmas.List.Splits.{slice_split_none, slice_split_at, slice_split-cons_yes}
 use Rattle.std.proofs.lemmas.List.{append_assoc}
-use Rattle.std.proofs.lemmas.List.Elements.{All-from_get_or, filter_passes}
+use Rattle.std.proofs.lemmas.List.Elements.{All-from_get_or, filter_passes, All-head, All-tail}
 use Rattle.trace_text.specs.EventReading.{numbers_in}
 
 abbrev pub is_stop : ℕ → Bool
@@ -87,3 +87,10 @@ numbers_after word m n h m_lt n_lt =
     ∙ ap (λ (number : ℕ). filter (λ number. nat_lt number (2 ^ 32)) (m ∷ number ∷ [])) (value n n_lt)
     ∙ small m (n ∷ []) m_lt
     ∙ ap (λ (numbers : List ℕ). m ∷ numbers) (small n [] n_lt)
+
+-- numbers that fit, one by one
+pub first-fits : (n : ℕ) (rest : List ℕ) → All (λ number. number < 2 ^ 32) (n ∷ rest) → n < 2 ^ 32
+first-fits n rest fit = All-head (λ (number : ℕ). number < 2 ^ 32) n rest fit
+
+pub second-fits : (m n : ℕ) → All (λ number. number < 2 ^ 32) (m ∷ n ∷ []) → n < 2 ^ 32
+second-fits m n fit = first-fits n [] (All-tail (λ (number : ℕ). number < 2 ^ 32) m (n ∷ []) fit)

@@ -8,35 +8,29 @@ use Rattle.sheep_node.specs.declared.event.Event.{Event}
 use Rattle.sheep_node.specs.declared.event.Event.TheVariants.{Guest, Deliver, LoseRequest, LoseReply, LogNext, Put, RecoverTick, RetryTick, Lost, Leave, Join, Reweight, Back, Phase}
 use Rattle.trace_text.specs.Spelling.{name_text, event_text}
 use Rattle.trace_text.specs.EventReading.{numbers_of, events_of, numbers_in, event_in, IsNamed}
-use Rattle.trace_text.proofs.NumberLemmas.{number_after, numbers_after, numbers-small}
-
-first : (n : ℕ) (rest : List ℕ) → All (λ number. number < 2 ^ 32) (n ∷ rest) → n < 2 ^ 32
-first n rest h = All-head (λ (number : ℕ). number < 2 ^ 32) n rest h
-
-second : (m n : ℕ) → All (λ number. number < 2 ^ 32) (m ∷ n ∷ []) → n < 2 ^ 32
-second m n h = first n [] (All-tail (λ (number : ℕ). number < 2 ^ 32) m (n ∷ []) h)
+use Rattle.trace_text.proofs.NumberLemmas.{number_after, numbers_after, numbers-small, first-fits, second-fits}
 
 -- an event's text has its numbers
 text-numbers : (event : Event) → IsNamed event → numbers_in (event_text event) ≡ numbers_of event
-text-numbers (Guest session) h = number_after (codes "guest ") session refl (first session [] h)
-text-numbers (Deliver sender number) h = numbers_after (codes "deliver ") sender.0 number refl (first sender.0 (number ∷ []) h) (second sender.0 number h)
-text-numbers (LoseRequest sender number) h = numbers_after (codes "loserequest ") sender.0 number refl (first sender.0 (number ∷ []) h) (second sender.0 number h)
-text-numbers (LoseReply sender number) h = numbers_after (codes "losereply ") sender.0 number refl (first sender.0 (number ∷ []) h) (second sender.0 number h)
-text-numbers (LogNext node) h = number_after (codes "log ") node.0 refl (first node.0 [] h)
-text-numbers (Put node) h = number_after (codes "put ") node.0 refl (first node.0 [] h)
-text-numbers (RecoverTick node) h = number_after (codes "recover ") node.0 refl (first node.0 [] h)
-text-numbers (RetryTick node) h = number_after (codes "retry ") node.0 refl (first node.0 [] h)
-text-numbers (Lost node) h = number_after (codes "lost ") node.0 refl (first node.0 [] h)
-text-numbers (Leave node) h = number_after (codes "leave ") node.0 refl (first node.0 [] h)
-text-numbers (Join node) h = number_after (codes "join ") node.0 refl (first node.0 [] h)
-text-numbers (Reweight node) h = number_after (codes "reweight ") node.0 refl (first node.0 [] h)
-text-numbers (Back node) h = number_after (codes "back ") node.0 refl (first node.0 [] h)
+text-numbers (Guest session) h = number_after (codes "guest ") session refl (first-fits session [] h)
+text-numbers (Deliver sender number) h = numbers_after (codes "deliver ") sender.0 number refl (first-fits sender.0 (number ∷ []) h) (second-fits sender.0 number h)
+text-numbers (LoseRequest sender number) h = numbers_after (codes "loserequest ") sender.0 number refl (first-fits sender.0 (number ∷ []) h) (second-fits sender.0 number h)
+text-numbers (LoseReply sender number) h = numbers_after (codes "losereply ") sender.0 number refl (first-fits sender.0 (number ∷ []) h) (second-fits sender.0 number h)
+text-numbers (LogNext node) h = number_after (codes "log ") node.0 refl (first-fits node.0 [] h)
+text-numbers (Put node) h = number_after (codes "put ") node.0 refl (first-fits node.0 [] h)
+text-numbers (RecoverTick node) h = number_after (codes "recover ") node.0 refl (first-fits node.0 [] h)
+text-numbers (RetryTick node) h = number_after (codes "retry ") node.0 refl (first-fits node.0 [] h)
+text-numbers (Lost node) h = number_after (codes "lost ") node.0 refl (first-fits node.0 [] h)
+text-numbers (Leave node) h = number_after (codes "leave ") node.0 refl (first-fits node.0 [] h)
+text-numbers (Join node) h = number_after (codes "join ") node.0 refl (first-fits node.0 [] h)
+text-numbers (Reweight node) h = number_after (codes "reweight ") node.0 refl (first-fits node.0 [] h)
+text-numbers (Back node) h = number_after (codes "back ") node.0 refl (first-fits node.0 [] h)
 text-numbers Phase h = refl
 
 same : (bytes : List ℕ) → bytes_eq bytes bytes ≡ true
 same bytes = (bytes_eq-Decides bytes bytes).1 refl
 
--- of the events with its numbers an event is the first of its text
+-- of the events with its numbers an event is the first-fits of its text
 found_again : (event : Event) → find (λ other. bytes_eq (event_text other) (event_text event)) (events_of (numbers_of event)) ≡ Some event
 found_again (Guest session) = rw (same (decimal session)) refl
 found_again (Deliver sender number) = rw (same (name_text sender number)) refl

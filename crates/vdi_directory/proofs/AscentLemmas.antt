@@ -55,17 +55,12 @@ strict-next low (first ∷ second ∷ rest) up (suc k) within = strict-next (fir
 
 strict-after : (entries : List Entry) (effect : Effect) → IsLawful (log_effects entries) effect → StrictFrom 0 (live_of (log_effects entries))
     → StrictFrom 0 (live_after (live_of (log_effects entries)) effect)
-strict-after entries Nothing lawful up = up
-strict-after entries (Reserved grant) lawful up = up
 strict-after entries (Published vid name) lawful up =
     strict-ids_with 0 vid.0 (live_of (log_effects entries)) (omega arith) (live-is entries vid.0 ∙ ap is_live_state ((lawful.0).1)) up
 strict-after entries (Snapped snap) lawful up =
     strict-ids_with 0 snap.vid.0 (live_of (log_effects entries)) (omega arith) (live-is entries snap.vid.0 ∙ ap is_live_state ((lawful.1).1)) up
 strict-after entries (Deleted vid name) lawful up = strict-filter (λ other. not (other == vid.0)) 0 (live_of (log_effects entries)) up
-strict-after entries (Held vid holder) lawful up = up
-strict-after entries (Freed vid) lawful up = up
-strict-after entries (Withdrawn vid) lawful up = up
-strict-after entries (Left node) lawful up = up
+strict-after entries effect lawful up = up
 
 none-strict : StrictFrom 0 (live_of [])
 unfolding StrictFrom live_of

@@ -1,6 +1,6 @@
 -- What is dead stays dead, and its descendants are dead with it.
 use Rattle.std.proofs.Common.{◌≡◌, ◌⊎◌, inl, inr, ℕ, ◌≤◌, ◌==◌, ◌||◌, Bool, true, false, cond, List, [], ◌∷◌, ◌++◌, Option, Some, None, refl, ap, sym, ◌∙◌, subst, arith}
-use Rattle.std.proofs.lemmas.Bool.{eqb-true, both_ways}
+use Rattle.std.proofs.lemmas.Bool.{eqb-true, both_ways, or_cases, or_left, or_right}
 use Rattle.std.proofs.lemmas.List.Sums.{fold-append}
 use Rattle.object_id.specs.declared.oid.Vid.{Vid}
 use Rattle.object_id.specs.declared.entry.Entry.{Entry}
@@ -23,38 +23,23 @@ unfolding is_above
 is_above-push before effect elder vid = ap (λ above. above elder vid) (fold-append above_after (λ e v. false) before (effect ∷ []))
 
 gone-rank : (state : VdiState) → is_gone state ≡ true → rank state ≡ 4
-gone-rank Unused is = cc
-gone-rank (Reserved by) is = cc
-gone-rank Working is = cc
-gone-rank (Snapshot tag) is = cc
 gone-rank Deleted is = refl
 gone-rank Freed is = refl
+gone-rank state is = cc
 
 rank-gone : (state : VdiState) → 4 ≤ rank state → is_gone state ≡ true
-rank-gone Unused above = absurd (omega arith)
-rank-gone (Reserved by) above = absurd (omega arith)
-rank-gone Working above = absurd (omega arith)
-rank-gone (Snapshot tag) above = absurd (omega arith)
 rank-gone Deleted above = refl
 rank-gone Freed above = refl
+rank-gone state above = absurd (omega arith)
 
 pub live-not-gone : (state : VdiState) → is_live_state state ≡ true → is_gone state ≡ true → ⊥
 live-not-gone Unused live gone = cc
-live-not-gone (Reserved by) live gone = cc
-live-not-gone Working live gone = cc
-live-not-gone (Snapshot tag) live gone = cc
-live-not-gone Deleted live gone = cc
-live-not-gone Freed live gone = cc
-
-pub or-cases : (a b : Bool) → (a || b) ≡ true → (a ≡ true) ⊎ (b ≡ true)
-or-cases true b is = inl refl
-or-cases false b is = inr is
+live-not-gone state live gone = cc
 
 -- what an id that is above another came from: an earlier effect, or the grant of the other
 pub above-cases : (before : List Effect) (effect : Effect) (elder vid : ℕ) → above_after (is_above before) effect elder vid ≡ true
     → (is_above before elder vid ≡ true)
     ⊎ ((grant : Grant) × (effect ≡ effects.Reserved grant) × ((grant.reservation.vid.0 == vid) ≡ true) × (is_parent_or_above (is_above before) elder grant.header.parent ≡ true))
-above-cases before effects.Nothing elder vid is = inl is
 above-cases before (effects.Reserved grant) elder vid is = by_test (grant.reservation.vid.0 == vid) refl is
   where
     by_test : (b : Bool) → (grant.reservation.vid.0 == vid) ≡ b → cond b (is_parent_or_above (is_above before) elder grant.header.parent) (is_above before elder vid) ≡ true
@@ -62,19 +47,13 @@ above-cases before (effects.Reserved grant) elder vid is = by_test (grant.reserv
         ⊎ ((g : Grant) × (effects.Reserved grant ≡ effects.Reserved g) × ((g.reservation.vid.0 == vid) ≡ true) × (is_parent_or_above (is_above before) elder g.header.parent ≡ true))
     by_test true here is = inr (grant, refl, here, is)
     by_test false there is = inl is
-above-cases before (effects.Published of name) elder vid is = inl is
-above-cases before (effects.Snapped snap) elder vid is = inl is
-above-cases before (effects.Deleted of name) elder vid is = inl is
-above-cases before (effects.Held of holder) elder vid is = inl is
-above-cases before (effects.Freed of) elder vid is = inl is
-above-cases before (effects.Withdrawn of) elder vid is = inl is
-above-cases before (effects.Left node) elder vid is = inl is
+above-cases before effect elder vid is = inl is
 
 -- the parent's own chain, or the parent
 pub parent-cases : (before : List Effect) (elder : ℕ) (parent : Option Vid) → is_parent_or_above (is_above before) elder parent ≡ true
     → (p : Vid) × (parent ≡ Some p) × ((p.0 ≡ elder) ⊎ (is_above before elder p.0 ≡ true))
 parent-cases before elder None is = cc
-parent-cases before elder (Some p) is = elim (or-cases (p.0 == elder) (is_above before elder p.0) is) as (λ _. (q : Vid) × (Some p ≡ Some q) × ((q.0 ≡ elder) ⊎ (is_above before elder q.0 ≡ true))) [
+parent-cases before elder (Some p) is = elim (or_cases (p.0 == elder) (is_above before elder p.0) is) as (λ _. (q : Vid) × (Some p ≡ Some q) × ((q.0 ≡ elder) ⊎ (is_above before elder q.0 ≡ true))) [
   | inl same ↦ (p, refl, inl (eqb-true p.0 elder same))
   | inr far ↦ (p, refl, inr far)
 ]
@@ -132,16 +111,9 @@ ChainsAreUsed before = (elder vid : ℕ) → is_above before elder vid ≡ true 
 ChainsGoOn : List Effect → Type 0
 ChainsGoOn before = (a b c : ℕ) → is_above before a b ≡ true → is_above before b c ≡ true → is_above before a c ≡ true
 
-pub or-left : (a b : Bool) → a ≡ true → (a || b) ≡ true
-or-left a b is = ap (λ t. t || b) is
-
-pub or-right : (a b : Bool) → b ≡ true → (a || b) ≡ true
-or-right true b is = refl
-or-right false b is = is
-
 module _ (before : List Effect) (sound : IsSound before) (effect : Effect) (lawful : IsLawful before effect) (used : ChainsAreUsed before) where
   used-after : (vid : ℕ) → is_used before vid ≡ true → is_used (before ++ effect ∷ []) vid ≡ true
-  used-after vid is = is_used-push before effect vid ∙ or-left (is_used before vid) (grants vid effect) is
+  used-after vid is = is_used-push before effect vid ∙ or_left (is_used before vid) (grants vid effect) is
 
   new-unused : (grant : Grant) (vid : ℕ) → effect ≡ effects.Reserved grant → is_used before vid ≡ true → (grant.reservation.vid.0 == vid) ≡ true → ⊥
   new-unused grant vid is there same =
@@ -162,7 +134,7 @@ module _ (before : List Effect) (sound : IsSound before) (effect : Effect) (lawf
       by_case (inr new) =
           let parent = parent-cases before elder (new.0).header.parent new.3 in (
             used-after elder (by_parent parent.0 (parent-used new.0 parent.0 new.1 parent.1) parent.2),
-            is_used-push before effect vid ∙ or-right (is_used before vid) (grants vid effect) (ap (grants vid) new.1 ∙ new.2),
+            is_used-push before effect vid ∙ or_right (is_used before vid) (grants vid effect) (ap (grants vid) new.1 ∙ new.2),
           )
         where
           by_parent : (p : Vid) → is_used before p.0 ≡ true → (p.0 ≡ elder) ⊎ (is_above before elder p.0 ≡ true) → is_used before elder ≡ true
@@ -212,7 +184,7 @@ module _ (before : List Effect) (sound : IsSound before) (effect : Effect) (lawf
           is_above-push before effect a c ∙ ap (λ e. above_after (is_above before) e a c) new.1
           ∙ ap (λ t. cond t (is_parent_or_above (is_above before) a (new.0).header.parent) (is_above before a c)) new.2
           ∙ ap (is_parent_or_above (is_above before) a) parent.1
-          ∙ or-right (parent.0.0 == a) (is_above before a parent.0.0) reaches
+          ∙ or_right (parent.0.0 == a) (is_above before a parent.0.0) reaches
         where
           by_parent : (p : Vid) → is_used before p.0 ≡ true → (p.0 ≡ b) ⊎ (is_above before b p.0 ≡ true) → is_above before a p.0 ≡ true
           by_parent p there (inl same) =

@@ -1,7 +1,7 @@
 -- The test over the granted ids tells which ids are dead.
 use Rattle.std.proofs.Common.{◌≡◌, ◌⊎◌, ◌↔◌, inl, inr, ℕ, ◌==◌, ◌||◌, ◌&&◌, not, Bool, true, false, List, [], ◌∷◌, IsTrue, refl, ap, ◌∙◌}
 use Rattle.std.specs.List.{list_any}
-use Rattle.std.proofs.lemmas.Bool.{eqb-true, both_ways, and_parts, and_from, or_left, or_right, or_from, not_from_true, not_from_false, not-true}
+use Rattle.std.proofs.lemmas.Bool.{eqb-true, both_ways, and_parts, and_from, or_left, or_right, or_from, not_from_true, not_from_false, not-true, or_cases}
 use Rattle.object_id.specs.declared.entry.Entry.{Entry}
 use Rattle.vdi_directory.specs.declared.effect.Effect.{Effect}
 use Rattle.vdi_directory.specs.declared.effect.Effect.TheVariants as effects
@@ -9,7 +9,7 @@ use Rattle.vdi_directory.specs.Effects.{grants, is_used}
 use Rattle.vdi_directory.specs.Decisions.{log_effects}
 use Rattle.vdi_directory.specs.States.{state_of}
 use Rattle.vdi_directory.specs.Dead.{is_above, is_gone, IsDead, granted_ids, is_heir, is_dead}
-use Rattle.vdi_directory.proofs.DeadLemmas.{or-cases, IsChained, chained, chain-used}
+use Rattle.vdi_directory.proofs.DeadLemmas.{IsChained, chained, chain-used}
 
 -- a test that a used id passes finds one among the granted ids
 module _ (test : ℕ → Bool) (vid : ℕ) (passes : test vid ≡ true) where
@@ -17,7 +17,7 @@ module _ (test : ℕ → Bool) (vid : ℕ) (passes : test vid ≡ true) where
   found-granted [] used = cc
   found-granted (effects.Nothing ∷ before) used = found-granted before used
   found-granted (effects.Reserved grant ∷ before) used =
-      by_place (or-cases (grant.reservation.vid.0 == vid) (list_any (grants vid) before) used) (found-granted before)
+      by_place (or_cases (grant.reservation.vid.0 == vid) (list_any (grants vid) before) used) (found-granted before)
     where
       by_place : ((grant.reservation.vid.0 == vid) ≡ true) ⊎ (list_any (grants vid) before ≡ true)
           → (list_any (grants vid) before ≡ true → list_any test (granted_ids before) ≡ true)

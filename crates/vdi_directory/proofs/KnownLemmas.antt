@@ -221,11 +221,7 @@ module _ (before : List Effect) where
         (used-known vid effects.Nothing (target-used name tag vid is)) (used-known vid (effects.Held vid holder) (target-used name tag vid is))
 
     known-outcome : (entry : Entry) → Known (outcome before entry)
-    known-outcome (Format members) = nothing-known
-    known-outcome (Join node zone vnodes) = nothing-known
     known-outcome (Leave node) = silent-known (effects.Left node)
-    known-outcome (Reweight node vnodes) = nothing-known
-    known-outcome (Recovered node epoch) = nothing-known
     known-outcome (Reserve by session name origin) = known-reservation by session name origin
     known-outcome (Publish by vid) = known-publication by false vid (reservation_on vid (reservations_of before)) refl
     known-outcome (Clone by vid) = known-publication by true vid (reservation_on vid (reservations_of before)) refl
@@ -238,6 +234,7 @@ module _ (before : List Effect) where
         (silent-known (effects.Freed vid))
         (known-if (is_reserved_by by session (reservation_on vid (reservations_of before))) (silent_outcome (effects.Withdrawn vid)) nothing
         (silent-known (effects.Withdrawn vid)) nothing-known)
+    known-outcome entry = nothing-known
 
 pub header-grant_outcome : (entries : List Entry) (entry : Entry) (vid : Vid) → decision_after entries entry ≡ decisions.Granted vid
     → (header : Header) × (header_of (log_effects (entries ++ entry ∷ [])) vid.0 ≡ Some header)

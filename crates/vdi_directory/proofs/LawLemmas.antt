@@ -1,9 +1,12 @@
 -- The laws of decisions, from what is true of whatever entries did.
 use Rattle.std.proofs.Common.{◌≡◌, ℕ, ◌≤◌, ◌==◌, ◌&&◌, ◌||◌, not, nat_lt, Bool, true, false, cond, List, [], ◌∷◌, ◌++◌, filter, fold, Option, Some, None, is_some, Result, Ok, Err, refl, ap, sym, ◌∙◌, subst, arith, append_assoc}
 use Rattle.std.specs.List.{list_any}
-use Rattle.std.proofs.lemmas.Bool.{eqb-true, eq-eqb, ne_eqb, both_ways, and_parts}
+use Rattle.std.proofs.lemmas.Bool.{eqb-true, eq-eqb, ne_eqb, both_ways, and_parts, not-true, or_parts, cond_both, cond-false}
 use Rattle.std.proofs.lemmas.List.{append-nil}
 use Rattle.std.proofs.lemmas.List.Sums.{fold-append}
+use Rattle.std.proofs.Math.Bool.{or-true}
+use Rattle.std.specs.Cmp.{nat_eq_equiv}
+use Rattle.proof_tools.proofs.Booleans.{or_left_comm, cond_same}
 use Rattle.object_id.specs.Oid.{IsVid}
 use Rattle.object_id.specs.declared.oid.Vid.{Vid}
 use Rattle.object_id.specs.declared.node.NodeId.{NodeId}
@@ -32,7 +35,7 @@ use Rattle.vdi_directory.specs.Decisions.{nothing, silent_outcome, grant_outcome
 use Rattle.vdi_directory.specs.States.{VdiState, Unused, Reserved, Working, Snapshot as SnapshotState, Deleted, Freed, freed_state, state_after_leave, state_after, state_of, rank, is_live_state, may_take}
 use Rattle.vdi_directory.specs.Sound.{In, IsSound, IsLawful}
 use Rattle.vdi_directory.proofs.StateLemmas.{log_effects-none, log_effects-push, is_used-push, reservations_of-push, live_of-push, holder_of-push}
-use Rattle.vdi_directory.proofs.SoundLemmas.{state_of-push, in-filter, when-false, other-id, by_cond}
+use Rattle.vdi_directory.proofs.SoundLemmas.{state_of-push, in-filter, other-id}
 use Rattle.vdi_directory.proofs.LawfulLemmas.{lawful-outcome, sound-log_effects, in-find, free-is}
 
 log_effects-append : (entries later : List Entry) → log_effects (entries ++ later) ≡ fold happens (log_effects entries) later
@@ -55,10 +58,6 @@ grant_outcome-unused entries entry grant is =
     = subst (IsLawful (log_effects entries)) is (lawful-outcome (log_effects entries) (sound-log_effects entries) entry) in
     (lawful.0, lawful.1)
 
-or-true : (a : Bool) → (a || true) ≡ true
-or-true true = refl
-or-true false = refl
-
 pub grant_outcome-used : (entries : List Entry) (entry : Entry) (grant : Grant) → (outcome (log_effects entries) entry).effect ≡ effects.Reserved grant
     → is_used (log_effects (entries ++ entry ∷ [])) grant.reservation.vid.0 ≡ true
 grant_outcome-used entries entry grant is =
@@ -77,55 +76,41 @@ used-stays entries later vid used =
 -- states move forward
 rank-most : (state : VdiState) → rank state ≤ 4
 rank-most Unused = omega arith
-rank-most (Reserved by) = omega arith
-rank-most Working = omega arith
-rank-most (SnapshotState tag) = omega arith
-rank-most Deleted = omega arith
-rank-most Freed = omega arith
+rank-most state = omega arith
 
 rank-freed_state : (state : VdiState) → rank state ≤ rank (freed_state state)
 rank-freed_state Unused = omega arith
-rank-freed_state (Reserved by) = omega arith
-rank-freed_state Working = omega arith
-rank-freed_state (SnapshotState tag) = omega arith
-rank-freed_state Deleted = omega arith
-rank-freed_state Freed = omega arith
+rank-freed_state state = omega arith
 
 rank-state_after_leave : (node : ℕ) (state : VdiState) → rank state ≤ rank (state_after_leave node state)
-rank-state_after_leave node Unused = omega arith
-rank-state_after_leave node (Reserved by) = by_cond (by.0 == node) Freed (Reserved by) (λ (s : VdiState). 1 ≤ rank s) (λ t. (omega arith)) (λ f. (omega arith))
-rank-state_after_leave node Working = omega arith
-rank-state_after_leave node (SnapshotState tag) = omega arith
-rank-state_after_leave node Deleted = omega arith
-rank-state_after_leave node Freed = omega arith
+rank-state_after_leave node (Reserved by) = cond_both (by.0 == node) Freed (Reserved by) (λ (s : VdiState). 1 ≤ rank s) (λ t. (omega arith)) (λ f. (omega arith))
+rank-state_after_leave node state = omega arith
 
 module _ (before : List Effect) (sound : IsSound before) where
   pub rank-grows : (effect : Effect) → IsLawful before effect → (vid : ℕ) → rank (state_of before vid) ≤ rank (state_after vid (state_of before vid) effect)
-  rank-grows effects.Nothing lawful vid = omega arith
   rank-grows (effects.Reserved grant) lawful vid =
-      by_cond (grant.reservation.vid.0 == vid) (Reserved grant.reservation.by) (state_of before vid) (λ (s : VdiState). rank (state_of before vid) ≤ rank s)
+      cond_both (grant.reservation.vid.0 == vid) (Reserved grant.reservation.by) (state_of before vid) (λ (s : VdiState). rank (state_of before vid) ≤ rank s)
       (λ here. (let is : rank (state_of before vid) ≡ 0
       = ap (λ v. rank (state_of before v)) (sym (eqb-true grant.reservation.vid.0 vid here)) ∙ ap rank (sound.unused grant.reservation.vid.0 lawful.1) in omega arith))
       (λ there. (omega arith))
   rank-grows (effects.Published of name) lawful vid =
-      by_cond (of.0 == vid) Working (state_of before vid) (λ (s : VdiState). rank (state_of before vid) ≤ rank s)
+      cond_both (of.0 == vid) Working (state_of before vid) (λ (s : VdiState). rank (state_of before vid) ≤ rank s)
       (λ here. (let is : rank (state_of before vid) ≡ 1 = ap (λ v. rank (state_of before v)) (sym (eqb-true of.0 vid here)) ∙ ap rank ((lawful.0).1) in omega arith))
       (λ there. (omega arith))
   rank-grows (effects.Snapped snap) lawful vid =
-      by_cond (snap.old.0 == vid) (SnapshotState snap.tag) (cond (snap.vid.0 == vid) Working (state_of before vid)) (λ (s : VdiState). rank (state_of before vid) ≤ rank s)
+      cond_both (snap.old.0 == vid) (SnapshotState snap.tag) (cond (snap.vid.0 == vid) Working (state_of before vid)) (λ (s : VdiState). rank (state_of before vid) ≤ rank s)
       (λ here. (let is : rank (state_of before vid) ≡ 2 = ap (λ v. rank (state_of before v)) (sym (eqb-true snap.old.0 vid here)) ∙ ap rank ((lawful.0).state) in omega arith))
-      (λ there. by_cond (snap.vid.0 == vid) Working (state_of before vid) (λ (s : VdiState). rank (state_of before vid) ≤ rank s)
+      (λ there. cond_both (snap.vid.0 == vid) Working (state_of before vid) (λ (s : VdiState). rank (state_of before vid) ≤ rank s)
       (λ here. (let is : rank (state_of before vid) ≡ 1 = ap (λ v. rank (state_of before v)) (sym (eqb-true snap.vid.0 vid here)) ∙ ap rank ((lawful.1).1) in omega arith))
       (λ other. (omega arith)))
   rank-grows (effects.Deleted of name) lawful vid =
-      by_cond (of.0 == vid) Deleted (state_of before vid) (λ (s : VdiState). rank (state_of before vid) ≤ rank s)
+      cond_both (of.0 == vid) Deleted (state_of before vid) (λ (s : VdiState). rank (state_of before vid) ≤ rank s)
       (λ here. rank-most (state_of before vid)) (λ there. (omega arith))
-  rank-grows (effects.Held of holder) lawful vid = omega arith
-  rank-grows (effects.Freed of) lawful vid = omega arith
   rank-grows (effects.Withdrawn of) lawful vid =
-      by_cond (of.0 == vid) (freed_state (state_of before vid)) (state_of before vid) (λ (s : VdiState). rank (state_of before vid) ≤ rank s)
+      cond_both (of.0 == vid) (freed_state (state_of before vid)) (state_of before vid) (λ (s : VdiState). rank (state_of before vid) ≤ rank s)
       (λ here. rank-freed_state (state_of before vid)) (λ there. (omega arith))
   rank-grows (effects.Left node) lawful vid = rank-state_after_leave node.0 (state_of before vid)
+  rank-grows effect lawful vid = omega arith
 
 pub states-forward : (entries later : List Entry) (vid : ℕ) → rank (state_of (log_effects entries) vid) ≤ rank (state_of (log_effects (entries ++ later)) vid)
 states-forward entries later vid =
@@ -143,11 +128,6 @@ is_one vid other = other == vid
 abbrev has : ℕ → List ℕ → Bool
 has vid live = list_any (λ other. other == vid) live
 
-or-swap : (a b c : Bool) → (a || (b || c)) ≡ (b || (a || c))
-or-swap true true c = refl
-or-swap true false c = refl
-or-swap false b c = refl
-
 has-ids_with : (vid new : ℕ) (live : List ℕ) → has vid (ids_with new live) ≡ ((new == vid) || has vid live)
 has-ids_with vid new [] = refl
 has-ids_with vid new (first ∷ rest) = by_test (nat_lt new first) (has-ids_with vid new rest)
@@ -155,14 +135,10 @@ has-ids_with vid new (first ∷ rest) = by_test (nat_lt new first) (has-ids_with
     by_test : (b : Bool) → has vid (ids_with new rest) ≡ ((new == vid) || has vid rest)
         → has vid (cond b (new ∷ first ∷ rest) (first ∷ ids_with new rest)) ≡ ((new == vid) || ((first == vid) || has vid rest))
     by_test true later = refl
-    by_test false later = ap (λ b. (first == vid) || b) later ∙ or-swap (first == vid) (new == vid) (has vid rest)
+    by_test false later = ap (λ b. (first == vid) || b) later ∙ or_left_comm (first == vid) (new == vid) (has vid rest)
 
 has-filter : (vid gone : ℕ) (live : List ℕ) → has vid (filter (λ other. not (other == gone)) live) ≡ cond (gone == vid) false (has vid live)
-has-filter vid gone [] = sym (same (gone == vid))
-  where
-    same : (b : Bool) → cond b false false ≡ false
-    same true = refl
-    same false = refl
+has-filter vid gone [] = sym (cond_same (gone == vid) false)
 has-filter vid gone (first ∷ rest) = by_test (first == gone) (gone == vid) refl refl (has-filter vid gone rest)
   where
     by_test : (b c : Bool) → (first == gone) ≡ b → (gone == vid) ≡ c
@@ -180,25 +156,16 @@ has-filter vid gone (first ∷ rest) = by_test (first == gone) (gone == vid) ref
 
 live-freed_state : (state : VdiState) → is_live_state (freed_state state) ≡ is_live_state state
 live-freed_state Unused = refl
-live-freed_state (Reserved by) = refl
-live-freed_state Working = refl
-live-freed_state (SnapshotState tag) = refl
-live-freed_state Deleted = refl
-live-freed_state Freed = refl
+live-freed_state state = refl
 
 live-state_after_leave : (node : ℕ) (state : VdiState) → is_live_state (state_after_leave node state) ≡ is_live_state state
-live-state_after_leave node Unused = refl
-live-state_after_leave node (Reserved by) = by_cond (by.0 == node) Freed (Reserved by) (λ (s : VdiState). is_live_state s ≡ false) (λ t. refl) (λ f. refl)
-live-state_after_leave node Working = refl
-live-state_after_leave node (SnapshotState tag) = refl
-live-state_after_leave node Deleted = refl
-live-state_after_leave node Freed = refl
+live-state_after_leave node (Reserved by) = cond_both (by.0 == node) Freed (Reserved by) (λ (s : VdiState). is_live_state s ≡ false) (λ t. refl) (λ f. refl)
+live-state_after_leave node state = refl
 
 module _ (before : List Effect) (sound : IsSound before) (vid : ℕ) (is : has vid (live_of before) ≡ is_live_state (state_of before vid)) where
   live-step : (effect : Effect) → IsLawful before effect → has vid (live_after (live_of before) effect) ≡ is_live_state (state_after vid (state_of before vid) effect)
-  live-step effects.Nothing lawful = is
   live-step (effects.Reserved grant) lawful =
-      by_cond (grant.reservation.vid.0 == vid) (Reserved grant.reservation.by) (state_of before vid) (λ (s : VdiState). has vid (live_of before) ≡ is_live_state s)
+      cond_both (grant.reservation.vid.0 == vid) (Reserved grant.reservation.by) (state_of before vid) (λ (s : VdiState). has vid (live_of before) ≡ is_live_state s)
       (λ here. is ∙ ap (λ v. is_live_state (state_of before v)) (sym (eqb-true grant.reservation.vid.0 vid here)) ∙ ap is_live_state (sound.unused grant.reservation.vid.0 lawful.1))
       (λ there. is)
   live-step (effects.Published of name) lawful = has-ids_with vid of.0 (live_of before) ∙ by_test (of.0 == vid)
@@ -218,12 +185,11 @@ module _ (before : List Effect) (sound : IsSound before) (vid : ℕ) (is : has v
       by_test : (b : Bool) → cond b false (has vid (live_of before)) ≡ is_live_state (cond b Deleted (state_of before vid))
       by_test true = refl
       by_test false = is
-  live-step (effects.Held of holder) lawful = is
-  live-step (effects.Freed of) lawful = is
   live-step (effects.Withdrawn of) lawful =
-      by_cond (of.0 == vid) (freed_state (state_of before vid)) (state_of before vid) (λ (s : VdiState). has vid (live_of before) ≡ is_live_state s)
+      cond_both (of.0 == vid) (freed_state (state_of before vid)) (state_of before vid) (λ (s : VdiState). has vid (live_of before) ≡ is_live_state s)
       (λ here. is ∙ sym (live-freed_state (state_of before vid))) (λ there. is)
   live-step (effects.Left node) lawful = is ∙ sym (live-state_after_leave node.0 (state_of before vid))
+  live-step effect lawful = is
 
 live-none : (vid : ℕ) → has vid (live_of []) ≡ is_live_state (state_of [] vid)
 unfolding live_of state_of
@@ -261,23 +227,11 @@ state_after_leave-holds-nothing entries node vid holder is =
     without-other node.0 (holder_of (log_effects entries) vid) holder
     (sym (ap (λ before. holder_of before vid) (log_effects-push entries (Leave node)) ∙ holder_of-push (log_effects entries) (effects.Left node) vid) ∙ is)
 
-not-is : (b : Bool) → not b ≡ true → b ≡ false
-not-is true e = cc
-not-is false e = refl
-
 pub state_after_leave-reservations-nothing : (entries : List Entry) (node : NodeId) (reservation : Reservation)
     → In reservation (reservations_of (log_effects (entries ++ Leave node ∷ []))) → (reservation.by.0 == node.0) ≡ false
 state_after_leave-reservations-nothing entries node reservation there =
-    not-is (reservation.by.0 == node.0) ((in-filter (λ (c : Reservation). not (c.by.0 == node.0)) reservation (reservations_of (log_effects entries))
+    not-true (reservation.by.0 == node.0) ((in-filter (λ (c : Reservation). not (c.by.0 == node.0)) reservation (reservations_of (log_effects entries))
     (subst (In reservation) (ap reservations_of (log_effects-push entries (Leave node)) ∙ reservations_of-push (log_effects entries) (effects.Left node)) there)).1)
-
--- a disk stays with its holder
-or-parts : (a b : Bool) → (a || b) ≡ false → (a ≡ false) × (b ≡ false)
-or-parts true b e = cc
-or-parts false b e = (refl, e)
-
-turned : (a b : ℕ) → (a == b) ≡ false → (b == a) ≡ false
-turned a b apart = ne_eqb b a (λ same. both_ways (a == b) apart (eq-eqb a b (sym same)))
 
 module _ (before : List Effect) (sound : IsSound before) (vid : ℕ) (holder : Holder) (held : holder_of before vid ≡ Some holder) where
   Keeps : Outcome → Type 0
@@ -343,8 +297,8 @@ module _ (before : List Effect) (sound : IsSound before) (vid : ℕ) (holder : H
   keeps-replacement reservation old None by there apart = refl
   keeps-replacement reservation old (Some tag) None by_there apart = refl
   keeps-replacement reservation old (Some tag) (Some by) there apart =
-      when-false (old.0 == vid) None (cond (reservation.vid.0 == vid) (Some by) (Some holder)) apart
-      ∙ when-false (reservation.vid.0 == vid) (Some by) (Some holder)
+      cond-false (old.0 == vid) None (cond (reservation.vid.0 == vid) (Some by) (Some holder)) apart
+      ∙ cond-false (reservation.vid.0 == vid) (Some by) (Some holder)
       (other-id before sound reservation.vid.0 vid (Reserved reservation.by) Working ((sound.reservations reservation there).state) (sound.held vid holder held) (λ e. cc))
 
   keeps-snap : (by : NodeId) (old of : Vid) (reservation : Option Reservation) → reservation_on of (reservations_of before) ≡ reservation → (old.0 == vid) ≡ false
@@ -364,7 +318,7 @@ module _ (before : List Effect) (sound : IsSound before) (vid : ℕ) (holder : H
   unfolding Keeps
   keeps-lock by name tag (Err cause) is = refl
   keeps-lock by name None (Ok other) is =
-      when-false (other.0 == vid) (Some by) (Some holder)
+      cond-false (other.0 == vid) (Some by) (Some holder)
       (ne_eqb other.0 vid (λ same. none (sym ((free-is before sound (name_of before name).working other is).1) ∙ ap (holder_of before) same ∙ held)))
     where
       none : None ≡ Some holder → ⊥
@@ -374,22 +328,18 @@ module _ (before : List Effect) (sound : IsSound before) (vid : ℕ) (holder : H
   keeps-release : (b c : Bool) (of : Vid) → (b ≡ true → (of.0 == vid) ≡ false)
       → Keeps (cond b (silent_outcome (effects.Freed of)) (cond c (silent_outcome (effects.Withdrawn of)) nothing))
   unfolding Keeps
-  keeps-release true c of apart = when-false (of.0 == vid) None (Some holder) (apart refl)
+  keeps-release true c of apart = cond-false (of.0 == vid) None (Some holder) (apart refl)
   keeps-release false true of apart = refl
   keeps-release false false of apart = refl
 
   keeps-entry : (entry : Entry) → may_take holder.node.0 vid entry ≡ false → Keeps (outcome before entry)
   unfolding Keeps
-  keeps-entry (Format members) other = refl
-  keeps-entry (Join node zone vnodes) other = refl
-  keeps-entry (Leave node) other = when-false (holder.node.0 == node.0) None (Some holder) (turned node.0 holder.node.0 other)
-  keeps-entry (Reweight node vnodes) other = refl
-  keeps-entry (Recovered node epoch) other = refl
+  keeps-entry (Leave node) other = cond-false (holder.node.0 == node.0) None (Some holder) (nat_eq_equiv.symm holder.node.0 node.0 ∙ other)
   keeps-entry (Reserve by session name origin) other = keeps-reservation by session name origin
   keeps-entry (Publish by of) other = keeps-publication by (is_for false) (reservation_on of (reservations_of before))
   keeps-entry (Clone by of) other = keeps-publication by (is_for true) (reservation_on of (reservations_of before))
   keeps-entry (Snapshot by old of) other =
-      keeps-snap by old of (reservation_on of (reservations_of before)) refl ((or-parts (by.0 == holder.node.0) (old.0 == vid) other).1)
+      keeps-snap by old of (reservation_on of (reservations_of before)) refl ((or_parts (by.0 == holder.node.0) (old.0 == vid) other).1)
   keeps-entry (Delete by session name tag) other = keeps-deletion name (target before name tag)
   keeps-entry (Lock by session name tag) other = keeps-lock (record { node = by; session = session }) name tag (target before name tag) refl
   keeps-entry (Unlock by session of) other =
@@ -402,6 +352,7 @@ module _ (before : List Effect) (sound : IsSound before) (vid : ℕ) (holder : H
 
       flip : (holder.node.0 == by.0) ≡ true → (by.0 == holder.node.0) ≡ true
       flip is = eq-eqb by.0 holder.node.0 (sym (eqb-true holder.node.0 by.0 is))
+  keeps-entry entry other = refl
 
   pub keeps-held : (entry : Entry) → may_take holder.node.0 vid entry ≡ false → holder_of (happens before entry) vid ≡ Some holder
   unfolding Keeps
@@ -413,7 +364,7 @@ pub stays-held : (later entries : List Entry) (vid : ℕ) (holder : Holder) → 
     → list_any (may_take holder.node.0 vid) later ≡ false → holder_of (log_effects (entries ++ later)) vid ≡ Some holder
 stays-held [] entries vid holder held none = ap (λ all. holder_of (log_effects all) vid) (append-nil entries) ∙ held
 stays-held (entry ∷ later) entries vid holder held none =
-    let parts = or-parts (may_take holder.node.0 vid entry) (list_any (may_take holder.node.0 vid) later) none in
+    let parts = or_parts (may_take holder.node.0 vid entry) (list_any (may_take holder.node.0 vid) later) none in
     ap (λ all. holder_of (log_effects all) vid) (sym (append_assoc entries (entry ∷ []) later))
     ∙ stays-held later (entries ++ entry ∷ []) vid holder
     (ap (λ before. holder_of before vid) (log_effects-push entries entry) ∙ keeps-held (log_effects entries) (sound-log_effects entries) vid holder held entry parts.0) parts.1

@@ -243,11 +243,6 @@ module _ (before : List Effect) (sound : IsSound before) where
 
   pub lawful-outcome : (entry : Entry) → IsLawful before (outcome before entry).effect
   unfolding Lawful
-  lawful-outcome (Format members) = tt
-  lawful-outcome (Join node zone vnodes) = tt
-  lawful-outcome (Leave node) = tt
-  lawful-outcome (Reweight node vnodes) = tt
-  lawful-outcome (Recovered node epoch) = tt
   lawful-outcome (Reserve by session name origin) = lawful-reservation by session name origin
   lawful-outcome (Publish by vid) = lawful-publication by false vid (reservation_on vid (reservations_of before)) refl
   lawful-outcome (Clone by vid) = lawful-publication by true vid (reservation_on vid (reservations_of before)) refl
@@ -257,6 +252,7 @@ module _ (before : List Effect) (sound : IsSound before) where
   lawful-outcome (Unlock by session vid) =
       lawful-release (is_held_by by session (holder_of before vid.0)) (is_reserved_by by session (reservation_on vid (reservations_of before))) vid
       (reserved-state by session vid (reservation_on vid (reservations_of before)) refl)
+  lawful-outcome entry = tt
 
 sound-none : IsSound []
 unfolding is_used header_of name_of reservations_of holder_of state_of

@@ -1,7 +1,8 @@
 -- Parents are used ids, older than their children, and a parent chain is the parent and its own chain.
 use Rattle.std.proofs.Common.{◌≡◌, ◌≢◌, ℕ, ◌+◌, ◌<◌, ◌≤◌, ◌==◌, ◌||◌, Bool, true, false, cond, List, [], ◌∷◌, ◌++◌, length, Option, Some, None, is_some, refl, ap, sym, ◌∙◌, subst, arith, length-append}
-use Rattle.std.proofs.lemmas.Bool.{eqb-true, ne_eqb, both_ways}
+use Rattle.std.proofs.lemmas.Bool.{eqb-true, ne_eqb, both_ways, or_left, or_right}
 use Rattle.std.specs.Option.{option_map}
+use Rattle.std.proofs.Math.Bool.{or-false}
 use Rattle.object_id.specs.declared.oid.Vid.{Vid}
 use Rattle.object_id.specs.declared.entry.Entry.{Entry}
 use Rattle.vdi_directory.specs.declared.header.Header.{Header}
@@ -15,11 +16,11 @@ use Rattle.vdi_directory.specs.States.{Reserved, rank, state_after, state_of}
 use Rattle.vdi_directory.specs.Sound.{IsParent, IsSound, IsLawful}
 use Rattle.vdi_directory.specs.Dead.{is_parent_or_above, above_after, is_above}
 use Rattle.vdi_directory.specs.References.{header_parent, parent_of}
-use Rattle.vdi_directory.proofs.StateLemmas.{or-false, log_effects-none, is_used-push, header_of-push}
+use Rattle.vdi_directory.proofs.StateLemmas.{log_effects-none, is_used-push, header_of-push}
 use Rattle.vdi_directory.proofs.SoundLemmas.{state_of-push}
 use Rattle.vdi_directory.proofs.LawfulLemmas.{lawful-outcome, sound-log_effects}
 use Rattle.vdi_directory.proofs.LawLemmas.{kept-later, rank-grows}
-use Rattle.vdi_directory.proofs.DeadLemmas.{is_above-push, live-used, or-left, or-right}
+use Rattle.vdi_directory.proofs.DeadLemmas.{is_above-push, live-used}
 
 -- a child is younger than its parent
 pub record IsRank (before : List Effect) (rank : ℕ → ℕ) : Type 0 where
@@ -47,13 +48,11 @@ line-none = record {
 
 -- an id has a header from its grant on
 some-after : (vid : ℕ) (header : Option Header) (effect : Effect) → is_some (header_after vid header effect) ≡ (is_some header || grants vid effect)
-some-after vid header effects.Nothing = sym (or-false (is_some header))
 some-after vid header (effects.Reserved grant) = by_test (grant.reservation.vid.0 == vid)
   where
     by_test : (b : Bool) → is_some (cond b (Some grant.header) header) ≡ (is_some header || b)
-    by_test true = sym (or-right (is_some header) true refl)
+    by_test true = sym (or_right (is_some header) true refl)
     by_test false = sym (or-false (is_some header))
-some-after vid header (effects.Published of name) = sym (or-false (is_some header))
 some-after vid header (effects.Snapped snap) = by_header header (snap.old.0 == vid)
   where
     by_header : (h : Option Header) (b : Bool) → is_some (cond b (option_map (λ (old : Header). record old { tag = snap.tag }) h) h) ≡ (is_some h || false)
@@ -61,11 +60,7 @@ some-after vid header (effects.Snapped snap) = by_header header (snap.old.0 == v
     by_header None false = refl
     by_header (Some h) true = refl
     by_header (Some h) false = refl
-some-after vid header (effects.Deleted of name) = sym (or-false (is_some header))
-some-after vid header (effects.Held of holder) = sym (or-false (is_some header))
-some-after vid header (effects.Freed of) = sym (or-false (is_some header))
-some-after vid header (effects.Withdrawn of) = sym (or-false (is_some header))
-some-after vid header (effects.Left node) = sym (or-false (is_some header))
+some-after vid header effect = sym (or-false (is_some header))
 
 -- only a grant gives a parent
 pub parent-tagged : (b : Bool) (tag : List ℕ) (header : Option Header)
@@ -79,7 +74,7 @@ parent_of-push before effect vid = ap header_parent (header_of-push before effec
 
 module _ (before : List Effect) (sound : IsSound before) (line : IsLine before) where
   used-later : (effect : Effect) (vid : ℕ) → is_used before vid ≡ true → is_used (before ++ effect ∷ []) vid ≡ true
-  used-later effect vid is = is_used-push before effect vid ∙ or-left (is_used before vid) (grants vid effect) is
+  used-later effect vid is = is_used-push before effect vid ∙ or_left (is_used before vid) (grants vid effect) is
 
   known-later : (effect : Effect) (vid : ℕ) → is_used (before ++ effect ∷ []) vid ≡ is_some (header_of (before ++ effect ∷ []) vid)
   known-later effect vid =

@@ -66,15 +66,10 @@ ascend-filter keep low (first ∷ rest) up = by_test (keep first) (ascend-filter
     by_test false later = ascend-less first low (filter keep rest) up.0 later
 
 ascend-after : (live : List ℕ) (effect : Effect) → AscendFrom 0 live → AscendFrom 0 (live_after live effect)
-ascend-after live Nothing up = up
-ascend-after live (Reserved grant) up = up
 ascend-after live (Published vid name) up = ascend-ids_with 0 vid.0 live (omega arith) up
 ascend-after live (Snapped snap) up = ascend-ids_with 0 snap.vid.0 live (omega arith) up
 ascend-after live (Deleted vid name) up = ascend-filter (λ other. not (other == vid.0)) 0 live up
-ascend-after live (Held vid holder) up = up
-ascend-after live (Freed vid) up = up
-ascend-after live (Withdrawn vid) up = up
-ascend-after live (Left node) up = up
+ascend-after live effect up = up
 
 ascend-fold : (effects : List Effect) (live : List ℕ) → AscendFrom 0 live → AscendFrom 0 (fold live_after live effects)
 ascend-fold [] live up = up

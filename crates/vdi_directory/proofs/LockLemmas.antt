@@ -6,29 +6,15 @@ use Rattle.std.specs.BTreeMap.{is_at}
 use Rattle.std.specs.FinMap as tree
 use Rattle.std.proofs.lemmas.Bool.Decides.{nat_tests}
 use Rattle.std.proofs.lemmas.Bool.{cases_eq}
+use Rattle.proof_tools.proofs.FiniteMaps.{is_at-turned}
 use Rattle.disk_lock.specs.declared.holder.Holder.{Holder}
 use Rattle.disk_lock.specs.Locks.{Holders}
-
-same-key : (a b : ℕ) → eq_by_cmp nat_cmp a b ≡ (b == a)
-same-key a b = by_place (cases_eq a b)
-  where
-    by_place : (a ≡ b) ⊎ (a ≢ b) → eq_by_cmp nat_cmp a b ≡ (b == a)
-    by_place (inl same) = grind (arith, nat_tests)
-    by_place (inr apart) = grind (arith, nat_tests)
 
 pub get-granted : (locks : Holders) (vid : ℕ) (holder : Holder) (other : ℕ)
     → tree.get (tree.insert locks vid holder) other ≡ cond (vid == other) (Some holder) (tree.get locks other)
 get-granted locks vid holder other =
-    tree.get-insert nat_cmp_total locks vid holder other ∙ ap (λ b. cond b (Some holder) (tree.get locks other)) (same-key other vid)
+    tree.get-insert nat_cmp_total locks vid holder other ∙ ap (λ b. cond b (Some holder) (tree.get locks other)) (is_at-turned other vid)
 
 pub get-freed : (locks : Holders) (vid other : ℕ) → tree.get (tree.remove locks vid) other ≡ cond (vid == other) None (tree.get locks other)
 get-freed locks vid other =
-    tree.get-remove nat_cmp_total locks vid other ∙ ap (λ b. cond b None (tree.get locks other)) (same-key other vid)
-
--- the same of a tree by id
-pub tree-key : (a b : ℕ) → is_at (nat_cmp a) b ≡ (a == b)
-tree-key a b = by_place (cases_eq a b)
-  where
-    by_place : (a ≡ b) ⊎ (a ≢ b) → is_at (nat_cmp a) b ≡ (a == b)
-    by_place (inl same) = grind (arith, nat_tests)
-    by_place (inr apart) = grind (arith, nat_tests)
+    tree.get-remove nat_cmp_total locks vid other ∙ ap (λ b. cond b None (tree.get locks other)) (is_at-turned other vid)

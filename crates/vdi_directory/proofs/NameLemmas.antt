@@ -4,7 +4,7 @@ use Rattle.std.specs.declared.vec.Vec.{Vec}
 use Rattle.std.specs.declared.alloc.Global.{Global}
 use Rattle.std.specs.declared.cmp.Ordering.TheVariants.{Less, Equal, Greater}
 use Rattle.std.specs.Ordering.{is_eq, nat_cmp, match_ordering}
-use Rattle.std.specs.Cmp.{tied_itself}
+use Rattle.std.specs.Cmp.{tied_itself, Equal-is}
 use Rattle.std.specs.Cmp.Lexicographic.{slice_cmp, pointwise}
 use Rattle.std.specs.FinMap as tree
 use Rattle.std.specs.Map.{lookup, set_value}
@@ -23,13 +23,8 @@ is_key name key = is_at (λ (k : Key). slice_cmp nat_cmp name k.items) key
 abbrev pub key_cmp : Key → Key → Ordering
 key_cmp a b = slice_cmp nat_cmp a.items b.items
 
-equal_from : (r : Ordering) → is_eq r ≡ true → r ≡ Equal
-equal_from Less e = cc
-equal_from Equal e = refl
-equal_from Greater e = cc
-
 key-is : (name : List ℕ) (key : Key) → is_key name key ≡ true → name ≡ key.items
-key-is name key e = tree.slice_cmp-IsAntisymmetric tree.nat_cmp-IsAntisymmetric name key.items (equal_from _ e)
+key-is name key e = tree.slice_cmp-IsAntisymmetric tree.nat_cmp-IsAntisymmetric name key.items ((Equal-is _).0 e)
 
 is-key : (name : List ℕ) (key : Key) → name ≡ key.items → is_key name key ≡ true
 is-key name key e = ap (λ bytes. is_eq (slice_cmp nat_cmp name bytes)) (sym e) ∙ ap is_eq (tied_itself nat_list_cmp_total name)
@@ -38,7 +33,7 @@ same-cmp : (a b : List ℕ) → is_eq (slice_cmp nat_cmp a b) ≡ is_same_bytes 
 same-cmp a b = same_from_slice_cmp nat_cmp is_eq (pointwise nat_eq) refl (λ _ _. refl) (λ _ _. refl) (λ x y xs ys o h. grind (arith, nat_tests)) a b _ refl
 
 pub same-is : (a b : List ℕ) → is_same_bytes a b ≡ true → a ≡ b
-same-is a b e = tree.slice_cmp-IsAntisymmetric tree.nat_cmp-IsAntisymmetric a b (equal_from _ (same-cmp a b ∙ e))
+same-is a b e = tree.slice_cmp-IsAntisymmetric tree.nat_cmp-IsAntisymmetric a b ((Equal-is _).0 (same-cmp a b ∙ e))
 
 pub is-same : (a b : List ℕ) → a ≡ b → is_same_bytes a b ≡ true
 is-same a b e = ap (is_same_bytes a) (sym e) ∙ sym (same-cmp a a) ∙ ap is_eq (tied_itself nat_list_cmp_total a)

@@ -1,6 +1,6 @@
 -- Every snapshot stands among those of its name.
 use Rattle.std.proofs.Common.{◌≡◌, inl, inr, ℕ, ◌==◌, not, Bool, true, false, cond, List, [], ◌∷◌, ◌++◌, filter, Some, refl, ap, sym, ◌∙◌, subst}
-use Rattle.std.proofs.lemmas.Bool.{eqb-true, eq-eqb, ne_eqb, both_ways}
+use Rattle.std.proofs.lemmas.Bool.{eqb-true, eq-eqb, ne_eqb, both_ways, cond_both}
 use Rattle.object_id.specs.declared.oid.Vid.{Vid}
 use Rattle.object_id.specs.declared.entry.Entry.{Entry}
 use Rattle.vdi_directory.specs.declared.live_snapshot.LiveSnapshot.{LiveSnapshot}
@@ -13,7 +13,7 @@ use Rattle.vdi_directory.specs.States.{VdiState, Unused, Reserved, Working, Snap
 use Rattle.vdi_directory.specs.Sound.{In, IsLawful}
 use Rattle.vdi_directory.proofs.NameLemmas.{is-same}
 use Rattle.vdi_directory.proofs.StateLemmas.{log_effects-none, name_of-push}
-use Rattle.vdi_directory.proofs.SoundLemmas.{state_of-push, owner-kept, by_cond}
+use Rattle.vdi_directory.proofs.SoundLemmas.{state_of-push, owner-kept}
 use Rattle.vdi_directory.proofs.LawfulLemmas.{lawful-outcome, sound-log_effects}
 use Rattle.vdi_directory.proofs.LawLemmas.{kept-later}
 
@@ -41,24 +41,16 @@ in-kept p x (y ∷ ys) keeps there = by_test (p y) refl there (in-kept p x ys ke
 
 -- what is a snapshot after an effect, and not by it
 live_snapshot-freed_state : (s : VdiState) (tag : List ℕ) → freed_state s ≡ Snapshot tag → s ≡ Snapshot tag
-live_snapshot-freed_state Unused tag is = is
 live_snapshot-freed_state (Reserved by) tag is = cc
-live_snapshot-freed_state Working tag is = is
-live_snapshot-freed_state (Snapshot of) tag is = is
-live_snapshot-freed_state Deleted tag is = is
-live_snapshot-freed_state Freed tag is = is
+live_snapshot-freed_state s tag is = is
 
 live_snapshot-state_after_leave : (node : ℕ) (s : VdiState) (tag : List ℕ) → state_after_leave node s ≡ Snapshot tag → s ≡ Snapshot tag
-live_snapshot-state_after_leave node Unused tag is = is
 live_snapshot-state_after_leave node (Reserved by) tag is = by_test (by.0 == node) is
   where
     by_test : (b : Bool) → cond b Freed (Reserved by) ≡ Snapshot tag → Reserved by ≡ Snapshot tag
     by_test true is = cc
     by_test false is = is
-live_snapshot-state_after_leave node Working tag is = is
-live_snapshot-state_after_leave node (Snapshot of) tag is = is
-live_snapshot-state_after_leave node Deleted tag is = is
-live_snapshot-state_after_leave node Freed tag is = is
+live_snapshot-state_after_leave node s tag is = is
 
 AreListed : List Effect → Type 0
 AreListed before = (name tag : List ℕ) (vid : Vid) → state_of before vid.0 ≡ Snapshot tag → owner_of before vid.0 ≡ Some name
@@ -91,7 +83,7 @@ module _ (before : List Effect) (listed : AreListed before) (name tag : List ℕ
       by_test true here is = cc
       by_test false there is = was-listed (effects.Reserved grant) there owner is
   listed-step (effects.Published of other) lawful is owner =
-      by_cond (is_same_bytes other name) (name_with_working of (name_of before name)) (name_of before name) (λ (now : Name). In it now.live_snapshots) (λ yes. there) (λ no. there)
+      cond_both (is_same_bytes other name) (name_with_working of (name_of before name)) (name_of before name) (λ (now : Name). In it now.live_snapshots) (λ yes. there) (λ no. there)
     where
       by_test : (b : Bool) → cond b Working (state_of before vid.0) ≡ Snapshot tag → state_of before vid.0 ≡ Snapshot tag
       by_test true is = cc
@@ -121,7 +113,7 @@ module _ (before : List Effect) (listed : AreListed before) (name tag : List ℕ
       by_test false true there is = cc
       by_test false false there is =
           let was : In it (name_of before name).live_snapshots = was-listed (effects.Snapped snap) refl owner is in
-          by_cond (is_same_bytes snap.name name) (name_with_snapshot snap.old snap.vid snap.tag (name_of before name)) (name_of before name) (λ (now : Name). In it now.live_snapshots)
+          cond_both (is_same_bytes snap.name name) (name_with_snapshot snap.old snap.vid snap.tag (name_of before name)) (name_of before name) (λ (now : Name). In it now.live_snapshots)
           (λ yes. in-state_after_leave it (name_of before name).live_snapshots (record { vid = snap.old; tag = snap.tag } ∷ []) was) (λ no. was)
   listed-step (effects.Deleted of other) lawful is owner = by_test (of.0 == vid.0) refl is
     where
@@ -133,7 +125,7 @@ module _ (before : List Effect) (listed : AreListed before) (name tag : List ℕ
       by_test true here is = cc
       by_test false apart is =
           let was : In it (name_of before name).live_snapshots = was-listed (effects.Deleted of other) refl owner is in
-          by_cond (is_same_bytes other name) (name_without of (name_of before name)) (name_of before name) (λ (now : Name). In it now.live_snapshots)
+          cond_both (is_same_bytes other name) (name_without of (name_of before name)) (name_of before name) (λ (now : Name). In it now.live_snapshots)
           (λ yes. in-kept (λ (live_snapshot : LiveSnapshot). not (live_snapshot.vid.0 == of.0)) it (name_of before name).live_snapshots (turned apart) was) (λ no. was)
   listed-step (effects.Held of holder) lawful is owner = was-listed (effects.Held of holder) refl owner is
   listed-step (effects.Freed of) lawful is owner = was-listed (effects.Freed of) refl owner is

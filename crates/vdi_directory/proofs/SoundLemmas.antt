@@ -1,8 +1,9 @@
 -- What is true of whatever entries did stays true with one effect more.
 use Rattle.std.proofs.Common.{◌≡◌, ◌⊎◌, inl, inr, ℕ, ◌==◌, ◌||◌, not, Bool, true, false, cond, List, [], ◌∷◌, ◌++◌, filter, Option, Some, None, refl, ap, sym, ◌∙◌, subst}
 use Rattle.std.specs.Option.{option_map}
-use Rattle.std.proofs.lemmas.Bool.{eqb-true, eq-eqb, ne_eqb, both_ways}
+use Rattle.std.proofs.lemmas.Bool.{eqb-true, eq-eqb, ne_eqb, both_ways, cond-false, or_parts, not-true}
 use Rattle.std.proofs.lemmas.List.Sums.{fold-append}
+use Rattle.std.proofs.lemmas.Option.{same_Some}
 use Rattle.object_id.specs.declared.oid.Vid.{Vid}
 use Rattle.object_id.specs.declared.node.NodeId.{NodeId}
 use Rattle.disk_lock.specs.declared.holder.Holder.{Holder}
@@ -26,17 +27,6 @@ use Rattle.vdi_directory.proofs.StateLemmas.{is_used-push, header_of-push, name_
 pub state_of-push : (before : List Effect) (effect : Effect) (vid : ℕ) → state_of (before ++ effect ∷ []) vid ≡ state_after vid (state_of before vid) effect
 unfolding state_of
 state_of-push before effect vid = fold-append (state_after vid) Unused before (effect ∷ [])
-
-pub by_cond : {A : Type 0} (b : Bool) (x y : A) (P : A → Type 0) → (b ≡ true → P x) → (b ≡ false → P y) → P (cond b x y)
-by_cond true x y P one two = one refl
-by_cond false x y P one two = two refl
-
-pub when-false : {A : Type 0} (b : Bool) (x y : A) → b ≡ false → cond b x y ≡ y
-when-false b x y is = ap (λ t. cond t x y) is
-
-or-parts : (a b : Bool) → (a || b) ≡ false → (a ≡ false) × (b ≡ false)
-or-parts true b e = cc
-or-parts false b e = (refl, e)
 
 -- membership
 pub in-filter : {X : Type 0} (p : X → Bool) (x : X) (xs : List X) → In x (filter p xs) → In x xs × (p x ≡ true)
@@ -64,15 +54,9 @@ tag-only false tag header = refl
 
 owner-after : (vid : ℕ) (header : Option Header) (effect : Effect) → grants vid effect ≡ false
     → option_map (λ (h : Header). h.name) (header_after vid header effect) ≡ option_map (λ (h : Header). h.name) header
-owner-after vid header effects.Nothing other = refl
 owner-after vid header (effects.Reserved grant) other = ap (λ b. option_map (λ (h : Header). h.name) (cond b (Some grant.header) header)) other
-owner-after vid header (effects.Published of name) other = refl
 owner-after vid header (effects.Snapped snap) other = tag-only (snap.old.0 == vid) snap.tag header
-owner-after vid header (effects.Deleted of name) other = refl
-owner-after vid header (effects.Held of holder) other = refl
-owner-after vid header (effects.Freed of) other = refl
-owner-after vid header (effects.Withdrawn of) other = refl
-owner-after vid header (effects.Left node) other = refl
+owner-after vid header effect other = refl
 
 pub owner-kept : (before : List Effect) (effect : Effect) (vid : ℕ) → grants vid effect ≡ false → owner_of (before ++ effect ∷ []) vid ≡ owner_of before vid
 owner-kept before effect vid other =
@@ -81,7 +65,6 @@ owner-kept before effect vid other =
 module _ (before : List Effect) (sound : IsSound before) where
   -- an id that is known is not granted again
   not-granted : (effect : Effect) → IsLawful before effect → (vid : ℕ) (name : List ℕ) → owner_of before vid ≡ Some name → grants vid effect ≡ false
-  not-granted effects.Nothing lawful vid name owner = refl
   not-granted (effects.Reserved grant) lawful vid name owner = by_test (grant.reservation.vid.0 == vid) refl
     where
       by_test : (b : Bool) → (grant.reservation.vid.0 == vid) ≡ b → (grant.reservation.vid.0 == vid) ≡ false
@@ -90,13 +73,7 @@ module _ (before : List Effect) (sound : IsSound before) where
           none : None ≡ Some name → ⊥
           none e = cc
       by_test false apart = apart
-  not-granted (effects.Published of other) lawful vid name owner = refl
-  not-granted (effects.Snapped snap) lawful vid name owner = refl
-  not-granted (effects.Deleted of other) lawful vid name owner = refl
-  not-granted (effects.Held of holder) lawful vid name owner = refl
-  not-granted (effects.Freed of) lawful vid name owner = refl
-  not-granted (effects.Withdrawn of) lawful vid name owner = refl
-  not-granted (effects.Left node) lawful vid name owner = refl
+  not-granted effect lawful vid name owner = refl
 
   owner-stays : (effect : Effect) → IsLawful before effect → (vid : ℕ) (name : List ℕ) → owner_of before vid ≡ Some name
       → owner_of (before ++ effect ∷ []) vid ≡ Some name
@@ -140,10 +117,10 @@ module _ (before : List Effect) (sound : IsSound before) where
       → IsSound (before ++ effect ∷ [])
   after effect lawful unused reservations working live_snapshots held = record {
     unused = λ vid out.
-        let parts = or-parts (is_used before vid) (grants vid effect) (sym (is_used-push before effect vid) ∙ out) in
+        let parts = or_parts (is_used before vid) (grants vid effect) (sym (is_used-push before effect vid) ∙ out) in
         state_of-push before effect vid ∙ unused vid (sound.unused vid parts.0) parts.1;
     unknown = λ vid out.
-        let parts = or-parts (is_used before vid) (grants vid effect) (sym (is_used-push before effect vid) ∙ out) in
+        let parts = or_parts (is_used before vid) (grants vid effect) (sym (is_used-push before effect vid) ∙ out) in
         owner-kept before effect vid parts.1 ∙ sound.unknown vid parts.0;
     reservations = λ reservation there. reservations reservation (subst (In reservation) (reservations_of-push before effect) there);
     working = λ name vid is. working name vid (sym (ap (λ (n : Name). n.working) (name_of-push before effect name)) ∙ is);
@@ -165,7 +142,7 @@ module _ (before : List Effect) (sound : IsSound before) where
 
   sound-Reserved : (grant : Grant) → IsLawful before (effects.Reserved grant) → IsSound (before ++ effects.Reserved grant ∷ [])
   sound-Reserved grant lawful = after (effects.Reserved grant) lawful
-      (λ vid is other. when-false (grant.reservation.vid.0 == vid) (Reserved grant.reservation.by) (state_of before vid) other ∙ is)
+      (λ vid is other. cond-false (grant.reservation.vid.0 == vid) (Reserved grant.reservation.by) (state_of before vid) other ∙ is)
       (λ reservation there. by_place reservation (in-push reservation grant.reservation (reservations_of before) there))
       (λ name vid is. let w = sound.working name vid is in
       works (effects.Reserved grant) lawful name vid.0 w.owner (kept vid.0 Working w.state (λ e. cc) ∙ w.state))
@@ -177,7 +154,7 @@ module _ (before : List Effect) (sound : IsSound before) where
       new = sound.unused grant.reservation.vid.0 lawful.1
 
       kept : (vid : ℕ) (s : VdiState) → state_of before vid ≡ s → (Unused ≡ s → ⊥) → state_after vid (state_of before vid) (effects.Reserved grant) ≡ state_of before vid
-      kept vid s is apart = when-false (grant.reservation.vid.0 == vid) (Reserved grant.reservation.by) (state_of before vid) (other-id grant.reservation.vid.0 vid Unused s new is apart)
+      kept vid s is apart = cond-false (grant.reservation.vid.0 == vid) (Reserved grant.reservation.by) (state_of before vid) (other-id grant.reservation.vid.0 vid Unused s new is apart)
 
       by_place : (reservation : Reservation) → In reservation (reservations_of before) ⊎ (grant.reservation ≡ reservation) → IsReservation (before ++ effects.Reserved grant ∷ []) reservation
       by_place reservation (inl old) =
@@ -192,10 +169,6 @@ module _ (before : List Effect) (sound : IsSound before) where
         base = base-stays (effects.Reserved grant) lawful grant.reservation.name grant.reservation.source lawful.3;
       })
 
-not-true : (b : Bool) → not b ≡ true → b ≡ false
-not-true true e = cc
-not-true false e = refl
-
 -- two ids that a filter tells apart
 pub apart-ids : (a b : ℕ) → not (a == b) ≡ true → (b == a) ≡ false
 apart-ids a b is = ne_eqb b a (λ same. both_ways (a == b) (not-true (a == b) is) (eq-eqb a b (sym same)))
@@ -204,9 +177,6 @@ both-same : {A : Type 0} (b : Bool) (x y : A) → y ≡ x → cond b x y ≡ x
 both-same true x y same = refl
 both-same false x y same = same
 
-same-some : {X : Type 0} (x y : X) → Some x ≡ Some y → x ≡ y
-same-some x y e = cc
-
 -- a working disk that is left was the working disk, and is another
 unless-is : (vid : Vid) (working : Option Vid) (state_after_leave : Vid) → unless vid working ≡ Some state_after_leave → (working ≡ Some state_after_leave) × ((state_after_leave.0 == vid.0) ≡ false)
 unless-is vid None state_after_leave is = cc
@@ -214,7 +184,7 @@ unless-is vid (Some now) state_after_leave is = by_test (now.0 == vid.0) refl is
   where
     by_test : (b : Bool) → (now.0 == vid.0) ≡ b → cond b None (Some now) ≡ Some state_after_leave → (Some now ≡ Some state_after_leave) × ((state_after_leave.0 == vid.0) ≡ false)
     by_test true same is = cc
-    by_test false apart is = (is, ap (λ (v : Vid). v.0 == vid.0) (sym (same-some now state_after_leave is)) ∙ apart)
+    by_test false apart is = (is, ap (λ (v : Vid). v.0 == vid.0) (sym (same_Some now state_after_leave is)) ∙ apart)
 
 name_without-some : (node : ℕ) (held : Option Holder) (holder : Holder) → without_node node held ≡ Some holder → held ≡ Some holder
 name_without-some node None holder is = cc
@@ -228,14 +198,14 @@ module _ (before : List Effect) (sound : IsSound before) where
   -- disks of different names are different
   other-owner : (a b : ℕ) (n m : List ℕ) → owner_of before a ≡ Some n → owner_of before b ≡ Some m → is_same_bytes n m ≡ false → (a == b) ≡ false
   other-owner a b n m of_a of_b apart =
-      ne_eqb a b (λ same. both_ways (is_same_bytes n m) apart (is-same n m (same-some n m (sym of_a ∙ ap (owner_of before) same ∙ of_b))))
+      ne_eqb a b (λ same. both_ways (is_same_bytes n m) apart (is-same n m (same_Some n m (sym of_a ∙ ap (owner_of before) same ∙ of_b))))
 
   sound-Published : (vid : Vid) (name : List ℕ) → IsLawful before (effects.Published vid name) → IsSound (before ++ effects.Published vid name ∷ [])
   sound-Published vid name lawful = after before sound effect lawful
       (λ w is other. kept w Unused is (λ e. cc) ∙ is)
       (λ reservation there. let parts = in-filter (λ (c : Reservation). not (c.vid.0 == vid.0)) reservation (reservations_of before) there in
       reservation-stays before sound effect lawful reservation (sound.reservations reservation parts.0)
-      (when-false (vid.0 == reservation.vid.0) Working (state_of before reservation.vid.0) (apart-ids reservation.vid.0 vid.0 parts.1)))
+      (cond-false (vid.0 == reservation.vid.0) Working (state_of before reservation.vid.0) (apart-ids reservation.vid.0 vid.0 parts.1)))
       (λ n w is. by_name n w (is_same_bytes name n) refl is)
       (λ n live_snapshot there. let t = sound.live_snapshots n live_snapshot (same_live_snapshots n (is_same_bytes name n) live_snapshot there) in
       takes before sound effect lawful n live_snapshot.vid.0 t.owner ((t.state).0, kept live_snapshot.vid.0 (Snapshot ((t.state).0)) ((t.state).1) (λ e. cc) ∙ (t.state).1))
@@ -245,13 +215,13 @@ module _ (before : List Effect) (sound : IsSound before) where
       effect = effects.Published vid name
 
       kept : (w : ℕ) (s : VdiState) → state_of before w ≡ s → (Reserved ((lawful.0).0) ≡ s → ⊥) → state_after w (state_of before w) effect ≡ state_of before w
-      kept w s is apart = when-false (vid.0 == w) Working (state_of before w)
+      kept w s is apart = cond-false (vid.0 == w) Working (state_of before w)
           (other-id before sound vid.0 w (Reserved ((lawful.0).0)) s ((lawful.0).1) is apart)
 
       by_name : (n : List ℕ) (w : Vid) (b : Bool) → is_same_bytes name n ≡ b → (cond b (name_with_working vid (name_of before n)) (name_of before n)).working ≡ Some w
           → IsWorking (before ++ effect ∷ []) n w.0
       by_name n w true same is =
-          let here : vid ≡ w = same-some vid w is in
+          let here : vid ≡ w = same_Some vid w is in
           subst (λ (v : Vid). IsWorking (before ++ effect ∷ []) n v.0) here
           (works before sound effect lawful n vid.0 (lawful.1 ∙ ap Some (same-is name n same))
           (ap (λ b. cond b Working (state_of before vid.0)) (eq-eqb vid.0 vid.0 refl)))
@@ -269,9 +239,9 @@ module _ (before : List Effect) (sound : IsSound before) where
       (λ reservation there. let parts = in-filter (λ (c : Reservation). not (c.vid.0 == snap.vid.0)) reservation (reservations_of before) there in
       let was = sound.reservations reservation parts.0 in
       reservation-stays before sound effect lawful reservation was
-      (when-false (snap.old.0 == reservation.vid.0) (Snapshot snap.tag) (cond (snap.vid.0 == reservation.vid.0) Working (state_of before reservation.vid.0))
+      (cond-false (snap.old.0 == reservation.vid.0) (Snapshot snap.tag) (cond (snap.vid.0 == reservation.vid.0) Working (state_of before reservation.vid.0))
       (other-id before sound snap.old.0 reservation.vid.0 Working (Reserved reservation.by) old_state was.state (λ e. cc))
-      ∙ when-false (snap.vid.0 == reservation.vid.0) Working (state_of before reservation.vid.0) (apart-ids reservation.vid.0 snap.vid.0 parts.1)))
+      ∙ cond-false (snap.vid.0 == reservation.vid.0) Working (state_of before reservation.vid.0) (apart-ids reservation.vid.0 snap.vid.0 parts.1)))
       (λ n w is. by_name n w (is_same_bytes snap.name n) refl is)
       (λ n live_snapshot there. live_snapshot_of n live_snapshot (is_same_bytes snap.name n) refl there)
       (λ w holder is. by_holder w holder (snap.old.0 == w) (snap.vid.0 == w) is)
@@ -285,21 +255,21 @@ module _ (before : List Effect) (sound : IsSound before) where
       kept : (w : ℕ) (s : VdiState) → state_of before w ≡ s → (Working ≡ s → ⊥) → (Reserved ((lawful.1).0) ≡ s → ⊥)
           → state_after w (state_of before w) effect ≡ state_of before w
       kept w s is one two =
-          when-false (snap.old.0 == w) (Snapshot snap.tag) (cond (snap.vid.0 == w) Working (state_of before w)) (other-id before sound snap.old.0 w Working s old_state is one)
-          ∙ when-false (snap.vid.0 == w) Working (state_of before w) (other-id before sound snap.vid.0 w (Reserved ((lawful.1).0)) s ((lawful.1).1) is two)
+          cond-false (snap.old.0 == w) (Snapshot snap.tag) (cond (snap.vid.0 == w) Working (state_of before w)) (other-id before sound snap.old.0 w Working s old_state is one)
+          ∙ cond-false (snap.vid.0 == w) Working (state_of before w) (other-id before sound snap.vid.0 w (Reserved ((lawful.1).0)) s ((lawful.1).1) is two)
 
       by_name : (n : List ℕ) (w : Vid) (b : Bool) → is_same_bytes snap.name n ≡ b
           → (cond b (name_with_snapshot snap.old snap.vid snap.tag (name_of before n)) (name_of before n)).working ≡ Some w → IsWorking (before ++ effect ∷ []) n w.0
       by_name n w true same is =
-          subst (λ (v : Vid). IsWorking (before ++ effect ∷ []) n v.0) (same-some snap.vid w is)
+          subst (λ (v : Vid). IsWorking (before ++ effect ∷ []) n v.0) (same_Some snap.vid w is)
           (works before sound effect lawful n snap.vid.0 (lawful.2 ∙ ap Some (same-is snap.name n same))
-          (when-false (snap.old.0 == snap.vid.0) (Snapshot snap.tag) (cond (snap.vid.0 == snap.vid.0) Working (state_of before snap.vid.0))
+          (cond-false (snap.old.0 == snap.vid.0) (Snapshot snap.tag) (cond (snap.vid.0 == snap.vid.0) Working (state_of before snap.vid.0))
           (other-id before sound snap.old.0 snap.vid.0 Working (Reserved ((lawful.1).0)) old_state ((lawful.1).1) (λ e. cc))
           ∙ ap (λ b. cond b Working (state_of before snap.vid.0)) (eq-eqb snap.vid.0 snap.vid.0 refl)))
       by_name n w false apart is =
           let was = sound.working n w is in
           works before sound effect lawful n w.0 was.owner
-          (when-false (snap.old.0 == w.0) (Snapshot snap.tag) (cond (snap.vid.0 == w.0) Working (state_of before w.0))
+          (cond-false (snap.old.0 == w.0) (Snapshot snap.tag) (cond (snap.vid.0 == w.0) Working (state_of before w.0))
           (other-owner snap.old.0 w.0 snap.name n ((lawful.0).owner) was.owner apart)
           ∙ both-same (snap.vid.0 == w.0) Working (state_of before w.0) was.state)
 
@@ -343,7 +313,7 @@ module _ (before : List Effect) (sound : IsSound before) where
       owner = elim lawful as (λ _. owner_of before vid.0 ≡ Some name) [ inl w ↦ (w.0).owner | inr t ↦ t.owner ]
 
       kept : (w : ℕ) → (vid.0 == w) ≡ false → state_after w (state_of before w) effect ≡ state_of before w
-      kept w apart = when-false (vid.0 == w) Deleted (state_of before w) apart
+      kept w apart = cond-false (vid.0 == w) Deleted (state_of before w) apart
 
       by_kind : (w : ℕ) (s : VdiState) → state_of before w ≡ s → (Working ≡ s → ⊥) → ((tag : List ℕ) → Snapshot tag ≡ s → ⊥) → (vid.0 == w) ≡ false
       by_kind w s is one two = elim lawful as (λ _. (vid.0 == w) ≡ false) [
@@ -410,7 +380,7 @@ module _ (before : List Effect) (sound : IsSound before) where
       (λ w is other. kept w Unused is refl ∙ is)
       (λ reservation there. let parts = in-filter (λ (c : Reservation). not (c.vid.0 == vid.0)) reservation (reservations_of before) there in
       reservation-stays before sound effect lawful reservation (sound.reservations reservation parts.0)
-      (when-false (vid.0 == reservation.vid.0) (freed_state (state_of before reservation.vid.0)) (state_of before reservation.vid.0) (apart-ids reservation.vid.0 vid.0 parts.1)))
+      (cond-false (vid.0 == reservation.vid.0) (freed_state (state_of before reservation.vid.0)) (state_of before reservation.vid.0) (apart-ids reservation.vid.0 vid.0 parts.1)))
       (λ n w is. let was = sound.working n w is in works before sound effect lawful n w.0 was.owner (kept w.0 Working was.state refl ∙ was.state))
       (λ n live_snapshot there. let was = sound.live_snapshots n live_snapshot there in
       takes before sound effect lawful n live_snapshot.vid.0 was.owner ((was.state).0, kept live_snapshot.vid.0 (Snapshot ((was.state).0)) ((was.state).1) refl ∙ (was.state).1))
@@ -432,7 +402,7 @@ module _ (before : List Effect) (sound : IsSound before) where
       (λ reservation there. let parts = in-filter (λ (c : Reservation). not (c.by.0 == node.0)) reservation (reservations_of before) there in
       let was = sound.reservations reservation parts.0 in
       reservation-stays before sound effect tt reservation was
-      (kept reservation.vid.0 (Reserved reservation.by) was.state (when-false (reservation.by.0 == node.0) Freed (Reserved reservation.by) (not-true (reservation.by.0 == node.0) parts.1))))
+      (kept reservation.vid.0 (Reserved reservation.by) was.state (cond-false (reservation.by.0 == node.0) Freed (Reserved reservation.by) (not-true (reservation.by.0 == node.0) parts.1))))
       (λ n w is. let was = sound.working n w is in works before sound effect tt n w.0 was.owner (kept w.0 Working was.state refl ∙ was.state))
       (λ n live_snapshot there. let was = sound.live_snapshots n live_snapshot there in
       takes before sound effect tt n live_snapshot.vid.0 was.owner ((was.state).0, kept live_snapshot.vid.0 (Snapshot ((was.state).0)) ((was.state).1) refl ∙ (was.state).1))

@@ -115,14 +115,9 @@ module _ (before : List Effect) (sound : IsSound before) (is : AreReserved befor
 
   reservation-freed : (s : VdiState) → reservation_of node (freed_state s) ≡ 0
   reservation-freed Unused = refl
-  reservation-freed (Reserved by) = refl
-  reservation-freed Working = refl
-  reservation-freed (Snapshot tag) = refl
-  reservation-freed Deleted = refl
-  reservation-freed Freed = refl
+  reservation-freed s = refl
 
   reservation-left : (gone : NodeId) (s : VdiState) → reservation_of node (state_after_leave gone.0 s) ≡ cond (gone.0 == node.0) 0 (reservation_of node s)
-  reservation-left gone Unused = no-number (gone.0 == node.0)
   reservation-left gone (Reserved by) = by_test (by.0 == gone.0) (gone.0 == node.0) refl refl
     where
       by_test : (a b : Bool) → (by.0 == gone.0) ≡ a → (gone.0 == node.0) ≡ b → reservation_of node (cond a Freed (Reserved by)) ≡ cond b 0 (one_if (by.0 == node.0))
@@ -130,15 +125,11 @@ module _ (before : List Effect) (sound : IsSound before) (is : AreReserved befor
       by_test true false same apart = sym (ap one_if (ap (λ n. n == node.0) (eqb-true by.0 gone.0 same) ∙ apart))
       by_test false true other here = ap one_if (ap (λ n. by.0 == n) (sym (eqb-true gone.0 node.0 here)) ∙ other)
       by_test false false other apart = refl
-  reservation-left gone Working = no-number (gone.0 == node.0)
-  reservation-left gone (Snapshot tag) = no-number (gone.0 == node.0)
-  reservation-left gone Deleted = no-number (gone.0 == node.0)
-  reservation-left gone Freed = no-number (gone.0 == node.0)
+  reservation-left gone s = no-number (gone.0 == node.0)
 
   reserved-step : (effect : Effect) → IsLawful before effect
       → reserved_by node (reservations_after (reservations_of before) effect) vid ≡ reservation_of node (state_after vid (state_of before vid) effect)
   unfolding AreReserved
-  reserved-step effects.Nothing lawful = is node vid
   reserved-step (effects.Reserved grant) lawful = reserved-push node (reservations_of before) grant.reservation vid ∙ by_test (grant.reservation.vid.0 == vid) refl
     where
       by_test : (b : Bool) → (grant.reservation.vid.0 == vid) ≡ b
@@ -173,8 +164,6 @@ module _ (before : List Effect) (sound : IsSound before) (is : AreReserved befor
       by_test true same (inl works) = at-state of.0 Working same ((works.0).state) refl
       by_test true same (inr taken) = at-state of.0 (Snapshot ((taken.state).0)) same ((taken.state).1) refl
       by_test false apart how = is node vid
-  reserved-step (effects.Held of holder) lawful = is node vid
-  reserved-step (effects.Freed of) lawful = is node vid
   reserved-step (effects.Withdrawn of) lawful = reserved-but node of (reservations_of before) vid ∙ by_test (of.0 == vid)
     where
       by_test : (b : Bool) → cond b 0 (reserved_by node (reservations_of before) vid) ≡ reservation_of node (cond b (freed_state (state_of before vid)) (state_of before vid))
@@ -182,6 +171,7 @@ module _ (before : List Effect) (sound : IsSound before) (is : AreReserved befor
       by_test false = is node vid
   reserved-step (effects.Left gone) lawful =
       reserved-state_after_leave node gone (reservations_of before) vid ∙ ap (λ n. cond (gone.0 == node.0) 0 n) (is node vid) ∙ sym (reservation-left gone (state_of before vid))
+  reserved-step effect lawful = is node vid
 
 reserved-later : (before : List Effect) → IsSound before → (effect : Effect) → IsLawful before effect → AreReserved before → AreReserved (before ++ effect ∷ [])
 unfolding AreReserved
@@ -200,24 +190,17 @@ stands-freed_state : (s : VdiState) (by : NodeId) → s ≡ Reserved by → one_
 stands-freed_state s by is = ap (λ (t : VdiState). one_if (stands t)) is ∙ sym (ap (λ (t : VdiState). one_if (stands (freed_state t)) + 1) is)
 
 stands-state_after_leave : (node : NodeId) (s : VdiState) → one_if (stands s) ≡ one_if (stands (state_after_leave node.0 s)) + reservation_of node s
-stands-state_after_leave node Unused = refl
 stands-state_after_leave node (Reserved by) = by_test (by.0 == node.0)
   where
     by_test : (b : Bool) → 1 ≡ one_if (stands (cond b Freed (Reserved by))) + one_if b
     by_test true = refl
     by_test false = refl
-stands-state_after_leave node Working = refl
-stands-state_after_leave node (Snapshot tag) = refl
-stands-state_after_leave node Deleted = refl
-stands-state_after_leave node Freed = refl
+stands-state_after_leave node s = refl
 
 live-stands : (s : VdiState) → is_live_state s ≡ true → one_if (stands s) ≡ 1
-live-stands Unused live = cc
-live-stands (Reserved by) live = cc
 live-stands Working live = refl
 live-stands (Snapshot tag) live = refl
-live-stands Deleted live = cc
-live-stands Freed live = cc
+live-stands s live = cc
 
 plus-none : (n : ℕ) → n ≡ n + 0
 plus-none n = omega arith
@@ -330,18 +313,14 @@ module _ (before : List Effect) (sound : IsSound before) (reserved : AreReserved
         own-left node vid ∙ ap (λ (reservations : List Reservation). own_of (before ++ effects.Left node ∷ []) vid + reserved_by node reservations vid) (sym is.reservations)
 
     pub can-make : (effect : Effect) → IsLawful before effect → CanMake effect state
-    can-make effects.Nothing lawful = tt
     can-make (effects.Reserved grant) lawful = (fresh-none grant.reservation.vid.0 lawful.1, parent-referenced grant.header.parent lawful.4)
-    can-make (effects.Published of name) lawful = tt
-    can-make (effects.Snapped snap) lawful = tt
     can-make (effects.Deleted of name) lawful =
         (own_of (before ++ effects.Deleted of name ∷ []), lost (one of.0) (own_of (before ++ effects.Deleted of name ∷ [])) (own-deleted of name lawful))
-    can-make (effects.Held of holder) lawful = tt
-    can-make (effects.Freed of) lawful = tt
     can-make (effects.Withdrawn of) lawful =
         (own_of (before ++ effects.Withdrawn of ∷ []), lost (one of.0) (own_of (before ++ effects.Withdrawn of ∷ [])) (own-withdrawn of lawful))
     can-make (effects.Left node) lawful =
         (own_of (before ++ effects.Left node ∷ []), lost (reserved_by node state.reservations.items) (own_of (before ++ effects.Left node ∷ [])) (own-left-kept node))
+    can-make effect lawful = tt
 
     -- once the effect was made
     module _ (effect : Effect) (new : DirectoryState) where

@@ -3,6 +3,7 @@ use Rattle.std.proofs.Common.{◌≡◌, ℕ, ◌%◌, ◌^◌, ◌≤◌, ◌==
 use Rattle.std.proofs.lemmas.Bool.{eqb-false}
 use Rattle.std.proofs.lemmas.List.Sums.{fold-append}
 use Rattle.std.proofs.lemmas.List.Folds.{list_any-append}
+use Rattle.std.proofs.Math.Bool.{or-false}
 use Rattle.object_id.specs.Hash.{fnv1a_of, own_vid}
 use Rattle.object_id.specs.declared.oid.Vid.{Vid}
 use Rattle.object_id.specs.declared.node.NodeId.{NodeId}
@@ -37,10 +38,6 @@ use Rattle.vdi_directory.proofs.VidLemmas.{found-unused}
 pub log_effects-push : (entries : List Entry) (entry : Entry) → log_effects (entries ++ entry ∷ []) ≡ happens (log_effects entries) entry
 unfolding log_effects
 log_effects-push entries entry = fold-append happens [] entries (entry ∷ [])
-
-pub or-false : (b : Bool) → (b || false) ≡ b
-or-false true = refl
-or-false false = refl
 
 pub is_used-push : (before : List Effect) (effect : Effect) (vid : ℕ) → is_used (before ++ effect ∷ []) vid ≡ (is_used before vid || grants vid effect)
 unfolding is_used
@@ -169,11 +166,6 @@ module _ (before : List Effect) (state : DirectoryState) (is : IsDirectoryState 
   fresh-lock holder is_snapshot (Err cause) = tt
 
   pub fresh-outcome : (entry : Entry) → IsFresh (outcome before entry).effect state
-  fresh-outcome (Format members) = tt
-  fresh-outcome (Join node zone vnodes) = tt
-  fresh-outcome (Leave node) = tt
-  fresh-outcome (Reweight node vnodes) = tt
-  fresh-outcome (Recovered node epoch) = tt
   fresh-outcome (Reserve by session name origin) = fresh-reservation by session name origin
   fresh-outcome (Publish by vid) = fresh-publication by (is_for false) (reservation_on vid (reservations_of before))
   fresh-outcome (Clone by vid) = fresh-publication by (is_for true) (reservation_on vid (reservations_of before))
@@ -184,6 +176,7 @@ module _ (before : List Effect) (state : DirectoryState) (is : IsDirectoryState 
       fresh-if (is_held_by by session (holder_of before vid.0)) (silent_outcome (effects.Freed vid))
       (cond (is_reserved_by by session (reservation_on vid (reservations_of before))) (silent_outcome (effects.Withdrawn vid)) nothing) tt
       (fresh-if (is_reserved_by by session (reservation_on vid (reservations_of before))) (silent_outcome (effects.Withdrawn vid)) nothing tt tt)
+  fresh-outcome entry = tt
 
 pub log_effects-none : log_effects [] ≡ []
 unfolding log_effects

@@ -1,6 +1,6 @@
 -- An id that nobody bears is dead, and the other way round.
 use Rattle.std.proofs.Common.{◌≡◌, ◌≢◌, ◌⊎◌, inl, inr, ℕ, zero, suc, ◌+◌, ◌<◌, ◌≤◌, ◌==◌, nat_lt, Bool, true, false, cond, List, length, Option, Some, None, refl, ap, sym, ◌∙◌, arith}
-use Rattle.std.proofs.lemmas.Bool.{cases_eq, eq-eqb}
+use Rattle.std.proofs.lemmas.Bool.{cases_eq, eq-eqb, or_left}
 use Rattle.object_id.specs.declared.oid.Vid.{Vid}
 use Rattle.vdi_directory.specs.declared.effect.Effect.{Effect}
 use Rattle.vdi_directory.specs.Effects.{is_used}
@@ -8,24 +8,19 @@ use Rattle.vdi_directory.specs.States.{VdiState, Unused, Reserved, Working, Snap
 use Rattle.vdi_directory.specs.Dead.{is_parent_or_above, is_above, is_gone, IsDead}
 use Rattle.vdi_directory.specs.References.{one_if, one, references_by, KEY_COUNT, child_references, AreReferenceCounts, stands, parent_of, own_of}
 use Rattle.vdi_directory.proofs.ReferenceLemmas.{one-same, one-other, total-zero, total-le, references_by-none, references_by-some, key-below}
-use Rattle.vdi_directory.proofs.DeadLemmas.{or-left, parent-cases, IsChained, chain-used, heir-dead}
+use Rattle.vdi_directory.proofs.DeadLemmas.{parent-cases, IsChained, chain-used, heir-dead}
 use Rattle.vdi_directory.proofs.LineLemmas.{IsLine}
 
 gone-stands : (state : VdiState) → is_gone state ≡ true → one_if (stands state) ≡ 0
-gone-stands Unused gone = refl
 gone-stands (Reserved by) gone = cc
 gone-stands Working gone = cc
 gone-stands (Snapshot tag) gone = cc
-gone-stands Deleted gone = refl
-gone-stands Freed gone = refl
+gone-stands state gone = refl
 
 stands-gone : (state : VdiState) → 1 ≤ rank state → one_if (stands state) ≡ 0 → is_gone state ≡ true
-stands-gone Unused granted none = absurd (omega arith)
-stands-gone (Reserved by) granted none = absurd (omega arith)
-stands-gone Working granted none = absurd (omega arith)
-stands-gone (Snapshot tag) granted none = absurd (omega arith)
 stands-gone Deleted granted none = refl
 stands-gone Freed granted none = refl
+stands-gone state granted none = absurd (omega arith)
 
 cond-none : (b : Bool) (n : ℕ) → n ≡ 0 → cond b n 0 ≡ 0
 cond-none true n none = none
@@ -38,7 +33,7 @@ module _ (before : List Effect) (line : IsLine before) (chained : IsChained befo
   above-child : (vid child : ℕ) (parent : Vid) → parent_of before child ≡ Some parent → parent.0 ≡ vid → is_above before vid child ≡ true
   above-child vid child parent is same =
       line.chain vid child ∙ ap (is_parent_or_above (is_above before) vid) is
-      ∙ or-left (parent.0 == vid) (is_above before vid parent.0) (eq-eqb parent.0 vid same)
+      ∙ or_left (parent.0 == vid) (is_above before vid parent.0) (eq-eqb parent.0 vid same)
 
   -- the youngest first
   dead-from : (left vid : ℕ) → length before < age vid + left → IsDead before vid → counts vid ≡ 0

@@ -1,9 +1,10 @@
 -- The search for a free id, and ranges of ids.
 use Rattle.std.proofs.Common.{◌≡◌, ◌≢◌, ◌⊎◌, inl, inr, ℕ, zero, suc, ◌+◌, ◌-◌, ◌<◌, ◌≤◌, ◌==◌, ◌&&◌, ◌||◌, nat_le, Bool, true, false, cond, List, [], ◌∷◌, ◌++◌, length, get_or, take, drop, Option, Some, None, refl, ap, sym, ◌∙◌, subst, arith}
 use Rattle.std.specs.List.Sorted.{IsNonDecreasingBy}
-use Rattle.std.proofs.lemmas.Bool.{eq-eqb, ne_eqb, le-leb, lt-leb, cases_eq, cases_lt, both_ways}
+use Rattle.std.proofs.lemmas.Bool.{eq-eqb, ne_eqb, le-leb, lt-leb, cases_eq, cases_lt, both_ways, or_parts}
 use Rattle.std.proofs.lemmas.Bool.Decides.{nat_tests}
 use Rattle.std.proofs.lemmas.List.{get_or_default}
+use Rattle.std.proofs.Math.Bool.{or-true, or_assoc, or_comm}
 use Rattle.vdi_directory.specs.declared.vid_range.VidRange.{VidRange}
 use Rattle.vdi_directory.specs.declared.vid_range.TheConstants.{VID_MAX}
 use Rattle.vdi_directory.specs.Vids.{next_vid, first_unused, VID_COUNT, in_range, is_in, ranges_with, with_vid, AreRangesFrom, AreRanges}
@@ -122,11 +123,7 @@ pub in-ranges : (ranges : List VidRange) (k : ℕ) (d : VidRange) (vid : ℕ) �
 in-ranges [] k d vid within from upto = absurd (omega arith)
 in-ranges (range ∷ ranges) zero d vid within from upto = ap (λ b. b || is_in ranges vid) (in-test range vid from upto)
 in-ranges (range ∷ ranges) (suc k) d vid within from upto =
-    ap (λ b. in_range vid range || b) (in-ranges ranges k d vid (omega arith) from upto) ∙ or_true (in_range vid range)
-  where
-    or_true : (b : Bool) → (b || true) ≡ true
-    or_true true = refl
-    or_true false = refl
+    ap (λ b. in_range vid range || b) (in-ranges ranges k d vid (omega arith) from upto) ∙ or-true (in_range vid range)
 
 -- an id that is in no range isn't
 pub not-in-ranges : (ranges : List VidRange) (vid : ℕ)
@@ -146,15 +143,6 @@ in-split a b c v from upto = by_place (cases_lt b v)
     by_place (inl behind) = grind (arith, nat_tests)
     by_place (inr before) = grind (arith, nat_tests)
 
-or-assoc : (a b c : Bool) → ((a || b) || c) ≡ (a || (b || c))
-or-assoc true b c = refl
-or-assoc false b c = refl
-
-or-swap : (a b c : Bool) → (a || (b || c)) ≡ (b || (a || c))
-or-swap true true c = refl
-or-swap true false c = refl
-or-swap false b c = refl
-
 in-ranges_with : (first vid : ℕ) (ranges : List VidRange) (v : ℕ) → first ≤ vid → AreRangesFrom (vid + 1) ranges
     → is_in (ranges_with first vid ranges) v ≡ ((nat_le first v && nat_le v vid) || is_in ranges v)
 in-ranges_with first vid [] v upto are = refl
@@ -168,7 +156,7 @@ in-ranges_with first vid (range ∷ ranges) v upto are = by_test (cases_eq range
         (eq-eqb range.first (vid + 1) touches)
         ∙ ap (λ b. b || is_in ranges v) (in-split first vid range.last v (omega arith) (omega arith))
         ∙ ap (λ n. ((nat_le first v && nat_le v vid) || (nat_le n v && nat_le v range.last)) || is_in ranges v) (sym touches)
-        ∙ or-assoc (nat_le first v && nat_le v vid) (in_range v range) (is_in ranges v)
+        ∙ or_assoc (nat_le first v && nat_le v vid) (in_range v range) (is_in ranges v)
     by_test (inr apart) =
         ap (λ b. is_in (cond b (record { first = first; last = range.last } ∷ ranges) (record { first = first; last = vid } ∷ range ∷ ranges)) v)
         (ne_eqb range.first (vid + 1) apart)
@@ -204,10 +192,6 @@ AreRanges-behind low vid (range ∷ ranges) are out behind =
     by_place (inl before) = before
     by_place (inr inside) = absurd (both_ways (is_in (range ∷ ranges) vid) out (ap (λ b. b || is_in ranges vid) (in-test range vid inside (behind range ranges refl))))
 
-no-or : (a b : Bool) → (a || b) ≡ false → b ≡ false
-no-or true b e = cc
-no-or false b e = e
-
 -- ranges that begin later begin as early as less asks
 AreRanges-later : (low high : ℕ) (ranges : List VidRange) → high ≤ low → AreRangesFrom low ranges → AreRangesFrom high ranges
 AreRanges-later low high [] less are = tt
@@ -220,18 +204,12 @@ single vid v = by_place (cases_eq vid v)
     by_place (inl same) = grind (arith, nat_tests)
     by_place (inr apart) = grind (arith, nat_tests)
 
-or-turn : (a b : Bool) → (a || b) ≡ (b || a)
-or-turn true true = refl
-or-turn true false = refl
-or-turn false true = refl
-or-turn false false = refl
-
 -- one id more is in the ranges, and they are as ranges must be
 pub with_vid-is : (low vid : ℕ) (ranges : List VidRange) → AreRangesFrom low ranges → low ≤ vid → vid ≤ VID_MAX → is_in ranges vid ≡ false
     → AreRangesFrom low (with_vid vid ranges) × ((v : ℕ) → is_in (with_vid vid ranges) v ≡ (is_in ranges v || vid == v))
-with_vid-is low vid [] are from last out = ((from, omega arith, last, tt), λ v. or-turn (nat_le vid v && nat_le v vid) false ∙ single vid v)
+with_vid-is low vid [] are from last out = ((from, omega arith, last, tt), λ v. or_comm (nat_le vid v && nat_le v vid) false ∙ single vid v)
 with_vid-is low vid (range ∷ ranges) are from last out = by_place (cases_lt range.last vid) (cases_eq vid (range.last + 1))
-    (λ behind. with_vid-is (range.last + 2) vid ranges are.3 behind last (no-or (in_range vid range) (is_in ranges vid) out))
+    (λ behind. with_vid-is (range.last + 2) vid ranges are.3 behind last ((or_parts (in_range vid range) (is_in ranges vid) out).1))
   where
     AreWith : List VidRange → Type 0
     AreWith new = AreRangesFrom low new × ((v : ℕ) → is_in new v ≡ (is_in (range ∷ ranges) v || vid == v))
@@ -255,7 +233,7 @@ with_vid-is low vid (range ∷ ranges) are from last out = by_place (cases_lt ra
         by_test true (vid == range.last + 1) (le-leb vid range.last upto) refl (
           AreRanges-ranges_with low vid vid (range ∷ ranges) from (omega arith) last behind,
           λ v. in-ranges_with vid vid (range ∷ ranges) v (omega arith) behind
-              ∙ ap (λ b. b || is_in (range ∷ ranges) v) (single vid v) ∙ or-turn (vid == v) (is_in (range ∷ ranges) v),
+              ∙ ap (λ b. b || is_in (range ∷ ranges) v) (single vid v) ∙ or_comm (vid == v) (is_in (range ∷ ranges) v),
         )
     by_place (inl above) (inl touches) later =
         let behind : AreRangesFrom (vid + 1) ranges = subst (λ n. AreRangesFrom n ranges) (let e : range.last + 2 ≡ vid + 1 = omega arith in e) are.3 in
@@ -266,15 +244,15 @@ with_vid-is low vid (range ∷ ranges) are from last out = by_place (cases_lt ra
               ∙ ap (λ b. b || is_in ranges v) (ap (λ n. nat_le range.first v && nat_le v n) touches ∙ in-split range.first range.last (range.last + 1) v (omega arith) (omega arith))
               ∙ ap (λ n. ((in_range v range) || (nat_le (range.last + 1) v && nat_le v (range.last + 1))) || is_in ranges v) touches
               ∙ ap (λ b. (in_range v range || b) || is_in ranges v) (single (range.last + 1) v ∙ ap (λ n. n == v) (sym touches))
-              ∙ or-assoc (in_range v range) (vid == v) (is_in ranges v)
-              ∙ ap (λ b. in_range v range || b) (or-turn (vid == v) (is_in ranges v))
-              ∙ sym (or-assoc (in_range v range) (is_in ranges v) (vid == v)),
+              ∙ or_assoc (in_range v range) (vid == v) (is_in ranges v)
+              ∙ ap (λ b. in_range v range || b) (or_comm (vid == v) (is_in ranges v))
+              ∙ sym (or_assoc (in_range v range) (is_in ranges v) (vid == v)),
         )
     by_place (inl above) (inr apart) later =
         let rest = later (omega arith) in
         by_test false false (lt-leb vid range.last above) (ne_eqb vid (range.last + 1) apart) (
           (are.0, are.1, are.2, rest.0),
-          λ v. ap (λ b. in_range v range || b) (rest.1 v) ∙ sym (or-assoc (in_range v range) (is_in ranges v) (vid == v)),
+          λ v. ap (λ b. in_range v range || b) (rest.1 v) ∙ sym (or_assoc (in_range v range) (is_in ranges v) (vid == v)),
         )
 
 -- where the one id more stands, by the place of the first range that ends behind it

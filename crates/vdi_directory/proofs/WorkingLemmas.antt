@@ -1,7 +1,8 @@
 -- Every working disk is the one of its name: a name is given to one disk at a time.
 use Rattle.std.proofs.Common.{◌≡◌, ◌⊎◌, inl, inr, ℕ, ◌==◌, not, Bool, true, false, cond, List, [], ◌∷◌, ◌++◌, Option, Some, None, is_some, refl, ap, sym, ◌∙◌, subst}
 use Rattle.std.specs.List.{list_any}
-use Rattle.std.proofs.lemmas.Bool.{eqb-true, eq-eqb, ne_eqb, both_ways, or_parts}
+use Rattle.std.proofs.lemmas.Bool.{eqb-true, eq-eqb, ne_eqb, both_ways, or_parts, cond_both}
+use Rattle.std.proofs.lemmas.Option.{same_Some}
 use Rattle.object_id.specs.declared.oid.Vid.{Vid}
 use Rattle.object_id.specs.declared.entry.Entry.{Entry}
 use Rattle.vdi_directory.specs.declared.effect.Source.{Source}
@@ -17,7 +18,7 @@ use Rattle.vdi_directory.specs.States.{VdiState, Unused, Reserved, Working, Snap
 use Rattle.vdi_directory.specs.Sound.{In, IsWorking, takes_name, HasRoom, IsLawful}
 use Rattle.vdi_directory.proofs.NameLemmas.{same-is, is-same}
 use Rattle.vdi_directory.proofs.StateLemmas.{log_effects-none, name_of-push, reservations_of-push}
-use Rattle.vdi_directory.proofs.SoundLemmas.{state_of-push, owner-kept, in-filter, in-push, by_cond}
+use Rattle.vdi_directory.proofs.SoundLemmas.{state_of-push, owner-kept, in-filter, in-push}
 use Rattle.vdi_directory.proofs.LawfulLemmas.{lawful-outcome, sound-log_effects}
 use Rattle.vdi_directory.proofs.LawLemmas.{kept-later}
 
@@ -54,24 +55,16 @@ none-some x o none some = cc
 
 -- what works after an effect, and not by it
 working-freed_state : (s : VdiState) → freed_state s ≡ Working → s ≡ Working
-working-freed_state Unused is = is
 working-freed_state (Reserved by) is = cc
-working-freed_state Working is = is
-working-freed_state (Snapshot tag) is = is
-working-freed_state Deleted is = is
-working-freed_state Freed is = is
+working-freed_state s is = is
 
 working-state_after_leave : (node : ℕ) (s : VdiState) → state_after_leave node s ≡ Working → s ≡ Working
-working-state_after_leave node Unused is = is
 working-state_after_leave node (Reserved by) is = by_test (by.0 == node) is
   where
     by_test : (b : Bool) → cond b Freed (Reserved by) ≡ Working → Reserved by ≡ Working
     by_test true is = cc
     by_test false is = is
-working-state_after_leave node Working is = is
-working-state_after_leave node (Snapshot tag) is = is
-working-state_after_leave node Deleted is = is
-working-state_after_leave node Freed is = is
+working-state_after_leave node s is = is
 
 -- a reservation of a name that isn't reserved
 not-reserved : (name : List ℕ) (reservation : Reservation) (reservations : List Reservation) → list_any (names_reservation name) reservations ≡ false → In reservation reservations → is_same_bytes reservation.name name ≡ false
@@ -87,9 +80,6 @@ not-reserved name reservation (first ∷ reservations) none there =
 none-is : {X : Type 0} (o : Option X) → is_some o ≡ false → o ≡ None
 none-is None is = refl
 none-is (Some x) is = cc
-
-same-name : (a b : List ℕ) → Some a ≡ Some b → a ≡ b
-same-name a b e = cc
 
 vid-is : (a b : Vid) → a.0 ≡ b.0 → a ≡ b
 vid-is a b same = λ i. record { 0 = same i }
@@ -129,11 +119,11 @@ module _ (before : List Effect) (named : AreNamed before) (name : List ℕ) (vid
           let owns : Some other ≡ Some name
           = sym lawful.1 ∙ sym (owner-kept before (effects.Published of other) of.0 refl)
           ∙ ap (owner_of (before ++ effects.Published of other ∷ [])) (eqb-true of.0 vid.0 here) ∙ owner in
-          ap (λ b. (cond b (name_with_working of (name_of before name)) (name_of before name)).working) (is-same other name (same-name other name owns))
+          ap (λ b. (cond b (name_with_working of (name_of before name)) (name_of before name)).working) (is-same other name (same_Some other name owns))
           ∙ ap Some (vid-is of vid (eqb-true of.0 vid.0 here))
       by_test false there is =
           let was : WorkingOf before name ≡ Some vid = was-working before named (effects.Published of other) lawful name vid refl owner is in
-          by_cond (is_same_bytes other name) (name_with_working of (name_of before name)) (name_of before name) (λ (now : Name). now.working ≡ Some vid)
+          cond_both (is_same_bytes other name) (name_with_working of (name_of before name)) (name_of before name) (λ (now : Name). now.working ≡ Some vid)
           (λ same. absurd (none-some vid (WorkingOf before name)
           (ap (WorkingOf before) (sym ((lawful.2).3 ∙ same-is other name same)) ∙ (named.alone ((lawful.2).0) ((lawful.2).1) ((lawful.2).4)).free) was))
           (λ apart. was)
@@ -146,11 +136,11 @@ module _ (before : List Effect) (named : AreNamed before) (name : List ℕ) (vid
           let owns : Some snap.name ≡ Some name
           = sym lawful.2 ∙ sym (owner-kept before (effects.Snapped snap) snap.vid.0 refl)
           ∙ ap (owner_of (before ++ effects.Snapped snap ∷ [])) (eqb-true snap.vid.0 vid.0 here) ∙ owner in
-          ap (λ b. (cond b (name_with_snapshot snap.old snap.vid snap.tag (name_of before name)) (name_of before name)).working) (is-same snap.name name (same-name snap.name name owns))
+          ap (λ b. (cond b (name_with_snapshot snap.old snap.vid snap.tag (name_of before name)) (name_of before name)).working) (is-same snap.name name (same_Some snap.name name owns))
           ∙ ap Some (vid-is snap.vid vid (eqb-true snap.vid.0 vid.0 here))
       by_test false false other there is =
           let was : WorkingOf before name ≡ Some vid = was-working before named (effects.Snapped snap) lawful name vid refl owner is in
-          by_cond (is_same_bytes snap.name name) (name_with_snapshot snap.old snap.vid snap.tag (name_of before name)) (name_of before name) (λ (now : Name). now.working ≡ Some vid)
+          cond_both (is_same_bytes snap.name name) (name_with_snapshot snap.old snap.vid snap.tag (name_of before name)) (name_of before name) (λ (now : Name). now.working ≡ Some vid)
           (λ same. absurd (both_ways (snap.old.0 == vid.0) other (eq-eqb snap.old.0 vid.0
           (some-vid snap.old vid (sym (named.working snap.name snap.old lawful.0) ∙ ap (WorkingOf before) (same-is snap.name name same) ∙ was)))))
           (λ apart. was)
@@ -161,7 +151,7 @@ module _ (before : List Effect) (named : AreNamed before) (name : List ℕ) (vid
       by_test true here is = cc
       by_test false apart is =
           let was : WorkingOf before name ≡ Some vid = was-working before named (effects.Deleted of other) lawful name vid refl owner is in
-          by_cond (is_same_bytes other name) (name_without of (name_of before name)) (name_of before name) (λ (now : Name). now.working ≡ Some vid)
+          cond_both (is_same_bytes other name) (name_without of (name_of before name)) (name_of before name) (λ (now : Name). now.working ≡ Some vid)
           (λ same. ap (unless of) was
           ∙ ap (λ b. cond b None (Some vid)) (ne_eqb vid.0 of.0 (λ is. both_ways (of.0 == vid.0) apart (eq-eqb of.0 vid.0 (sym is)))))
           (λ no. was)
@@ -191,7 +181,7 @@ module _ (before : List Effect) (named : AreNamed before) where
   other-name : (name : List ℕ) (reservation : Reservation) (now : Name) (changed : Name) → (name ≡ reservation.name → ⊥)
       → now.working ≡ None → (cond (is_same_bytes name reservation.name) changed now).working ≡ None
   other-name name reservation now changed apart free =
-      by_cond (is_same_bytes name reservation.name) changed now (λ (n : Name). n.working ≡ None) (λ same. absurd (apart (same-is name reservation.name same))) (λ no. free)
+      cond_both (is_same_bytes name reservation.name) changed now (λ (n : Name). n.working ≡ None) (λ same. absurd (apart (same-is name reservation.name same))) (λ no. free)
 
   -- a name with room for a new disk has no reservation
   room-free : (name : List ℕ) → is_taken before name ≡ false → (WorkingOf before name ≡ None) × (list_any (names_reservation name) (reservations_of before) ≡ false)
@@ -267,7 +257,7 @@ module _ (before : List Effect) (named : AreNamed before) where
       (λ one is. (in-filter (λ (c : Reservation). not (c.vid.0 == snap.vid.0)) one (reservations_of before) is).0)
   alone-step (effects.Deleted of other) lawful reservation there new =
       fewer-reservations (effects.Deleted of other) reservation there new
-      (λ free. by_cond (is_same_bytes other reservation.name) (name_without of (name_of before reservation.name)) (name_of before reservation.name) (λ (n : Name). n.working ≡ None)
+      (λ free. cond_both (is_same_bytes other reservation.name) (name_without of (name_of before reservation.name)) (name_of before reservation.name) (λ (n : Name). n.working ≡ None)
       (λ same. ap (unless of) free) (λ no. free)) (λ one is. is)
   alone-step (effects.Held of holder) lawful reservation there new = fewer-reservations (effects.Held of holder) reservation there new (λ free. free) (λ other is. is)
   alone-step (effects.Freed of) lawful reservation there new = fewer-reservations (effects.Freed of) reservation there new (λ free. free) (λ other is. is)

@@ -21,19 +21,12 @@ either_agrees false x y xs ys elder here there = there
 after_agrees : (effect : Effect) (above : ℕ → ℕ → Bool) (chains : ℕ → List ℕ)
     → ((elder vid : ℕ) → above elder vid ≡ list_any (λ id. id == elder) (chains vid)) → (elder vid : ℕ)
     → above_after above effect elder vid ≡ list_any (λ id. id == elder) (chain_after chains effect vid)
-after_agrees effects.Nothing above chains agree elder vid = agree elder vid
 after_agrees (effects.Reserved grant) above chains agree elder vid =
     either_agrees (grant.reservation.vid.0 == vid)
     (is_parent_or_above above elder grant.header.parent) (above elder vid)
     (chain_from chains grant.header.parent) (chains vid) elder
     (parents_agree above chains agree elder grant.header.parent) (agree elder vid)
-after_agrees (effects.Published of name) above chains agree elder vid = agree elder vid
-after_agrees (effects.Snapped snap) above chains agree elder vid = agree elder vid
-after_agrees (effects.Deleted of name) above chains agree elder vid = agree elder vid
-after_agrees (effects.Held of holder) above chains agree elder vid = agree elder vid
-after_agrees (effects.Freed of) above chains agree elder vid = agree elder vid
-after_agrees (effects.Withdrawn of) above chains agree elder vid = agree elder vid
-after_agrees (effects.Left node) above chains agree elder vid = agree elder vid
+after_agrees effect above chains agree elder vid = agree elder vid
 
 fold_agrees : (before : List Effect) (above : ℕ → ℕ → Bool) (chains : ℕ → List ℕ)
     → ((elder vid : ℕ) → above elder vid ≡ list_any (λ id. id == elder) (chains vid)) → (elder vid : ℕ)

@@ -2,3 +2,4 @@ mod ChainLemmas
 pub mod StepLemmas
 mod TableLemmas
 mod CourseLemmas
+mod CheckRefusals

@@ -6,7 +6,7 @@ use Rattle.object_id.specs.declared.cause.Cause.{Cause}
 use Rattle.object_id.specs.declared.entry.Entry.{Entry}
 use Rattle.inode.specs.Layout.{Content}
 use Rattle.peer_proto.specs.declared.guest.VdiAsk.{VdiAsk}
-use Rattle.peer_proto.specs.declared.guest.VdiAsk.TheVariants.{Create, Attach, Close, Snapshot, Clone, Delete}
+use Rattle.peer_proto.specs.declared.guest.VdiAsk.TheVariants.{Create, Attach, Close, Snapshot, Clone, Delete, Check}
 use Rattle.peer_proto.specs.declared.guest.GuestRsp.TheVariants.{Done, Refused}
 use Rattle.vdi_directory.specs.declared.header.Header.{Header}
 use Rattle.vdi_directory.specs.declared.effect.Effect.{Effect}
@@ -46,6 +46,7 @@ granted_awaited op vid chain disk Close header = (Done, refl)
 granted_awaited op vid chain disk (Snapshot tag) header = taken_awaited op vid tag header disk
 granted_awaited op vid chain disk (Clone base tag name) header = copied_awaited op vid chain header header.parent
 granted_awaited op vid chain disk (Delete name tag) header = (Done, refl)
+granted_awaited op vid chain disk Check header = tt
 
 known_awaited : (op : Op) (vid : Vid) (chain : List ℕ) (disk : Option Content) (ask : VdiAsk) (header : Option Header)
     → IfSome (step_after_known_grant op vid chain disk ask header) IsAwaitedByCommand
@@ -84,10 +85,8 @@ task_awaited op vid bytes (Making entry opened) = refl
 
 at_done : (bytes : List ℕ) (op : Op) (stage : OpStage)
     → IfSome (done_at bytes op stage) IsAwaitedByCommand
-at_done bytes op (Asked entry ask disk) = tt
 at_done bytes op (Working vid task) = task_awaited op vid bytes task
-at_done bytes op (Publishing entry opened) = tt
-at_done bytes op (Answered opened) = tt
+at_done bytes op stage = tt
 
 pub done_awaited : (bytes : List ℕ) (op : Op)
     → IfSome (op_on_done bytes op) IsAwaitedByCommand

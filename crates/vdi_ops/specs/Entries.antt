@@ -1,5 +1,6 @@
 -- The entry that each command begins with, and when a command is refused on the spot.
-use Rattle.std.specs.Prelude.{ℕ, true, false, Bool, List, Option, Some, None, option_map, is_some}
+use Rattle.std.specs.Prelude.{ℕ, ◌*◌, ◌^◌, ◌==◌, nat_le, false, Bool, List, count_by, Option, Some, None, option_map}
+use Rattle.std.specs.Prelude.{is_some, if◌then◌else◌}
 use Rattle.object_id.specs.declared.node.NodeId.{NodeId}
 use Rattle.object_id.specs.declared.cause.Cause.{Cause}
 use Rattle.object_id.specs.declared.cause.Cause.TheVariants.{Readonly, VdiNotLocked, InvalidParms}
@@ -9,7 +10,8 @@ use Rattle.object_id.specs.declared.entry.Entry.TheVariants as entries
 use Rattle.object_id.specs.Spec.{IsSpec, IsName}
 use Rattle.inode.specs.Layout.{Content}
 use Rattle.peer_proto.specs.declared.guest.VdiAsk.{VdiAsk}
-use Rattle.peer_proto.specs.declared.guest.VdiAsk.TheVariants.{Create, Attach, Close, Snapshot, Clone, Delete}
+use Rattle.peer_proto.specs.declared.guest.VdiAsk.TheVariants.{Create, Attach, Close, Snapshot, Clone, Delete, Check}
+use Rattle.vdi_ops.specs.declared.limits.TheConstants.{CHECKED_BYTES_MAX}
 
 -- a tag, where there is one, is as a name may be
 abbrev pub IsOptionalTag : Option (List ℕ) → Type 0
@@ -24,31 +26,49 @@ IsVdiAsk Close = Unit {0}
 IsVdiAsk (Snapshot tag) = IsName tag
 IsVdiAsk (Clone base tag name) = IsName base × IsName tag × IsName name
 IsVdiAsk (Delete name tag) = IsName name × IsOptionalTag tag
+IsVdiAsk Check = Unit {0}
 
--- the open disk, here told by whether it is a snapshot, decides at once: a second disk isn't opened
-abbrev pub no_second : Option Bool → Option Cause
+-- the open disk decides at once: its inode, and whether it is a snapshot
+pub record OpenDisk : Type 0 where
+  pub inode : Content
+  pub snapshot : Bool
+
+-- a second disk isn't opened
+abbrev pub no_second : Option OpenDisk → Option Cause
 no_second None = None
-no_second (Some snapshot) = Some InvalidParms
+no_second (Some disk) = Some InvalidParms
 
 -- where none is open none is closed
-abbrev pub needs_disk : Option Bool → Option Cause
+abbrev pub needs_disk : Option OpenDisk → Option Cause
 needs_disk None = Some VdiNotLocked
-needs_disk (Some snapshot) = None
+needs_disk (Some disk) = None
 
 -- nor is a snapshot taken, and never of a snapshot
-abbrev pub needs_working_disk : Option Bool → Option Cause
+abbrev pub needs_working_disk : Option OpenDisk → Option Cause
 needs_working_disk None = Some VdiNotLocked
-needs_working_disk (Some true) = Some Readonly
-needs_working_disk (Some false) = None
+needs_working_disk (Some disk) = if disk.snapshot then Some Readonly else None
+
+-- how many bytes the objects have that are a disk's own
+abbrev pub own_bytes : Content → ℕ
+own_bytes inode = count_by (λ entry. entry == inode.vid) inode.table * 2 ^ inode.spec.shift
+
+-- a check goes over a working disk alone, and over so much at most
+abbrev pub check_refusal : Option OpenDisk → Option Cause
+check_refusal None = Some VdiNotLocked
+check_refusal (Some disk) =
+    if disk.snapshot then Some Readonly
+    else if nat_le (own_bytes disk.inode) CHECKED_BYTES_MAX then None
+    else Some InvalidParms
 
 -- when a command is refused on the spot
-abbrev pub command_refusal : Option Bool → VdiAsk → Option Cause
+abbrev pub command_refusal : Option OpenDisk → VdiAsk → Option Cause
 command_refusal disk (Create name spec) = None
 command_refusal disk (Attach name tag) = no_second disk
 command_refusal disk Close = needs_disk disk
 command_refusal disk (Snapshot tag) = needs_working_disk disk
 command_refusal disk (Clone base tag name) = None
 command_refusal disk (Delete name tag) = None
+command_refusal disk Check = check_refusal disk
 
 -- whether what a command opens is a snapshot
 abbrev pub opens_snapshot : VdiAsk → Bool
@@ -58,6 +78,7 @@ opens_snapshot Close = false
 opens_snapshot (Snapshot tag) = false
 opens_snapshot (Clone base tag name) = false
 opens_snapshot (Delete name tag) = false
+opens_snapshot Check = false
 
 -- the entry that gives a disk back, or the reservation of an id
 abbrev pub unlock_of : NodeId → ℕ → ℕ → Entry
@@ -71,7 +92,7 @@ unlock_disk by session inode = unlock_of by session inode.vid
 abbrev pub reserve_snapshot : NodeId → ℕ → List ℕ → Content → Entry
 reserve_snapshot by session tag inode = entries.Reserve by session inode.name (SnapshotOf tag)
 
--- the first entry of a command; none where it is about the open disk, and there is none
+-- the first entry of a command; none where it is about the open disk, and there is none, and for a check, which puts none
 abbrev pub first_entry : NodeId → ℕ → Option Content → VdiAsk → Option Entry
 first_entry by session disk (Create name spec) = Some (entries.Reserve by session name (Fresh spec))
 first_entry by session disk (Attach name tag) = Some (entries.Lock by session name tag)
@@ -79,3 +100,4 @@ first_entry by session disk Close = option_map (unlock_disk by session) disk
 first_entry by session disk (Snapshot tag) = option_map (reserve_snapshot by session tag) disk
 first_entry by session disk (Clone base tag name) = Some (entries.Reserve by session name (CloneOf base tag))
 first_entry by session disk (Delete name tag) = Some (entries.Delete by session name tag)
+first_entry by session disk Check = None

@@ -7,7 +7,7 @@ use Rattle.object_id.specs.declared.entry.Entry.{Entry}
 use Rattle.object_id.specs.declared.entry.Entry.TheVariants as entries
 use Rattle.inode.specs.Layout.{Content}
 use Rattle.peer_proto.specs.declared.guest.VdiAsk.{VdiAsk}
-use Rattle.peer_proto.specs.declared.guest.VdiAsk.TheVariants.{Create, Attach, Close, Snapshot, Clone, Delete}
+use Rattle.peer_proto.specs.declared.guest.VdiAsk.TheVariants.{Create, Attach, Close, Snapshot, Clone, Delete, Check}
 use Rattle.peer_proto.specs.declared.guest.GuestRsp.{GuestRsp}
 use Rattle.peer_proto.specs.declared.guest.GuestRsp.TheVariants.{Done, Refused}
 use Rattle.peer_proto.specs.declared.work.ObjWork.{ObjWork}
@@ -41,7 +41,8 @@ begun_with_entry by session ask disk None = None
 begun_with_entry by session ask disk (Some entry) =
     Some (record { op = record { by = by; session = session; stage = Asked entry ask disk }; act = Append entry })
 
--- a command begins with its first entry; none where it is about the open disk, and there is none
+-- a command begins with its first entry; none where it is about the open disk, and there is none, and for a check, which has
+-- steps of its own
 unfoldable pub begin_command : NodeId → ℕ → VdiAsk → Option Content → Option OpStep
 begin_command by session ask disk = begun_with_entry by session ask disk (first_entry by session disk ask)
 
@@ -69,6 +70,7 @@ step_after_grant op vid chain disk Close header = Some (replies op Done None)
 step_after_grant op vid chain disk (Snapshot tag) header = taken_over op vid tag header disk
 step_after_grant op vid chain disk (Clone base tag name) header = copied_from op vid chain header header.parent
 step_after_grant op vid chain disk (Delete name tag) header = Some (replies op Done None)
+step_after_grant op vid chain disk Check header = None
 
 -- what was granted is known to the directory
 abbrev pub step_after_known_grant : Op → Vid → List ℕ → Option Content → VdiAsk → Option Header → Option OpStep

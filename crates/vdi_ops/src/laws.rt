@@ -1,9 +1,10 @@
 //! Laws of the definitions, for the proofs of the layers above: each is the contract of a function that does nothing.
-ghost use Rattle.std.specs.Prelude.{◌≡◌, ◌⊎◌, ℕ, ◌+◌, ◌*◌, ◌^◌, ◌≤◌, ◌==◌, List, [], ◌∷◌, length, map, All, Option, Some, None, IfSome, IsTrue, is_some};
+ghost use Rattle.std.specs.Prelude.{◌≡◌, ◌⊎◌, ℕ, ◌+◌, ◌*◌, ◌^◌, ◌<◌, ◌≤◌, ◌==◌, true, false, List, [], ◌∷◌, length, map, All, Option, Some, None, IfSome, IsTrue, is_some};
 ghost use Rattle.std.specs.List.{list_any};
 ghost use Rattle.object_id.specs.declared.oid.Vid.{Vid};
 ghost use Rattle.object_id.specs.declared.node.NodeId.{NodeId};
 ghost use Rattle.object_id.specs.declared.cause.Cause.{Cause};
+ghost use Rattle.object_id.specs.declared.cause.Cause.TheVariants.{Readonly, VdiNotLocked, InvalidParms};
 ghost use Rattle.object_id.specs.declared.entry.VdiSpec.{VdiSpec};
 ghost use Rattle.object_id.specs.declared.entry.Origin.TheVariants.{Fresh, SnapshotOf, CloneOf};
 ghost use Rattle.object_id.specs.declared.entry.Entry.{Entry};
@@ -12,7 +13,7 @@ ghost use Rattle.object_id.specs.Spec.{IsSpec, objects_of};
 ghost use Rattle.inode.specs.declared.layout.TheConstants.{INODE_HEADER_BYTES, INODE_BYTES};
 ghost use Rattle.inode.specs.Layout.{Content, IsFieldText, IsEntry, SpellsInode};
 ghost use Rattle.peer_proto.specs.declared.guest.VdiAsk.{VdiAsk};
-ghost use Rattle.peer_proto.specs.declared.guest.VdiAsk.TheVariants.{Create, Attach, Close, Snapshot, Clone, Delete};
+ghost use Rattle.peer_proto.specs.declared.guest.VdiAsk.TheVariants.{Create, Attach, Close, Snapshot, Clone, Delete, Check};
 ghost use Rattle.peer_proto.specs.declared.guest.GuestRsp.TheVariants.{Done, Refused};
 ghost use Rattle.vdi_directory.specs.declared.header.Header.{Header as TheHeader};
 ghost use Rattle.vdi_directory.specs.declared.decision.Decision.{Decision};
@@ -21,7 +22,7 @@ ghost use Rattle.vdi_directory.specs.declared.effect.Effect.{Effect};
 ghost use Rattle.vdi_directory.specs.Effects.{header_of};
 ghost use Rattle.vdi_directory.specs.Dead.{is_above};
 ghost use Rattle.vdi_ops.specs.declared.act.OpAct.TheVariants.{Append, Work, Reply};
-ghost use Rattle.vdi_ops.specs.Entries.{first_entry};
+ghost use Rattle.vdi_ops.specs.Entries.{OpenDisk, own_bytes, command_refusal, first_entry};
 ghost use Rattle.vdi_ops.specs.Tables.{chain_of, kept_entry, table_in, holes, inode_by};
 ghost use Rattle.vdi_ops.specs.InodeWorks.{written_bytes, written_back, read_inode, create_inode, write_back, write_tag};
 ghost use Rattle.vdi_ops.specs.Op.{Op, entry_wanted, op_bytes_wanted, IsAwaitedByCommand};
@@ -85,6 +86,18 @@ pub fn commands_go_so()
         → first_entry by session disk ask ≡ Some entry
         → op_acts_from known (begin_command by session ask disk) (Decided (decisions.Refused cause) ∷ [])
         ≡ Append entry ∷ Reply (Refused cause) ∷ [] }
+{}
+
+/// When a check is refused on the spot, first to last: with no disk open, on a snapshot, and where the disk's own objects
+/// have more than 256 MiB together. No entry begins it.
+pub fn checks_are_refused_so()
+    ensures closed { command_refusal None Check ≡ Some VdiNotLocked }
+    ensures snapshot { (disk : OpenDisk) → disk.snapshot ≡ true → command_refusal (Some disk) Check ≡ Some Readonly }
+    ensures large { (disk : OpenDisk) → disk.snapshot ≡ false → 268435456 < own_bytes disk.inode
+        → command_refusal (Some disk) Check ≡ Some InvalidParms }
+    ensures taken { (disk : OpenDisk) → disk.snapshot ≡ false → own_bytes disk.inode ≤ 268435456
+        → command_refusal (Some disk) Check ≡ None }
+    ensures entry { (by : NodeId) (session : ℕ) (disk : Option Content) → begin_command by session Check disk ≡ None }
 {}
 
 /// The parent chain of an id is the ids that the directory calls above it.

@@ -1,9 +1,9 @@
 //! The commands on disks: create, open, close, snapshot, clone and delete, each by entries of the membership log and
-//! works on inodes.
+//! works on inodes. Of the check of a disk stands here when it is refused on the spot; how it goes is told by `disk_check`.
 //!
 //! The crate stands on `peer_proto`, `inode` and `vdi_directory`. Here stand the types that a command hands out, and as
 //! definitions all that it does: its first entry, and when it is refused on the spot (`specs/Entries.antt`); what it takes
-//! from an inode that it reads (`specs/Tables.antt`); its works on inodes (`specs/Works.antt`); what it waits for
+//! from an inode that it reads (`specs/Tables.antt`); its works on inodes (`specs/InodeWorks.antt`); what it waits for
 //! (`specs/Op.antt`); and each of its steps (`specs/Steps.antt`).
 //! The laws of `laws.rt` say what these mean: how each command goes from its first entry to its reply; of an inode
 //! that is read the table alone is taken, and of that the disk's own entries and its parents'; what is written back has
@@ -13,13 +13,15 @@
 mod act;
 mod end;
 mod laws;
+mod limits;
 #[cfg(test)]
 mod tests;
 
 pub use act::OpAct;
 pub use end::OpEnd;
 pub use laws::{
-    a_command_waits_for_what_it_did, an_inode_has_room, commands_go_so,
+    a_command_waits_for_what_it_did, an_inode_has_room, checks_are_refused_so, commands_go_so,
     the_chain_is_what_stands_above, the_table_alone_is_taken, the_table_is_written_back,
 };
+pub use limits::CHECKED_BYTES_MAX;
 pub use peer_proto::{GuestRsp, VdiAsk, WorkDone};

@@ -2,6 +2,7 @@
 use Rattle.std.proofs.Common.{◌≡◌, ◌≢◌, ℕ, Bool, true, false, cond, List, [], ◌∷◌, ◌++◌, reverse, find, Option, Some, None, Bor, is_some, option_copied, IsTrue, refl, sym, ap, ap₂, ◌∙◌, arith}
 use Rattle.std.specs.Prelude.{◌==◌, ◌||◌}
 use Rattle.std.proofs.lemmas.List.{reverse-append}
+use Rattle.std.proofs.lemmas.Bool.{ne_eqb, eq-eqb}
 use Rattle.object_id.specs.declared.entry.Member.{Member}
 use Rattle.object_id.specs.declared.policy.Policy.{Policy}
 use Rattle.object_id.specs.Oid.{kind_of}
@@ -62,19 +63,13 @@ targets_in-parts epochs epoch oid policy members hash wanted m h w =
 pub reverse-push : (terms : List EpochMembers) (term : EpochMembers) → reverse (terms ++ term ∷ []) ≡ term ∷ reverse terms
 reverse-push terms term = reverse-append terms (term ∷ [])
 
-not_equal : (a b : ℕ) → a ≢ b → (a == b) ≡ false
-not_equal a b h = grind arith
-
-equal : (a : ℕ) → (a == a) ≡ true
-equal a = grind arith
-
 pub members_at-other : (term : EpochMembers) (terms : List EpochMembers) (epoch : ℕ) → term.epoch ≢ epoch
     → members_at (term ∷ terms) epoch ≡ members_at terms epoch
 members_at-other term terms epoch h =
-    ap (λ b. cond b term.members (members_at terms epoch)) (not_equal term.epoch epoch h)
+    ap (λ b. cond b term.members (members_at terms epoch)) (ne_eqb term.epoch epoch h)
 
 pub members_at-itself : (term : EpochMembers) (terms : List EpochMembers) → members_at (term ∷ terms) term.epoch ≡ term.members
-members_at-itself term terms = ap (λ b. cond b term.members (members_at terms term.epoch)) (equal term.epoch)
+members_at-itself term terms = ap (λ b. cond b term.members (members_at terms term.epoch)) (eq-eqb term.epoch term.epoch refl)
 
 pub is_entered-more : (term : EpochMembers) (terms : List EpochMembers) (epoch : ℕ) → IsTrue (is_entered terms epoch)
     → IsTrue (is_entered (term ∷ terms) epoch)

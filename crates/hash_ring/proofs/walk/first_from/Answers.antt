@@ -2,6 +2,7 @@ use Rattle.std.proofs.Common.{◌≡◌, ◌⊎◌, ℕ, ◌+◌, ◌-◌, ◌^�
 use Rattle.std.specs.List.Sorted.{IsNonDecreasingBy, IsPartitionPoint}
 use Rattle.std.proofs.lemmas.List.{get_or_default, get_or-take, get_or-drop, length-take, length-drop}
 use Rattle.std.proofs.lemmas.List.Sorted.{IsPartitionPoint-from_clause, IsPartitionedBy-ltb}
+use Rattle.std.proofs.lemmas.Bool.{ltb-true, ltb-false}
 use Rattle.hash_ring.specs.declared.point.Point.{Point}
 use Rattle.hash_ring.specs.Points.{StandsBefore}
 use Rattle.hash_ring.proofs.walk.first_from.Goals as goal
@@ -21,12 +22,6 @@ hashes_rise points up i j d h k = go (before_or_there i j h)
     go (inr e) =
         let same : (get_or points i d).hash ≡ (get_or points j d).hash = ap (λ n. (get_or points n d).hash) e in omega (arith, same)
 
-is_less : (a b : ℕ) → nat_lt a b ≡ true → a < b
-is_less a b e = grind arith
-
-is_not_less : (a b : ℕ) → nat_lt a b ≡ false → b ≤ a
-is_not_less a b e = grind arith
-
 abbrev IsSplit : List Point → ℕ → ℕ → Type 0
 IsSplit points hash = IsPartitionPoint (λ (p : Point). nat_lt p.hash hash ≡ true) (λ (p : Point). nat_lt p.hash hash ≡ false) points
 
@@ -34,14 +29,14 @@ all_before : (points : List Point) (hash i : ℕ) → IsSplit points hash i → 
 all_before points hash i h k d lt =
     let e = length-take i points in
     let P : Point → Type 0 = λ p. p.hash < hash in
-    subst P (sym (get_or-take i points k d (omega (arith, e)))) (is_less (get_or points k d).hash hash (h.0 k d (omega arith) (omega (arith, e))))
+    subst P (sym (get_or-take i points k d (omega (arith, e)))) (ltb-true (get_or points k d).hash hash (h.0 k d (omega arith) (omega (arith, e))))
 
 all_behind : (points : List Point) (hash i : ℕ) → IsSplit points hash i → All (λ (p : Point). hash ≤ p.hash) (drop i points)
 all_behind points hash i h k d lt =
     let e = length-drop i points in
     let P : Point → Type 0 = λ p. hash ≤ p.hash in
     subst P (sym (get_or-drop i points k d))
-    (is_not_less (get_or points (i + k) d).hash hash (h.1 (i + k) d (omega arith) (omega (arith, e))))
+    (ltb-false (get_or points (i + k) d).hash hash (h.1 (i + k) d (omega arith) (omega (arith, e))))
 
 all_fit : (points : List Point) (e : Point) → IsNonDecreasingBy (λ (p : Point). p.hash) points
     → (get_or points (length points - 1) e).hash < 2 ^ 64 → All (λ (p : Point). p.hash < 2 ^ 64) points

@@ -1,32 +1,22 @@
-use Rattle.std.proofs.Common.{◌≡◌, ℕ, zero, suc, ◌<◌, Bool, true, false, not, List, [], ◌∷◌, length, get_or, map, take, sym, ap, ◌∙◌, refl, true≢false, arith}
-use Rattle.std.specs.Prelude.{◌==◌, ◌||◌}
+use Rattle.std.proofs.Common.{◌≡◌, ℕ, zero, suc, ◌<◌, true, not, List, [], ◌∷◌, length, get_or, map, take, sym, ap, ◌∙◌, arith}
+use Rattle.std.specs.Prelude.{◌==◌}
 use Rattle.std.proofs.lemmas.List.{get_or-take, length-take}
+use Rattle.std.proofs.lemmas.Bool.{eq-eqb, or_left, or_right}
 use Rattle.hash_ring.specs.declared.point.Point.{Point}
 use Rattle.hash_ring.specs.Placement.{is_among}
 use Rattle.hash_ring.specs.Walk.{walk}
 use Rattle.hash_ring.proofs.WalkLaws.{length-walk}
 use Rattle.hash_ring.proofs.walk.none_before.Goals as goal
 
-equal : (a b : ℕ) → a ≡ b → (a == b) ≡ true
-equal a b e = grind arith
-
-or_first : (a b : Bool) → a ≡ true → (a || b) ≡ true
-or_first true b e = refl
-or_first false b e = absurd (true≢false (sym e))
-
-or_second : (a b : Bool) → b ≡ true → (a || b) ≡ true
-or_second true b e = refl
-or_second false b e = e
-
 -- the zone of one of the points is among theirs
 is_among-here : (zone : ℕ) (points : List Point) (k : ℕ) (p : Point) → k < length points → p ≡ get_or points k p → p.zone ≡ zone
     → is_among zone (map (λ (q : Point). q.zone) points) ≡ true
 is_among-here zone [] k p lt is e = absurd (omega arith)
 is_among-here zone (q ∷ qs) zero p lt is e =
-    or_first (q.zone == zone) (is_among zone (map (λ (r : Point). r.zone) qs))
-    (equal q.zone zone (sym (ap (λ (r : Point). r.zone) is) ∙ e))
+    or_left (q.zone == zone) (is_among zone (map (λ (r : Point). r.zone) qs))
+    (eq-eqb q.zone zone (sym (ap (λ (r : Point). r.zone) is) ∙ e))
 is_among-here zone (q ∷ qs) (suc k) p lt is e =
-    or_second (q.zone == zone) (is_among zone (map (λ (r : Point). r.zone) qs)) (is_among-here zone qs k p (omega arith) is e)
+    or_right (q.zone == zone) (is_among zone (map (λ (r : Point). r.zone) qs)) (is_among-here zone qs k p (omega arith) is e)
 
 is_among-taken : (zone : ℕ) (points : List Point) (turn k : ℕ) (p : Point) → k < turn → turn < length points
     → p ≡ get_or points k p → p.zone ≡ zone → is_among zone (map (λ (q : Point). q.zone) (take turn points)) ≡ true

@@ -1,16 +1,13 @@
-use Rattle.std.proofs.Common.{◌≡◌, ℕ, ◌≤◌, nat_lt, get_or, true, sym, ◌∙◌, arith, is_le, nat_cmp}
+use Rattle.std.proofs.Common.{◌≡◌, ◌≤◌, nat_lt, get_or, sym, ◌∙◌, arith}
 use Rattle.std.proofs.lemmas.Bool.{lt-ltb, le-ltb}
-use Rattle.std.proofs.lemmas.Bool.Decides.{nat_tests}
 use Rattle.std.proofs.lemmas.List.{get_or_read}
 use Rattle.std.proofs.lemmas.List.Sums.{prefix_len_is}
+use Rattle.std.proofs.lemmas.Map.Keys.{le_from_is_le}
 use Rattle.object_list.proofs.union.count_below.Goals as goal
-
-le_from : (a b : ℕ) → is_le (nat_cmp a b) ≡ true → a ≤ b
-le_from a b e = grind (arith, nat_tests)
 
 pub returns-then-le : goal.returns-then-le
 returns-then-le c =
-    let above : c.args.oid ≤ c.index-oids-place.result = le_from c.args.oid c.index-oids-place.result (sym c.le.ensures ∙ c.if-le.true) in
+    let above : c.args.oid ≤ c.index-oids-place.result = le_from_is_le c.args.oid c.index-oids-place.result (sym c.le.ensures ∙ c.if-le.true) in
     let here : c.index-oids-place.result ≡ get_or c.args.oids.now c.loop-place.place 0
     = get_or_read c.args.oids.now c.loop-place.place c.index-oids-place.result c.loop-place-test.true c.index-oids-place.is 0 in
     sym (prefix_len_is (λ other. nat_lt other c.args.oid) c.args.oids.now c.loop-place.place 0 c.loop-place.auto.place-end

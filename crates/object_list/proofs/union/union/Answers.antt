@@ -2,8 +2,8 @@ use Rattle.std.proofs.Common.{◌≡◌, ◌<◌, ◌≤◌, take, get_or, ap, s
 use Rattle.std.specs.List.Sorted.{IsStrictlyIncreasing}
 use Rattle.std.proofs.lemmas.List.{get_or_read, take_all}
 use Rattle.std.proofs.lemmas.List.Sums.{fold_more}
+use Rattle.proof_tools.proofs.AscendingNumbers.{IsStrictlyIncreasing-far}
 use Rattle.object_list.specs.Union.{with_id, union}
-use Rattle.object_list.proofs.AscendingLemmas.{ascending-far}
 use Rattle.object_list.proofs.UnionLemmas.{union-ascending}
 use Rattle.object_list.proofs.union.union.Goals as goal
 
@@ -17,7 +17,7 @@ loop-oid-preserved c =
           ∙ sym (fold_more with_id c.args.oids.now c.args.others.now c.loop-oid.oid-index 0 c.loop-oid-test.true);
       below = λ k later within j d there.
           (let above : get_or c.args.others.now c.loop-oid.oid-index 0 < get_or c.args.others.now k 0
-          = ascending-far c.args.others.now c.loop-oid.oid-index k c.requires.others (omega arith) within in
+          = IsStrictlyIncreasing-far c.args.others.now c.loop-oid.oid-index k c.requires.others (omega arith) within in
           let most : get_or c.put_up_to.new.all.items j d ≤ c.oid-item.result = c.in_ok-rest.ensures.most j d there in
           omega arith);
     }

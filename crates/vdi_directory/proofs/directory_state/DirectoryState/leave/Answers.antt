@@ -1,9 +1,9 @@
 use Rattle.std.proofs.Common.{List, refl, subst}
 use Rattle.vdi_directory.specs.declared.effect.Reservation.{Reservation}
 use Rattle.vdi_directory.specs.References.{reserved_by, LosesReferences}
-use Rattle.vdi_directory.proofs.StateLemmas.{or-false}
 use Rattle.vdi_directory.specs.Vids.{is_in}
 use Rattle.std.proofs.Common.{sym}
+use Rattle.std.proofs.Math.Bool.{or-false}
 use Rattle.vdi_directory.proofs.directory_state.DirectoryState.leave.Goals as goal
 
 pub returns : goal.returns

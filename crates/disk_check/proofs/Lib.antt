@@ -1,0 +1,5 @@
+mod TableLemmas
+mod ValueLemmas
+mod WorkLemmas
+mod CourseLemmas
+mod WorkedCheck

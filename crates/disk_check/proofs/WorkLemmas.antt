@@ -1,0 +1,110 @@
+-- The works of a check meet what works must: an own object is read and written whole, and its value is as long as it.
+use Rattle.std.proofs.Common.{◌≡◌, ℕ, zero, suc, ◌+◌, ◌-◌, ◌*◌, ◌/◌, ◌%◌, ◌^◌, ◌≤◌, ◌++◌, List, [], ◌∷◌, length, take, drop, map, refl, sym, ap, ◌∙◌, pow-add, arith}
+use Rattle.std.specs.List.{range_with_len}
+use Rattle.std.proofs.Math.Nat.{pow-le-pow_right}
+use Rattle.std.proofs.lemmas.List.{length-append, length-take-le}
+use Rattle.object_id.specs.declared.entry.VdiSpec.{VdiSpec}
+use Rattle.object_id.specs.declared.oid.Kind.{Kind}
+use Rattle.object_id.specs.declared.oid.Kind.TheVariants.{Block, Inode}
+use Rattle.object_id.specs.declared.policy.Policy.{Policy}
+use Rattle.object_id.specs.declared.policy.Policy.TheVariants.{Copies, Coded}
+use Rattle.object_id.specs.Oid.{object_number, kind_of}
+use Rattle.object_id.specs.Policy.{IsPolicy, wanted_of}
+use Rattle.object_id.specs.Spec.{IsSpec}
+use Rattle.gf256.specs.Strip.{strip_bytes, block_through}
+use Rattle.gf256.proofs.StripLaws.{length-block_through}
+use Rattle.strip_coding.specs.Part.{IsAligned, part_size, first_part, blocks_through, bytes_of_parts}
+use Rattle.strip_coding.proofs.Widths.{by_cases}
+use Rattle.inode.specs.Layout.{Content}
+use Rattle.peer_proto.specs.Work.{IsWork}
+use Rattle.disk_check.specs.Value.{all_bytes, cut_pieces, pieces_in, value_of}
+use Rattle.disk_check.specs.Check.{begun_check, read_copies, write_value}
+
+-- objects go by whole blocks
+object_blocks : (shift : ℕ) → 9 ≤ shift → 2 ^ shift ≡ 512 * 2 ^ (shift - 9)
+object_blocks shift wide =
+    let split : shift ≡ 9 + (shift - 9) = omega arith in
+    ap (λ n. 2 ^ n) split ∙ pow-add 2 9 (shift - 9)
+
+whole_blocks : (n m : ℕ) → n ≡ 512 * m → n % 512 ≡ 0
+whole_blocks n m e = omega arith
+
+aligned : (policy : Policy) (kind : Kind) (n : ℕ) → n % 512 ≡ 0 → IsAligned policy kind n
+aligned (Copies copies) kind n whole = tt
+aligned (Coded d p) Block n whole = whole
+aligned (Coded d p) Inode n whole = tt
+
+length-blocks_through : (d : ℕ) (points : List ℕ) (blocks : ℕ) (parts : List (List ℕ))
+    → length (blocks_through d points blocks parts) ≡ blocks * 512
+unfolding blocks_through
+length-blocks_through d points zero parts = refl
+length-blocks_through d points (suc blocks) parts =
+    let front : List ℕ = block_through d points (map (take (strip_bytes d)) parts) in
+    let rest : List ℕ = blocks_through d points blocks (map (drop (strip_bytes d)) parts) in
+    let one : length front ≡ 512 = length-block_through d points (map (take (strip_bytes d)) parts) in
+    let others : length rest ≡ blocks * 512 = length-blocks_through d points blocks (map (drop (strip_bytes d)) parts) in
+    omega (arith, length-append front rest, one, others)
+
+first_cut : (n count size : ℕ) (bytes : List ℕ) → 1 ≤ n → 1 ≤ count → first_part (take n (cut_pieces count size bytes)) ≡ take size bytes
+unfolding cut_pieces
+first_cut zero count size bytes some more = absurd (omega arith)
+first_cut (suc n) zero size bytes some more = absurd (omega arith)
+first_cut (suc n) (suc count) size bytes some more = refl
+
+-- so many bytes are there for one of some pieces
+one_of : (count size long : ℕ) → 1 ≤ count → long ≡ count * size → size ≤ long
+one_of count size long some e =
+    let split : count ≡ 1 + (count - 1) = omega arith in
+    let all : count * size ≡ size + (count - 1) * size = ap (λ n. n * size) split ∙ grind arith in
+    omega (arith, e, all)
+
+-- of coded data the strips of each block give the block
+value_long : (policy : Policy) (n m : ℕ) (bytes : List ℕ) → IsPolicy policy → n ≡ 512 * m
+    → length bytes ≡ wanted_of policy Block * part_size policy Block n
+    → length (value_of policy (cut_pieces (wanted_of policy Block) (part_size policy Block n) bytes)) ≡ n
+unfolding bytes_of_parts
+value_long (Copies copies) n m bytes is blocks all =
+    ap length (first_cut 1 copies n bytes (omega arith) is.0)
+    ∙ length-take-le n bytes (one_of copies n (length bytes) is.0 all)
+value_long (Coded d p) n m bytes is blocks all =
+    let some : 1 ≤ d = by_cases (λ d. 1 ≤ d) (omega arith) (omega arith) (omega arith) (omega arith) d is.0 in
+    let pieces : List (List ℕ) = take d (cut_pieces (d + p) (n / d) bytes) in
+    let first : length (first_part pieces) ≡ n / d =
+    ap length (first_cut d (d + p) (n / d) bytes some (omega (arith, some)))
+    ∙ length-take-le (n / d) bytes (one_of (d + p) (n / d) (length bytes) (omega (arith, some)) all) in
+    length-blocks_through d (range_with_len 0 d) (length (first_part pieces) / strip_bytes d) pieces
+    ∙ ap (λ (long : ℕ). long / strip_bytes d * 512) first
+    ∙ ap (λ (k : ℕ). k / d / strip_bytes d * 512) blocks
+    ∙ by_cases (λ d. 512 * m / d / strip_bytes d * 512 ≡ 512 * m) (omega arith) (omega arith) (omega arith) (omega arith) d is.0
+    ∙ sym blocks
+
+pub value-length : (spec : VdiSpec) (bytes : List ℕ) → IsSpec spec → length bytes ≡ all_bytes spec
+    → length (value_of spec.policy (pieces_in spec bytes)) ≡ 2 ^ spec.shift
+value-length spec bytes is all =
+    value_long spec.policy (2 ^ spec.shift) (2 ^ (spec.shift - 9)) bytes is.policy
+    (object_blocks spec.shift (omega (arith, is.shift.0))) all
+
+object_whole : (spec : VdiSpec) → IsSpec spec → 2 ^ spec.shift % 512 ≡ 0
+object_whole spec is =
+    whole_blocks (2 ^ spec.shift) (2 ^ (spec.shift - 9)) (object_blocks spec.shift (omega (arith, is.shift.0)))
+
+object_most : (spec : VdiSpec) → IsSpec spec → 2 ^ spec.shift ≤ 2 ^ 24
+object_most spec is = pow-le-pow_right (omega arith) is.shift.1
+
+pub read_copies-work : (inode : Content) (index : ℕ) → IsSpec inode.spec → IsWork (read_copies (begun_check inode) index)
+read_copies-work inode index is = (
+  is.policy,
+  object_most inode.spec is,
+  aligned inode.spec.policy (kind_of (object_number inode.vid index)) (2 ^ inode.spec.shift) (object_whole inode.spec is),
+)
+
+pub write_value-work : (inode : Content) (index : ℕ) (value : List ℕ) → IsSpec inode.spec → length value ≡ 2 ^ inode.spec.shift
+    → IsWork (write_value (begun_check inode) index value)
+write_value-work inode index value is long =
+    let most : 2 ^ inode.spec.shift ≤ 2 ^ 24 = object_most inode.spec is in
+    let whole : length value % 512 ≡ 0 = ap (λ n. n % 512) long ∙ object_whole inode.spec is in
+    let kind : Kind = kind_of (object_number inode.vid index) in (
+      is.policy,
+      omega (arith, long, most),
+      (aligned inode.spec.policy kind 0 refl, aligned inode.spec.policy kind (length value) whole),
+    )

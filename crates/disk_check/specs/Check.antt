@@ -1,0 +1,95 @@
+-- A check: where it is, and its steps, from the first own object to the answer, by two works on each.
+use Rattle.std.specs.Prelude.{ℕ, ◌+◌, ◌^◌, Bool, List, [], ◌∷◌, ◌++◌, Option, Some, None, if◌then◌else◌}
+use Rattle.object_id.specs.declared.entry.VdiSpec.{VdiSpec}
+use Rattle.object_id.specs.Oid.{object_number}
+use Rattle.inode.specs.Layout.{Content}
+use Rattle.peer_proto.specs.declared.guest.Checked.{Checked}
+use Rattle.peer_proto.specs.declared.work.ObjWork.{ObjWork}
+use Rattle.peer_proto.specs.declared.work.ObjWork.TheVariants.{Write, ReadAll}
+use Rattle.disk_check.specs.declared.act.CheckAct.{CheckAct}
+use Rattle.disk_check.specs.declared.act.CheckAct.TheVariants.{Work, Reply}
+use Rattle.disk_check.specs.Table.{own_indexes, inherited_count}
+use Rattle.disk_check.specs.Value.{all_bytes, pieces_in, value_of, differ}
+
+-- what a check waits for
+pub data CheckStage : Type 0 where
+  -- the pieces of the own object of an index, from all targets; the indexes of the own objects behind it
+  Comparing : ℕ → List ℕ → CheckStage
+  -- the write of its value
+  WritingBack : List ℕ → CheckStage
+  -- nothing: it has told what it found
+  Answered : CheckStage
+
+-- a check of the disk of an id, made so: what it found so far, and what it waits for
+pub record Check : Type 0 where
+  pub vid : ℕ
+  pub spec : VdiSpec
+  pub found : Checked
+  pub stage : CheckStage
+
+-- what a step leads to, and what is to be done
+pub record CheckStep : Type 0 where
+  pub check : Check
+  pub act : CheckAct
+
+-- all targets are asked for what they keep of an own object
+abbrev pub read_copies : Check → ℕ → ObjWork
+read_copies check index = ReadAll (object_number check.vid index) check.spec.policy (2 ^ check.spec.shift)
+
+-- a value is written over the whole of it
+abbrev pub write_value : Check → ℕ → List ℕ → ObjWork
+write_value check index value = Write (object_number check.vid index) check.spec.policy 0 value
+
+-- what was found, with one own object more
+abbrev pub with_object : ℕ → Bool → Checked → Checked
+with_object oid differed found =
+    record found { objects = found.objects + 1; differed = found.differed ++ (if differed then oid ∷ [] else []) }
+
+-- the check goes on with the first of these own objects, and where none is left tells what it found
+abbrev pub check_on : Check → List ℕ → CheckStep
+check_on check [] = record { check = record check { stage = Answered }; act = Reply check.found }
+check_on check (index ∷ later) =
+    record { check = record check { stage = Comparing index later }; act = Work (read_copies check index) }
+
+-- a check begins: nothing was found yet but the entries that are another disk's
+abbrev pub begun_check : Content → Check
+begun_check inode = record {
+  vid = inode.vid;
+  spec = inode.spec;
+  found = record { objects = 0; inherited = inherited_count inode; differed = [] };
+  stage = Answered;
+}
+
+-- the first step of the check of an open disk
+unfoldable pub begin_check : Content → CheckStep
+begin_check inode = check_on (begun_check inode) (own_indexes inode)
+
+-- the pieces of an own object came: it is counted, and its value is written back, whether they differ or not
+abbrev pub write_back_step : Check → ℕ → List ℕ → List (List ℕ) → CheckStep
+write_back_step check index later pieces = record {
+  check = record check {
+    found = with_object (object_number check.vid index) (differ check.spec.policy pieces) check.found;
+    stage = WritingBack later;
+  };
+  act = Work (write_value check index (value_of check.spec.policy pieces));
+}
+
+-- a work is done, and gave these bytes
+abbrev pub check_done_at : List ℕ → Check → CheckStage → Option CheckStep
+check_done_at bytes check (Comparing index later) = Some (write_back_step check index later (pieces_in check.spec bytes))
+check_done_at bytes check (WritingBack later) = Some (check_on check later)
+check_done_at bytes check Answered = None
+
+-- the work that a check waits for is done; none where it waits for none
+unfoldable pub check_on_done : List ℕ → Check → Option CheckStep
+check_on_done bytes check = check_done_at bytes check check.stage
+
+-- how many bytes a work gives that is waited for
+abbrev pub bytes_at : VdiSpec → CheckStage → Option ℕ
+bytes_at spec (Comparing index later) = Some (all_bytes spec)
+bytes_at spec (WritingBack later) = Some 0
+bytes_at spec Answered = None
+
+-- how many bytes the work gives that a check waits for; none where it waits for none
+abbrev pub check_bytes_wanted : Check → Option ℕ
+check_bytes_wanted check = bytes_at check.spec check.stage

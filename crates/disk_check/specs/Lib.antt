@@ -1,0 +1,4 @@
+pub mod Table
+pub mod Value
+pub mod Check
+pub mod Course

@@ -1,0 +1,20 @@
+//! The check of a disk: each of its own objects is read from all of its targets, and one value is written back to them.
+//!
+//! The crate stands on `peer_proto`, `inode` and `strip_coding`. Here stands the type that a check hands out, and as
+//! definitions all that it does: which objects are the disk's own (`specs/Table.antt`), what the pieces of an object tell
+//! (`specs/Value.antt`), each of its steps (`specs/Check.antt`), and the whole course of a check (`specs/Course.antt`).
+//! The laws of `laws.rt` say what these mean: each own object is read and written once, by ascending index; the answer
+//! counts the own and the inherited ones, and names those whose pieces differed; and pieces of one value don't differ.
+#![tactic(auto)]
+
+mod act;
+mod laws;
+#[cfg(test)]
+mod tests;
+
+pub use act::CheckAct;
+pub use laws::{
+    a_check_begins_works, a_check_goes_by_its_own_objects, a_check_waits_for_works,
+    copies_are_compared_with_the_first, objects_that_differ_ascend,
+    own_objects_are_those_of_the_table, pieces_of_one_value_agree,
+};

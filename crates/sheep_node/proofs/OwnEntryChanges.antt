@@ -1,0 +1,346 @@
+-- Every change leaves the outbox to this node's entries.
+use Rattle.std.proofs.Common.{◌≡◌, ◌≢◌, ℕ, Bool, true, false, List, [], ◌∷◌, ◌++◌, All, option_to_list, Option, Some, None, option_map, IfSome, refl, sym, ap, subst, ◌∙◌, ⊎_elim}
+use Rattle.std.specs.Ordering.{nat_cmp}
+use Rattle.std.specs.FinMap as tree
+use Rattle.std.proofs.lemmas.List.{append-nil}
+use Rattle.std.proofs.lemmas.List.Elements.{All-nil, All-push, All-tail}
+use Rattle.std.proofs.lemmas.Bool.{cases_eq}
+use Rattle.proof_tools.proofs.Booleans.{cond_either}
+use Rattle.proof_tools.proofs.FiniteMaps.{get-insert_cases, get-remove_other, get-remove_same}
+use Rattle.object_id.specs.declared.oid.Vid.{Vid}
+use Rattle.object_id.specs.declared.cause.Cause.{Cause}
+use Rattle.object_id.specs.declared.cause.Cause.TheVariants.{Halt}
+use Rattle.object_id.specs.declared.node.NodeId.{NodeId}
+use Rattle.object_id.specs.declared.entry.Entry.{Entry}
+use Rattle.object_id.specs.declared.entry.Entry.TheVariants.{Recovered}
+use Rattle.inode.specs.Layout.{Content}
+use Rattle.vdi_directory.specs.declared.header.Header.{Header}
+use Rattle.vdi_directory.specs.declared.effect.Effect.{Effect}
+use Rattle.vdi_directory.specs.declared.decision.Decision.{Decision}
+use Rattle.vdi_directory.specs.declared.decision.Decision.TheVariants as decisions
+use Rattle.vdi_directory.specs.Effects.{header_of}
+use Rattle.peer_proto.specs.declared.guest.GuestRsp.{GuestRsp}
+use Rattle.peer_proto.specs.declared.guest.GuestRsp.TheVariants.{Refused}
+use Rattle.peer_proto.specs.declared.guest.VdiAsk.{VdiAsk}
+use Rattle.peer_proto.specs.declared.guest.VdiAsk.TheVariants.{Create, Attach, Close, Snapshot, Clone, Delete}
+use Rattle.peer_service.specs.State.{effects_of}
+use Rattle.peer_service.specs.LogReading.{decision_on}
+use Rattle.gateway.specs.Work.{zones_for}
+use Rattle.gateway.specs.State as gateways
+use Rattle.gateway.specs.State.{Work}
+use Rattle.recovery.specs.Steps as recovery_steps
+use Rattle.guest_driver.specs.declared.act.DriverAct.{DriverAct}
+use Rattle.guest_driver.specs.Driver as drivers
+use Rattle.guest_driver.specs.declared.act.DriverAct.TheVariants as driver_acts
+use Rattle.vdi_ops.specs.declared.act.OpAct.{OpAct}
+use Rattle.vdi_ops.specs.declared.act.OpAct.TheVariants as op_acts
+use Rattle.vdi_ops.specs.declared.end.OpEnd.{OpEnd}
+use Rattle.vdi_ops.specs.Entries.{first_entry}
+use Rattle.vdi_ops.specs.Tables.{chain_of}
+use Rattle.vdi_ops.specs.Op as ops
+use Rattle.vdi_ops.specs.Op.{Task, Opening, WritingBack, Tagging, Copying, Making, OpStage, Asked, Working, Publishing, Answered, Op, IsAwaitedAtOpStage, IsAwaitedByCommand}
+use Rattle.vdi_ops.specs.Steps.{begun_with_entry, begin_command, taken_over, copied_from, step_after_grant, step_after_known_grant, step_after_decision, decided_at, on_decision, task_done, done_at, op_on_done, refused_at, on_refusal}
+use Rattle.vdi_ops.proofs.StepLemmas.{begin_awaited, done_awaited, decision_awaited}
+use Rattle.sheep_node.specs.declared.input.Input.{Input}
+use Rattle.sheep_node.specs.declared.input.Input.TheVariants as inputs
+use Rattle.sheep_node.specs.State.{Course, Waiting, Driving, Commanding, Request, Node, initial_node}
+use Rattle.sheep_node.specs.May.{May}
+use Rattle.sheep_node.specs.OneWork.{HasOneWorkPerRequest}
+use Rattle.sheep_node.specs.RecoveryView.{recovery_state_of}
+use Rattle.sheep_node.specs.StepState.{StepState, at_first, with_optional_entry, session_in, request_ended}
+use Rattle.sheep_node.specs.RequestWorks.{command_refused, course_refused}
+use Rattle.sheep_node.specs.Courses.{after_command_step}
+use Rattle.sheep_node.specs.Guests.{inode_open}
+use Rattle.sheep_node.specs.LogReading.{entry_read, on_back}
+use Rattle.sheep_node.specs.Step.{on_request, recovery_stepped, on_put, on_recover_tick, node_step}
+use Rattle.sheep_node.specs.OwnEntries.{IsEntryOf, IsTaskOf, IsStageOf, IsCommandOf, IsCourseOf, AreOwnEntries, HasOnlyOwnEntries}
+use Rattle.sheep_node.specs.Changes as changes
+use Rattle.sheep_node.specs.Changes.{HasRequest, Outcome, ToWork, ToEntry, ToReply, outcome_of_driver, outcome_of_command, without_ended_work, RequestSteps, DiskBegins, DiskGoesOn, CommandBegins, CommandGoesOn, CommandDecided, WorkIsNext, AtOnce, InTurn, Again, input_received, Change}
+use Rattle.sheep_node.proofs.OneWorkChanges.{awaited_of}
+use Rattle.sheep_node.proofs.StepChain.{kept_by_chain, step_chain}
+
+-- ---- the steps of a command
+
+abbrev StepOf : NodeId → ops.OpStep → Type 0
+StepOf me step = IsCommandOf me step.op
+
+first_of : (by : NodeId) (session : ℕ) (disk : Option Content) (ask : VdiAsk) → IfSome (first_entry by session disk ask) (IsEntryOf by)
+first_of by session disk (Create name spec) = refl
+first_of by session disk (Attach name tag) = refl
+first_of by session None Close = tt
+first_of by session (Some inode) Close = refl
+first_of by session None (Snapshot tag) = tt
+first_of by session (Some inode) (Snapshot tag) = refl
+first_of by session disk (Clone base tag name) = refl
+first_of by session disk (Delete name tag) = refl
+
+begun_of : (by : NodeId) (session : ℕ) (ask : VdiAsk) (disk : Option Content) (entry : Option Entry) → IfSome entry (IsEntryOf by)
+    → IfSome (begun_with_entry by session ask disk entry) (StepOf by)
+begun_of by session ask disk None of = tt
+begun_of by session ask disk (Some entry) of = (refl, of)
+
+begin_of : (by : NodeId) (session : ℕ) (ask : VdiAsk) (disk : Option Content) → IfSome (begin_command by session ask disk) (StepOf by)
+unfolding begin_command
+begin_of by session ask disk = begun_of by session ask disk (first_entry by session disk ask) (first_of by session disk ask)
+
+module _ (me : NodeId) (op : Op) (own : op.by ≡ me) where
+  granted_of : (vid : Vid) (chain : List ℕ) (disk : Option Content) (ask : VdiAsk) (header : Header) → IfSome (step_after_grant op vid chain disk ask header) (StepOf me)
+  granted_of vid chain disk (Create name spec) header = (own, own)
+  granted_of vid chain disk (Attach name tag) header = (own, tt)
+  granted_of vid chain disk Close header = (own, tt)
+  granted_of vid chain disk (Snapshot tag) header = by_disk disk
+    where
+      by_disk : (disk : Option Content) → IfSome (taken_over op vid tag header disk) (StepOf me)
+      by_disk None = tt
+      by_disk (Some old) = (own, tt)
+  granted_of vid chain disk (Clone base tag name) header = by_parent header.parent
+    where
+      by_parent : (parent : Option Vid) → IfSome (copied_from op vid chain header parent) (StepOf me)
+      by_parent None = tt
+      by_parent (Some parent) = (own, tt)
+  granted_of vid chain disk (Delete name tag) header = (own, tt)
+
+  known_of : (vid : Vid) (chain : List ℕ) (disk : Option Content) (ask : VdiAsk) (header : Option Header)
+      → IfSome (step_after_known_grant op vid chain disk ask header) (StepOf me)
+  known_of vid chain disk ask None = tt
+  known_of vid chain disk ask (Some header) = granted_of vid chain disk ask header
+
+  decided_of : (known : List Effect) (ask : VdiAsk) (disk : Option Content) (decision : Decision) → IfSome (step_after_decision known op ask disk decision) (StepOf me)
+  decided_of known ask disk decisions.None = (own, tt)
+  decided_of known ask disk (decisions.Granted vid) = known_of vid (chain_of known vid.0) disk ask (header_of known vid.0)
+  decided_of known ask disk (decisions.Refused cause) = (own, tt)
+
+  at_decision : (known : List Effect) (decision : Decision) (stage : OpStage) → IfSome (decided_at known decision op stage) (StepOf me)
+  at_decision known decision (Asked entry ask disk) = decided_of known ask disk decision
+  at_decision known decision (Working vid task) = tt
+  at_decision known decision (Publishing entry opened) = (own, tt)
+  at_decision known decision (Answered opened) = tt
+
+  task_of : (vid : Vid) (bytes : List ℕ) (task : Task) → IsTaskOf me task → StepOf me (task_done op vid bytes task)
+  task_of vid bytes (Opening true ids header) of = (own, tt)
+  task_of vid bytes (Opening false ids header) of = (own, tt)
+  task_of vid bytes (WritingBack inode) of = (own, tt)
+  task_of vid bytes (Tagging old inode) of = (own, own)
+  task_of vid bytes (Copying ids header) of = (own, own)
+  task_of vid bytes (Making entry opened) of = (own, of)
+
+  at_done : (bytes : List ℕ) (stage : OpStage) → IsStageOf me stage → IfSome (done_at bytes op stage) (StepOf me)
+  at_done bytes (Asked entry ask disk) of = tt
+  at_done bytes (Working vid task) of = task_of vid bytes task of
+  at_done bytes (Publishing entry opened) of = tt
+  at_done bytes (Answered opened) of = tt
+
+  at_refusal : (cause : Cause) (stage : OpStage) → IfSome (refused_at cause op stage) (λ (end : OpEnd). IfSome end.unlock (IsEntryOf me))
+  at_refusal cause (Asked entry ask disk) = tt
+  at_refusal cause (Working vid task) = own
+  at_refusal cause (Publishing entry opened) = tt
+  at_refusal cause (Answered opened) = tt
+
+  done_of : (bytes : List ℕ) → IsStageOf me op.stage → IfSome (op_on_done bytes op) (StepOf me)
+  unfolding op_on_done
+  done_of bytes of = at_done bytes op.stage of
+
+  decision_of : (known : List Effect) (decision : Decision) → IfSome (on_decision known decision op) (StepOf me)
+  unfolding on_decision
+  decision_of known decision = at_decision known decision op.stage
+
+  refusal_of : (cause : Cause) → IfSome (on_refusal cause op) (λ (end : OpEnd). IfSome end.unlock (IsEntryOf me))
+  unfolding on_refusal
+  refusal_of cause = at_refusal cause op.stage
+
+step_of : (me : NodeId) (one : Option ops.OpStep) (step : ops.OpStep) → IfSome one (StepOf me) → one ≡ Some step → StepOf me step
+step_of me one step of is = subst (λ (o : Option ops.OpStep). IfSome o (StepOf me)) is of
+
+-- ---- requests
+
+module _ (P : Request → Type 0) (requests : tree.FinMap nat_cmp Request) (all : (req : ℕ) (request : Request) → tree.get requests req ≡ Some request → P request) where
+  all_put : (req : ℕ) (request : Request) → P request → (q : ℕ) (at : Request) → tree.get (tree.insert requests req request) q ≡ Some at → P at
+  all_put req request so q at got = ⊎_elim
+      (λ (own : (q ≡ req) × (request ≡ at)). subst P own.1 so)
+      (λ (other : (q ≢ req) × (tree.get requests q ≡ Some at)). all q at other.1)
+      (get-insert_cases requests req request q at got)
+
+  all_gone : (req q : ℕ) (at : Request) → tree.get (tree.remove requests req) q ≡ Some at → P at
+  all_gone req q at got = ⊎_elim
+      (λ (own : q ≡ req).
+      let none : tree.get (tree.remove requests req) q ≡ None = ap (tree.get (tree.remove requests req)) own ∙ get-remove_same requests req in
+      absurd (cc (none, got)))
+      (λ (other : q ≢ req). all q at (sym (get-remove_other requests req q other) ∙ got))
+      (cases_eq q req)
+
+module _ (me : NodeId) where
+  abbrev pub OnlyOwn : StepState → Type 0
+  OnlyOwn so_far = AreOwnEntries me so_far.node.me so_far.node.requests so_far.node.outbox
+
+  abbrev At : Request → Type 0
+  At request = IsCourseOf me request.course
+
+  abbrev NextOf : Outcome → Type 0
+  NextOf (ToWork work) = Unit {0}
+  NextOf (ToEntry entry) = IsEntryOf me entry
+  NextOf (ToReply reply) = Unit {0}
+
+  append_of : (entry : Entry) (stage : OpStage) → IsAwaitedAtOpStage (op_acts.Append entry) stage → IsStageOf me stage → IsEntryOf me entry
+  append_of entry (Asked wanted ask disk) awaited of = let same : entry ≡ wanted = cc (awaited) in subst (IsEntryOf me) (sym same) of
+  append_of entry (Working vid task) awaited of = absurd (cc (awaited.1))
+  append_of entry (Publishing wanted opened) awaited of = let same : entry ≡ wanted = cc (awaited) in subst (IsEntryOf me) (sym same) of
+  append_of entry (Answered opened) awaited of = absurd (cc (awaited.1))
+
+  command_next : (act : OpAct) (stage : OpStage) → IsAwaitedAtOpStage act stage → IsStageOf me stage → NextOf (outcome_of_command act)
+  command_next (op_acts.Append entry) stage awaited of = append_of entry stage awaited of
+  command_next (op_acts.Work work) stage awaited of = tt
+  command_next (op_acts.Reply reply) stage awaited of = tt
+
+  command_own : (session req : ℕ) (ask : VdiAsk) (step : ops.OpStep) (so_far : StepState) → IsAwaitedByCommand step → IsCommandOf me step.op → OnlyOwn so_far
+      → OnlyOwn (after_command_step session req ask step so_far) × NextOf (outcome_of_command step.act)
+  command_own session req ask step so_far awaited of own = (
+    record {
+      own_so = own.own_so;
+      commands = all_put At so_far.node.requests own.commands req (record { session = session; course = Commanding ask step.op }) of;
+      entries = own.entries;
+    },
+    command_next step.act step.op.stage awaited of.1,
+  )
+
+  driver_next : (act : DriverAct) → NextOf (outcome_of_driver act)
+  driver_next (driver_acts.Work work) = tt
+  driver_next (driver_acts.Reply reply) = tt
+
+  steps_own : {input : Input} {node : Node} → (so_far : StepState) (session req : ℕ) (next : Outcome) (moved : StepState) → RequestSteps input node so_far session req next moved → OnlyOwn so_far → OnlyOwn moved × NextOf next
+  steps_own so_far session req next moved (DiskBegins ask disk there on may) own = (
+    record {
+      own_so = own.own_so;
+      commands = all_put At so_far.node.requests own.commands req (record { session = session; course = Driving (drivers.begin_driver disk ask).driver }) tt;
+      entries = own.entries;
+    },
+    driver_next (drivers.begin_driver disk ask).act,
+  )
+  steps_own so_far session req next moved (DiskGoesOn number work attempt status bytes driver disk step ends on is) own = (
+    record {
+      own_so = own.own_so;
+      commands = all_put At so_far.node.requests own.commands req (record { session = session; course = Driving step.driver }) tt;
+      entries = own.entries;
+    },
+    driver_next step.act,
+  )
+  steps_own so_far session req next moved (CommandBegins ask step arrival is) own =
+      let disk = inode_open (session_in session so_far).disk in
+      command_own session req ask step so_far
+      (awaited_of (begin_command so_far.node.me session ask disk) step (begin_awaited so_far.node.me session ask disk) is)
+      (subst (λ (by : NodeId). IsCommandOf by step.op) own.own_so
+      (step_of so_far.node.me (begin_command so_far.node.me session ask disk) step (begin_of so_far.node.me session ask disk) is)) own
+  steps_own so_far session req next moved (CommandGoesOn number work attempt status bytes ask op step ends is) own =
+      let of = own.commands req (record { session = session; course = Commanding ask op }) ends.ends.request in
+      command_own session req ask step (without_ended_work session req work status so_far)
+      (awaited_of (op_on_done bytes op) step (done_awaited bytes op) is) (step_of me (op_on_done bytes op) step (done_of me op of.0 bytes of.1) is)
+      (record { own_so = own.own_so; commands = own.commands; entries = own.entries })
+  steps_own {input} {node} so_far session req next moved (CommandDecided entry ask op step from read there waits is) own =
+      let of = own.commands req (record { session = session; course = Commanding ask op }) there in
+      command_own session req ask step so_far
+      (awaited_of (on_decision (effects_of so_far.node.peer) (decision_on entry node.peer) op) step
+      (decision_awaited (effects_of so_far.node.peer) (decision_on entry node.peer) op) is)
+      (step_of me (on_decision (effects_of so_far.node.peer) (decision_on entry node.peer) op) step
+      (decision_of me op of.0 (effects_of so_far.node.peer) (decision_on entry node.peer)) is) own
+
+  comes_own : {input : Input} {node : Node} → (so_far : StepState) (session req : ℕ) (asked : Work) (lined : StepState) → WorkIsNext input node so_far session req asked lined → OnlyOwn so_far → OnlyOwn lined
+  comes_own so_far session req asked lined (AtOnce work moved steps begins) own =
+      let m = (steps_own so_far session req (ToWork work) moved steps own).0 in
+      record { own_so = m.own_so; commands = m.commands; entries = m.entries }
+  comes_own so_far session req asked lined (InTurn work later none is) own = record { own_so = own.own_so; commands = own.commands; entries = own.entries }
+  comes_own so_far session req asked lined (Again work course from next there request) own = own
+
+  ended_own : (session req : ℕ) (reply : GuestRsp) (so_far : StepState) → OnlyOwn so_far → OnlyOwn (request_ended session req reply so_far)
+  unfolding request_ended
+  ended_own session req reply so_far own =
+      record { own_so = own.own_so; commands = all_gone At so_far.node.requests own.commands req; entries = own.entries }
+
+  more_own : (outbox : List Entry) (entry : Entry) → All (IsEntryOf me) outbox → IsEntryOf me entry → All (IsEntryOf me) (outbox ++ entry ∷ [])
+  more_own outbox entry all of = All-push (IsEntryOf me) outbox entry all of
+
+  refused_own : (session req : ℕ) (cause : Cause) (course : Course) (so_far : StepState) → IsCourseOf me course → OnlyOwn so_far
+      → OnlyOwn (course_refused session req cause course so_far)
+  refused_own session req cause (Waiting ask) so_far of own = own
+  refused_own session req cause (Driving driver) so_far of own = ended_own session req (Refused cause) so_far own
+  refused_own session req cause (Commanding ask op) so_far of own = by_end (on_refusal cause op) (refusal_of me op of.0 cause)
+    where
+      more : (unlock : Option Entry) → IfSome unlock (IsEntryOf me) → All (IsEntryOf me) (so_far.node.outbox ++ option_to_list unlock)
+      more None of = subst (All (IsEntryOf me)) (sym (append-nil so_far.node.outbox)) own.entries
+      more (Some entry) of = more_own so_far.node.outbox entry own.entries of
+
+      by_end : (end : Option OpEnd) → IfSome end (λ (end : OpEnd). IfSome end.unlock (IsEntryOf me)) → OnlyOwn (command_refused session req end so_far)
+      by_end None of = own
+      by_end (Some end) of =
+          ended_own session req end.reply (with_optional_entry end.unlock so_far)
+          (record { own_so = own.own_so; commands = own.commands; entries = more end.unlock of })
+
+  pub change_keeps_own_entries : {input : Input} {node : Node} → (so_far next : StepState) → Change input node so_far next → OnlyOwn so_far → OnlyOwn next
+  change_keeps_own_entries so_far next (changes.Marks req number work attempt status learns over) own = own
+  change_keeps_own_entries so_far next (changes.Fails session req number work attempt status course ends done why) own = own
+  change_keeps_own_entries so_far next (changes.Stops session req number work attempt status course bytes ends over) own = own
+  change_keeps_own_entries so_far next (changes.Refuses session req number work attempt status course cause ends done why) own =
+      refused_own session req cause course (without_ended_work session req work status so_far) (own.commands req (record { session = session; course = course }) ends.request) own
+  change_keeps_own_entries so_far next (changes.Opens session req asked lined comes short) own = comes_own so_far session req asked lined comes own
+  change_keeps_own_entries so_far next (changes.Holds session req asked lined comes short touched) own = comes_own so_far session req asked lined comes own
+  change_keeps_own_entries so_far next (changes.Denies session req asked lined course comes short untouched there) own =
+      let l = comes_own so_far session req asked lined comes own in
+      refused_own session req (Halt (changes.zones_of_members lined.node) (zones_for asked.work)) course (changes.without_denied_work session req asked lined) (l.commands req (record { session = session; course = course }) there) l
+  change_keeps_own_entries so_far next (changes.Lines session req work moved steps waits) own = (steps_own so_far session req (ToWork work) moved steps own).0
+  change_keeps_own_entries so_far next (changes.Appends session req entry moved steps) own =
+      let m = steps_own so_far session req (ToEntry entry) moved steps own in
+      record { own_so = m.0.own_so; commands = m.0.commands; entries = more_own moved.node.outbox entry m.0.entries m.1 }
+  change_keeps_own_entries so_far next (changes.Replies session req reply moved steps) own =
+      ended_own session req reply moved (steps_own so_far session req (ToReply reply) moved steps own).0
+  change_keeps_own_entries so_far next (changes.Arrives session req ask disk arrival on) own = record {
+    own_so = own.own_so;
+    commands = all_put At so_far.node.requests own.commands req (record { session = session; course = Waiting ask }) tt;
+    entries = own.entries;
+  }
+  change_keeps_own_entries so_far next (changes.Rejects session req ask cause arrival) own = own
+  change_keeps_own_entries so_far next (changes.Recovers due) own = record {
+    own_so = own.own_so;
+    commands = own.commands;
+    entries = more_own so_far.node.outbox (Recovered so_far.node.me (record { 0 = so_far.node.recovery.epoch })) own.entries own.own_so;
+  }
+
+  received_own_entries : (input : Input) (node : Node) → OnlyOwn (at_first node) → OnlyOwn (input_received input (at_first node))
+  unfolding entry_read on_request on_recover_tick on_back
+  received_own_entries (inputs.Guest req session ask) node own = own
+  received_own_entries (inputs.Request request) node own = own
+  received_own_entries (inputs.Reply rsp) node own =
+      cond_either OnlyOwn (gateways.gateway_awaits rsp.number node.gateway) (at_first node)
+      (recovery_stepped (recovery_steps.recovery_on_reply rsp (recovery_state_of node)) (at_first node)) own own
+  received_own_entries (inputs.Lost number) node own =
+      cond_either OnlyOwn (gateways.gateway_awaits number node.gateway) (at_first node)
+      (recovery_stepped (recovery_steps.recovery_on_loss number (recovery_state_of node)) (at_first node)) own own
+  received_own_entries (inputs.LogEntry entry) node own = own
+  received_own_entries inputs.Put node own = by_outbox node.outbox own.entries
+    where
+      by_outbox : (outbox : List Entry) → All (IsEntryOf me) outbox → OnlyOwn (on_put outbox (at_first node))
+      by_outbox [] all = own
+      by_outbox (entry ∷ later) all =
+          record { own_so = own.own_so; commands = own.commands; entries = All-tail (IsEntryOf me) entry later all }
+  received_own_entries inputs.RecoverTick node own = own
+  received_own_entries inputs.RetryTick node own = own
+  received_own_entries (inputs.Back entries) node own = record {
+    own_so = own.own_so;
+    commands = λ req request got. let none = tree.get-empty {X = Request} nat_cmp req in absurd (cc (none, got));
+    entries = All-nil (IsEntryOf me);
+  }
+
+-- a node whose outbox has its own entries keeps it so
+pub own_entries_stay : (input : Input) (node : Node) → May input node → HasOneWorkPerRequest node → HasOnlyOwnEntries node
+    → HasOnlyOwnEntries (node_step input node).node
+own_entries_stay input node may driven own =
+    let after : AreOwnEntries node.me (node_step input node).node.me (node_step input node).node.requests (node_step input node).node.outbox
+    = kept_by_chain (OnlyOwn node.me) (change_keeps_own_entries node.me) (step_chain input node may driven)
+    (received_own_entries node.me input node own) in
+    subst (λ (me : NodeId). AreOwnEntries me (node_step input node).node.me (node_step input node).node.requests (node_step input node).node.outbox)
+    (sym after.own_so) after
+
+-- so it opens
+pub own_entries_at_opening : (me : NodeId) (tries : ℕ) → HasOnlyOwnEntries (initial_node me tries)
+own_entries_at_opening me tries = record {
+  own_so = refl;
+  commands = λ req request got. let none = tree.get-empty {X = Request} nat_cmp req in absurd (cc (none, got));
+  entries = All-nil (IsEntryOf me);
+}

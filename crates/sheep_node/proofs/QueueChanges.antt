@@ -1,0 +1,385 @@
+-- Every change leaves each session's queue to its reads and writes without reply.
+use Rattle.std.proofs.Common.{◌≡◌, ◌≢◌, ◌⊎◌, inl, inr, ℕ, ◌==◌, ◌&&◌, not, Bool, true, false, cond, List, [], ◌∷◌, ◌++◌, filter, Contains, Option, Some, None, unwrap_or, refl, sym, ap, subst, ◌∙◌, ⊎_elim}
+use Rattle.std.specs.Ordering.{nat_cmp}
+use Rattle.std.specs.FinMap as tree
+use Rattle.std.proofs.Math.Bool.{and-false}
+use Rattle.std.proofs.lemmas.Bool.{eqb-true, eqb-false, eq-eqb, ne_eqb, and_parts, cases_eq}
+use Rattle.std.proofs.lemmas.List.Elements.{Contains-push_cases, Contains-append_left, Contains-append_right}
+use Rattle.proof_tools.proofs.Booleans.{cond_either}
+use Rattle.proof_tools.proofs.Lists.{Contains-cons, Contains-cons_cases, Contains-filter, Contains-first, Contains-nil}
+use Rattle.proof_tools.proofs.FiniteMaps.{get-insert_other, get-insert_same, get-remove_other, get-remove_same}
+use Rattle.object_id.specs.declared.cause.Cause.{Cause}
+use Rattle.object_id.specs.declared.cause.Cause.TheVariants.{Halt}
+use Rattle.object_id.specs.declared.entry.Entry.{Entry}
+use Rattle.peer_proto.specs.declared.guest.DiskAsk.{DiskAsk}
+use Rattle.peer_proto.specs.declared.guest.VdiAsk.{VdiAsk}
+use Rattle.peer_proto.specs.declared.guest.GuestRsp.{GuestRsp}
+use Rattle.peer_proto.specs.declared.guest.GuestRsp.TheVariants.{Refused}
+use Rattle.gateway.specs.declared.message.Status.{Status}
+use Rattle.gateway.specs.Work.{zones_for}
+use Rattle.gateway.specs.State as gateways
+use Rattle.gateway.specs.State.{Work}
+use Rattle.recovery.specs.Steps as recovery_steps
+use Rattle.gateway_queue.specs.declared.queue.Queued.{Queued}
+use Rattle.gateway_queue.specs.Queue.{has_request_number, queue_without}
+use Rattle.guest_driver.specs.declared.disk.Disk.{Disk}
+use Rattle.guest_driver.specs.Driver as drivers
+use Rattle.guest_driver.specs.InodeQueue as lines
+use Rattle.guest_driver.specs.InodeQueue.{queue_with_open, queue_after_end}
+use Rattle.vdi_ops.specs.declared.end.OpEnd.{OpEnd}
+use Rattle.vdi_ops.specs.Op as ops
+use Rattle.vdi_ops.specs.Op.{Op}
+use Rattle.vdi_ops.specs.Steps.{on_refusal}
+use Rattle.sheep_node.specs.declared.input.Input.{Input}
+use Rattle.sheep_node.specs.declared.input.Input.TheVariants as inputs
+use Rattle.sheep_node.specs.State.{Course, Waiting, Driving, Commanding, Request, Session, Node, new_session}
+use Rattle.sheep_node.specs.RecoveryView.{recovery_state_of}
+use Rattle.sheep_node.specs.StepState.{StepState, at_first, with_optional_entry, session_in, with_course, request_ended}
+use Rattle.sheep_node.specs.RequestWorks.{command_refused, course_refused}
+use Rattle.sheep_node.specs.Courses.{after_driver_step, disk_with_act, after_command_step}
+use Rattle.sheep_node.specs.Guests.{queued_as}
+use Rattle.sheep_node.specs.LogReading.{entry_read, on_back}
+use Rattle.sheep_node.specs.Step.{on_request, recovery_stepped, on_put, on_recover_tick, node_step}
+use Rattle.sheep_node.specs.May.{is_disk_course, May}
+use Rattle.sheep_node.specs.OneWork.{HasOneWorkPerRequest}
+use Rattle.sheep_node.specs.SessionQueues.{is_disk_request_of, session_among, queue_in, IsQueued, AreDiskRequests, QueuesAreDiskRequests}
+use Rattle.sheep_node.specs.Changes as changes
+use Rattle.sheep_node.specs.Changes.{HasRequest, Outcome, ToWork, ToEntry, ToReply, without_ended_work, RequestSteps, DiskBegins, DiskGoesOn, CommandBegins, CommandGoesOn, CommandDecided, WorkIsNext, AtOnce, InTurn, Again, input_received, Change}
+use Rattle.sheep_node.proofs.OneWorkParts.{Requests, Sessions}
+use Rattle.sheep_node.proofs.StepChain.{kept_by_chain, step_chain}
+
+-- ---- a session among others
+
+-- what is seen of the sessions, once one of them is changed but for that
+pub same_view : {X : Type 0} (f : Session → X) (sessions : Sessions) (number : ℕ) (session : Session) → f session ≡ f (session_among number sessions)
+    → (q : ℕ) → f (session_among q (tree.insert sessions number session)) ≡ f (session_among q sessions)
+same_view f sessions number session same q = ⊎_elim
+    (λ (own : q ≡ number).
+    ap (λ (k : ℕ). f (session_among k (tree.insert sessions number session))) own
+    ∙ ap (λ (o : Option Session). f (unwrap_or o new_session)) (get-insert_same sessions number session)
+    ∙ same ∙ ap (λ (k : ℕ). f (session_among k sessions)) (sym own))
+    (λ (other : q ≢ number). ap (λ (o : Option Session). f (unwrap_or o new_session)) (get-insert_other sessions number session q other))
+    (cases_eq q number)
+
+queued_session : (requests : Requests) (sessions : Sessions) (number : ℕ) (session : Session) → session.queue ≡ queue_in number sessions
+    → AreDiskRequests requests sessions → AreDiskRequests requests (tree.insert sessions number session)
+queued_session requests sessions number session same queued =
+    let so = same_view (λ (session : Session). session.queue) sessions number session same in
+    record {
+      there = λ q req in_it. queued.there q req (subst (IsQueued req) (so q) in_it);
+      has = λ q req on. subst (IsQueued req) (sym (so q)) (queued.has q req on);
+    }
+
+-- a request in another course, that is a read or write of the same session if it was
+queued_course : (requests : Requests) (sessions : Sessions) (req : ℕ) (request : Request)
+    → ((number : ℕ) → is_disk_request_of number (Some request) ≡ is_disk_request_of number (tree.get requests req))
+    → AreDiskRequests requests sessions → AreDiskRequests (tree.insert requests req request) sessions
+queued_course requests sessions req request same queued = record {
+  there = λ number q in_it. so number q ∙ queued.there number q in_it;
+  has = λ number q on. queued.has number q (sym (so number q) ∙ on);
+}
+  where
+    so : (number q : ℕ) → is_disk_request_of number (tree.get (tree.insert requests req request) q) ≡ is_disk_request_of number (tree.get requests q)
+    so number q = ⊎_elim
+        (λ (own : q ≡ req).
+        ap (λ (k : ℕ). is_disk_request_of number (tree.get (tree.insert requests req request) k)) own
+        ∙ ap (is_disk_request_of number) (get-insert_same requests req request) ∙ same number ∙ ap (λ (k : ℕ). is_disk_request_of number (tree.get requests k)) (sym own))
+        (λ (other : q ≢ req). ap (is_disk_request_of number) (get-insert_other requests req request q other))
+        (cases_eq q req)
+
+-- ---- a request ends
+
+left_in : (req : ℕ) (queue : List Queued) (one : Queued) → Contains (queue_without req queue) one → Contains queue one × (one.req ≢ req)
+left_in req [] one there = absurd (Contains-nil one there)
+left_in req (first ∷ queue) one there = by_tie (first.req == req) refl (left_in req queue one) there
+  where
+    later : Contains queue one × (one.req ≢ req) → Contains (first ∷ queue) one × (one.req ≢ req)
+    later (had, apart) = (Contains-cons first queue one had, apart)
+
+    by_tie : (b : Bool) → (first.req == req) ≡ b → (Contains (queue_without req queue) one → Contains queue one × (one.req ≢ req))
+        → Contains (cond (not b) (first ∷ queue_without req queue) (queue_without req queue)) one → Contains (first ∷ queue) one × (one.req ≢ req)
+    by_tie true tie rest there = later (rest there)
+    by_tie false tie rest there = ⊎_elim
+        (λ (same : first ≡ one). (Contains-first first one queue same, λ (is : one.req ≡ req). eqb-false first.req req tie (ap (λ (q : Queued). q.req) same ∙ is)))
+        (λ (behind : Contains (queue_without req queue) one). later (rest behind))
+        (Contains-cons_cases first (queue_without req queue) one there)
+
+stays_in : (req q : ℕ) (queue : List Queued) → q ≢ req → IsQueued q queue → IsQueued q (queue_without req queue)
+stays_in req q queue apart (one, had, same) = (
+  one,
+  Contains-filter (λ queued. not (has_request_number req queued)) queue one had
+      (ap not (ne_eqb one.req req (λ (is : one.req ≡ req). apart (sym same ∙ is)))),
+  same,
+)
+
+of_one : (number session : ℕ) (course : Course) → is_disk_request_of number (Some (record { session = session; course = course })) ≡ true → session ≡ number
+of_one number session course on = eqb-true session number (and_parts (session == number) (is_disk_course course) on).0
+
+abbrev pub QueuesAre : StepState → Type 0
+QueuesAre so_far = AreDiskRequests so_far.node.requests so_far.node.sessions
+
+ended_queued : (session req : ℕ) (course : Course) (reply : GuestRsp) (so_far : StepState) → HasRequest session req course so_far → QueuesAre so_far
+    → QueuesAre (request_ended session req reply so_far)
+unfolding request_ended
+ended_queued session req course reply so_far is_there queued = record {
+  there = λ number q in_it. ⊎_elim
+      (λ (own : number ≡ session).
+      let (one, had, same) = subst (IsQueued q) (queue_own number own) in_it in
+      let (before, apart) = left_in req (queue_in session sessions) one had in
+      kept number q (λ (is : q ≡ req). apart (same ∙ is))
+      ∙ ap (λ (k : ℕ). is_disk_request_of k (tree.get requests q)) own ∙ queued.there session q (one, before, same))
+      (λ (other : number ≢ session).
+      let on = queued.there number q (subst (IsQueued q) (queue_other number other) in_it) in
+      kept number q (λ (is : q ≡ req).
+      other (sym (of_one number session course (ap (is_disk_request_of number) (sym is_there) ∙ ap (λ (k : ℕ). is_disk_request_of number (tree.get requests k)) (sym is) ∙ on))))
+      ∙ on)
+      (cases_eq number session);
+  has = λ number q on. ⊎_elim
+      (λ (is : q ≡ req).
+      let none : tree.get (tree.remove requests req) q ≡ None = ap (tree.get (tree.remove requests req)) is ∙ get-remove_same requests req in
+      let off : is_disk_request_of number (tree.get (tree.remove requests req) q) ≡ false = ap (is_disk_request_of number) none in
+      absurd (cc (on, off)))
+      (λ (apart : q ≢ req).
+      let had = queued.has number q (sym (kept number q apart) ∙ on) in
+      ⊎_elim
+      (λ (own : number ≡ session).
+      subst (IsQueued q) (sym (queue_own number own))
+      (stays_in req q (queue_in session sessions) apart (subst (λ (k : ℕ). IsQueued q (queue_in k sessions)) own had)))
+      (λ (other : number ≢ session). subst (IsQueued q) (sym (queue_other number other)) had)
+      (cases_eq number session))
+      (cases_eq q req);
+}
+  where
+    requests : Requests
+    requests = so_far.node.requests
+
+    sessions : Sessions
+    sessions = so_far.node.sessions
+
+    after : Session
+    after = record (session_in session so_far) { queue = queue_without req (session_in session so_far).queue; command = None }
+
+    kept : (number q : ℕ) → q ≢ req → is_disk_request_of number (tree.get (tree.remove requests req) q) ≡ is_disk_request_of number (tree.get requests q)
+    kept number q apart = ap (is_disk_request_of number) (get-remove_other requests req q apart)
+
+    queue_own : (number : ℕ) → number ≡ session → queue_in number (tree.insert sessions session after) ≡ queue_without req (queue_in session sessions)
+    queue_own number own =
+        ap (λ (k : ℕ). queue_in k (tree.insert sessions session after)) own
+        ∙ ap (λ (o : Option Session). (unwrap_or o new_session).queue) (get-insert_same sessions session after)
+
+    queue_other : (number : ℕ) → number ≢ session → queue_in number (tree.insert sessions session after) ≡ queue_in number sessions
+    queue_other number other = ap (λ (o : Option Session). (unwrap_or o new_session).queue) (get-insert_other sessions session after number other)
+
+refused_queued : (session req : ℕ) (cause : Cause) (course : Course) (so_far : StepState) → HasRequest session req course so_far → QueuesAre so_far
+    → QueuesAre (course_refused session req cause course so_far)
+refused_queued session req cause (Waiting ask) so_far there queued = queued
+refused_queued session req cause (Driving driver) so_far there queued = ended_queued session req (Driving driver) (Refused cause) so_far there queued
+refused_queued session req cause (Commanding ask op) so_far there queued = by_end (on_refusal cause op)
+  where
+    by_end : (end : Option OpEnd) → QueuesAre (command_refused session req end so_far)
+    by_end None = queued
+    by_end (Some end) = ended_queued session req (Commanding ask op) end.reply (with_optional_entry end.unlock so_far) there queued
+
+-- ---- a step that a request takes
+
+-- the request is there, and the queues are as they should be
+record HasSteppedQueued (session req : ℕ) (so_far : StepState) : Type 0 where
+  course : Course
+  there : HasRequest session req course so_far
+  queued : QueuesAre so_far
+
+freed_queued : (session req : ℕ) (work : Work) (status : Status) (so_far : StepState) → QueuesAre so_far → QueuesAre (without_ended_work session req work status so_far)
+freed_queued session req work status so_far queued =
+    queued_session so_far.node.requests so_far.node.sessions session
+    (record (session_in session so_far) { inode_queue = queue_after_end (session_in session so_far).inode_queue work.work }) refl queued
+
+driven_took : (session req : ℕ) (disk : Disk) (step : drivers.DriverStep) (so_far : StepState)
+    → ((number : ℕ) → is_disk_request_of number (Some (record { session = session; course = Driving step.driver })) ≡ is_disk_request_of number (tree.get so_far.node.requests req))
+    → QueuesAre so_far → HasSteppedQueued session req (after_driver_step session req disk step so_far)
+driven_took session req disk step so_far same queued =
+    let request : Request = record { session = session; course = Driving step.driver } in
+    let after = record (session_in session so_far) { disk = Some (record disk { inode = step.inode }) } in
+    record {
+      course = Driving step.driver;
+      there = get-insert_same so_far.node.requests req request;
+      queued = queued_course so_far.node.requests (tree.insert so_far.node.sessions session after) req request same
+          (queued_session so_far.node.requests so_far.node.sessions session after refl queued);
+    }
+
+command_took : (session req : ℕ) (ask : VdiAsk) (step : ops.OpStep) (so_far : StepState)
+    → ((number : ℕ) → is_disk_request_of number (Some (record { session = session; course = Commanding ask step.op })) ≡ is_disk_request_of number (tree.get so_far.node.requests req))
+    → QueuesAre so_far → HasSteppedQueued session req (after_command_step session req ask step so_far)
+command_took session req ask step so_far same queued =
+    let request : Request = record { session = session; course = Commanding ask step.op } in
+    record {
+      course = Commanding ask step.op;
+      there = get-insert_same so_far.node.requests req request;
+      queued = queued_session (tree.insert so_far.node.requests req request) so_far.node.sessions session
+          (record (session_in session so_far) {
+            disk = disk_with_act ask step.op step.act (session_in session so_far).disk;
+            command = Some req;
+          }) refl
+          (queued_course so_far.node.requests so_far.node.sessions req request same queued);
+    }
+
+-- a command is no read or write
+off_disk : (session number : ℕ) (ask : VdiAsk) (op : Op) → is_disk_request_of number (Some (record { session = session; course = Commanding ask op })) ≡ false
+off_disk session number ask op = and-false (session == number)
+
+same_there : (session req : ℕ) (one other : Course) (so_far : StepState) → HasRequest session req other so_far → is_disk_course one ≡ is_disk_course other → (number : ℕ)
+    → is_disk_request_of number (Some (record { session = session; course = one })) ≡ is_disk_request_of number (tree.get so_far.node.requests req)
+same_there session req one other so_far there same number = ap (λ (b : Bool). session == number && b) same ∙ ap (is_disk_request_of number) (sym there)
+
+steps_took : {input : Input} {node : Node} → (so_far : StepState) (session req : ℕ) (next : Outcome) (moved : StepState) → RequestSteps input node so_far session req next moved → QueuesAre so_far → HasSteppedQueued session req moved
+steps_took so_far session req next moved (DiskBegins ask disk there on may) queued =
+    driven_took session req disk (drivers.begin_driver disk ask) so_far
+    (same_there session req (Driving (drivers.begin_driver disk ask).driver) (Waiting ask) so_far there refl) queued
+steps_took so_far session req next moved (DiskGoesOn number work attempt status bytes driver disk step ends on is) queued =
+    driven_took session req disk step (without_ended_work session req work status so_far)
+    (same_there session req (Driving step.driver) (Driving driver) so_far ends.ends.request refl) (freed_queued session req work status so_far queued)
+steps_took so_far session req next moved (CommandBegins ask step arrival is) queued =
+    command_took session req ask step so_far (λ number. off_disk session number ask step.op ∙ ap (is_disk_request_of number) (sym arrival.none)) queued
+steps_took so_far session req next moved (CommandGoesOn number work attempt status bytes ask op step ends is) queued =
+    command_took session req ask step (without_ended_work session req work status so_far)
+    (same_there session req (Commanding ask step.op) (Commanding ask op) so_far ends.ends.request refl) (freed_queued session req work status so_far queued)
+steps_took so_far session req next moved (CommandDecided entry ask op step from read there waits is) queued =
+    command_took session req ask step so_far (same_there session req (Commanding ask step.op) (Commanding ask op) so_far there refl) queued
+
+comes_queued : {input : Input} {node : Node} → (so_far : StepState) (session req : ℕ) (asked : Work) (lined : StepState) → WorkIsNext input node so_far session req asked lined → QueuesAre so_far → QueuesAre lined
+comes_queued so_far session req asked lined (AtOnce work moved steps begins) queued =
+    queued_session moved.node.requests moved.node.sessions session
+    (record (session_in session moved) { inode_queue = queue_with_open (session_in session moved).inode_queue req work }) refl
+    (steps_took so_far session req (ToWork work) moved steps queued).queued
+comes_queued so_far session req asked lined (InTurn work later none is) queued =
+    queued_session so_far.node.requests so_far.node.sessions session
+    (record (session_in session so_far) { inode_queue = record { current = Some req; waiting = later } }) refl queued
+comes_queued so_far session req asked lined (Again work course from next there request) queued = queued
+
+-- ---- every change
+
+module _ (session req : ℕ) (ask : DiskAsk) (disk : Disk) (so_far : StepState) (none : tree.get so_far.node.requests req ≡ None) (queued : QueuesAre so_far) where
+  abbrev request : Request
+  request = record { session = session; course = Waiting ask }
+
+  abbrev after : Session
+  after = record (session_in session so_far) { queue = (session_in session so_far).queue ++ queued_as disk.inode.spec.shift req ask ∷ [] }
+
+  queue_own : (number : ℕ) → number ≡ session → queue_in number (tree.insert so_far.node.sessions session after) ≡ queue_in session so_far.node.sessions ++ queued_as disk.inode.spec.shift req ask ∷ []
+  queue_own number own =
+      ap (λ (k : ℕ). queue_in k (tree.insert so_far.node.sessions session after)) own
+      ∙ ap (λ (o : Option Session). (unwrap_or o new_session).queue) (get-insert_same so_far.node.sessions session after)
+
+  queue_other : (number : ℕ) → number ≢ session → queue_in number (tree.insert so_far.node.sessions session after) ≡ queue_in number so_far.node.sessions
+  queue_other number other = ap (λ (o : Option Session). (unwrap_or o new_session).queue) (get-insert_other so_far.node.sessions session after number other)
+
+  -- what was in a queue is another request
+  was_other : (number q : ℕ) → is_disk_request_of number (tree.get so_far.node.requests q) ≡ true → q ≢ req
+  was_other number q on is =
+      let off : is_disk_request_of number (tree.get so_far.node.requests q) ≡ false = ap (λ (k : ℕ). is_disk_request_of number (tree.get so_far.node.requests k)) is ∙ ap (is_disk_request_of number) none in
+      absurd (cc (on, off))
+
+  still : (number q : ℕ) → q ≢ req → is_disk_request_of number (tree.get (tree.insert so_far.node.requests req request) q) ≡ is_disk_request_of number (tree.get so_far.node.requests q)
+  still number q apart = ap (is_disk_request_of number) (get-insert_other so_far.node.requests req request q apart)
+
+  now_on : (number q : ℕ) → number ≡ session → q ≡ req → is_disk_request_of number (tree.get (tree.insert so_far.node.requests req request) q) ≡ true
+  now_on number q own is =
+      ap (λ (k : ℕ). is_disk_request_of number (tree.get (tree.insert so_far.node.requests req request) k)) is
+      ∙ ap (is_disk_request_of number) (get-insert_same so_far.node.requests req request)
+      ∙ ap (λ (b : Bool). b && true) (eq-eqb session number (sym own))
+
+  old_in : (number q : ℕ) → IsQueued q (queue_in number so_far.node.sessions) → is_disk_request_of number (tree.get (tree.insert so_far.node.requests req request) q) ≡ true
+  old_in number q in_it = let on = queued.there number q in_it in still number q (was_other number q on) ∙ on
+
+  arrived : AreDiskRequests (tree.insert so_far.node.requests req request) (tree.insert so_far.node.sessions session after)
+  arrived = record {
+    there = λ number q in_it. ⊎_elim
+        (λ (own : number ≡ session).
+        let (one, had, same) = subst (IsQueued q) (queue_own number own) in_it in
+        ⊎_elim
+        (λ (before : Contains (queue_in session so_far.node.sessions) one).
+        old_in number q (subst (λ (k : ℕ). IsQueued q (queue_in k so_far.node.sessions)) (sym own) (one, before, same)))
+        (λ (is : queued_as disk.inode.spec.shift req ask ≡ one). now_on number q own (sym same ∙ sym (ap (λ (x : Queued). x.req) is)))
+        (Contains-push_cases (queue_in session so_far.node.sessions) (queued_as disk.inode.spec.shift req ask) one had))
+        (λ (other : number ≢ session). old_in number q (subst (IsQueued q) (queue_other number other) in_it))
+        (cases_eq number session);
+    has = λ number q on. ⊎_elim
+        (λ (is : q ≡ req).
+        let own : session ≡ number = of_one number session (Waiting ask)
+        (sym (ap (λ (k : ℕ). is_disk_request_of number (tree.get (tree.insert so_far.node.requests req request) k)) is ∙ ap (is_disk_request_of number) (get-insert_same so_far.node.requests req request)) ∙ on) in
+        subst (IsQueued q) (sym (queue_own number (sym own))) (
+          queued_as disk.inode.spec.shift req ask,
+          Contains-append_right (queue_in session so_far.node.sessions) (queued_as disk.inode.spec.shift req ask ∷ []) (queued_as disk.inode.spec.shift req ask)
+              (Contains-first (queued_as disk.inode.spec.shift req ask) (queued_as disk.inode.spec.shift req ask) [] refl),
+          sym is,
+        ))
+        (λ (apart : q ≢ req).
+        let had = queued.has number q (sym (still number q apart) ∙ on) in
+        ⊎_elim
+        (λ (own : number ≡ session).
+        let (one, before, same) = subst (λ (k : ℕ). IsQueued q (queue_in k so_far.node.sessions)) own had in
+        subst (IsQueued q) (sym (queue_own number own))
+        (one, Contains-append_left (queue_in session so_far.node.sessions) (queued_as disk.inode.spec.shift req ask ∷ []) one before, same))
+        (λ (other : number ≢ session). subst (IsQueued q) (sym (queue_other number other)) had)
+        (cases_eq number session))
+        (cases_eq q req);
+  }
+
+pub change_keeps_queues : {input : Input} {node : Node} → (so_far next : StepState) → Change input node so_far next → QueuesAre so_far → QueuesAre next
+change_keeps_queues so_far next (changes.Marks req number work attempt status learns over) queued = queued
+change_keeps_queues so_far next (changes.Fails session req number work attempt status course ends done why) queued = queued
+change_keeps_queues so_far next (changes.Stops session req number work attempt status course bytes ends over) queued = freed_queued session req work status so_far queued
+change_keeps_queues so_far next (changes.Refuses session req number work attempt status course cause ends done why) queued =
+    refused_queued session req cause course (without_ended_work session req work status so_far) ends.request (freed_queued session req work status so_far queued)
+change_keeps_queues so_far next (changes.Opens session req asked lined comes short) queued = comes_queued so_far session req asked lined comes queued
+change_keeps_queues so_far next (changes.Holds session req asked lined comes short touched) queued = comes_queued so_far session req asked lined comes queued
+change_keeps_queues so_far next (changes.Denies session req asked lined course comes short untouched there) queued =
+    refused_queued session req (Halt (changes.zones_of_members lined.node) (zones_for asked.work)) course (changes.without_denied_work session req asked lined) there
+    (queued_session lined.node.requests lined.node.sessions session (record (session_in session lined) { inode_queue = queue_after_end (session_in session lined).inode_queue asked.work }) refl
+    (comes_queued so_far session req asked lined comes queued))
+change_keeps_queues so_far next (changes.Lines session req work moved steps waits) queued =
+    queued_session moved.node.requests moved.node.sessions session
+    (record (session_in session moved) { inode_queue = lines.queue_with_waiting (session_in session moved).inode_queue req work }) refl
+    (steps_took so_far session req (ToWork work) moved steps queued).queued
+change_keeps_queues so_far next (changes.Appends session req entry moved steps) queued = (steps_took so_far session req (ToEntry entry) moved steps queued).queued
+change_keeps_queues so_far next (changes.Replies session req reply moved steps) queued =
+    let took = steps_took so_far session req (ToReply reply) moved steps queued in
+    ended_queued session req took.course reply moved took.there took.queued
+change_keeps_queues so_far next (changes.Arrives session req ask disk arrival on) queued = arrived session req ask disk so_far arrival.none queued
+change_keeps_queues so_far next (changes.Rejects session req ask cause arrival) queued = queued
+change_keeps_queues so_far next (changes.Recovers due) queued = queued
+
+-- where nothing is asked nothing is queued
+pub none_queued : AreDiskRequests tree.empty tree.empty
+none_queued = record {
+  there = λ number req in_it.
+      let (one, had, same) = subst (IsQueued req) (ap (λ (o : Option Session). (unwrap_or o new_session).queue) (tree.get-empty {X = Session} nat_cmp number)) in_it in
+      absurd (Contains-nil one had);
+  has = λ number req on.
+      let off : is_disk_request_of number (tree.get tree.empty req) ≡ false = ap (is_disk_request_of number) (tree.get-empty {X = Request} nat_cmp req) in
+      absurd (cc (on, off));
+}
+
+received_queues : (input : Input) (node : Node) → QueuesAre (at_first node) → QueuesAre (input_received input (at_first node))
+unfolding entry_read on_request on_recover_tick on_back
+received_queues (inputs.Guest req session ask) node queued = queued
+received_queues (inputs.Request request) node queued = queued
+received_queues (inputs.Reply rsp) node queued =
+    cond_either QueuesAre (gateways.gateway_awaits rsp.number node.gateway) (at_first node)
+    (recovery_stepped (recovery_steps.recovery_on_reply rsp (recovery_state_of node)) (at_first node)) queued queued
+received_queues (inputs.Lost number) node queued =
+    cond_either QueuesAre (gateways.gateway_awaits number node.gateway) (at_first node)
+    (recovery_stepped (recovery_steps.recovery_on_loss number (recovery_state_of node)) (at_first node)) queued queued
+received_queues (inputs.LogEntry entry) node queued = queued
+received_queues inputs.Put node queued = by_outbox node.outbox
+  where
+    by_outbox : (outbox : List Entry) → QueuesAre (on_put outbox (at_first node))
+    by_outbox [] = queued
+    by_outbox (entry ∷ later) = queued
+received_queues inputs.RecoverTick node queued = queued
+received_queues inputs.RetryTick node queued = queued
+received_queues (inputs.Back entries) node queued = none_queued
+
+pub queues_stay : (input : Input) (node : Node) → May input node → HasOneWorkPerRequest node → QueuesAreDiskRequests node
+    → QueuesAreDiskRequests (node_step input node).node
+queues_stay input node may driven queued =
+    kept_by_chain QueuesAre change_keeps_queues (step_chain input node may driven) (received_queues input node queued)

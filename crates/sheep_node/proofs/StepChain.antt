@@ -1,0 +1,599 @@
+-- The step of a node is a chain of changes.
+use Rattle.std.proofs.Common.{◌≡◌, ◌≢◌, ℕ, ◌+◌, ◌==◌, nat_lt, not, ◌||◌, Bool, true, false, cond, List, [], ◌∷◌, ◌++◌, fold, Contains, Option, Some, None, is_some, is_none, refl, sym, ap, subst, ◌∙◌, ⊎_elim}
+use Rattle.std.specs.Prelude.{IsTrue}
+use Rattle.std.specs.Ordering.{nat_cmp}
+use Rattle.std.specs.List.{list_any}
+use Rattle.std.specs.FinMap as tree
+use Rattle.std.proofs.lemmas.Bool.{eqb-true, or_cases}
+use Rattle.proof_tools.proofs.Booleans.{has_value}
+use Rattle.proof_tools.proofs.Lists.{find-contains}
+use Rattle.proof_tools.proofs.FiniteMaps.{get-entry, get-insert_same}
+use Rattle.object_id.specs.declared.cause.Cause.{Cause}
+use Rattle.object_id.specs.declared.cause.Cause.TheVariants.{Halt}
+use Rattle.object_id.specs.declared.node.Epoch.{Epoch}
+use Rattle.object_id.specs.declared.entry.Entry.{Entry}
+use Rattle.vdi_directory.specs.declared.decision.Decision.{Decision}
+use Rattle.hash_ring.specs.Placement.{zone_count}
+use Rattle.vnode_table.specs.Epochs.{members_at}
+use Rattle.vnode_table.specs.Targets.{targets_in}
+use Rattle.peer_proto.specs.Work.{oid_of, policy_of}
+use Rattle.peer_proto.specs.declared.guest.DiskAsk.{DiskAsk}
+use Rattle.peer_proto.specs.declared.guest.VdiAsk.{VdiAsk}
+use Rattle.peer_proto.specs.declared.say.PeerSay.{PeerSay}
+use Rattle.peer_proto.specs.declared.say.PeerSay.TheVariants as says
+use Rattle.peer_proto.specs.declared.say.PeerRsp.{PeerRsp}
+use Rattle.peer_proto.specs.declared.work.ObjWork.{ObjWork}
+use Rattle.peer_service.specs.State.{effects_of}
+use Rattle.peer_service.specs.LogReading.{decision_on}
+use Rattle.gateway.specs.declared.message.Status.{Status}
+use Rattle.gateway.specs.declared.message.Status.TheVariants.{Lost}
+use Rattle.gateway.specs.Work.{zones_for}
+use Rattle.gateway.specs.Attempt.{Attempt, is_unanswered, is_awaited_message, status_by, messages_with_status, is_over, is_done, bytes_given}
+use Rattle.gateway.specs.State as gateways
+use Rattle.gateway.specs.State.{WorkStage, Open, Ended, WaitsForMembers, Work, Gateway, is_touched, asker, open_messages, is_awaited_in, fits_work, fits_asker, may_try, next_try}
+use Rattle.gateway.specs.Step as gateway_steps
+use Rattle.gateway.specs.Step.{with_work, without_work, waiting_step, done_step, refusal_step, halt_step, open_step, next_attempt, attempt_step, retry_step_of, start_step, retry_step, failure_step, attempt_continued, attempt_with_status, status_step_in, status_step_by, message_ended}
+use Rattle.gateway_queue.specs.Queue.{may_run}
+use Rattle.guest_driver.specs.declared.disk.Disk.{Disk}
+use Rattle.guest_driver.specs.declared.act.DriverAct.{DriverAct}
+use Rattle.guest_driver.specs.declared.act.DriverAct.TheVariants as driver_acts
+use Rattle.guest_driver.specs.Driver as drivers
+use Rattle.guest_driver.specs.Driver.{Driver}
+use Rattle.guest_driver.specs.InodeQueue as lines
+use Rattle.guest_driver.specs.InodeQueue.{InodeQueue, may_open_work, queue_with_open, queue_with_waiting, first_waiting, next_work, taken_from, queue_after_start}
+use Rattle.vdi_ops.specs.declared.act.OpAct.{OpAct}
+use Rattle.vdi_ops.specs.declared.act.OpAct.TheVariants as op_acts
+use Rattle.vdi_ops.specs.Op as ops
+use Rattle.vdi_ops.specs.Op.{Op}
+use Rattle.vdi_ops.specs.Steps.{begin_command, op_on_done, on_decision}
+use Rattle.recovery.specs.State as recoveries
+use Rattle.recovery.specs.Fits as recovery_fits
+use Rattle.recovery.specs.Steps as recovery_steps
+use Rattle.sheep_node.specs.declared.ask.Ask.{Ask}
+use Rattle.sheep_node.specs.declared.ask.Ask.TheVariants as asks
+use Rattle.sheep_node.specs.declared.input.Input.{Input}
+use Rattle.sheep_node.specs.declared.input.Input.TheVariants as inputs
+use Rattle.sheep_node.specs.State.{Course, Waiting, Driving, Commanding, Request, Node}
+use Rattle.sheep_node.specs.RecoveryView.{recovery_state_of}
+use Rattle.sheep_node.specs.StepState.{StepState, at_first, with_node, with_gateway, session_in, with_inode_queue, with_course}
+use Rattle.sheep_node.specs.RequestWorks.{request_refused, queue_left, after_start, work_begun, work_asked}
+use Rattle.sheep_node.specs.Courses.{after_driver_step, driver_acted, driver_stepped, driver_went_on, disk_went_on, disk_begun, after_command_step, command_acted, command_stepped, command_went_on, course_went_on, course_decided}
+use Rattle.sheep_node.specs.Waiting.{next_begun, course_begun, found_request_begun, begun_if_may, passed_over, queued_requests, let_begin, work_done, work_refused, after_act, after_gateway_step}
+use Rattle.sheep_node.specs.Guests.{request_refusal, inode_open, with_queued_request, request_taken, request_taken_unless, on_guest}
+use Rattle.sheep_node.specs.AwaitedEntry.{waits_for_entry}
+use Rattle.sheep_node.specs.LogReading.{entry_read, asker_of, decision_told, on_log_entry}
+use Rattle.sheep_node.specs.Step as steps
+use Rattle.sheep_node.specs.Step.{recovery_stepped, on_put, on_input, is_due, with_recovered, recovered_put, node_step}
+use Rattle.sheep_node.specs.May.{fits_node, May}
+use Rattle.sheep_node.specs.OneWork.{may_work_at, HasOneWorkPerRequest}
+use Rattle.sheep_node.specs.Changes as changes
+use Rattle.sheep_node.specs.Changes.{IsTold, input_received, IsOverWith, HasRequest, LearnsStatus, EndsAttempt, EndsWork, Arrival, gateway_with_touch, without_ended_work, refusal_after_status, ToWork, outcome_of_driver, outcome_of_command, RequestSteps, DiskBegins, DiskGoesOn, CommandBegins, CommandGoesOn, CommandDecided, new_work, WorkIsNext, AtOnce, InTurn, Again, has_too_few_zones, zones_of_members, without_denied_work, Change, Leads, Still, Then}
+use Rattle.sheep_node.proofs.AwaitedWorks.{found_got}
+use Rattle.sheep_node.proofs.OneWorkChanges.{StepHasOneWork, comes_free, change_keeps_one_work, received_one_work}
+
+-- a chain of changes to a turn, in which works are with their requests
+pub record IsReached (input : Input) (node : Node) (first so_far : StepState) : Type 0 where
+  pub leads : Leads input node first so_far
+  pub good : StepHasOneWork so_far
+
+pub reached_by : {input : Input} {node : Node} {first so_far next : StepState} → IsReached input node first so_far → Change input node so_far next → IsReached input node first next
+reached_by {input} {node} {first} {so_far} {next} walk change = record { leads = Then walk.leads change; good = change_keeps_one_work so_far next change walk.good }
+
+-- the request of an open work is there
+record HasAsker (req : ℕ) (so_far : StepState) : Type 0 where
+  session : ℕ
+  course : Course
+  there : HasRequest session req course so_far
+
+asker_at : (req : ℕ) (so_far : StepState) (request : Option Request) → tree.get so_far.node.requests req ≡ request → may_work_at request ≡ true → HasAsker req so_far
+asker_at req so_far None is may = absurd (cc (may))
+asker_at req so_far (Some request) is may = record { session = request.session; course = request.course; there = is }
+
+asker_in : (req : ℕ) (work : Work) (so_far : StepState) → tree.get so_far.node.gateway.works req ≡ Some work → StepHasOneWork so_far → HasAsker req so_far
+asker_in req work so_far there good = asker_at req so_far (tree.get so_far.node.requests req) refl (good.open_works req work there)
+
+module _ (input : Input) (node : Node) (first : StepState) where
+  -- ---- a work begins
+
+  pub begun_walk : (so_far : StepState) (session req : ℕ) (work : ObjWork) (lined : StepState) → WorkIsNext input node so_far session req (new_work work) lined → IsReached input node first so_far
+      → IsReached input node first (work_begun session req work lined)
+  unfolding work_begun start_step attempt_step
+  begun_walk so_far session req work lined comes walk = by_zones (has_too_few_zones (new_work work) lined.node) refl
+    where
+      Begins : gateway_steps.GatewayStep → Type 0
+      Begins step = IsReached input node first (after_start session step.act (with_gateway step.gateway lined))
+
+      epoch : Epoch
+      epoch = record { 0 = lined.node.peer.epoch }
+
+      by_touched : has_too_few_zones (new_work work) lined.node ≡ true → (b : Bool) → is_touched req lined.node.gateway ≡ b
+          → Begins (cond b (waiting_step (with_work req (record (new_work work) { stage = WaitsForMembers epoch }) lined.node.gateway))
+          (refusal_step lined.node.gateway req work (Halt (zones_of_members lined.node) (zones_for work))))
+      by_touched short true touched = reached_by walk (changes.Holds session req (new_work work) lined comes short touched)
+      by_touched short false untouched =
+          let cause = Halt (zones_of_members lined.node) (zones_for work) in
+          let l = comes_free so_far session req (new_work work) lined comes walk.good in
+          subst (λ (o : Option Request). IsReached input node first (request_refused req cause o (without_denied_work session req (new_work work) lined))) (sym l.there)
+          (reached_by walk (changes.Denies session req (new_work work) lined l.course comes short untouched l.there))
+
+      by_zones : (b : Bool) → has_too_few_zones (new_work work) lined.node ≡ b
+          → Begins (cond b (halt_step lined.node.gateway req (new_work work) epoch (zones_of_members lined.node))
+          (open_step lined.node.gateway req (new_work work) (next_attempt (new_work work) lined.node.sends epoch (targets_in lined.node.epochs epoch.0 (oid_of work) (policy_of work)))))
+      by_zones true short = by_touched short (is_touched req lined.node.gateway) refl
+      by_zones false enough = reached_by walk (changes.Opens session req (new_work work) lined comes enough)
+
+  -- ---- a request takes a step
+
+  pub asked_walk : (so_far : StepState) (session req : ℕ) (work : ObjWork) (moved : StepState) → RequestSteps input node so_far session req (ToWork work) moved → IsReached input node first so_far
+      → IsReached input node first (work_asked session req work moved)
+  unfolding work_asked
+  asked_walk so_far session req work moved steps walk = by_may (may_open_work (session_in session moved).inode_queue work) refl
+    where
+      by_may : (b : Bool) → may_open_work (session_in session moved).inode_queue work ≡ b
+          → IsReached input node first (cond b (work_begun session req work (with_inode_queue session (queue_with_open (session_in session moved).inode_queue req work) moved))
+          (with_inode_queue session (queue_with_waiting (session_in session moved).inode_queue req work) moved))
+      by_may true may =
+          begun_walk so_far session req work (with_inode_queue session (queue_with_open (session_in session moved).inode_queue req work) moved) (AtOnce work moved steps may) walk
+      by_may false waits = reached_by walk (changes.Lines session req work moved steps waits)
+
+  driver_walk : (so_far : StepState) (session req : ℕ) (act : DriverAct) (moved : StepState) → RequestSteps input node so_far session req (outcome_of_driver act) moved → IsReached input node first so_far
+      → IsReached input node first (driver_acted session req act moved)
+  driver_walk so_far session req (driver_acts.Work work) moved steps walk = asked_walk so_far session req work moved steps walk
+  driver_walk so_far session req (driver_acts.Reply reply) moved steps walk = reached_by walk (changes.Replies session req reply moved steps)
+
+  driver_stepped_walk : (so_far : StepState) (session req : ℕ) (disk : Disk) (step : drivers.DriverStep) (freed : StepState)
+      → RequestSteps input node so_far session req (outcome_of_driver step.act) (after_driver_step session req disk step freed) → IsReached input node first so_far
+      → IsReached input node first (driver_stepped session req disk step freed)
+  unfolding driver_stepped
+  driver_stepped_walk so_far session req disk step freed steps walk = driver_walk so_far session req step.act (after_driver_step session req disk step freed) steps walk
+
+  command_walk : (so_far : StepState) (session req : ℕ) (act : OpAct) (moved : StepState) → RequestSteps input node so_far session req (outcome_of_command act) moved
+      → IsReached input node first so_far → IsReached input node first (command_acted session req act moved)
+  command_walk so_far session req (op_acts.Append entry) moved steps walk = reached_by walk (changes.Appends session req entry moved steps)
+  command_walk so_far session req (op_acts.Work work) moved steps walk = asked_walk so_far session req work moved steps walk
+  command_walk so_far session req (op_acts.Reply reply) moved steps walk = reached_by walk (changes.Replies session req reply moved steps)
+
+  command_stepped_walk : (so_far : StepState) (session req : ℕ) (ask : VdiAsk) (step : ops.OpStep) (freed : StepState)
+      → RequestSteps input node so_far session req (outcome_of_command step.act) (after_command_step session req ask step freed) → IsReached input node first so_far
+      → IsReached input node first (command_stepped session req ask step freed)
+  unfolding command_stepped
+  command_stepped_walk so_far session req ask step freed steps walk =
+      command_walk so_far session req step.act (after_command_step session req ask step freed) steps walk
+
+  -- ---- what waited begins
+
+  disk_begun_walk : (so_far : StepState) (session req : ℕ) (ask : DiskAsk) (disk : Option Disk) → HasRequest session req (Waiting ask) so_far
+      → (session_in session so_far).disk ≡ disk → may_run req (session_in session so_far).queue ≡ true → IsReached input node first so_far
+      → IsReached input node first (disk_begun session req ask disk so_far)
+  disk_begun_walk so_far session req ask None there on may walk = walk
+  disk_begun_walk so_far session req ask (Some disk) there on may walk =
+      driver_stepped_walk so_far session req disk (drivers.begin_driver disk ask) so_far (DiskBegins ask disk there on may) walk
+
+  course_begun_walk : (so_far : StepState) (session req : ℕ) (course : Course) → HasRequest session req course so_far → IsReached input node first so_far
+      → IsReached input node first (course_begun session req course so_far)
+  course_begun_walk so_far session req (Waiting ask) there walk = by_run (may_run req (session_in session so_far).queue) refl
+    where
+      by_run : (b : Bool) → may_run req (session_in session so_far).queue ≡ b
+          → IsReached input node first (cond b (disk_begun session req ask (session_in session so_far).disk so_far) so_far)
+      by_run true may = disk_begun_walk so_far session req ask (session_in session so_far).disk there refl may walk
+      by_run false waits = walk
+  course_begun_walk so_far session req (Driving driver) there walk = walk
+  course_begun_walk so_far session req (Commanding ask op) there walk = walk
+
+  request_begun_walk : (so_far : StepState) (req : ℕ) (request : Option Request) → tree.get so_far.node.requests req ≡ request → IsReached input node first so_far
+      → IsReached input node first (found_request_begun req request so_far)
+  request_begun_walk so_far req None there walk = walk
+  request_begun_walk so_far req (Some request) there walk = course_begun_walk so_far request.session req request.course there walk
+
+  all_begun_walk : (reqs : List ℕ) (so_far : StepState) → IsReached input node first so_far → IsReached input node first (fold begun_if_may so_far reqs)
+  all_begun_walk [] so_far walk = walk
+  all_begun_walk (req ∷ reqs) so_far walk =
+      all_begun_walk reqs (begun_if_may so_far req) (request_begun_walk so_far req (tree.get so_far.node.requests req) refl walk)
+
+  next_begun_walk : (session : ℕ) (so_far : StepState) → IsReached input node first so_far → IsReached input node first (next_begun session (next_work (session_in session so_far).inode_queue) so_far)
+  next_begun_walk session so_far walk =
+      as_begun (next_work (session_in session so_far).inode_queue) (by_current (session_in session so_far).inode_queue.current refl (session_in session so_far).inode_queue.waiting refl)
+    where
+      Next_ : Option lines.Waiting → InodeQueue → Type 0
+      Next_ None request_taken = Unit {0}
+      Next_ (Some next) request_taken = IsReached input node first (work_begun session next.req next.work (with_inode_queue session request_taken so_far))
+
+      by_current : (current : Option ℕ) → (session_in session so_far).inode_queue.current ≡ current → (list : List lines.Waiting)
+          → (session_in session so_far).inode_queue.waiting ≡ list
+          → Next_ (cond (is_none current) (first_waiting list) None) (cond (is_none current) (taken_from (session_in session so_far).inode_queue list) (session_in session so_far).inode_queue)
+      by_current None none [] is = tt
+      by_current None none (next ∷ later) is =
+          begun_walk so_far session next.req next.work (with_inode_queue session (record { current = Some next.req; waiting = later }) so_far)
+          (InTurn next.work later none is) walk
+      by_current (Some req) one list is = tt
+
+      as_begun : (next : Option lines.Waiting) → Next_ next (queue_after_start (session_in session so_far).inode_queue) → IsReached input node first (next_begun session next so_far)
+      as_begun None begun = walk
+      as_begun (Some next) begun = begun
+
+  pub let_begin_walk : (session : ℕ) (so_far : StepState) → IsReached input node first so_far → IsReached input node first (let_begin session so_far)
+  unfolding let_begin passed_over
+  let_begin_walk session so_far walk =
+      all_begun_walk (queued_requests (session_in session so_far)) (next_begun session (next_work (session_in session so_far).inode_queue) so_far)
+      (next_begun_walk session so_far walk)
+
+  -- ---- a work is done or refused
+
+  module _ (so_far : StepState) (session req number : ℕ) (work : Work) (attempt : Attempt) (status : Status) (course : Course)
+      (ends : EndsAttempt input node so_far session req number work attempt status course) (walk : IsReached input node first so_far) where
+    abbrev pub after_gateway_act : gateway_steps.GatewayStep → StepState
+    after_gateway_act step = after_act step.act (with_gateway step.gateway so_far)
+
+    abbrev pub bytes_now : List ℕ
+    bytes_now = bytes_given work.work (messages_with_status number status attempt.messages)
+
+    module _ (is : is_done work.work (messages_with_status number status attempt.messages) ≡ true) where
+      abbrev pub freed : StepState
+      freed = without_ended_work session req work status so_far
+
+      ends_work : EndsWork input node so_far session req number work attempt status course bytes_now
+      ends_work = record { ends = ends; done = is; given = refl }
+
+      ends_as : (at : Course) → course ≡ at → EndsWork input node so_far session req number work attempt status at bytes_now
+      ends_as at same =
+          subst (λ (course : Course). EndsWork input node so_far session req number work attempt status course bytes_now) same ends_work
+
+      stops : (at : Course) → course ≡ at → IsOverWith bytes_now (session_in session freed).disk at → IsReached input node first freed
+      stops at same over =
+          reached_by walk (changes.Stops session req number work attempt status at bytes_now (ends_as at same) over)
+
+      disk_walk : (driver : Driver) → course ≡ Driving driver → (disk : Option Disk) → (session_in session freed).disk ≡ disk
+          → IsReached input node first (disk_went_on session req bytes_now driver disk freed)
+      disk_walk driver same None on =
+          stops (Driving driver) same (subst (λ (disk : Option Disk). IsOverWith bytes_now disk (Driving driver)) (sym on) tt)
+      disk_walk driver same (Some disk) on = by_step (drivers.driver_on_done disk.inode bytes_now driver) refl
+        where
+          by_step : (step : Option drivers.DriverStep) → drivers.driver_on_done disk.inode bytes_now driver ≡ step
+              → IsReached input node first (driver_went_on session req disk step freed)
+          by_step None none =
+              stops (Driving driver) same (subst (λ (disk : Option Disk). IsOverWith bytes_now disk (Driving driver)) (sym on) none)
+          by_step (Some step) next =
+              driver_stepped_walk so_far session req disk step freed
+              (DiskGoesOn number work attempt status bytes_now driver disk step (ends_as (Driving driver) same) on next) walk
+
+      command_done_walk : (ask : VdiAsk) (op : Op) → course ≡ Commanding ask op → (step : Option ops.OpStep) → op_on_done bytes_now op ≡ step
+          → IsReached input node first (command_went_on session req ask step freed)
+      command_done_walk ask op same None none = stops (Commanding ask op) same none
+      command_done_walk ask op same (Some step) next =
+          command_stepped_walk so_far session req ask step freed
+          (CommandGoesOn number work attempt status bytes_now ask op step (ends_as (Commanding ask op) same) next) walk
+
+      went_on_walk : (at : Course) → course ≡ at → IsReached input node first (course_went_on session req bytes_now at freed)
+      unfolding course_went_on
+      went_on_walk (Waiting ask) same = stops (Waiting ask) same tt
+      went_on_walk (Driving driver) same = disk_walk driver same (session_in session freed).disk refl
+      went_on_walk (Commanding ask op) same = command_done_walk ask op same (op_on_done bytes_now op) refl
+
+      pub done_walk : IsReached input node first (after_gateway_act (done_step (gateway_with_touch req work status so_far) req work.work bytes_now))
+      done_walk =
+          subst (λ (o : Option Request). IsReached input node first (work_done work.work req bytes_now o (with_gateway (without_work req (gateway_with_touch req work status so_far)) so_far)))
+          (sym ends.request)
+          (let_begin_walk session (course_went_on session req bytes_now course freed) (went_on_walk course refl))
+
+    pub refused_walk : (cause : Cause) → is_done work.work (messages_with_status number status attempt.messages) ≡ false
+        → refusal_after_status req number work attempt status so_far ≡ Some cause
+        → IsReached input node first (after_gateway_act (refusal_step (gateway_with_touch req work status so_far) req work.work cause))
+    refused_walk cause never why =
+        subst (λ (o : Option Request). IsReached input node first (work_refused work.work req cause o (with_gateway (without_work req (gateway_with_touch req work status so_far)) so_far)))
+        (sym ends.request)
+        (let_begin_walk session (request_refused req cause (Some (record { session = session; course = course })) (without_ended_work session req work status so_far))
+        (reached_by walk (changes.Refuses session req number work attempt status course cause ends never why)))
+
+  -- ---- a message is known
+
+  module _ (so_far : StepState) (walk : IsReached input node first so_far) where
+    abbrev pub Settled : gateway_steps.GatewayStep → Type 0
+    Settled step = IsReached input node first (after_act step.act (with_gateway step.gateway so_far))
+
+    module _ (number : ℕ) (status : Status) (settled : is_unanswered status ≡ false) (told : IsTold input number status) (req : ℕ) (work : Work)
+        (there : tree.get so_far.node.gateway.works req ≡ Some work) (awaited : is_awaited_in number work ≡ true) where
+      module _ (attempt : Attempt) (open_so : work.stage ≡ Open attempt) where
+        learns : LearnsStatus input node so_far req number work attempt status
+        learns = record { there = there; open_so = open_so; awaited = awaited; settled = settled; told = told }
+
+        module _ (over : is_over (messages_with_status number status attempt.messages) ≡ true) where
+          asker_now : HasAsker req so_far
+          asker_now = asker_in req work so_far there walk.good
+
+          ends : EndsAttempt input node so_far asker_now.session req number work attempt status asker_now.course
+          ends = record { learns = learns; over = over; request = asker_now.there }
+
+          not_done_walk : is_done work.work (messages_with_status number status attempt.messages) ≡ false → (cause : Option Cause)
+              → refusal_after_status req number work attempt status so_far ≡ cause → Settled (failure_step (gateway_with_touch req work status so_far) req work cause)
+          not_done_walk never None why =
+              reached_by walk (changes.Fails asker_now.session req number work attempt status asker_now.course ends never why)
+          not_done_walk never (Some cause) why =
+              refused_walk so_far asker_now.session req number work attempt status asker_now.course ends walk cause never why
+
+          over_walk : (b : Bool) → is_done work.work (messages_with_status number status attempt.messages) ≡ b
+              → Settled (cond b (done_step (gateway_with_touch req work status so_far) req work.work (bytes_given work.work (messages_with_status number status attempt.messages)))
+              (failure_step (gateway_with_touch req work status so_far) req work (refusal_after_status req number work attempt status so_far)))
+          over_walk true is = done_walk so_far asker_now.session req number work attempt status asker_now.course ends walk is
+          over_walk false never = not_done_walk never (refusal_after_status req number work attempt status so_far) refl
+
+        goes_walk : (b : Bool) → is_over (messages_with_status number status attempt.messages) ≡ b
+            → Settled (cond b (gateway_steps.attempt_ended (gateway_with_touch req work status so_far) req work (attempt_with_status number status attempt))
+            (waiting_step (with_work req (record work { stage = Open (attempt_with_status number status attempt) }) (gateway_with_touch req work status so_far))))
+        unfolding gateway_steps.attempt_ended
+        goes_walk true over = over_walk over (is_done work.work (messages_with_status number status attempt.messages)) refl
+        goes_walk false over = reached_by walk (changes.Marks req number work attempt status learns over)
+
+      known_walk : (stage : WorkStage) → work.stage ≡ stage → Settled (status_step_in (gateway_with_touch req work status so_far) req work number status stage)
+      unfolding attempt_continued
+      known_walk (Open attempt) is = goes_walk attempt is (is_over (messages_with_status number status attempt.messages)) refl
+      known_walk Ended is =
+          let none : is_awaited_in number work ≡ false = ap (λ (stage : WorkStage). list_any (is_awaited_message number) (open_messages stage)) is in
+          absurd (cc (awaited, none))
+      known_walk (WaitsForMembers epoch) is =
+          let none : is_awaited_in number work ≡ false = ap (λ (stage : WorkStage). list_any (is_awaited_message number) (open_messages stage)) is in
+          absurd (cc (awaited, none))
+
+    pub answered_walk : (number : ℕ) (status : Status) → is_unanswered status ≡ false → IsTold input number status
+        → IsReached input node first (after_gateway_step (message_ended so_far.node.gateway number status) so_far)
+    unfolding after_gateway_step message_ended
+    answered_walk number status settled told = by_asker (asker number so_far.node.gateway) refl
+      where
+        by_asker : (found : Option (ℕ × Work)) → asker number so_far.node.gateway ≡ found → Settled (status_step_by so_far.node.gateway number status found)
+        by_asker None is = walk
+        by_asker (Some found) is =
+            let (there, awaited) = found_got number so_far.node.gateway.works found is in
+            known_walk number status settled told found.0 found.1 there awaited found.1.stage refl
+
+    -- ---- a work is tried again
+
+    module _ (from : input ≡ inputs.RetryTick) (req : ℕ) (asked : Work) (there : tree.get so_far.node.gateway.works req ≡ Some asked)
+        (next : next_try (record { 0 = so_far.node.peer.epoch }) so_far.node.gateway ≡ Some (req, asked)) where
+      asker_here : HasAsker req so_far
+      asker_here = asker_in req asked so_far there walk.good
+
+      again : WorkIsNext input node so_far asker_here.session req asked so_far
+      again = Again asked asker_here.course from next there asker_here.there
+
+      abbrev here : Epoch
+      here = record { 0 = so_far.node.peer.epoch }
+
+      by_touched : has_too_few_zones asked so_far.node ≡ true → (b : Bool) → is_touched req so_far.node.gateway ≡ b
+          → Settled (cond b (waiting_step (with_work req (record asked { stage = WaitsForMembers here }) so_far.node.gateway))
+          (refusal_step so_far.node.gateway req asked.work (Halt (zones_of_members so_far.node) (zones_for asked.work))))
+      by_touched short true touched = reached_by walk (changes.Holds asker_here.session req asked so_far again short touched)
+      by_touched short false untouched =
+          let cause = Halt (zones_of_members so_far.node) (zones_for asked.work) in
+          let gone = with_gateway (without_work req so_far.node.gateway) so_far in
+          subst (λ (o : Option Request). IsReached input node first (work_refused asked.work req cause o gone)) (sym asker_here.there)
+          (let_begin_walk asker_here.session
+          (request_refused req cause (Some (record { session = asker_here.session; course = asker_here.course })) (without_denied_work asker_here.session req asked so_far))
+          (reached_by walk (changes.Denies asker_here.session req asked so_far asker_here.course again short untouched asker_here.there)))
+
+      tried_walk : Settled (attempt_step so_far.node.epochs so_far.node.gateway req asked so_far.node.sends here)
+      unfolding attempt_step
+      tried_walk = by_zones (has_too_few_zones asked so_far.node) refl
+        where
+          by_zones : (b : Bool) → has_too_few_zones asked so_far.node ≡ b
+              → Settled (cond b (halt_step so_far.node.gateway req asked here (zones_of_members so_far.node))
+              (open_step so_far.node.gateway req asked (next_attempt asked so_far.node.sends here (targets_in so_far.node.epochs here.0 (oid_of asked.work) (policy_of asked.work)))))
+          by_zones true short = by_touched short (is_touched req so_far.node.gateway) refl
+          by_zones false enough = reached_by walk (changes.Opens asker_here.session req asked so_far again enough)
+
+    pub retry_walk : input ≡ inputs.RetryTick → IsReached input node first (steps.on_retry_tick so_far)
+    unfolding steps.on_retry_tick after_gateway_step retry_step
+    retry_walk from = by_found (next_try (record { 0 = so_far.node.peer.epoch }) so_far.node.gateway) refl
+      where
+        by_found : (found : Option (ℕ × Work)) → next_try (record { 0 = so_far.node.peer.epoch }) so_far.node.gateway ≡ found
+            → Settled (retry_step_of so_far.node.epochs so_far.node.gateway so_far.node.sends (record { 0 = so_far.node.peer.epoch }) found)
+        by_found None is = walk
+        by_found (Some found) is =
+            let test = λ (entry : ℕ × Work). may_try (record { 0 = so_far.node.peer.epoch }) entry.1.stage in
+            tried_walk from found.0 found.1
+            (get-entry so_far.node.gateway.works found (find-contains test (tree.entries so_far.node.gateway.works) found is).0) is
+
+    -- ---- a guest's request
+
+    module _ (session req : ℕ) (ask : Ask) (start : so_far ≡ at_first node) (from : input ≡ inputs.Guest req session ask)
+        (none : tree.get so_far.node.requests req ≡ None) where
+      arrival : (refusal : Option Cause) → request_refusal so_far.node.peer (session_in session so_far).disk ask ≡ refusal
+          → Arrival input node so_far session req ask refusal
+      arrival refusal is = record { first = start; from = from; none = none; refused = is }
+
+    arrives_walk : (session req : ℕ) (ask : DiskAsk) → Arrival input node so_far session req (asks.Disk ask) None → (disk : Option Disk)
+        → (session_in session so_far).disk ≡ disk
+        → IsReached input node first (course_begun session req (Waiting ask) (with_queued_request session req ask disk (with_course session req (Waiting ask) so_far)))
+    arrives_walk session req ask arrival None on =
+        let allowed : request_refusal so_far.node.peer None (asks.Disk ask) ≡ None
+        = subst (λ (disk : Option Disk). request_refusal so_far.node.peer disk (asks.Disk ask) ≡ None) on arrival.refused in
+        absurd (cc (allowed))
+    arrives_walk session req ask arrival (Some disk) on =
+        course_begun_walk (with_queued_request session req ask (Some disk) (with_course session req (Waiting ask) so_far)) session req (Waiting ask)
+        (get-insert_same so_far.node.requests req (record { session = session; course = Waiting ask }))
+        (reached_by walk (changes.Arrives session req ask disk arrival on))
+
+    command_begun_walk : (session req : ℕ) (ask : VdiAsk) → Arrival input node so_far session req (asks.Vdi ask) None
+        → (step : Option ops.OpStep) → begin_command so_far.node.me session ask (inode_open (session_in session so_far).disk) ≡ step
+        → IsReached input node first (command_went_on session req ask step so_far)
+    command_begun_walk session req ask arrival None is = walk
+    command_begun_walk session req ask arrival (Some step) is =
+        command_stepped_walk so_far session req ask step so_far (CommandBegins ask step arrival is) walk
+
+    taken_walk : (session req : ℕ) (ask : Ask) → Arrival input node so_far session req ask None
+        → IsReached input node first (request_taken session req ask so_far)
+    taken_walk session req (asks.Disk ask) arrival = arrives_walk session req ask arrival (session_in session so_far).disk refl
+    taken_walk session req (asks.Vdi ask) arrival =
+        command_begun_walk session req ask arrival (begin_command so_far.node.me session ask (inode_open (session_in session so_far).disk)) refl
+    taken_walk session req (asks.Object work) arrival = walk
+    taken_walk session req (asks.Entry entry) arrival = walk
+
+    pub guest_walk : (session req : ℕ) (ask : Ask) → so_far ≡ at_first node → input ≡ inputs.Guest req session ask
+        → tree.get so_far.node.requests req ≡ None → IsReached input node first (on_guest req session ask so_far)
+    unfolding on_guest
+    guest_walk session req ask start from none = by_cause (request_refusal so_far.node.peer (session_in session so_far).disk ask) refl
+      where
+        by_cause : (cause : Option Cause) → request_refusal so_far.node.peer (session_in session so_far).disk ask ≡ cause
+            → IsReached input node first (request_taken_unless cause session req ask so_far)
+        by_cause None allowed = taken_walk session req ask (arrival session req ask start from none None allowed)
+        by_cause (Some cause) refuses =
+            reached_by walk (changes.Rejects session req ask cause (arrival session req ask start from none (Some cause) refuses))
+
+  -- ---- an entry of the log
+
+  module _ (entry : Entry) (from : input ≡ inputs.LogEntry entry) (so_far : StepState) (read : so_far.node.peer ≡ (entry_read entry node).peer)
+      (same : so_far.node.requests ≡ node.requests) (walk : IsReached input node first so_far) where
+    abbrev pub decision : Decision
+    decision = decision_on entry node.peer
+
+    decided_walk : (req session : ℕ) (ask : VdiAsk) (op : Op) → HasRequest session req (Commanding ask op) so_far
+        → waits_for_entry entry (Commanding ask op) ≡ true → (step : Option ops.OpStep)
+        → on_decision (effects_of so_far.node.peer) decision op ≡ step → IsReached input node first (command_went_on session req ask step so_far)
+    decided_walk req session ask op there waits None none = walk
+    decided_walk req session ask op there waits (Some step) next =
+        command_stepped_walk so_far session req ask step so_far (CommandDecided entry ask op step from read there waits next) walk
+
+    course_walk : (req session : ℕ) (course : Course) → HasRequest session req course so_far → waits_for_entry entry course ≡ true
+        → IsReached input node first (course_decided session req decision course so_far)
+    unfolding course_decided
+    course_walk req session (Waiting ask) there waits = walk
+    course_walk req session (Driving driver) there waits = walk
+    course_walk req session (Commanding ask op) there waits =
+        decided_walk req session ask op there waits (on_decision (effects_of so_far.node.peer) decision op) refl
+
+    pub told_walk : (found : Option (ℕ × Request)) → asker_of entry node ≡ found
+        → IsReached input node first (decision_told decision found so_far)
+    told_walk None is = walk
+    told_walk (Some found) is =
+        let test = λ (found : ℕ × Request). waits_for_entry entry found.1.course in
+        let there : tree.get so_far.node.requests found.0 ≡ Some found.1
+        = ap (λ (requests : tree.FinMap nat_cmp Request). tree.get requests found.0) same
+        ∙ get-entry node.requests found (find-contains test (tree.entries node.requests) found is).0 in
+        let_begin_walk found.1.session (course_decided found.1.session found.0 decision found.1.course so_far)
+        (course_walk found.0 found.1.session found.1.course there (find-contains test (tree.entries node.requests) found is).1)
+
+-- ---- every input
+
+-- what a reply that fits says of its message is settled
+settled_by : (work : ObjWork) (say : PeerSay) → fits_work work say ≡ true → is_unanswered (status_by say) ≡ false
+settled_by work says.Success fit = refl
+settled_by work (says.Piece bytes) fit = refl
+settled_by work (says.Objects oids) fit = absurd (cc (fit))
+settled_by work (says.Row row) fit = absurd (cc (fit))
+settled_by work says.NoRow fit = absurd (cc (fit))
+settled_by work (says.Refused request_refusal) fit = refl
+
+fits_settled : (node : Node) (rsp : PeerRsp) → recoveries.recovery_awaits rsp.number node.recovery ≡ false → fits_node rsp node ≡ true
+    → is_unanswered (status_by rsp.say) ≡ false
+fits_settled node rsp apart fit = ⊎_elim
+    (λ (works : gateways.fits_gateway rsp node.gateway ≡ true). by_asker (asker rsp.number node.gateway) works)
+    (λ (recovers : recovery_fits.fits_recovery rsp (recovery_state_of node) ≡ true).
+    by_message (recoveries.message_of rsp.number (recoveries.all_unanswered node.recovery)) apart recovers)
+    (or_cases (gateways.fits_gateway rsp node.gateway) (recovery_fits.fits_recovery rsp (recovery_state_of node)) fit)
+  where
+    by_asker : (o : Option (ℕ × Work)) → fits_asker o rsp.say ≡ true → is_unanswered (status_by rsp.say) ≡ false
+    by_asker None fit = absurd (cc (fit))
+    by_asker (Some found) fit = settled_by found.1.work rsp.say fit
+
+    by_message : (o : Option recoveries.Message) → is_some o ≡ false → recovery_fits.fits_message (recovery_state_of node).shown o rsp.say ≡ true
+        → is_unanswered (status_by rsp.say) ≡ false
+    by_message None none fit = absurd (cc (fit))
+    by_message (Some message) none fit = absurd (cc (none))
+
+-- a number that isn't taken has nothing
+untaken : (node : Node) (req : ℕ) → IsTrue (not (tree.contains_key node.requests req)) → tree.get node.requests req ≡ None
+untaken node req free = by_got (tree.get node.requests req) refl free
+  where
+    by_got : (o : Option Request) → tree.get node.requests req ≡ o → IsTrue (not (is_some o)) → tree.get node.requests req ≡ None
+    by_got None is free = is
+    by_got (Some request) is free = absurd (cc (free))
+
+-- what a chain needs of its input: a guest's request has a free number, and a reply to a work's message says what came of it
+abbrev pub ChainNeeds : Input → Node → Type 0
+ChainNeeds (inputs.Guest req session ask) node = tree.get node.requests req ≡ None
+ChainNeeds (inputs.Request request) node = Unit {0}
+ChainNeeds (inputs.Reply rsp) node = gateways.gateway_awaits rsp.number node.gateway ≡ true → is_unanswered (status_by rsp.say) ≡ false
+ChainNeeds (inputs.Lost number) node = Unit {0}
+ChainNeeds (inputs.LogEntry entry) node = Unit {0}
+ChainNeeds inputs.Put node = Unit {0}
+ChainNeeds inputs.RecoverTick node = Unit {0}
+ChainNeeds inputs.RetryTick node = Unit {0}
+ChainNeeds (inputs.Back entries) node = Unit {0}
+
+-- a node that may step on it has that
+pub needs_by_may : (input : Input) (node : Node) → May input node → HasOneWorkPerRequest node → ChainNeeds input node
+needs_by_may (inputs.Guest req session ask) node may one_work = untaken node req may.condition.number
+needs_by_may (inputs.Request request) node may one_work = tt
+needs_by_may (inputs.Reply rsp) node may one_work =
+    λ waits. fits_settled node rsp (one_work.recovers rsp.number waits) may.condition
+needs_by_may (inputs.Lost number) node may one_work = tt
+needs_by_may (inputs.LogEntry entry) node may one_work = tt
+needs_by_may inputs.Put node may one_work = tt
+needs_by_may inputs.RecoverTick node may one_work = tt
+needs_by_may inputs.RetryTick node may one_work = tt
+needs_by_may (inputs.Back entries) node may one_work = tt
+
+pub input_chain : (input : Input) (node : Node) → ChainNeeds input node → StepHasOneWork (at_first node)
+    → IsReached input node (input_received input (at_first node)) (on_input input (at_first node))
+unfolding entry_read on_input steps.on_reply steps.on_loss on_log_entry recovery_steps.recovery_on_reply recovery_steps.recovery_on_loss
+input_chain (inputs.Guest req session ask) node needs good =
+    guest_walk (inputs.Guest req session ask) node (at_first node) (at_first node) (record { leads = Still; good = good }) session req ask refl refl
+    needs
+input_chain (inputs.Request request) node needs good =
+    record { leads = Still; good = received_one_work (inputs.Request request) node good }
+input_chain (inputs.Reply rsp) node needs good = by_waits (gateways.gateway_awaits rsp.number node.gateway) refl
+  where
+    by_waits : (b : Bool) → gateways.gateway_awaits rsp.number node.gateway ≡ b
+        → IsReached (inputs.Reply rsp) node (cond b (at_first node) (recovery_stepped (recovery_steps.message_end rsp.number (Some rsp.say) (recovery_state_of node)) (at_first node)))
+        (cond b (after_gateway_step (gateway_steps.gateway_on_reply node.gateway rsp) (at_first node))
+        (recovery_stepped (recovery_steps.message_end rsp.number (Some rsp.say) (recovery_state_of node)) (at_first node)))
+    by_waits true waits =
+        answered_walk (inputs.Reply rsp) node (at_first node) (at_first node) (record { leads = Still; good = good }) rsp.number (status_by rsp.say)
+        (needs waits) (refl, refl)
+    by_waits false none = record { leads = Still; good = good }
+input_chain (inputs.Lost number) node needs good = by_waits (gateways.gateway_awaits number node.gateway) refl
+  where
+    by_waits : (b : Bool) → gateways.gateway_awaits number node.gateway ≡ b
+        → IsReached (inputs.Lost number) node (cond b (at_first node) (recovery_stepped (recovery_steps.message_end number None (recovery_state_of node)) (at_first node)))
+        (cond b (after_gateway_step (gateway_steps.gateway_on_loss node.gateway number) (at_first node))
+        (recovery_stepped (recovery_steps.message_end number None (recovery_state_of node)) (at_first node)))
+    by_waits true waits =
+        answered_walk (inputs.Lost number) node (at_first node) (at_first node) (record { leads = Still; good = good }) number Lost refl (refl, refl)
+    by_waits false none = record { leads = Still; good = good }
+input_chain (inputs.LogEntry entry) node needs good =
+    let start = with_node (entry_read entry node) (at_first node) in
+    told_walk (inputs.LogEntry entry) node start entry refl start refl refl
+    (record { leads = Still; good = received_one_work (inputs.LogEntry entry) node good }) (asker_of entry node) refl
+input_chain inputs.Put node needs good = record { leads = Still; good = received_one_work inputs.Put node good }
+input_chain inputs.RecoverTick node needs good = record { leads = Still; good = received_one_work inputs.RecoverTick node good }
+input_chain inputs.RetryTick node needs good =
+    retry_walk inputs.RetryTick node (at_first node) (at_first node) (record { leads = Still; good = good }) refl
+input_chain (inputs.Back entries) node needs good =
+    record { leads = Still; good = received_one_work (inputs.Back entries) node good }
+
+-- and so is the step whole
+reached_step : (input : Input) (node : Node) → ChainNeeds input node → HasOneWorkPerRequest node
+    → IsReached input node (input_received input (at_first node)) (node_step input node)
+unfolding node_step recovered_put
+reached_step input node needs driven = by_due (is_due (on_input input (at_first node)).node) refl
+  where
+    walk : IsReached input node (input_received input (at_first node)) (on_input input (at_first node))
+    walk = input_chain input node needs driven.driven
+
+    by_due : (b : Bool) → is_due (on_input input (at_first node)).node ≡ b
+        → IsReached input node (input_received input (at_first node)) (cond b (with_recovered (on_input input (at_first node))) (on_input input (at_first node)))
+    by_due true due = reached_by walk (changes.Recovers due)
+    by_due false none = walk
+
+pub chain_of_step : (input : Input) (node : Node) → ChainNeeds input node → HasOneWorkPerRequest node
+    → Leads input node (input_received input (at_first node)) (node_step input node)
+chain_of_step input node needs one_work = (reached_step input node needs one_work).leads
+
+pub step_chain : (input : Input) (node : Node) → May input node → HasOneWorkPerRequest node
+    → Leads input node (input_received input (at_first node)) (node_step input node)
+step_chain input node may one_work = chain_of_step input node (needs_by_may input node may one_work) one_work
+
+-- what every change keeps a chain keeps
+pub kept_by_chain : {input : Input} {node : Node} (P : StepState → Type 0)
+    → ((so_far next : StepState) → Change input node so_far next → P so_far → P next) → {first so_far : StepState}
+    → Leads input node first so_far → P first → P so_far
+kept_by_chain P keeps Still start = start
+kept_by_chain P keeps (Then {so_far} {next} leads change) start = keeps so_far next change (kept_by_chain P keeps leads start)

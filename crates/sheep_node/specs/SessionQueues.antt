@@ -1,0 +1,33 @@
+-- A session's queue has exactly its reads and writes without reply.
+use Rattle.std.specs.Prelude.{◌≡◌, ℕ, ◌==◌, ◌&&◌, Bool, true, false, List, Contains, Option, Some, None, unwrap_or}
+use Rattle.std.specs.Ordering.{nat_cmp}
+use Rattle.std.specs.Option.{option_map_or}
+use Rattle.std.specs.FinMap as tree
+use Rattle.gateway_queue.specs.declared.queue.Queued.{Queued}
+use Rattle.sheep_node.specs.State.{Request, Session, Node, new_session}
+use Rattle.sheep_node.specs.May.{is_disk_course}
+
+-- whether a request that was looked up is a read or write of a session
+abbrev pub is_disk_request_of : ℕ → Option Request → Bool
+is_disk_request_of number request =
+    option_map_or (λ (request : Request). request.session == number && is_disk_course request.course) request false
+
+-- the session of a number among some
+abbrev pub session_among : ℕ → tree.FinMap nat_cmp Session → Session
+session_among number sessions = unwrap_or (tree.get sessions number) new_session
+
+abbrev pub queue_in : ℕ → tree.FinMap nat_cmp Session → List Queued
+queue_in number sessions = (session_among number sessions).queue
+
+-- a request stands in a queue
+abbrev pub IsQueued : ℕ → List Queued → Type 0
+IsQueued req queue = (one : Queued) × Contains queue one × (one.req ≡ req)
+
+-- the queues have these requests, and all of them
+pub record AreDiskRequests (requests : tree.FinMap nat_cmp Request) (sessions : tree.FinMap nat_cmp Session) : Type 0 where
+  pub there : (number req : ℕ) → IsQueued req (queue_in number sessions) → is_disk_request_of number (tree.get requests req) ≡ true
+  pub has : (number req : ℕ) → is_disk_request_of number (tree.get requests req) ≡ true → IsQueued req (queue_in number sessions)
+
+-- a node's queues have its reads and writes without reply
+abbrev pub QueuesAreDiskRequests : Node → Type 0
+QueuesAreDiskRequests node = AreDiskRequests node.requests node.sessions

@@ -1,0 +1,4 @@
+pub mod TimesLemmas
+pub mod ViewLemmas
+pub mod StepLemmas
+pub mod SeatLemmas
