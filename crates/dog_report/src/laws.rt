@@ -92,10 +92,10 @@ pub fn requests_lines_spelled_out()
     ensures checked { spaced_words (line_words (Told 5 (Answered (replies.Checked (record { objects = 1; inherited = 0; differed = [] })))))
         ≡ codes "5 ok objects 1 inherited 0 differed 0" }
     ensures differed { spaced_words (line_words (Told 5 (Answered (replies.Checked (record {
-          objects = 3;
-          inherited = 12;
-          differed = 0x0001ec8c00000000 ∷ 0x0001ec8c00000010 ∷ [];
-        }))))) ≡ codes "5 ok objects 3 inherited 12 differed 2 0001ec8c00000000 0001ec8c00000010" }
+      objects = 3;
+      inherited = 12;
+      differed = 0x0001ec8c00000000 ∷ 0x0001ec8c00000010 ∷ [];
+    }))))) ≡ codes "5 ok objects 3 inherited 12 differed 2 0001ec8c00000000 0001ec8c00000010" }
     ensures gone { spaced_words (line_words (Told 10 Gone)) ≡ codes "10 gone" }
     ensures pending { spaced_words (line_words (Told 10 Pending)) ≡ codes "10 pending" }
     ensures unsent { spaced_words (line_words (Told 10 Unsent)) ≡ codes "10 unsent" }

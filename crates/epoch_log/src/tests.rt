@@ -316,7 +316,10 @@ fn opens_with_all_the_members_that_there_may_be(rt: HostRuntime) -> Result<(), F
     let log = Log::new(alloc, members.as_slice())?;
     let mut out = blank();
     assert_eq!(rt; log.members(Epoch(1), &mut out), 64);
-    assert_eq!(rt; (out[0].node, out[63].node, out[63].vnodes), (NodeId(0), NodeId(63), 256));
+    assert_eq!(rt;
+        (out[0].node, out[63].node, out[63].vnodes),
+        (NodeId(0), NodeId(63), 256)
+    );
 
     members.push(Member {
         node: NodeId(64),

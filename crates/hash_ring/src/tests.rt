@@ -108,7 +108,10 @@ fn builds_the_points_of_all_the_members_that_there_may_be(rt: HostRuntime) -> Re
     }
     let ring = Ring::build(rt.alloc(), members.as_slice())?;
     let mut out = [NodeId(99); 64];
-    assert_eq!(rt; ring.targets(virtual_hash(NodeId(63), 255), 64, &mut out), 64);
+    assert_eq!(rt;
+        ring.targets(virtual_hash(NodeId(63), 255), 64, &mut out),
+        64
+    );
     assert_eq!(rt; out[0], NodeId(63));
     Ok(())
 }

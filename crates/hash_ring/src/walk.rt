@@ -54,7 +54,13 @@ fn none_before(points: &[Point], start: usize, turn: usize, zone: u32) -> bool
 
 /// Whether no point before this turn has the zone, where the zones that were met are marked: only one that no node
 /// may have is looked for.
-fn is_new(points: &[Point], start: usize, turn: usize, zone: u32, met: &[bool; ZONES_MAX as usize]) -> bool
+fn is_new(
+    points: &[Point],
+    start: usize,
+    turn: usize,
+    zone: u32,
+    met: &[bool; ZONES_MAX as usize],
+) -> bool
     requires start { start ≤ length points.now }
     requires turn { turn < length points.now }
     requires met { AreMarked met.now (zones_before turn start points.now) }

@@ -29,7 +29,7 @@ attempts_after_delivery (Some (Reply from bytes)) name old new attempts = attemp
 
 -- the attempts after an event, which leads from one world to another
 unfoldable pub attempts_after : List Statement → Event → World → World → List AttemptRecord → List AttemptRecord
-attempts_after script (Guest session) old new attempts = 
+attempts_after script (Guest session) old new attempts =
     attempts
     ++ option_map_or (λ (asking : ScriptSession). attempts_begun asking.node old new) (session_numbered script session) []
 attempts_after script (Deliver node number) old new attempts =

@@ -18,7 +18,12 @@ pub trait Rows {
 
     /// Writes the object's targets at the level to the front of `out`, and answers how many they are, with the object's
     /// policy; `None` exactly where its id isn't known or is dead.
-    fn targets(&self, level: Epoch, oid: Oid, out: &mut [NodeId; TARGETS_MAX]) -> Option<(usize, Policy)>
+    fn targets(
+        &self,
+        level: Epoch,
+        oid: Oid,
+        out: &mut [NodeId; TARGETS_MAX],
+    ) -> Option<(usize, Policy)>
         requires from { 1 ≤ level.0 }
         requires to { level.0 ≤ (shown self.now).epoch }
         ensures { TargetsOf (shown self.now) level.0 oid out.new result (live_policy (shown self.now) oid) };
