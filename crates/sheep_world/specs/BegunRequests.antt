@@ -1,5 +1,5 @@
--- Which requests a node may have in every world of a run: those that sessions of its present incarnation have begun, so that a session's next
--- request is new to its gateway.
+-- Which requests a node may have in every world of a run: those that sessions of its present incarnation have
+-- begun, so that a session's next request is new to its gateway.
 use Rattle.std.specs.Prelude.{◌≡◌, ℕ, ◌<◌, List, Some, unwrap_or, slice_get}
 use Rattle.std.specs.Ordering.{nat_cmp}
 use Rattle.std.specs.FinMap as tree
@@ -34,7 +34,8 @@ HasOnlyBegun statements guests node host =
 
 -- the same of each node
 abbrev pub AllHaveOnlyBegun : List Statement → tree.FinMap nat_cmp Host → tree.FinMap nat_cmp SessionProgress → Type 0
-AllHaveOnlyBegun statements hosts guests = (node : ℕ) (host : Host) → tree.get hosts node ≡ Some host → HasOnlyBegun statements guests node host
+AllHaveOnlyBegun statements hosts guests = (node : ℕ) (host : Host) → tree.get hosts node ≡ Some host
+    → HasOnlyBegun statements guests node host
 
 -- the same of a world
 abbrev pub RequestsWereBegun : List Statement → World → Type 0

@@ -47,7 +47,8 @@ may_begin_request statements phase guest req = nat_le (phase_of_request statemen
 abbrev pub may_ask : List Statement → ScriptSession → World → Bool
 may_ask statements session world =
     has_gateway session world
-    && option_map_or (may_begin_request statements world.phase (progress_at session.number world)) (next_request statements session.number world) false
+    && option_map_or (may_begin_request statements world.phase (progress_at session.number world))
+    (next_request statements session.number world) false
 
 -- Guest: the session's next request begins
 abbrev pub may_guest : List Statement → ℕ → World → Bool

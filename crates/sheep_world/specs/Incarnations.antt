@@ -50,7 +50,11 @@ pub record EndedIncarnation : Type 0 where
 -- the incarnations that were lost, with the one of a host
 abbrev pub with_ended_incarnation : ℕ → Option Host → List EndedIncarnation → List EndedIncarnation
 with_ended_incarnation node None ended = ended
-with_ended_incarnation node (Some host) ended = ended ++ record { node = node; incarnation = host.incarnation; reached = host.node.peer.epoch } ∷ []
+with_ended_incarnation node (Some host) ended = ended ++ record {
+  node = node;
+  incarnation = host.incarnation;
+  reached = host.node.peer.epoch;
+} ∷ []
 
 -- the incarnations that were lost by an event's end, from those lost before it: Lost ends an incarnation
 abbrev pub incarnations_after : World → List EndedIncarnation → Event → List EndedIncarnation

@@ -25,7 +25,9 @@ wire_with_request wire send = tree.insert wire (request_name send.1) (Request se
 
 -- a session in which a request is no longer without reply
 abbrev pub progress_without_request : ℕ → SessionProgress → SessionProgress
-progress_without_request req guest = record guest { unanswered = filter (λ (started : StartedRequest). not (started.req == req)) guest.unanswered }
+progress_without_request req guest = record guest {
+  unanswered = filter (λ (started : StartedRequest). not (started.req == req)) guest.unanswered;
+}
 
 -- the request of a session has its reply
 abbrev pub progress_after_reply_in : ℕ → Option ℕ → tree.FinMap nat_cmp SessionProgress → tree.FinMap nat_cmp SessionProgress

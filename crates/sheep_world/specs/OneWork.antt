@@ -22,4 +22,5 @@ IsSentInRange world = All (λ (send : NodeId × PeerReq). IsPeerReq send.1) worl
 -- the next request of a session is new to its gateway
 abbrev pub IsNewRequest : List Statement → ℕ → World → Type 0
 IsNewRequest statements number world = (session : ScriptSession) (req : ℕ) (host : Host) → session_numbered statements number ≡ Some session
-    → next_request statements number world ≡ Some req → tree.get world.hosts session.node ≡ Some host → tree.get host.node.requests req ≡ None
+    → next_request statements number world ≡ Some req → tree.get world.hosts session.node ≡ Some host → tree.get host.node.requests req
+    ≡ None

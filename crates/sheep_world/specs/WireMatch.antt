@@ -64,7 +64,8 @@ own_name node send = record { sender = node.me; number = send.1.number }
 
 -- all that a node waits for is in the wire
 abbrev pub AllAwaitedIsInFlight : Node → tree.FinMap name_cmp Packet → Type 0
-AllAwaitedIsInFlight node wire = All (λ (send : NodeId × PeerReq). IsInFlight node send (tree.get wire (own_name node send))) (asked_by node)
+AllAwaitedIsInFlight node wire =
+    All (λ (send : NodeId × PeerReq). IsInFlight node send (tree.get wire (own_name node send))) (asked_by node)
 
 -- each message in the wire can be read
 abbrev pub PacketsAreReadable : tree.FinMap name_cmp Packet → Type 0
@@ -92,7 +93,8 @@ InFlightIsAwaited hosts wire = (name : MessageName) (packet : Packet) (host : Ho
 -- whether a work of an up node waits for the message of a name
 abbrev pub is_of_work : MessageName → World → Bool
 is_of_work name world =
-    option_map_or (λ (host : Host). is_host_up host && gateways.gateway_awaits name.number host.node.gateway) (host_at name.sender.0 world) false
+    option_map_or (λ (host : Host). is_host_up host
+    && gateways.gateway_awaits name.number host.node.gateway) (host_at name.sender.0 world) false
 
 -- the nodes and the wire go together
 pub record WireMatchesHosts (hosts : tree.FinMap nat_cmp Host) (wire : tree.FinMap name_cmp Packet) : Type 0 where

@@ -74,7 +74,8 @@ pub fn nodes_and_wire_stay_together()
         → step statements (events.Reweight node) world ≡ Some made → WireMatchesNodes world → WireMatchesNodes made.world }
     // A node that joins has a number that was never used.
     ensures join { (statements : List Statement) (world : World) (made : EventOutcome) (node : NodeId)
-        → step statements (events.Join node) world ≡ Some made → host_at node.0 world ≡ None → WireMatchesNodes world → WireMatchesNodes made.world }
+        → step statements (events.Join node) world ≡ Some made → host_at node.0 world ≡ None → WireMatchesNodes world
+        → WireMatchesNodes made.world }
     ensures lost { (statements : List Statement) (world : World) (made : EventOutcome) (node : NodeId)
         → step statements (events.Lost node) world ≡ Some made → WireMatchesNodes world → WireMatchesNodes made.world }
     ensures back { (statements : List Statement) (world : World) (made : EventOutcome) (node : NodeId)
@@ -86,7 +87,8 @@ pub fn nodes_and_wire_stay_together()
     // What a work asks when it is tried again, and what then begins in its place, is read where it is in range. Each open work is
     // of a request that may have it, and that stays so.
     ensures retry { (statements : List Statement) (world : World) (made : EventOutcome) (node : NodeId)
-        → step statements (events.RetryTick node) world ≡ Some made → IsSentInRange made.world → NodesHaveOneWorkPerRequest world → WireMatchesNodes world
+        → step statements (events.RetryTick node) world ≡ Some made → IsSentInRange made.world → NodesHaveOneWorkPerRequest world
+        → WireMatchesNodes world
         → WireMatchesNodes made.world × NodesHaveOneWorkPerRequest made.world }
     // The same of what a guest's request lets begin, where the request is new to its gateway.
     ensures guest { (statements : List Statement) (world : World) (made : EventOutcome) (session : ℕ)
@@ -94,14 +96,18 @@ pub fn nodes_and_wire_stay_together()
         → NodesHaveOneWorkPerRequest world → WireMatchesNodes world → WireMatchesNodes made.world × NodesHaveOneWorkPerRequest made.world }
     // And of what the decision on an entry lets begin.
     ensures log_next { (statements : List Statement) (world : World) (made : EventOutcome) (node : NodeId)
-        → step statements (events.LogNext node) world ≡ Some made → IsSentInRange made.world → NodesHaveOneWorkPerRequest world → WireMatchesNodes world
+        → step statements (events.LogNext node) world ≡ Some made → IsSentInRange made.world → NodesHaveOneWorkPerRequest world
+        → WireMatchesNodes world
         → WireMatchesNodes made.world × NodesHaveOneWorkPerRequest made.world }
     // And of what a loss or a reply lets begin.
     ensures lose_request { (statements : List Statement) (world : World) (made : EventOutcome) (node : NodeId) (number : ℕ)
-        → step statements (events.LoseRequest node number) world ≡ Some made → IsSentInRange made.world → NodesHaveOneWorkPerRequest world → WireMatchesNodes world → WireMatchesNodes made.world × NodesHaveOneWorkPerRequest made.world }
+        → step statements (events.LoseRequest node number) world ≡ Some made → IsSentInRange made.world → NodesHaveOneWorkPerRequest world
+        → WireMatchesNodes world → WireMatchesNodes made.world × NodesHaveOneWorkPerRequest made.world }
     ensures lose_reply { (statements : List Statement) (world : World) (made : EventOutcome) (node : NodeId) (number : ℕ)
-        → step statements (events.LoseReply node number) world ≡ Some made → IsSentInRange made.world → NodesHaveOneWorkPerRequest world → WireMatchesNodes world → WireMatchesNodes made.world × NodesHaveOneWorkPerRequest made.world }
-    ensures deliver_reply { (statements : List Statement) (world : World) (made : EventOutcome) (node : NodeId) (number : ℕ) (from : NodeId) (bytes : List ℕ)
+        → step statements (events.LoseReply node number) world ≡ Some made → IsSentInRange made.world → NodesHaveOneWorkPerRequest world
+        → WireMatchesNodes world → WireMatchesNodes made.world × NodesHaveOneWorkPerRequest made.world }
+    ensures deliver_reply { (statements : List Statement) (world : World) (made : EventOutcome) (node : NodeId) (number : ℕ)
+        (from : NodeId) (bytes : List ℕ)
         → step statements (events.Deliver node number) world ≡ Some made
         → message_at (record { sender = node; number = number }) world ≡ Some (Reply from bytes) → IsSentInRange made.world
         → NodesHaveOneWorkPerRequest world → WireMatchesNodes world → WireMatchesNodes made.world × NodesHaveOneWorkPerRequest made.world }
@@ -112,7 +118,8 @@ pub fn nodes_and_wire_stay_together()
     ensures lose_idle_reply { (statements : List Statement) (world : World) (made : EventOutcome) (node : NodeId) (number : ℕ)
         → step statements (events.LoseReply node number) world ≡ Some made
         → is_of_work (record { sender = node; number = number }) world ≡ false → WireMatchesNodes world → WireMatchesNodes made.world }
-    ensures deliver_idle_reply { (statements : List Statement) (world : World) (made : EventOutcome) (node : NodeId) (number : ℕ) (from : NodeId) (bytes : List ℕ)
+    ensures deliver_idle_reply { (statements : List Statement) (world : World) (made : EventOutcome) (node : NodeId) (number : ℕ)
+        (from : NodeId) (bytes : List ℕ)
         → step statements (events.Deliver node number) world ≡ Some made
         → message_at (record { sender = node; number = number }) world ≡ Some (Reply from bytes)
         → is_of_work (record { sender = node; number = number }) world ≡ false → WireMatchesNodes world → WireMatchesNodes made.world }
@@ -123,7 +130,8 @@ pub fn nodes_and_wire_stay_together()
 /// `nodes_and_wire_stay_together`.
 pub fn works_go_with_their_requests()
     ensures opening { (statements : List Statement) → NodesHaveOneWorkPerRequest (initial_world statements) }
-    ensures deliver_request { (statements : List Statement) (world : World) (made : EventOutcome) (node : NodeId) (number : ℕ) (to : NodeId) (bytes : List ℕ)
+    ensures deliver_request { (statements : List Statement) (world : World) (made : EventOutcome) (node : NodeId) (number : ℕ)
+        (to : NodeId) (bytes : List ℕ)
         → step statements (events.Deliver node number) world ≡ Some made
         → message_at (record { sender = node; number = number }) world ≡ Some (Request to bytes) → NodesHaveOneWorkPerRequest world
         → NodesHaveOneWorkPerRequest made.world }
@@ -132,7 +140,8 @@ pub fn works_go_with_their_requests()
     ensures put { (statements : List Statement) (world : World) (made : EventOutcome) (node : NodeId)
         → step statements (events.Put node) world ≡ Some made → NodesHaveOneWorkPerRequest world → NodesHaveOneWorkPerRequest made.world }
     ensures recover { (statements : List Statement) (world : World) (made : EventOutcome) (node : NodeId)
-        → step statements (events.RecoverTick node) world ≡ Some made → NodesHaveOneWorkPerRequest world → NodesHaveOneWorkPerRequest made.world }
+        → step statements (events.RecoverTick node) world ≡ Some made → NodesHaveOneWorkPerRequest world
+        → NodesHaveOneWorkPerRequest made.world }
     ensures lost { (statements : List Statement) (world : World) (made : EventOutcome) (node : NodeId)
         → step statements (events.Lost node) world ≡ Some made → NodesHaveOneWorkPerRequest world → NodesHaveOneWorkPerRequest made.world }
     ensures leave { (statements : List Statement) (world : World) (made : EventOutcome) (node : NodeId)
@@ -140,7 +149,8 @@ pub fn works_go_with_their_requests()
     ensures join { (statements : List Statement) (world : World) (made : EventOutcome) (node : NodeId)
         → step statements (events.Join node) world ≡ Some made → NodesHaveOneWorkPerRequest world → NodesHaveOneWorkPerRequest made.world }
     ensures reweight { (statements : List Statement) (world : World) (made : EventOutcome) (node : NodeId)
-        → step statements (events.Reweight node) world ≡ Some made → NodesHaveOneWorkPerRequest world → NodesHaveOneWorkPerRequest made.world }
+        → step statements (events.Reweight node) world ≡ Some made → NodesHaveOneWorkPerRequest world
+        → NodesHaveOneWorkPerRequest made.world }
     ensures back { (statements : List Statement) (world : World) (made : EventOutcome) (node : NodeId)
         → step statements (events.Back node) world ≡ Some made → NodesHaveOneWorkPerRequest world → NodesHaveOneWorkPerRequest made.world }
 {}
@@ -163,7 +173,8 @@ pub fn recoveries_stay_in_range()
         → step statements (events.Join node) world ≡ Some made → node.0 < 64 → RecoveriesAreInRange world
         → RecoveriesAreInRange made.world }
     ensures guest { (statements : List Statement) (world : World) (made : EventOutcome) (session : ℕ)
-        → step statements (events.Guest session) world ≡ Some made → IsNewRequest statements session world → NodesHaveOneWorkPerRequest world
+        → step statements (events.Guest session) world ≡ Some made → IsNewRequest statements session world
+        → NodesHaveOneWorkPerRequest world
         → RecoveriesAreInRange world → RecoveriesAreInRange made.world }
     ensures retry { (statements : List Statement) (world : World) (made : EventOutcome) (node : NodeId)
         → step statements (events.RetryTick node) world ≡ Some made → NodesHaveOneWorkPerRequest world → RecoveriesAreInRange world
@@ -176,8 +187,9 @@ pub fn recoveries_stay_in_range()
         → RecoveriesAreInRange made.world }
 {}
 
-/// Each request that a node has is one that a session has begun whose gateway the node is, in its present incarnation: so it is in the opening
-/// world, and so it stays at each event. So the next request of a session is new to its gateway.
+/// Each request that a node has is one that a session has begun whose gateway the node is, in its present
+/// incarnation: so it is in the opening world, and so it stays at each event. So the next request of a session is
+/// new to its gateway.
 pub fn requests_were_begun()
     ensures opening { (statements : List Statement) → RequestsWereBegun statements (initial_world statements) }
     ensures kept { (statements : List Statement) (world : World) (made : EventOutcome) (event : Event)
@@ -203,7 +215,8 @@ pub fn nodes_step_on_what_they_may()
 pub fn requests_have_inputs()
     ensures has { (statements : List Statement) (req : ℕ) → is_some (input_of statements req) ≡ is_some (request_at statements req) }
     ensures session { (statements : List Statement) (req number session : ℕ) (ask : Ask)
-        → input_of statements req ≡ Some (inputs.Guest number session ask) → (number ≡ req) × (session_asking statements req ≡ Some session) }
+        → input_of statements req ≡ Some (inputs.Guest number session ask) → (number ≡ req)
+        × (session_asking statements req ≡ Some session) }
 {}
 
 /// What joins, leaves or gets a weight makes no disk.
