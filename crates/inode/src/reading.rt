@@ -13,7 +13,8 @@ use crate::fault::InodeFault;
 use crate::inode::{Inode, objects};
 use crate::layout::{INODE_HEADER_BYTES, TEXT_BYTES};
 use object_id::{
-    BLOCK_BYTES, Bytes, NoMemory, OBJECTS_MAX, Policy, SHIFT_MAX, SHIFT_MIN, VID_MAX, VdiSpec, Vid, u32_at, u64_at,
+    BLOCK_BYTES, Bytes, NoMemory, OBJECTS_MAX, Policy, SHIFT_MAX, SHIFT_MIN, VID_MAX, VdiSpec, Vid,
+    u32_at, u64_at,
 };
 use std::alloc::Global;
 
@@ -88,7 +89,10 @@ fn size_at(shift: u8, bytes: &[u8]) -> Result<u64, InodeFault>
     ensures blocks { IfOk result (λ size. size % BLOCK_BYTES ≡ 0) }
 {
     let size = u64_at(bytes, 536);
-    if size != 0 && size % u64::from(BLOCK_BYTES) == 0 && size <= u64::from(OBJECTS_MAX) * (1 << shift) {
+    if size != 0
+        && size % u64::from(BLOCK_BYTES) == 0
+        && size <= u64::from(OBJECTS_MAX) * (1 << shift)
+    {
         Ok(size)
     } else {
         Err(InodeFault::BadSize)
