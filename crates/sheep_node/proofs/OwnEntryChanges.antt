@@ -22,7 +22,7 @@ use Rattle.vdi_directory.specs.Effects.{header_of}
 use Rattle.peer_proto.specs.declared.guest.GuestRsp.{GuestRsp}
 use Rattle.peer_proto.specs.declared.guest.GuestRsp.TheVariants.{Refused}
 use Rattle.peer_proto.specs.declared.guest.VdiAsk.{VdiAsk}
-use Rattle.peer_proto.specs.declared.guest.VdiAsk.TheVariants.{Create, Attach, Close, Snapshot, Clone, Delete}
+use Rattle.peer_proto.specs.declared.guest.VdiAsk.TheVariants.{Create, Attach, Close, Snapshot, Clone, Delete, Check}
 use Rattle.peer_service.specs.State.{effects_of}
 use Rattle.peer_service.specs.LogReading.{decision_on}
 use Rattle.gateway.specs.Work.{zones_for}
@@ -73,6 +73,7 @@ first_of by session None (Snapshot tag) = tt
 first_of by session (Some inode) (Snapshot tag) = refl
 first_of by session disk (Clone base tag name) = refl
 first_of by session disk (Delete name tag) = refl
+first_of by session disk Check = tt
 
 begun_of : (by : NodeId) (session : ℕ) (ask : VdiAsk) (disk : Option Content) (entry : Option Entry) → IfSome entry (IsEntryOf by)
     → IfSome (begun_with_entry by session ask disk entry) (StepOf by)
@@ -99,6 +100,7 @@ module _ (me : NodeId) (op : Op) (own : op.by ≡ me) where
       by_parent None = tt
       by_parent (Some parent) = (own, tt)
   granted_of vid chain disk (Delete name tag) header = (own, tt)
+  granted_of vid chain disk Check header = tt
 
   known_of : (vid : Vid) (chain : List ℕ) (disk : Option Content) (ask : VdiAsk) (header : Option Header)
       → IfSome (step_after_known_grant op vid chain disk ask header) (StepOf me)
