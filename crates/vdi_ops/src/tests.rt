@@ -1,7 +1,7 @@
 //! Each call with ample memory: a body that never finds any would meet the contracts too.
 
 use super::*;
-use object_id::{Bytes, Cause, NodeId, Oid, Policy, Vid};
+use object_id::{Bytes, Cause, Entry, NodeId, Oid, Policy, Vid};
 use peer_proto::ObjWork;
 use std::test::Fail;
 
