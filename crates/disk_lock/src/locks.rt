@@ -37,14 +37,14 @@ impl Locks {
         }
     }
 
-    /// Who holds a disk; `None` where nobody does.
+    /// Who holds a disk; `None` where nobody does. Costs the logarithm of the locks.
     pub fn holder(&self, vid: Vid) -> Option<Holder>
         ensures { result ≡ tree.get self.now vid.0 }
     {
         self.held.get(&vid.0).copied()
     }
 
-    /// Makes a session the holder of a disk, whoever held it. Without memory nothing changes.
+    /// Makes a session the holder of a disk, whoever held it. Without memory nothing changes. Costs the logarithm of the locks.
     pub fn grant(&mut self, vid: Vid, holder: Holder) -> Result<(), NoMemory>
         ensures ok { OnOk result (self.new ≡ tree.insert self.old vid.0 holder) }
         ensures err { OnErr result (self.new ≡ self.old) }
@@ -53,14 +53,14 @@ impl Locks {
         Ok(())
     }
 
-    /// Takes a disk from its holder, if it has one.
+    /// Takes a disk from its holder, if it has one. Costs the logarithm of the locks.
     pub fn free(&mut self, vid: Vid)
         ensures { self.new ≡ tree.remove self.old vid.0 }
     {
         self.held.remove(&vid.0);
     }
 
-    /// Takes from a node all that its sessions hold. Every other disk keeps its holder.
+    /// Takes from a node all that its sessions hold. Every other disk keeps its holder. Looks at each lock.
     pub fn free_node(&mut self, node: NodeId)
         ensures { (vid : ℕ) → tree.get self.new vid ≡ without_node node.0 (tree.get self.old vid) }
     {

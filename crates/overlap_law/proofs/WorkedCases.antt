@@ -5,7 +5,7 @@ use Rattle.object_id.specs.declared.entry.Entry.TheVariants.{Format}
 use Rattle.object_id.specs.declared.oid.Kind.TheVariants.{Block, Inode}
 use Rattle.object_id.specs.declared.policy.Policy.TheVariants.{Copies}
 use Rattle.disk_history.specs.declared.event.HistEvent.TheVariants as acts
-use Rattle.vdi_directory.specs.Dead.{is_above}
+use Rattle.vdi_directory.specs.Chains.{chain_of, is_above}
 use Rattle.vdi_directory.specs.Decisions.{log_effects}
 use Rattle.peer_proto.specs.declared.work.ObjWork.{ObjWork}
 use Rattle.peer_proto.specs.declared.work.ObjWork.TheVariants.{Create, Write}
@@ -105,7 +105,7 @@ before_the_birth = refl
 
 -- a read of disk 1 is left out where its object wasn't available, and one of disk 2 is not
 which_reads_are_left_out : (is_counted [] (object ∷ []) (acts.Read 1 0 []) ≡ false) × (is_counted [] (object ∷ []) (acts.Read 2 0 []) ≡ true)
-unfolding is_available_disk log_effects is_above
+unfolding is_available_disk log_effects is_above chain_of
 which_reads_are_left_out = (refl, refl)
 
 node_4_served_the_write : has_served (node 4) (written Served Flying) ≡ true

@@ -11,7 +11,8 @@ use Rattle.epoch_log.specs.Epochs.{epoch_of, settled_of, members_in}
 use Rattle.hash_ring.specs.Circle.{hash_of_object}
 use Rattle.hash_ring.specs.Placement.{targets_of}
 use Rattle.vdi_directory.specs.declared.effect.Effect.{Effect}
-use Rattle.vdi_directory.specs.Dead.{is_above, is_dead}
+use Rattle.vdi_directory.specs.Chains.{is_above}
+use Rattle.vdi_directory.specs.Dead.{is_dead}
 use Rattle.vdi_directory.specs.Decisions.{log_effects}
 use Rattle.peer_proto.specs.declared.work.ObjWork.{ObjWork}
 use Rattle.peer_proto.specs.declared.work.ObjWork.TheVariants.{Create, Write, Read, ReadAll}

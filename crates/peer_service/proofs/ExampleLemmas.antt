@@ -7,7 +7,8 @@ use Rattle.epoch_log.specs.Epochs.{settled_of}
 use Rattle.vdi_directory.specs.Decisions.{log_effects}
 use Rattle.vdi_directory.specs.Effects.{header_of}
 use Rattle.vdi_directory.specs.States.{state_of}
-use Rattle.vdi_directory.specs.Dead.{is_above, is_dead}
+use Rattle.vdi_directory.specs.Chains.{chain_of, is_above}
+use Rattle.vdi_directory.specs.Dead.{is_dead}
 use Rattle.object_store.specs.Rows.{open_at, closed, closed_all, purged}
 use Rattle.object_store.specs.Store.{SeenRow, open_row, rows_of, write_in}
 use Rattle.object_store.proofs.StoreLaws.{rows_of-insert_same}
@@ -56,7 +57,7 @@ row_closed =
     ∙ ap (λ (p : Option Policy). cond (option_map_or (has_at (node 1) targets 3 key.oid 0) p false) row (closed 2 row) ∷ []) unknown
 
 alive : is_dead_object (come_back whole_log peer) key.oid ≡ false
-unfolding come_back without_objects peer_settled_to closed_at_end log_effects is_dead state_of is_above
+unfolding come_back without_objects peer_settled_to closed_at_end log_effects is_dead state_of is_above chain_of
 alive = refl
 
 pub row_back : rows_of (come_back whole_log peer).rows key.oid ≡ ended_row 2 ∷ []

@@ -36,7 +36,7 @@ use Rattle.vdi_ops.specs.declared.act.OpAct.{OpAct}
 use Rattle.vdi_ops.specs.declared.act.OpAct.TheVariants as op_acts
 use Rattle.vdi_ops.specs.declared.end.OpEnd.{OpEnd}
 use Rattle.vdi_ops.specs.Entries.{first_entry}
-use Rattle.vdi_ops.specs.Tables.{chain_of}
+use Rattle.vdi_directory.specs.Chains.{chain_of}
 use Rattle.vdi_ops.specs.Op as ops
 use Rattle.vdi_ops.specs.Op.{Task, Opening, WritingBack, Tagging, Copying, Making, OpStage, Asked, Working, Publishing, Answered, Op, IsAwaitedAtOpStage, IsAwaitedByCommand}
 use Rattle.vdi_ops.specs.Steps.{begun_with_entry, begin_command, taken_over, copied_from, step_after_grant, step_after_known_grant, step_after_decision, decided_at, on_decision, task_done, done_at, op_on_done, refused_at, on_refusal}

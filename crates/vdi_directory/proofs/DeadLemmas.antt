@@ -1,7 +1,6 @@
 -- What is dead stays dead, and its descendants are dead with it.
 use Rattle.std.proofs.Common.{◌≡◌, ◌⊎◌, inl, inr, ℕ, ◌≤◌, ◌==◌, ◌||◌, Bool, true, false, cond, List, [], ◌∷◌, ◌++◌, Option, Some, None, refl, ap, sym, ◌∙◌, subst, arith}
 use Rattle.std.proofs.lemmas.Bool.{eqb-true, both_ways, or_cases, or_left, or_right}
-use Rattle.std.proofs.lemmas.List.Sums.{fold-append}
 use Rattle.object_id.specs.declared.oid.Vid.{Vid}
 use Rattle.object_id.specs.declared.entry.Entry.{Entry}
 use Rattle.vdi_directory.specs.declared.effect.Grant.{Grant}
@@ -11,16 +10,13 @@ use Rattle.vdi_directory.specs.Effects.{grants, is_used}
 use Rattle.vdi_directory.specs.Decisions.{outcome, log_effects}
 use Rattle.vdi_directory.specs.States.{VdiState, Unused, Reserved, Working, Snapshot, Deleted, Freed, state_after, state_of, rank, is_live_state}
 use Rattle.vdi_directory.specs.Sound.{IsParent, IsSound, IsLawful}
-use Rattle.vdi_directory.specs.Dead.{is_parent_or_above, above_after, is_above, is_gone, IsDead}
+use Rattle.vdi_directory.specs.Chains.{chain_of, is_above}
+use Rattle.vdi_directory.specs.Dead.{is_gone, IsDead}
+use Rattle.vdi_directory.proofs.ChainLemmas.{is_parent_or_above, above_after, is_above-push}
 use Rattle.vdi_directory.proofs.StateLemmas.{log_effects-none, is_used-push}
 use Rattle.vdi_directory.proofs.SoundLemmas.{state_of-push}
 use Rattle.vdi_directory.proofs.LawfulLemmas.{lawful-outcome, sound-log_effects}
 use Rattle.vdi_directory.proofs.LawLemmas.{kept-later, rank-grows}
-
-pub is_above-push : (before : List Effect) (effect : Effect) (elder vid : ℕ)
-    → is_above (before ++ effect ∷ []) elder vid ≡ above_after (is_above before) effect elder vid
-unfolding is_above
-is_above-push before effect elder vid = ap (λ above. above elder vid) (fold-append above_after (λ e v. false) before (effect ∷ []))
 
 gone-rank : (state : VdiState) → is_gone state ≡ true → rank state ≡ 4
 gone-rank Deleted is = refl
@@ -75,7 +71,7 @@ module _ (before : List Effect) (sound : IsSound before) (effect : Effect) (lawf
   dead-push : (vid : ℕ) → IsDead before vid → IsDead (before ++ effect ∷ []) vid
   dead-push vid dead = record {
     gone = gone-stays vid dead.gone;
-    heirs = λ other is. by_case other (above-cases before effect vid other (sym (is_above-push before effect vid other) ∙ is));
+    heirs = λ other is. by_case other (above-cases before effect vid other (sym (is_above-push before vid other effect) ∙ is));
   }
     where
       by_case : (other : ℕ) → (is_above before vid other ≡ true)
@@ -125,7 +121,7 @@ module _ (before : List Effect) (sound : IsSound before) (effect : Effect) (lawf
 
   used-push : ChainsAreUsed (before ++ effect ∷ [])
   unfolding ChainsAreUsed
-  used-push elder vid is = by_case (above-cases before effect elder vid (sym (is_above-push before effect elder vid) ∙ is))
+  used-push elder vid is = by_case (above-cases before effect elder vid (sym (is_above-push before elder vid effect) ∙ is))
     where
       by_case : (is_above before elder vid ≡ true)
           ⊎ ((grant : Grant) × (effect ≡ effects.Reserved grant) × ((grant.reservation.vid.0 == vid) ≡ true) × (is_parent_or_above (is_above before) elder grant.header.parent ≡ true))
@@ -143,7 +139,7 @@ module _ (before : List Effect) (sound : IsSound before) (effect : Effect) (lawf
 
   above-after-known : (elder vid : ℕ) → is_above before elder vid ≡ true → is_above (before ++ effect ∷ []) elder vid ≡ true
   unfolding ChainsAreUsed
-  above-after-known elder vid is = is_above-push before effect elder vid ∙ by_effect effect refl
+  above-after-known elder vid is = is_above-push before elder vid effect ∙ by_effect effect refl
     where
       by_effect : (e : Effect) → effect ≡ e → above_after (is_above before) e elder vid ≡ true
       by_effect effects.Nothing e = is
@@ -160,9 +156,17 @@ module _ (before : List Effect) (sound : IsSound before) (effect : Effect) (lawf
       by_effect (effects.Withdrawn of) e = is
       by_effect (effects.Left node) e = is
 
+  -- what was dead by this effect was dead before, where the effect makes nothing gone
+  dead-was : ((other : ℕ) → is_gone (state_of (before ++ effect ∷ []) other) ≡ true → is_gone (state_of before other) ≡ true)
+      → (vid : ℕ) → IsDead (before ++ effect ∷ []) vid → IsDead before vid
+  dead-was kept vid dead = record {
+    gone = kept vid dead.gone;
+    heirs = λ other is. kept other (dead.heirs other (above-after-known vid other is));
+  }
+
   -- an id above one that was used before was above it before
   above-before : (elder vid : ℕ) → is_used before vid ≡ true → is_above (before ++ effect ∷ []) elder vid ≡ true → is_above before elder vid ≡ true
-  above-before elder vid there is = by_case (above-cases before effect elder vid (sym (is_above-push before effect elder vid) ∙ is))
+  above-before elder vid there is = by_case (above-cases before effect elder vid (sym (is_above-push before elder vid effect) ∙ is))
     where
       by_case : (is_above before elder vid ≡ true)
           ⊎ ((grant : Grant) × (effect ≡ effects.Reserved grant) × ((grant.reservation.vid.0 == vid) ≡ true) × (is_parent_or_above (is_above before) elder grant.header.parent ≡ true))
@@ -172,7 +176,7 @@ module _ (before : List Effect) (sound : IsSound before) (effect : Effect) (lawf
 
   go-on-push : ChainsGoOn before → ChainsGoOn (before ++ effect ∷ [])
   unfolding ChainsAreUsed ChainsGoOn
-  go-on-push go a b c first second = by_case (above-cases before effect b c (sym (is_above-push before effect b c) ∙ second))
+  go-on-push go a b c first second = by_case (above-cases before effect b c (sym (is_above-push before b c effect) ∙ second))
     where
       by_case : (is_above before b c ≡ true)
           ⊎ ((grant : Grant) × (effect ≡ effects.Reserved grant) × ((grant.reservation.vid.0 == c) ≡ true) × (is_parent_or_above (is_above before) b grant.header.parent ≡ true))
@@ -181,7 +185,7 @@ module _ (before : List Effect) (sound : IsSound before) (effect : Effect) (lawf
       by_case (inr new) =
           let parent = parent-cases before b (new.0).header.parent new.3 in
           let reaches : is_above before a parent.0.0 ≡ true = by_parent parent.0 (parent-used new.0 parent.0 new.1 parent.1) parent.2 in
-          is_above-push before effect a c ∙ ap (λ e. above_after (is_above before) e a c) new.1
+          is_above-push before a c effect ∙ ap (λ e. above_after (is_above before) e a c) new.1
           ∙ ap (λ t. cond t (is_parent_or_above (is_above before) a (new.0).header.parent) (is_above before a c)) new.2
           ∙ ap (is_parent_or_above (is_above before) a) parent.1
           ∙ or_right (parent.0.0 == a) (is_above before a parent.0.0) reaches
@@ -196,7 +200,7 @@ pub record IsChained (before : List Effect) : Type 0 where
   goes : ChainsGoOn before
 
 chained-none : IsChained []
-unfolding ChainsAreUsed ChainsGoOn is_above
+unfolding ChainsAreUsed ChainsGoOn is_above chain_of
 chained-none = record { used = λ elder vid is. cc; goes = λ a b c first second. cc }
 
 pub chained : (entries : List Entry) → IsChained (log_effects entries)
@@ -207,6 +211,11 @@ chained entries =
       goes = go-on-push (log_effects es) (sound-log_effects es) (outcome (log_effects es) entry).effect (lawful-outcome (log_effects es) (sound-log_effects es) entry) is.used is.goes;
     })
     entries [] (subst IsChained (sym log_effects-none) chained-none)
+
+pub dead-before : (before : List Effect) (sound : IsSound before) (effect : Effect) (lawful : IsLawful before effect) → IsChained before
+    → ((other : ℕ) → is_gone (state_of (before ++ effect ∷ []) other) ≡ true → is_gone (state_of before other) ≡ true)
+    → (vid : ℕ) → IsDead (before ++ effect ∷ []) vid → IsDead before vid
+dead-before before sound effect lawful chained = dead-was before sound effect lawful chained.used
 
 pub chain-used : (before : List Effect) → IsChained before → (elder vid : ℕ) → is_above before elder vid ≡ true
     → (is_used before elder ≡ true) × (is_used before vid ≡ true)

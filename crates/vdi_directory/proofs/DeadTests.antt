@@ -8,7 +8,8 @@ use Rattle.vdi_directory.specs.declared.effect.Effect.TheVariants as effects
 use Rattle.vdi_directory.specs.Effects.{grants, is_used}
 use Rattle.vdi_directory.specs.Decisions.{log_effects}
 use Rattle.vdi_directory.specs.States.{state_of}
-use Rattle.vdi_directory.specs.Dead.{is_above, is_gone, IsDead, granted_ids, is_heir, is_dead}
+use Rattle.vdi_directory.specs.Chains.{is_above}
+use Rattle.vdi_directory.specs.Dead.{is_gone, IsDead, granted_ids, is_heir, is_dead}
 use Rattle.vdi_directory.proofs.DeadLemmas.{IsChained, chained, chain-used}
 
 -- a test that a used id passes finds one among the granted ids

@@ -2,7 +2,7 @@
 use Rattle.std.proofs.Common.{◌≡◌, ◌≢◌, ◌⊎◌, inl, inr, ℕ, zero, suc, ◌+◌, ◌-◌, ◌<◌, ◌≤◌, Bool, true, false, cond, List, Some, None, refl, ap, sym, ◌∙◌, arith}
 use Rattle.std.proofs.lemmas.Bool.{cases_eq, cases_lt}
 use Rattle.object_id.specs.Hash.{own_vid}
-use Rattle.vdi_directory.specs.declared.vid_range.TheConstants.{VID_MAX}
+use Rattle.object_id.specs.declared.limits.TheConstants.{VID_MAX}
 use Rattle.vdi_directory.specs.Vids.{next_vid, first_unused, VID_COUNT, free_id}
 use Rattle.vdi_directory.proofs.VidLemmas.{VID_COUNT-is, next-within, wrapped}
 use Rattle.vdi_directory.proofs.StateLemmas.{own_vid-is, free_id-is}

@@ -16,7 +16,7 @@ use Rattle.object_id.specs.declared.entry.VdiSpec.{VdiSpec}
 use Rattle.object_id.specs.declared.entry.Origin.{Origin}
 use Rattle.object_id.specs.declared.entry.Origin.TheVariants.{Fresh, SnapshotOf, CloneOf}
 use Rattle.object_id.specs.declared.entry.Entry.{Entry}
-use Rattle.object_id.specs.declared.entry.Entry.TheVariants.{Format, Join, Leave, Reweight, Recovered, Reserve, Publish, Clone, Snapshot, Delete, Lock, Unlock}
+use Rattle.object_id.specs.declared.entry.Entry.TheVariants as the_entries
 use Rattle.disk_lock.specs.declared.holder.Holder.{Holder}
 use Rattle.disk_lock.specs.Locks.{is_of_node, without_node}
 use Rattle.vdi_directory.specs.declared.header.Header.{Header}
@@ -32,7 +32,7 @@ use Rattle.vdi_directory.specs.Names.{is_live_name, snapshot_with_tag}
 use Rattle.vdi_directory.specs.Sources.{is_for, tag_for}
 use Rattle.vdi_directory.specs.Effects.{grants, is_used, header_of, name_of, reservations_of, reservation_on, ids_with, live_after, live_of, holder_after, holder_of}
 use Rattle.vdi_directory.specs.Decisions.{nothing, silent_outcome, grant_outcome, refusal_outcome, outcome, happens, log_effects, or_full, grant_of, with_spec, reservation_outcome, reserved_snapshot, reserved_clone, reserve_outcome, publication, replacement, snapshot_outcome, deletion, lock, target, held_disk, is_held_by, is_reserved_by, is_taken}
-use Rattle.vdi_directory.specs.States.{VdiState, Unused, Reserved, Working, Snapshot as SnapshotState, Deleted, Freed, freed_state, state_after_leave, state_after, state_of, rank, is_live_state, may_take}
+use Rattle.vdi_directory.specs.States.{VdiState, Unused, Reserved, Working, Snapshot as SnapshotState, Deleted, Freed, freed_state, state_after_leave, state_after, state_of, rank, is_live_state}
 use Rattle.vdi_directory.specs.Sound.{In, IsSound, IsLawful}
 use Rattle.vdi_directory.proofs.StateLemmas.{log_effects-none, log_effects-push, is_used-push, reservations_of-push, live_of-push, holder_of-push}
 use Rattle.vdi_directory.proofs.SoundLemmas.{state_of-push, in-filter, other-id}
@@ -222,149 +222,13 @@ without-other node (Some now) holder is = by_test (is_of_node node now) refl is
     by_test false of is = let same : now ≡ holder = cc in ap (is_of_node node) (sym same) ∙ of
 
 pub state_after_leave-holds-nothing : (entries : List Entry) (node : NodeId) (vid : ℕ) (holder : Holder)
-    → holder_of (log_effects (entries ++ Leave node ∷ [])) vid ≡ Some holder → (holder.node.0 == node.0) ≡ false
+    → holder_of (log_effects (entries ++ the_entries.Leave node ∷ [])) vid ≡ Some holder → (holder.node.0 == node.0) ≡ false
 state_after_leave-holds-nothing entries node vid holder is =
     without-other node.0 (holder_of (log_effects entries) vid) holder
-    (sym (ap (λ before. holder_of before vid) (log_effects-push entries (Leave node)) ∙ holder_of-push (log_effects entries) (effects.Left node) vid) ∙ is)
+    (sym (ap (λ before. holder_of before vid) (log_effects-push entries (the_entries.Leave node)) ∙ holder_of-push (log_effects entries) (effects.Left node) vid) ∙ is)
 
 pub state_after_leave-reservations-nothing : (entries : List Entry) (node : NodeId) (reservation : Reservation)
-    → In reservation (reservations_of (log_effects (entries ++ Leave node ∷ []))) → (reservation.by.0 == node.0) ≡ false
+    → In reservation (reservations_of (log_effects (entries ++ the_entries.Leave node ∷ []))) → (reservation.by.0 == node.0) ≡ false
 state_after_leave-reservations-nothing entries node reservation there =
     not-true (reservation.by.0 == node.0) ((in-filter (λ (c : Reservation). not (c.by.0 == node.0)) reservation (reservations_of (log_effects entries))
-    (subst (In reservation) (ap reservations_of (log_effects-push entries (Leave node)) ∙ reservations_of-push (log_effects entries) (effects.Left node)) there)).1)
-
-module _ (before : List Effect) (sound : IsSound before) (vid : ℕ) (holder : Holder) (held : holder_of before vid ≡ Some holder) where
-  Keeps : Outcome → Type 0
-  Keeps o = holder_after vid (Some holder) o.effect ≡ Some holder
-
-  keeps-if : (b : Bool) (x y : Outcome) → Keeps x → Keeps y → Keeps (cond b x y)
-  keeps-if true x y one two = one
-  keeps-if false x y one two = two
-
-  keeps-full : (by : NodeId) (session : ℕ) (name : List ℕ) (source : Source) (parent : Option Vid) (spec : VdiSpec) (found : Option ℕ)
-      → Keeps (or_full found (grant_of before by session name source parent spec))
-  unfolding Keeps
-  keeps-full by session name source parent spec None = refl
-  keeps-full by session name source parent spec (Some vid) = refl
-
-  keeps-spec : (header : Option Header) (make : VdiSpec → Outcome) → ((spec : VdiSpec) → Keeps (make spec)) → Keeps (with_spec header make)
-  unfolding Keeps
-  keeps-spec None make each = refl
-  keeps-spec (Some header) make each = each header.spec
-
-  keeps-refused : (cause : Cause) → Keeps (refusal_outcome cause)
-  unfolding Keeps
-  keeps-refused cause = refl
-
-  keeps-nothing : Keeps nothing
-  unfolding Keeps
-  keeps-nothing = refl
-
-  keeps-snapshot : (by : NodeId) (session : ℕ) (name tag : List ℕ) (of : Option Vid) → Keeps (reserved_snapshot before by session name tag of)
-  keeps-snapshot by session name tag None = keeps-refused causes.VdiNotLocked
-  keeps-snapshot by session name tag (Some old) =
-      keeps-if (is_some (snapshot_with_tag tag (name_of before name))) (refusal_outcome causes.VdiExist)
-      (with_spec (header_of before old.0) (reservation_outcome before by session name (sources.Snapshot old tag) (Some old))) (keeps-refused causes.VdiExist)
-      (keeps-spec (header_of before old.0) (reservation_outcome before by session name (sources.Snapshot old tag) (Some old))
-      (λ spec. keeps-full by session name (sources.Snapshot old tag) (Some old) spec (free_id name (is_used before))))
-
-  keeps-clone : (by : NodeId) (session : ℕ) (name : List ℕ) (base : Option Vid) → Keeps (reserved_clone before by session name base)
-  keeps-clone by session name None = keeps-refused causes.NoTag
-  keeps-clone by session name (Some base) =
-      keeps-if (is_taken before name) (refusal_outcome causes.VdiExist)
-      (with_spec (header_of before base.0) (reservation_outcome before by session name sources.Clone (Some base))) (keeps-refused causes.VdiExist)
-      (keeps-spec (header_of before base.0) (reservation_outcome before by session name sources.Clone (Some base))
-      (λ spec. keeps-full by session name sources.Clone (Some base) spec (free_id name (is_used before))))
-
-  keeps-reservation : (by : NodeId) (session : ℕ) (name : List ℕ) (origin : Origin) → Keeps (reserve_outcome before by session name origin)
-  keeps-reservation by session name (Fresh spec) =
-      keeps-if (is_taken before name) (refusal_outcome causes.VdiExist) (reservation_outcome before by session name sources.Fresh None spec) (keeps-refused causes.VdiExist)
-      (keeps-full by session name sources.Fresh None spec (free_id name (is_used before)))
-  keeps-reservation by session name (SnapshotOf tag) = keeps-snapshot by session name tag (held_disk before by session (name_of before name).working)
-  keeps-reservation by session name (CloneOf base tag) =
-      keeps-if (is_live_name (name_of before base)) (reserved_clone before by session name (snapshot_with_tag tag (name_of before base))) (refusal_outcome causes.NoBaseVdi)
-      (keeps-clone by session name (snapshot_with_tag tag (name_of before base))) (keeps-refused causes.NoBaseVdi)
-
-  keeps-publication : (by : NodeId) (is_right : Source → Bool) (reservation : Option Reservation) → Keeps (publication by is_right reservation)
-  unfolding Keeps
-  keeps-publication by is_right None = refl
-  keeps-publication by is_right (Some reservation) =
-      keeps-if (reservation.by.0 == by.0 && is_right reservation.source) (grant_outcome reservation.vid (effects.Published reservation.vid reservation.name)) nothing refl refl
-
-  keeps-replacement : (reservation : Reservation) (old : Vid) (tag : Option (List ℕ)) (by : Option Holder) → In reservation (reservations_of before) → (old.0 == vid) ≡ false
-      → Keeps (replacement reservation old tag by)
-  unfolding Keeps
-  keeps-replacement reservation old None by there apart = refl
-  keeps-replacement reservation old (Some tag) None by_there apart = refl
-  keeps-replacement reservation old (Some tag) (Some by) there apart =
-      cond-false (old.0 == vid) None (cond (reservation.vid.0 == vid) (Some by) (Some holder)) apart
-      ∙ cond-false (reservation.vid.0 == vid) (Some by) (Some holder)
-      (other-id before sound reservation.vid.0 vid (Reserved reservation.by) Working ((sound.reservations reservation there).state) (sound.held vid holder held) (λ e. cc))
-
-  keeps-snap : (by : NodeId) (old of : Vid) (reservation : Option Reservation) → reservation_on of (reservations_of before) ≡ reservation → (old.0 == vid) ≡ false
-      → Keeps (snapshot_outcome before by old reservation)
-  keeps-snap by old of None there apart = keeps-nothing
-  keeps-snap by old of (Some reservation) there apart =
-      keeps-if (reservation.by.0 == by.0) (replacement reservation old (tag_for old reservation.source) (holder_of before old.0)) nothing
-      (keeps-replacement reservation old (tag_for old reservation.source) (holder_of before old.0)
-      ((in-find (λ (c : Reservation). c.vid.0 == of.0) reservation (reservations_of before) there).0) apart) keeps-nothing
-
-  keeps-deletion : (name : List ℕ) (of : Result Vid Cause) → Keeps (deletion name of)
-  unfolding Keeps
-  keeps-deletion name (Err cause) = refl
-  keeps-deletion name (Ok other) = refl
-
-  keeps-lock : (by : Holder) (name : List ℕ) (tag : Option (List ℕ)) (of : Result Vid Cause) → target before name tag ≡ of → Keeps (lock by (is_some tag) of)
-  unfolding Keeps
-  keeps-lock by name tag (Err cause) is = refl
-  keeps-lock by name None (Ok other) is =
-      cond-false (other.0 == vid) (Some by) (Some holder)
-      (ne_eqb other.0 vid (λ same. none (sym ((free-is before sound (name_of before name).working other is).1) ∙ ap (holder_of before) same ∙ held)))
-    where
-      none : None ≡ Some holder → ⊥
-      none e = cc
-  keeps-lock by name (Some tag) (Ok other) is = refl
-
-  keeps-release : (b c : Bool) (of : Vid) → (b ≡ true → (of.0 == vid) ≡ false)
-      → Keeps (cond b (silent_outcome (effects.Freed of)) (cond c (silent_outcome (effects.Withdrawn of)) nothing))
-  unfolding Keeps
-  keeps-release true c of apart = cond-false (of.0 == vid) None (Some holder) (apart refl)
-  keeps-release false true of apart = refl
-  keeps-release false false of apart = refl
-
-  keeps-entry : (entry : Entry) → may_take holder.node.0 vid entry ≡ false → Keeps (outcome before entry)
-  unfolding Keeps
-  keeps-entry (Leave node) other = cond-false (holder.node.0 == node.0) None (Some holder) (nat_eq_equiv.symm holder.node.0 node.0 ∙ other)
-  keeps-entry (Reserve by session name origin) other = keeps-reservation by session name origin
-  keeps-entry (Publish by of) other = keeps-publication by (is_for false) (reservation_on of (reservations_of before))
-  keeps-entry (Clone by of) other = keeps-publication by (is_for true) (reservation_on of (reservations_of before))
-  keeps-entry (Snapshot by old of) other =
-      keeps-snap by old of (reservation_on of (reservations_of before)) refl ((or_parts (by.0 == holder.node.0) (old.0 == vid) other).1)
-  keeps-entry (Delete by session name tag) other = keeps-deletion name (target before name tag)
-  keeps-entry (Lock by session name tag) other = keeps-lock (record { node = by; session = session }) name tag (target before name tag) refl
-  keeps-entry (Unlock by session of) other =
-      keeps-release (is_held_by by session (holder_of before of.0)) (is_reserved_by by session (reservation_on of (reservations_of before))) of
-      (λ is. ne_eqb of.0 vid (λ same. both_ways (by.0 == holder.node.0) other
-      (flip (and_parts (holder.node.0 == by.0) (holder.session == session) (held_by same is)).0)))
-    where
-      held_by : of.0 ≡ vid → is_held_by by session (holder_of before of.0) ≡ true → (holder.node.0 == by.0 && holder.session == session) ≡ true
-      held_by same is = sym (ap (is_held_by by session) (ap (holder_of before) same ∙ held)) ∙ is
-
-      flip : (holder.node.0 == by.0) ≡ true → (by.0 == holder.node.0) ≡ true
-      flip is = eq-eqb by.0 holder.node.0 (sym (eqb-true holder.node.0 by.0 is))
-  keeps-entry entry other = refl
-
-  pub keeps-held : (entry : Entry) → may_take holder.node.0 vid entry ≡ false → holder_of (happens before entry) vid ≡ Some holder
-  unfolding Keeps
-  keeps-held entry other =
-      holder_of-push before (outcome before entry).effect vid
-      ∙ ap (λ held. holder_after vid held (outcome before entry).effect) held ∙ keeps-entry entry other
-
-pub stays-held : (later entries : List Entry) (vid : ℕ) (holder : Holder) → holder_of (log_effects entries) vid ≡ Some holder
-    → list_any (may_take holder.node.0 vid) later ≡ false → holder_of (log_effects (entries ++ later)) vid ≡ Some holder
-stays-held [] entries vid holder held none = ap (λ all. holder_of (log_effects all) vid) (append-nil entries) ∙ held
-stays-held (entry ∷ later) entries vid holder held none =
-    let parts = or_parts (may_take holder.node.0 vid entry) (list_any (may_take holder.node.0 vid) later) none in
-    ap (λ all. holder_of (log_effects all) vid) (sym (append_assoc entries (entry ∷ []) later))
-    ∙ stays-held later (entries ++ entry ∷ []) vid holder
-    (ap (λ before. holder_of before vid) (log_effects-push entries entry) ∙ keeps-held (log_effects entries) (sound-log_effects entries) vid holder held entry parts.0) parts.1
+    (subst (In reservation) (ap reservations_of (log_effects-push entries (the_entries.Leave node)) ∙ reservations_of-push (log_effects entries) (effects.Left node)) there)).1)

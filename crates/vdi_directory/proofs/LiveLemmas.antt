@@ -1,7 +1,8 @@
 -- Ascending ids, with one more.
-use Rattle.std.proofs.Common.{◌≡◌, ◌⊎◌, inl, inr, ℕ, zero, suc, ◌<◌, ◌≤◌, ◌==◌, not, Bool, true, false, cond, List, [], ◌∷◌, ◌++◌, length, get_or, take, drop, filter, fold, refl, ap, sym, ◌∙◌, subst, arith}
+use Rattle.std.proofs.Common.{◌≡◌, ◌≢◌, ◌⊎◌, inl, inr, ℕ, zero, suc, ◌<◌, ◌≤◌, ◌-◌, ◌==◌, not, Bool, true, false, cond, List, [], ◌∷◌, ◌++◌, length, get_or, take, drop, filter, fold, refl, ap, sym, ◌∙◌, subst, arith}
+use Rattle.std.specs.List.{list_any}
 use Rattle.std.specs.List.Sorted.{IsNonDecreasing}
-use Rattle.std.proofs.lemmas.Bool.{le-ltb, lt-ltb, cases_lt}
+use Rattle.std.proofs.lemmas.Bool.{le-ltb, lt-ltb, cases_lt, eqb-true, eqb-false, eq-eqb, ne_eqb, or_left, or_right, or_from}
 use Rattle.vdi_directory.specs.declared.effect.Effect.{Effect}
 use Rattle.vdi_directory.specs.declared.effect.Effect.TheVariants.{Nothing, Reserved, Published, Snapped, Deleted, Held, Freed, Withdrawn, Left}
 use Rattle.vdi_directory.specs.Effects.{ids_with, live_after, live_of}
@@ -82,3 +83,37 @@ none-ascend = tt
 pub live_of-sorted : (effects : List Effect) → IsNonDecreasing (live_of effects)
 unfolding live_of
 live_of-sorted effects = ascend-far 0 (fold live_after [] effects) (ascend-fold effects [] none-ascend)
+
+-- an ascending list has an id where the last one up to it is the id itself
+has-at : (vid : ℕ) (live : List ℕ) (k : ℕ) → k < length live → get_or live k 0 ≡ vid → list_any (λ other. other == vid) live ≡ true
+has-at vid [] k within is = absurd (omega (arith, within))
+has-at vid (first ∷ rest) zero within is = or_left (first == vid) (list_any (λ other. other == vid) rest) (eq-eqb first vid is)
+has-at vid (first ∷ rest) (suc k) within is =
+    or_right (first == vid) (list_any (λ other. other == vid) rest) (has-at vid rest k (omega (arith, within)) is)
+
+has-none : (vid : ℕ) (live : List ℕ) → ((k : ℕ) → k < length live → get_or live k 0 ≢ vid) → list_any (λ other. other == vid) live ≡ false
+has-none vid [] none = refl
+has-none vid (first ∷ rest) none =
+    or_from (first == vid) (list_any (λ other. other == vid) rest) (ne_eqb first vid (none 0 (omega arith)))
+    (has-none vid rest (λ k within. none (suc k) (omega (arith, within))))
+
+module _ (vid place : ℕ) (live : List ℕ) (up : IsNonDecreasing live) (within : place ≤ length live)
+    (low : (k d : ℕ) → k < place → get_or live k d ≤ vid) (high : (k d : ℕ) → place ≤ k → k < length live → vid < get_or live k d) where
+  pub has-last : 0 < place → (get_or live (place - 1) 0 == vid) ≡ list_any (λ other. other == vid) live
+  has-last some = by_test (get_or live (place - 1) 0 == vid) refl
+    where
+      by_test : (b : Bool) → (get_or live (place - 1) 0 == vid) ≡ b → (get_or live (place - 1) 0 == vid) ≡ list_any (λ other. other == vid) live
+      by_test true here =
+          here ∙ sym (has-at vid live (place - 1) (omega (arith, some, within)) (eqb-true (get_or live (place - 1) 0) vid here))
+      by_test false apart = apart ∙ sym (has-none vid live (λ k inside same. by_place k inside same (cases_lt k place)))
+        where
+          by_place : (k : ℕ) → k < length live → get_or live k 0 ≡ vid → (k < place) ⊎ (place ≤ k) → ⊥
+          by_place k inside same (inl below) =
+              let last : get_or live (place - 1) 0 ≤ vid = low (place - 1) 0 (omega (arith, some)) in
+              let more : get_or live k 0 ≤ get_or live (place - 1) 0 = up k (place - 1) 0 (omega (arith, below)) (omega (arith, some, within)) in
+              eqb-false (get_or live (place - 1) 0) vid apart (omega (arith, last, more, same))
+          by_place k inside same (inr above) = let far : vid < get_or live k 0 = high k 0 above inside in absurd (omega (arith, far, same))
+
+  pub has-nothing-low : place ≤ 0 → false ≡ list_any (λ other. other == vid) live
+  has-nothing-low none =
+      sym (has-none vid live (λ k inside same. (let far : vid < get_or live k 0 = high k 0 (omega (arith, none)) inside in absurd (omega (arith, far, same)))))

@@ -209,3 +209,10 @@ none-bear parent own counts no_own none vid =
     let self : own vid ≡ 0 = no_own vid in
     let all : counts vid ≡ 0 = none vid in
     omega (arith, children, self, all)
+
+-- an id with a reference of its own has some
+pub referenced-some : (parent : ℕ → Option Vid) (own counts : ℕ → ℕ) (vid : ℕ) → AreReferenceCounts parent (λ other. own other + one vid other) counts → 0 < counts vid
+referenced-some parent own counts vid are =
+    let all : counts vid ≡ own vid + one vid vid + child_references parent counts vid = are vid in
+    let it : one vid vid ≡ 1 = one-same vid in
+    omega (arith, all, it)

@@ -10,18 +10,25 @@ use Rattle.vdi_directory.specs.declared.effect.Snap.{Snap}
 use Rattle.vdi_directory.specs.declared.effect.Effect.{Effect}
 use Rattle.vdi_directory.specs.declared.effect.Effect.TheVariants as effects
 use Rattle.vdi_directory.specs.declared.directory_state.DirectoryState.{DirectoryState}
-use Rattle.vdi_directory.specs.Effects.{is_used, header_of, reservations_but, reservations_after, reservations_of}
+use Rattle.vdi_directory.specs.Effects.{is_used, header_of, reservations_but, reservations_after, reservations_of, reservation_on}
 use Rattle.vdi_directory.specs.Decisions.{outcome, log_effects}
 use Rattle.vdi_directory.specs.States.{VdiState, Unused, Reserved, Working, Snapshot, Deleted, Freed, freed_state, state_after_leave, state_after, state_of, is_live_state}
 use Rattle.vdi_directory.specs.Sound.{IsParent, IsSound, IsLawful}
 use Rattle.vdi_directory.specs.References.{one_if, one, one_parent_reference, references_by, KEY_COUNT, child_references, AreReferenceCounts, stands, header_parent, parent_of, own_of, parent_in, count_in, reserved_once, reserved_by, LosesReferences, IsReferenced}
-use Rattle.vdi_directory.specs.DirectoryState.{IsDirectoryState, AreReferencesMade, CanMake}
+use Rattle.vdi_directory.specs.DirectoryState.{IsDirectoryState, AreReferencesMade, CanMake, lost_by}
 use Rattle.vdi_directory.proofs.StateLemmas.{log_effects-none, reservations_of-push}
 use Rattle.vdi_directory.proofs.SoundLemmas.{state_of-push}
 use Rattle.vdi_directory.proofs.LawfulLemmas.{lawful-outcome, sound-log_effects}
 use Rattle.vdi_directory.proofs.LawLemmas.{kept-later}
 use Rattle.vdi_directory.proofs.ReferenceLemmas.{one-other, total-zero, total-most, references_by-most, key-below, key-most, child-more}
 use Rattle.vdi_directory.proofs.LineLemmas.{IsLine, parent-tagged, parent_of-push}
+
+-- whether an effect frees ids
+abbrev pub frees : Effect → Bool
+frees (effects.Deleted vid name) = true
+frees (effects.Withdrawn vid) = true
+frees (effects.Left node) = true
+frees _ = false
 
 -- each reserved id has its reservation, once
 abbrev reservation_of : NodeId → VdiState → ℕ
@@ -101,6 +108,29 @@ reserved-state_after_leave node gone (first ∷ reservations) vid =
 
 pub AreReserved : List Effect → Type 0
 AreReserved before = (node : NodeId) (vid : ℕ) → reserved_by node (reservations_of before) vid ≡ reservation_of node (state_of before vid)
+
+-- a reserved id has its reservation
+find-none : (vid : Vid) (node : NodeId) (reservations : List Reservation) → reservation_on vid reservations ≡ None → reserved_by node reservations vid.0 ≡ 0
+find-none vid node [] none = refl
+find-none vid node (first ∷ reservations) none = by_test (first.vid.0 == vid.0) refl none (find-none vid node reservations)
+  where
+    by_test : (b : Bool) → (first.vid.0 == vid.0) ≡ b → cond b (Some first) (reservation_on vid reservations) ≡ None
+        → (reservation_on vid reservations ≡ None → reserved_by node reservations vid.0 ≡ 0)
+        → reserved_once node first vid.0 + reserved_by node reservations vid.0 ≡ 0
+    by_test true here is later = cc
+    by_test false apart is later =
+        let one : reserved_once node first vid.0 ≡ 0 = reserved-other node first vid.0 apart in
+        let rest : reserved_by node reservations vid.0 ≡ 0 = later is in
+        omega (arith, one, rest)
+
+pub reserved-found : (before : List Effect) → AreReserved before → (vid : Vid) (by : NodeId) → state_of before vid.0 ≡ Reserved by
+    → reservation_on vid (reservations_of before) ≡ None → ⊥
+unfolding AreReserved
+reserved-found before are vid by state none =
+    let nothing : reserved_by by (reservations_of before) vid.0 ≡ 0 = find-none vid by (reservations_of before) none in
+    let some : reserved_by by (reservations_of before) vid.0 ≡ 1
+    = are by vid.0 ∙ ap (reservation_of by) state ∙ ap one_if (eq-eqb by.0 by.0 refl) in
+    absurd (omega (arith, nothing, some))
 
 reserved-none : AreReserved []
 unfolding AreReserved reservations_of state_of
@@ -279,8 +309,8 @@ module _ (before : List Effect) (sound : IsSound before) (reserved : AreReserved
         (subst (λ (all : ℕ → ℕ). AreReferenceCounts (parent_of before) all (count_in state.references)) owns is.references)
 
     -- a new id bears nothing yet
-    fresh-none : (vid : ℕ) → is_used before vid ≡ false → count_in state.references vid ≡ 0
-    fresh-none vid unused =
+    pub unused-unreferenced : (vid : ℕ) → is_used before vid ≡ false → count_in state.references vid ≡ 0
+    unused-unreferenced vid unused =
         let own : own_of before vid ≡ 0 = ap (λ (s : VdiState). one_if (stands s)) (sound.unused vid unused) in
         let children : child_references (parent_of before) (count_in state.references) vid ≡ 0
         = total-zero (λ child. references_by (parent_of before child) (count_in state.references child) vid) KEY_COUNT (λ child below. childless child (parent_of before child) refl) in
@@ -313,7 +343,7 @@ module _ (before : List Effect) (sound : IsSound before) (reserved : AreReserved
         own-left node vid ∙ ap (λ (reservations : List Reservation). own_of (before ++ effects.Left node ∷ []) vid + reserved_by node reservations vid) (sym is.reservations)
 
     pub can-make : (effect : Effect) → IsLawful before effect → CanMake effect state
-    can-make (effects.Reserved grant) lawful = (fresh-none grant.reservation.vid.0 lawful.1, parent-referenced grant.header.parent lawful.4)
+    can-make (effects.Reserved grant) lawful = (unused-unreferenced grant.reservation.vid.0 lawful.1, parent-referenced grant.header.parent lawful.4)
     can-make (effects.Deleted of name) lawful =
         (own_of (before ++ effects.Deleted of name ∷ []), lost (one of.0) (own_of (before ++ effects.Deleted of name ∷ [])) (own-deleted of name lawful))
     can-make (effects.Withdrawn of) lawful =
@@ -321,6 +351,43 @@ module _ (before : List Effect) (sound : IsSound before) (reserved : AreReserved
     can-make (effects.Left node) lawful =
         (own_of (before ++ effects.Left node ∷ []), lost (reserved_by node state.reservations.items) (own_of (before ++ effects.Left node ∷ [])) (own-left-kept node))
     can-make effect lawful = tt
+
+    -- once so many were taken
+    counts-less : (effect : Effect) (less counts : ℕ → ℕ) → ((vid : ℕ) → parent_of (before ++ effect ∷ []) vid ≡ parent_of before vid)
+        → ((vid : ℕ) → own_of before vid ≡ own_of (before ++ effect ∷ []) vid + less vid)
+        → LosesReferences less (parent_in state.headers) (count_in state.references) counts
+        → AreReferenceCounts (parent_of (before ++ effect ∷ [])) (own_of (before ++ effect ∷ [])) counts
+    counts-less effect less counts parents owns loses =
+        let to_parents : parent_in state.headers ≡ parent_of (before ++ effect ∷ [])
+        = λ i vid. (sym (ap (λ (parent : ℕ → Option Vid). parent vid) parents-are) ∙ sym (parents vid)) i in
+        subst (λ (parent : ℕ → Option Vid). AreReferenceCounts parent (own_of (before ++ effect ∷ [])) counts) to_parents
+        (loses (own_of (before ++ effect ∷ [])) (lost less (own_of (before ++ effect ∷ [])) owns))
+
+    pub counts-freed : (effect : Effect) → IsLawful before effect → frees effect ≡ true → (counts : ℕ → ℕ)
+        → LosesReferences (lost_by effect state.reservations.items) (parent_in state.headers) (count_in state.references) counts
+        → AreReferenceCounts (parent_of (before ++ effect ∷ [])) (own_of (before ++ effect ∷ [])) counts
+    counts-freed (effects.Deleted of name) lawful freed counts loses =
+        counts-less (effects.Deleted of name) (one of.0) counts (parent_of-push before (effects.Deleted of name)) (own-deleted of name lawful) loses
+    counts-freed (effects.Withdrawn of) lawful freed counts loses =
+        counts-less (effects.Withdrawn of) (one of.0) counts (parent_of-push before (effects.Withdrawn of)) (own-withdrawn of lawful) loses
+    counts-freed (effects.Left node) lawful freed counts loses =
+        counts-less (effects.Left node) (reserved_by node state.reservations.items) counts (parent_of-push before (effects.Left node)) (own-left-kept node) loses
+    counts-freed effect lawful freed counts loses = cc
+
+    -- no reference is taken by another effect
+    counts-same : (counts : ℕ → ℕ) → LosesReferences (λ vid. 0) (parent_in state.headers) (count_in state.references) counts
+        → AreReferenceCounts (parent_of before) (own_of before) counts
+    counts-same counts loses =
+        subst (λ (parent : ℕ → Option Vid). AreReferenceCounts parent (own_of before) counts) (sym parents-are)
+        (loses (own_of before) (lost (λ vid. 0) (own_of before) (λ vid. plus-none (own_of before vid))))
+
+    pub counts-kept : (effect : Effect) → frees effect ≡ false → (counts : ℕ → ℕ)
+        → LosesReferences (lost_by effect state.reservations.items) (parent_in state.headers) (count_in state.references) counts
+        → AreReferenceCounts (parent_of before) (own_of before) counts
+    counts-kept (effects.Deleted of name) kept counts loses = cc
+    counts-kept (effects.Withdrawn of) kept counts loses = cc
+    counts-kept (effects.Left node) kept counts loses = cc
+    counts-kept effect kept counts loses = counts-same counts loses
 
     -- once the effect was made
     module _ (effect : Effect) (new : DirectoryState) where
@@ -337,14 +404,6 @@ module _ (before : List Effect) (sound : IsSound before) (reserved : AreReserved
           (subst (λ (own : ℕ → ℕ). AreReferenceCounts (parent_of before) own (count_in new.references)) to_owns
           (subst (λ (counts : ℕ → ℕ). AreReferenceCounts (parent_of before) (own_of before) counts) to_counts is.references))
 
-      bear-less : (less : ℕ → ℕ) → ((vid : ℕ) → parent_of (before ++ effect ∷ []) vid ≡ parent_of before vid)
-          → ((vid : ℕ) → own_of before vid ≡ own_of (before ++ effect ∷ []) vid + less vid) → LosesReferences less state.headers state.references new.references → Bear
-      bear-less less parents owns loses =
-          let to_parents : parent_in state.headers ≡ parent_of (before ++ effect ∷ [])
-          = λ i vid. (sym (ap (λ (parent : ℕ → Option Vid). parent vid) parents-are) ∙ sym (parents vid)) i in
-          subst (λ (parent : ℕ → Option Vid). AreReferenceCounts parent (own_of (before ++ effect ∷ [])) (count_in new.references)) to_parents
-          (loses (own_of (before ++ effect ∷ [])) (lost less (own_of (before ++ effect ∷ [])) owns))
-
     bear-more : (grant : Grant) → IsLawful before (effects.Reserved grant) → (new : DirectoryState) → AreReferencesMade (effects.Reserved grant) state new
         → AreReferenceCounts (parent_of (before ++ effects.Reserved grant ∷ [])) (own_of (before ++ effects.Reserved grant ∷ [])) (count_in new.references)
     bear-more grant lawful new made =
@@ -353,7 +412,7 @@ module _ (before : List Effect) (sound : IsSound before) (reserved : AreReserved
         let most = (lawful.0).1 in
         subst (λ (own : ℕ → ℕ). AreReferenceCounts (parent_of (before ++ effects.Reserved grant ∷ [])) own (count_in new.references)) to_owns
         (child-more (parent_of before) (parent_of (before ++ effects.Reserved grant ∷ [])) (own_of before) (count_in state.references) (count_in new.references)
-        grant.reservation.vid.0 grant.header.parent (key-below grant.reservation.vid.0 (omega (arith, most))) made (fresh-none grant.reservation.vid.0 lawful.1)
+        grant.reservation.vid.0 grant.header.parent (key-below grant.reservation.vid.0 (omega (arith, most))) made (unused-unreferenced grant.reservation.vid.0 lawful.1)
         (referenced grant.header.parent lawful.4)
         (parent_of-push before (effects.Reserved grant) grant.reservation.vid.0
         ∙ ap (λ b. header_parent (cond b (Some grant.header) (header_of before grant.reservation.vid.0))) (eq-eqb grant.reservation.vid.0 grant.reservation.vid.0 refl))
@@ -380,12 +439,12 @@ module _ (before : List Effect) (sound : IsSound before) (reserved : AreReserved
         bear-same (effects.Snapped snap) new
         (λ vid. parent_of-push before (effects.Snapped snap) vid ∙ parent-tagged (snap.old.0 == vid) snap.tag (header_of before vid)) (own-snapped snap lawful) made
     bear-push (effects.Deleted of name) lawful new made =
-        bear-less (effects.Deleted of name) new (one of.0) (parent_of-push before (effects.Deleted of name)) (own-deleted of name lawful) made
+        counts-less (effects.Deleted of name) (one of.0) (count_in new.references) (parent_of-push before (effects.Deleted of name)) (own-deleted of name lawful) made
     bear-push (effects.Held of holder) lawful new made =
         bear-same (effects.Held of holder) new (parent_of-push before (effects.Held of holder)) (own_of-push (effects.Held of holder)) made
     bear-push (effects.Freed of) lawful new made =
         bear-same (effects.Freed of) new (parent_of-push before (effects.Freed of)) (own_of-push (effects.Freed of)) made
     bear-push (effects.Withdrawn of) lawful new made =
-        bear-less (effects.Withdrawn of) new (one of.0) (parent_of-push before (effects.Withdrawn of)) (own-withdrawn of lawful) made
+        counts-less (effects.Withdrawn of) (one of.0) (count_in new.references) (parent_of-push before (effects.Withdrawn of)) (own-withdrawn of lawful) made
     bear-push (effects.Left node) lawful new made =
-        bear-less (effects.Left node) new (reserved_by node state.reservations.items) (parent_of-push before (effects.Left node)) (own-left-kept node) made
+        counts-less (effects.Left node) (reserved_by node state.reservations.items) (count_in new.references) (parent_of-push before (effects.Left node)) (own-left-kept node) made

@@ -15,7 +15,7 @@ use Rattle.object_id.specs.declared.entry.Entry.{Entry}
 use Rattle.object_id.specs.declared.entry.Entry.TheVariants.{Format, Join, Leave, Reweight, Recovered, Reserve, Publish, Clone, Snapshot, Delete, Lock, Unlock}
 use Rattle.disk_lock.specs.declared.holder.Holder.{Holder}
 use Rattle.disk_lock.specs.Locks.{Holders}
-use Rattle.vdi_directory.specs.declared.vid_range.TheConstants.{VID_MAX}
+use Rattle.object_id.specs.declared.limits.TheConstants.{VID_MAX}
 use Rattle.vdi_directory.specs.declared.header.Header.{Header}
 use Rattle.object_id.specs.declared.cause.Cause.TheVariants as causes
 use Rattle.vdi_directory.specs.declared.effect.Source.{Source}
@@ -32,6 +32,7 @@ use Rattle.vdi_directory.specs.Decisions.{nothing, silent_outcome, grant_outcome
 use Rattle.vdi_directory.specs.Names.{is_live_name, snapshot_with_tag}
 use Rattle.vdi_directory.specs.Sources.{is_for, tag_for}
 use Rattle.vdi_directory.specs.References.{parent_of, own_of, count_in, AreReferenceCounts}
+use Rattle.vdi_directory.specs.Known.{AreKnown}
 use Rattle.vdi_directory.specs.DirectoryState.{IsDirectoryState, AreMade, AreLocksMade, AreLocks, IsFresh}
 use Rattle.vdi_directory.proofs.VidLemmas.{found-unused}
 
@@ -65,8 +66,8 @@ holder_of-push before effect vid = fold-append (holder_after vid) None before (e
 
 pub state-push : (before : List Effect) (effect : Effect) (old new : DirectoryState) → IsDirectoryState before old → AreMade effect old new
     → AreReferenceCounts (parent_of (before ++ effect ∷ [])) (own_of (before ++ effect ∷ [])) (count_in new.references)
-    → IsDirectoryState (before ++ effect ∷ []) new
-state-push before effect old new is made references = record {
+    → AreKnown (before ++ effect ∷ []) → IsDirectoryState (before ++ effect ∷ []) new
+state-push before effect old new is made references known = record {
   headers = λ vid. made.headers vid ∙ ap (λ header. header_after vid header effect) (is.headers vid) ∙ sym (header_of-push before effect vid);
   names = λ name. made.names name ∙ ap (λ now. name_after name now effect) (is.names name) ∙ sym (name_of-push before effect name);
   reservations = made.reservations ∙ ap (λ reservations. reservations_after reservations effect) is.reservations ∙ sym (reservations_of-push before effect);
@@ -74,6 +75,7 @@ state-push before effect old new is made references = record {
   ranges = made.ranges;
   used = λ vid. made.used vid ∙ ap (λ b. b || grants vid effect) (is.used vid) ∙ sym (is_used-push before effect vid);
   references = references;
+  known = known;
 }
 
 pub locks-push : (before : List Effect) (effect : Effect) (old new : Holders) → AreLocks before old → AreLocksMade effect old new

@@ -5,11 +5,14 @@ use Rattle.object_id.specs.declared.oid.Vid.{Vid}
 use Rattle.vdi_directory.specs.declared.effect.Effect.{Effect}
 use Rattle.vdi_directory.specs.Effects.{is_used}
 use Rattle.vdi_directory.specs.States.{VdiState, Unused, Reserved, Working, Snapshot, Deleted, Freed, rank, state_of}
-use Rattle.vdi_directory.specs.Dead.{is_parent_or_above, is_above, is_gone, IsDead}
+use Rattle.vdi_directory.specs.Chains.{is_above, grant_place}
+use Rattle.vdi_directory.specs.Dead.{is_gone, IsDead}
 use Rattle.vdi_directory.specs.References.{one_if, one, references_by, KEY_COUNT, child_references, AreReferenceCounts, stands, parent_of, own_of}
 use Rattle.vdi_directory.proofs.ReferenceLemmas.{one-same, one-other, total-zero, total-le, references_by-none, references_by-some, key-below}
 use Rattle.vdi_directory.proofs.DeadLemmas.{parent-cases, IsChained, chain-used, heir-dead}
-use Rattle.vdi_directory.proofs.LineLemmas.{IsLine}
+use Rattle.vdi_directory.proofs.ChainLemmas.{is_parent_or_above}
+use Rattle.vdi_directory.proofs.PlaceLemmas.{place-most}
+use Rattle.vdi_directory.proofs.LineLemmas.{IsLine, above-line}
 
 gone-stands : (state : VdiState) → is_gone state ≡ true → one_if (stands state) ≡ 0
 gone-stands (Reserved by) gone = cc
@@ -28,18 +31,18 @@ cond-none false n none = refl
 
 module _ (before : List Effect) (line : IsLine before) (chained : IsChained before) (counts : ℕ → ℕ) (are : AreReferenceCounts (parent_of before) (own_of before) counts) where
   age : ℕ → ℕ
-  age = (line.ranked).0
+  age = grant_place before
 
   above-child : (vid child : ℕ) (parent : Vid) → parent_of before child ≡ Some parent → parent.0 ≡ vid → is_above before vid child ≡ true
   above-child vid child parent is same =
-      line.chain vid child ∙ ap (is_parent_or_above (is_above before) vid) is
+      above-line before line vid child ∙ ap (is_parent_or_above (is_above before) vid) is
       ∙ or_left (parent.0 == vid) (is_above before vid parent.0) (eq-eqb parent.0 vid same)
 
   -- the youngest first
   dead-from : (left vid : ℕ) → length before < age vid + left → IsDead before vid → counts vid ≡ 0
   unfolding age
   dead-from zero vid young dead =
-      let most : (line.ranked).0 vid ≤ length before = ((line.ranked).1).most vid in
+      let most : grant_place before vid ≤ length before = place-most before vid in
       absurd (omega (arith, most, young))
   dead-from (suc left) vid young dead =
       let own : own_of before vid ≡ 0 = gone-stands (state_of before vid) dead.gone in
@@ -50,14 +53,14 @@ module _ (before : List Effect) (line : IsLine before) (chained : IsChained befo
       omega (arith, own, children, all)
     where
       by_parent : (child : ℕ) (parent : Option Vid) → parent_of before child ≡ parent
-          → ((line.ranked).0 vid < (line.ranked).0 child → IsDead before child → counts child ≡ 0) → references_by parent (counts child) vid ≡ 0
+          → (grant_place before vid < grant_place before child → IsDead before child → counts child ≡ 0) → references_by parent (counts child) vid ≡ 0
       by_parent child None is unreferenced = cond-none (nat_lt 0 (counts child)) 0 refl
       by_parent child (Some parent) is unreferenced = by_place (cases_eq parent.0 vid)
         where
           by_place : (parent.0 ≡ vid) ⊎ (parent.0 ≢ vid) → references_by (Some parent) (counts child) vid ≡ 0
           by_place (inl same) =
-              let older : (line.ranked).0 parent.0 < (line.ranked).0 child = ((line.ranked).1).grows child parent is in
-              let here : (line.ranked).0 parent.0 ≡ (line.ranked).0 vid = ap (line.ranked).0 same in
+              let older : grant_place before parent.0 < grant_place before child = line.older child parent is in
+              let here : grant_place before parent.0 ≡ grant_place before vid = ap (grant_place before) same in
               references_by-none (Some parent) (counts child) vid
               (unreferenced (omega (arith, older, here)) (heir-dead before chained vid child dead (above-child vid child parent is same)))
           by_place (inr apart) = cond-none (nat_lt 0 (counts child)) (one parent.0 vid) (one-other parent.0 vid apart)
@@ -87,16 +90,16 @@ module _ (before : List Effect) (line : IsLine before) (chained : IsChained befo
   unfolding age
   heirs-unreferenced zero elder heir young above none = absurd (omega (arith, young))
   heirs-unreferenced (suc left) elder heir young above none =
-      by_parent (parent-cases before elder (parent_of before heir) (sym (line.chain elder heir) ∙ above))
+      by_parent (parent-cases before elder (parent_of before heir) (sym (above-line before line elder heir) ∙ above))
       (λ parent older far. heirs-unreferenced left elder parent (omega (arith, young, older)) far none)
     where
       by_parent : (p : Vid) × (parent_of before heir ≡ Some p) × ((p.0 ≡ elder) ⊎ (is_above before elder p.0 ≡ true))
-          → ((parent : ℕ) → (line.ranked).0 parent < (line.ranked).0 heir → is_above before elder parent ≡ true → counts parent ≡ 0) → counts heir ≡ 0
+          → ((parent : ℕ) → grant_place before parent < grant_place before heir → is_above before elder parent ≡ true → counts parent ≡ 0) → counts heir ≡ 0
       by_parent found later = child-unreferenced heir found.0 ((chain-used before chained elder heir above).1) found.1 (by_place found.2)
         where
           by_place : (found.0.0 ≡ elder) ⊎ (is_above before elder found.0.0 ≡ true) → counts found.0.0 ≡ 0
           by_place (inl same) = ap counts same ∙ none
-          by_place (inr far) = later found.0.0 (((line.ranked).1).grows heir found.0 found.1) far
+          by_place (inr far) = later found.0.0 (line.older heir found.0 found.1) far
 
   unreferenced-gone : (vid : ℕ) → is_used before vid ≡ true → counts vid ≡ 0 → is_gone (state_of before vid) ≡ true
   unreferenced-gone vid used none =
@@ -107,5 +110,5 @@ module _ (before : List Effect) (line : IsLine before) (chained : IsChained befo
   unfolding age
   unreferenced-dead vid used none = record {
     gone = unreferenced-gone vid used none;
-    heirs = λ heir above. unreferenced-gone heir ((chain-used before chained vid heir above).1) (heirs-unreferenced ((line.ranked).0 heir + 1) vid heir (omega arith) above none);
+    heirs = λ heir above. unreferenced-gone heir ((chain-used before chained vid heir above).1) (heirs-unreferenced (grant_place before heir + 1) vid heir (omega arith) above none);
   }

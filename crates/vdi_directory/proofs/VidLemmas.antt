@@ -6,7 +6,7 @@ use Rattle.std.proofs.lemmas.Bool.Decides.{nat_tests}
 use Rattle.std.proofs.lemmas.List.{get_or_default}
 use Rattle.std.proofs.Math.Bool.{or-true, or_assoc, or_comm}
 use Rattle.vdi_directory.specs.declared.vid_range.VidRange.{VidRange}
-use Rattle.vdi_directory.specs.declared.vid_range.TheConstants.{VID_MAX}
+use Rattle.object_id.specs.declared.limits.TheConstants.{VID_MAX}
 use Rattle.vdi_directory.specs.Vids.{next_vid, first_unused, VID_COUNT, in_range, is_in, ranges_with, with_vid, AreRangesFrom, AreRanges}
 
 pub VID_COUNT-is : VID_COUNT ≡ VID_MAX

@@ -104,14 +104,17 @@ reserve_outcome before by session name (CloneOf base tag) =
 abbrev pub publication : NodeId → (Source → Bool) → Option Reservation → Outcome
 publication by is_right None = nothing
 publication by is_right (Some reservation) =
-    if reservation.by.0 == by.0 && is_right reservation.source then grant_outcome reservation.vid (effects.Published reservation.vid reservation.name) else nothing
+    if reservation.by.0 == by.0 && is_right reservation.source
+    then grant_outcome reservation.vid (effects.Published reservation.vid reservation.name)
+    else nothing
 
 -- a disk that is held becomes a snapshot, and the reserved id takes its place
 abbrev pub replacement : Reservation → Vid → Option (List ℕ) → Option Holder → Outcome
 replacement reservation old None holder = nothing
 replacement reservation old (Some tag) None = nothing
 replacement reservation old (Some tag) (Some holder) =
-    grant_outcome reservation.vid (effects.Snapped (record { old = old; vid = reservation.vid; name = reservation.name; tag = tag; holder = holder }))
+    grant_outcome reservation.vid
+    (effects.Snapped (record { old = old; vid = reservation.vid; name = reservation.name; tag = tag; holder = holder }))
 
 abbrev pub snapshot_outcome : List Effect → NodeId → Vid → Option Reservation → Outcome
 snapshot_outcome before by old None = nothing
@@ -150,7 +153,8 @@ lock holder is_snapshot (Ok vid) = if is_snapshot then grant_outcome vid effects
 abbrev pub release : List Effect → NodeId → ℕ → Vid → Outcome
 release before by session vid =
     if is_held_by by session (holder_of before vid.0) then silent_outcome (effects.Freed vid)
-    else (if is_reserved_by by session (reservation_on vid (reservations_of before)) then silent_outcome (effects.Withdrawn vid) else nothing)
+    else (if is_reserved_by by session (reservation_on vid (reservations_of before))
+    then silent_outcome (effects.Withdrawn vid) else nothing)
 
 -- the table: what is decided on an entry, and what it changes
 abbrev pub outcome : List Effect → Entry → Outcome
@@ -166,6 +170,14 @@ outcome before (Snapshot by old vid) = snapshot_outcome before by old (reservati
 outcome before (Delete by session name tag) = deletion name (target before name tag)
 outcome before (Lock by session name tag) = lock (record { node = by; session = session }) (is_some tag) (target before name tag)
 outcome before (Unlock by session vid) = release before by session vid
+
+-- whether an effect names a disk or has a tag, which are copied from the entry
+abbrev pub has_names : Effect → Bool
+has_names (effects.Reserved grant) = true
+has_names (effects.Published vid name) = true
+has_names (effects.Snapped snap) = true
+has_names (effects.Deleted vid name) = true
+has_names _ = false
 
 -- one entry more
 abbrev pub happens : List Effect → Entry → List Effect

@@ -5,15 +5,18 @@ use Rattle.std.specs.BTreeMap.{get}
 use Rattle.std.specs.FinMap as tree
 use Rattle.object_id.specs.Oid.{IsVid}
 use Rattle.disk_lock.specs.Locks.{Holders}
+use Rattle.object_id.specs.declared.oid.Vid.{Vid}
+use Rattle.vdi_directory.specs.declared.effect.Reservation.{Reservation}
 use Rattle.vdi_directory.specs.declared.effect.Effect.{Effect}
 use Rattle.vdi_directory.specs.declared.effect.Effect.TheVariants.{Reserved, Deleted, Withdrawn, Left}
 use Rattle.vdi_directory.specs.declared.directory_state.DirectoryState.{DirectoryState}
 use Rattle.vdi_directory.specs.Vids.{is_in, AreRanges}
 use Rattle.vdi_directory.specs.NameRows.{name_in}
-use Rattle.vdi_directory.specs.References.{one, one_parent_reference, reserved_by, parent_of, own_of, count_in, AreReferenceCounts, CanLose, LosesReferences, IsReferenced}
+use Rattle.vdi_directory.specs.References.{one, one_parent_reference, reserved_by, parent_of, own_of, parent_in, count_in, AreReferenceCounts, AreLosses, CanLose, LosesReferences, IsReferenced}
+use Rattle.vdi_directory.specs.Known.{AreKnown}
 use Rattle.vdi_directory.specs.Effects.{grants, is_used, header_after, header_of, name_after, name_of, reservations_after, reservations_of, live_after, live_of, holder_after, holder_of}
 
--- what the state hold, against what happened
+-- what the state holds, against what happened, and that all of it is valid
 pub record IsDirectoryState (before : List Effect) (state : DirectoryState) : Type 0 where
   pub headers : (vid : ℕ) → get nat_cmp state.headers vid ≡ header_of before vid
   pub names : (name : List ℕ) → name_in state.names.rows name ≡ name_of before name
@@ -22,17 +25,34 @@ pub record IsDirectoryState (before : List Effect) (state : DirectoryState) : Ty
   pub ranges : AreRanges state.used.items
   pub used : (vid : ℕ) → is_in state.used.items vid ≡ is_used before vid
   pub references : AreReferenceCounts (parent_of before) (own_of before) (count_in state.references)
+  pub known : AreKnown before
+
+-- how many references of its own an id loses by an effect
+abbrev pub lost_by : Effect → List Reservation → ℕ → ℕ
+lost_by (Deleted vid name) reservations = one vid.0
+lost_by (Withdrawn vid) reservations = one vid.0
+lost_by (Left node) reservations = reserved_by node reservations
+lost_by _ reservations = λ vid. 0
 
 -- who bears an id once an effect was made: a reserved id bears itself and its parent, until it goes
 abbrev pub AreReferencesMade : Effect → DirectoryState → DirectoryState → Type 0
 AreReferencesMade (Reserved grant) old new = (vid : ℕ) → count_in new.references vid
     ≡ count_in old.references vid + one grant.reservation.vid.0 vid + one_parent_reference grant.header.parent vid
-AreReferencesMade (Deleted vid name) old new = LosesReferences (one vid.0) old.headers old.references new.references
-AreReferencesMade (Withdrawn vid) old new = LosesReferences (one vid.0) old.headers old.references new.references
-AreReferencesMade (Left node) old new = LosesReferences (reserved_by node old.reservations.items) old.headers old.references new.references
+AreReferencesMade (Deleted vid name) old new =
+    LosesReferences (one vid.0) (parent_in old.headers) (count_in old.references) (count_in new.references)
+AreReferencesMade (Withdrawn vid) old new =
+    LosesReferences (one vid.0) (parent_in old.headers) (count_in old.references) (count_in new.references)
+AreReferencesMade (Left node) old new =
+    LosesReferences (reserved_by node old.reservations.items) (parent_in old.headers) (count_in old.references) (count_in new.references)
 AreReferencesMade _ old new = (vid : ℕ) → count_in new.references vid ≡ count_in old.references vid
 
--- what the state hold, once an effect was made
+-- the ids that lose their last reference where each loses so many of its own
+pub record IsDeadList (lost : ℕ → ℕ) (state : DirectoryState) (dead : List Vid) : Type 0 where
+  pub left : ℕ → ℕ
+  pub loses : LosesReferences lost (parent_in state.headers) (count_in state.references) left
+  pub are : AreLosses (count_in state.references) left dead
+
+-- what the state holds, once an effect was made
 pub record AreMade (effect : Effect) (old new : DirectoryState) : Type 0 where
   pub headers : (vid : ℕ) → get nat_cmp new.headers vid ≡ header_after vid (get nat_cmp old.headers vid) effect
   pub names : (name : List ℕ) → name_in new.names.rows name ≡ name_after name (name_in old.names.rows name) effect
@@ -42,7 +62,7 @@ pub record AreMade (effect : Effect) (old new : DirectoryState) : Type 0 where
   pub used : (vid : ℕ) → is_in new.used.items vid ≡ (is_in old.used.items vid || grants vid effect)
   pub references : AreReferencesMade effect old new
 
--- the same of locks
+-- what the locks hold, once an effect was made
 abbrev pub AreLocksMade : Effect → Holders → Holders → Type 0
 AreLocksMade effect old new = (vid : ℕ) → tree.get new vid ≡ holder_after vid (tree.get old vid) effect
 
@@ -57,8 +77,9 @@ IsFresh _ state = Unit {0}
 
 -- a new id bears nothing yet, and its parent is referenced; what goes has references of its own to lose
 abbrev pub CanMake : Effect → DirectoryState → Type 0
-CanMake (Reserved grant) state = (count_in state.references grant.reservation.vid.0 ≡ 0) × IsReferenced grant.header.parent (count_in state.references)
-CanMake (Deleted vid name) state = CanLose (one vid.0) state.headers state.references
-CanMake (Withdrawn vid) state = CanLose (one vid.0) state.headers state.references
-CanMake (Left node) state = CanLose (reserved_by node state.reservations.items) state.headers state.references
+CanMake (Reserved grant) state =
+    (count_in state.references grant.reservation.vid.0 ≡ 0) × IsReferenced grant.header.parent (count_in state.references)
+CanMake (Deleted vid name) state = CanLose (one vid.0) (parent_in state.headers) (count_in state.references)
+CanMake (Withdrawn vid) state = CanLose (one vid.0) (parent_in state.headers) (count_in state.references)
+CanMake (Left node) state = CanLose (reserved_by node state.reservations.items) (parent_in state.headers) (count_in state.references)
 CanMake _ state = Unit {0}

@@ -8,4 +8,7 @@ pub mod References
 pub mod DirectoryState
 pub mod States
 pub mod Sound
+pub mod Known
+pub mod Holders
+pub mod Chains
 pub mod Dead

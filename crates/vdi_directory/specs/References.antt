@@ -1,6 +1,7 @@
 -- Who bears an id: itself while it is reserved or live, and each of its children that somebody bears. An id that nobody
 -- bears is dead.
-use Rattle.std.specs.Prelude.{◌≡◌, ℕ, zero, suc, ◌+◌, ◌^◌, ◌<◌, ◌==◌, nat_lt, Bool, true, false, List, [], ◌∷◌, Option, Some, None, unwrap_or, if◌then◌else◌}
+use Rattle.std.specs.Prelude.{◌≡◌, ℕ, zero, suc, ◌+◌, ◌^◌, ◌<◌, ◌≤◌, ◌==◌, ◌&&◌, nat_lt, Bool, true, false, List, [], ◌∷◌, Option, Some, None, unwrap_or, if◌then◌else◌}
+use Rattle.std.specs.List.{list_any}
 use Rattle.std.specs.Ordering.{nat_cmp}
 use Rattle.std.specs.BTreeMap.{BTreeMap, get}
 use Rattle.object_id.specs.declared.oid.Vid.{Vid}
@@ -64,10 +65,11 @@ parent_of before vid = header_parent (header_of before vid)
 abbrev pub own_of : List Effect → ℕ → ℕ
 own_of before vid = one_if (stands (state_of before vid))
 
--- the same of what is kept
+-- what an id was made from, by the headers that are kept
 abbrev pub parent_in : BTreeMap ℕ Header → ℕ → Option Vid
 parent_in headers vid = header_parent (get nat_cmp headers vid)
 
+-- how many references an id has, by the counts that are kept
 abbrev pub count_in : BTreeMap ℕ ℕ → ℕ → ℕ
 count_in references vid = unwrap_or (get nat_cmp references vid) 0
 
@@ -80,15 +82,27 @@ reserved_by node [] vid = 0
 reserved_by node (reservation ∷ reservations) vid = reserved_once node reservation vid + reserved_by node reservations vid
 
 -- each id has as many references of its own as are to be taken
-abbrev pub CanLose : (ℕ → ℕ) → BTreeMap ℕ Header → BTreeMap ℕ ℕ → Type 0
-CanLose lost headers references = (own : ℕ → ℕ) × AreReferenceCounts (parent_in headers) (λ vid. own vid + lost vid) (count_in references)
+abbrev pub CanLose : (ℕ → ℕ) → (ℕ → Option Vid) → (ℕ → ℕ) → Type 0
+CanLose lost parent counts = (own : ℕ → ℕ) × AreReferenceCounts parent (λ vid. own vid + lost vid) counts
 
 -- these are taken, and with the last reference of an id one of its parent
-abbrev pub LosesReferences : (ℕ → ℕ) → BTreeMap ℕ Header → BTreeMap ℕ ℕ → BTreeMap ℕ ℕ → Type 0
-LosesReferences lost headers old new = (own : ℕ → ℕ) → AreReferenceCounts (parent_in headers) (λ vid. own vid + lost vid) (count_in old)
-    → AreReferenceCounts (parent_in headers) own (count_in new)
+abbrev pub LosesReferences : (ℕ → ℕ) → (ℕ → Option Vid) → (ℕ → ℕ) → (ℕ → ℕ) → Type 0
+LosesReferences lost parent old new =
+    (own : ℕ → ℕ) → AreReferenceCounts parent (λ vid. own vid + lost vid) old → AreReferenceCounts parent own new
 
 -- a parent is referenced, and its count far from the end
 abbrev pub IsReferenced : Option Vid → (ℕ → ℕ) → Type 0
 IsReferenced None counts = Unit {0}
 IsReferenced (Some parent) counts = (0 < counts parent.0) × (counts parent.0 < 2 ^ 63)
+
+-- what an id has left, where `left` has the ids that lose some
+abbrev pub left_in : BTreeMap ℕ ℕ → BTreeMap ℕ ℕ → ℕ → ℕ
+left_in references left vid = unwrap_or (get nat_cmp left vid) (count_in references vid)
+
+abbrev pub has_vid : ℕ → List Vid → Bool
+has_vid vid ids = list_any (λ (id : Vid). id.0 == vid) ids
+
+-- no id has more left than it had, and the list has those that have lost their last one
+pub record AreLosses (counts left : ℕ → ℕ) (dead : List Vid) : Type 0 where
+  pub most : (vid : ℕ) → left vid ≤ counts vid
+  pub lost : (vid : ℕ) → has_vid vid dead ≡ (nat_lt 0 (counts vid) && left vid == 0)

@@ -6,7 +6,7 @@ use Rattle.object_id.specs.declared.node.NodeId.{NodeId}
 use Rattle.disk_lock.specs.declared.holder.Holder.{Holder}
 use Rattle.vdi_directory.specs.declared.live_snapshot.LiveSnapshot.{LiveSnapshot}
 use Rattle.vdi_directory.specs.declared.effect.Source.{Source}
-use Rattle.vdi_directory.specs.declared.effect.Source.TheVariants.{Fresh, Snapshot, Clone}
+use Rattle.vdi_directory.specs.declared.effect.Source.TheVariants as sources
 use Rattle.vdi_directory.specs.declared.effect.Reservation.{Reservation}
 use Rattle.vdi_directory.specs.declared.effect.Effect.{Effect}
 use Rattle.vdi_directory.specs.declared.effect.Effect.TheVariants as effects
@@ -23,9 +23,9 @@ IsLiveSnapshot state = (tag : List ℕ) × (state ≡ Snapshot tag)
 
 -- a reservation for a snapshot is for the name of the disk that becomes one
 abbrev pub OwnsBase : List Effect → List ℕ → Source → Type 0
-OwnsBase before name Fresh = Unit {0}
-OwnsBase before name (Snapshot old tag) = owner_of before old.0 ≡ Some name
-OwnsBase before name Clone = Unit {0}
+OwnsBase before name sources.Fresh = Unit {0}
+OwnsBase before name (sources.Snapshot old tag) = owner_of before old.0 ≡ Some name
+OwnsBase before name sources.Clone = Unit {0}
 
 pub record IsReservation (before : List Effect) (reservation : Reservation) : Type 0 where
   pub state : state_of before reservation.vid.0 ≡ Reserved reservation.by
@@ -45,7 +45,8 @@ pub record IsSound (before : List Effect) : Type 0 where
   pub unknown : (vid : ℕ) → is_used before vid ≡ false → owner_of before vid ≡ None
   pub reservations : (reservation : Reservation) → In reservation (reservations_of before) → IsReservation before reservation
   pub working : (name : List ℕ) (vid : Vid) → (name_of before name).working ≡ Some vid → IsWorking before name vid.0
-  pub live_snapshots : (name : List ℕ) (live_snapshot : LiveSnapshot) → In live_snapshot (name_of before name).live_snapshots → IsNameTaken before name live_snapshot.vid.0
+  pub live_snapshots : (name : List ℕ) (live_snapshot : LiveSnapshot) → In live_snapshot (name_of before name).live_snapshots
+      → IsNameTaken before name live_snapshot.vid.0
   pub held : (vid : ℕ) (holder : Holder) → holder_of before vid ≡ Some holder → state_of before vid ≡ Working
 
 -- what a disk is made from is live then
@@ -55,20 +56,21 @@ IsParent before (Some parent) = is_live_state (state_of before parent.0) ≡ tru
 
 -- whether an id is reserved for a new disk of its name
 abbrev pub takes_name : Source → Bool
-takes_name Fresh = true
-takes_name (Snapshot old tag) = false
-takes_name Clone = true
+takes_name sources.Fresh = true
+takes_name (sources.Snapshot old tag) = false
+takes_name sources.Clone = true
 
 -- a new disk's name is free, and what becomes a snapshot is the working disk of its name
 abbrev pub HasRoom : List Effect → List ℕ → Source → Type 0
-HasRoom before name Fresh = is_taken before name ≡ false
-HasRoom before name (Snapshot old tag) = (name_of before name).working ≡ Some old
-HasRoom before name Clone = is_taken before name ≡ false
+HasRoom before name sources.Fresh = is_taken before name ≡ false
+HasRoom before name (sources.Snapshot old tag) = (name_of before name).working ≡ Some old
+HasRoom before name sources.Clone = is_taken before name ≡ false
 
 -- a reservation for a new disk of the name stands
 abbrev pub IsReserved : List Effect → ℕ → List ℕ → Type 0
 IsReserved before vid name =
-    (reservation : Reservation) × In reservation (reservations_of before) × (reservation.vid.0 ≡ vid) × (reservation.name ≡ name) × (takes_name reservation.source ≡ true)
+    (reservation : Reservation) × In reservation (reservations_of before) × (reservation.vid.0 ≡ vid) × (reservation.name ≡ name)
+    × (takes_name reservation.source ≡ true)
 
 -- when an effect may come
 abbrev pub IsLawful : List Effect → Effect → Type 0

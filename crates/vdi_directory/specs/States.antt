@@ -1,9 +1,7 @@
--- What an id is, by the last effect that moved it, and which entries leave a lock alone.
-use Rattle.std.specs.Prelude.{ℕ, ◌==◌, ◌||◌, Bool, true, false, List, fold, Option, if◌then◌else◌}
+-- What an id is, by the last effect that moved it.
+use Rattle.std.specs.Prelude.{ℕ, ◌==◌, Bool, true, false, List, fold, Option, if◌then◌else◌}
 use Rattle.std.specs.Option.{option_map}
 use Rattle.object_id.specs.declared.node.NodeId.{NodeId}
-use Rattle.object_id.specs.declared.entry.Entry.{Entry}
-use Rattle.object_id.specs.declared.entry.Entry.TheVariants as entries
 use Rattle.vdi_directory.specs.declared.header.Header.{Header}
 use Rattle.vdi_directory.specs.declared.effect.Effect.{Effect}
 use Rattle.vdi_directory.specs.declared.effect.Effect.TheVariants as effects
@@ -69,19 +67,3 @@ is_live_state Freed = false
 -- the name that an id was reserved for
 abbrev pub owner_of : List Effect → ℕ → Option (List ℕ)
 owner_of before vid = option_map (λ (header : Header). header.name) (header_of before vid)
-
--- whether an entry may take a disk from a session of the node: the node's leave, an entry of the node itself, and the
--- snapshot of the disk, with which the lock goes over to the disk in its place
-abbrev pub may_take : ℕ → ℕ → Entry → Bool
-may_take node vid (entries.Format members) = false
-may_take node vid (entries.Join other zone vnodes) = false
-may_take node vid (entries.Leave other) = other.0 == node
-may_take node vid (entries.Reweight other vnodes) = false
-may_take node vid (entries.Recovered other epoch) = false
-may_take node vid (entries.Reserve by session name origin) = by.0 == node
-may_take node vid (entries.Publish by of) = by.0 == node
-may_take node vid (entries.Clone by of) = by.0 == node
-may_take node vid (entries.Snapshot by old of) = by.0 == node || old.0 == vid
-may_take node vid (entries.Delete by session name tag) = by.0 == node
-may_take node vid (entries.Lock by session name tag) = by.0 == node
-may_take node vid (entries.Unlock by session of) = by.0 == node

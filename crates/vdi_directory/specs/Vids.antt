@@ -5,7 +5,7 @@ use Rattle.object_id.specs.Hash.{own_vid}
 use Rattle.object_id.specs.declared.oid.Vid.{Vid}
 use Rattle.vdi_directory.specs.declared.vid_range.VidRange.{VidRange}
 use Rattle.vdi_directory.specs.declared.vid_range.FullVdi.{FullVdi}
-use Rattle.vdi_directory.specs.declared.vid_range.TheConstants.{VID_MAX}
+use Rattle.object_id.specs.declared.limits.TheConstants.{VID_MAX}
 
 -- the id after this one; behind the last comes the first
 abbrev pub next_vid : ℕ → ℕ
@@ -18,7 +18,7 @@ first_unused used vid (suc count) = if used vid then first_unused used (next_vid
 
 -- how many ids there are
 unfoldable pub VID_COUNT : ℕ
-VID_COUNT = 2 ^ 24 - 1
+VID_COUNT = VID_MAX
 
 -- the id of a new disk: the name's own, or the next one that is not used
 abbrev pub free_id : List ℕ → (ℕ → Bool) → Option ℕ

@@ -1,16 +1,24 @@
-ghost use Rattle.std.specs.Prelude.{◌≡◌, ◌↔◌, ℕ, ◌∷◌, ◌++◌, List, [], IfOk, IsTrue, OnOk, OnErr, slice_get};
+ghost use Rattle.std.specs.Prelude.{◌≡◌, ◌↔◌, ℕ, ◌∷◌, ◌++◌, ◌&&◌, not, List, [], map, IfOk, IfSome, IsTrue, OnOk, OnErr, slice_get};
 ghost use Rattle.std.specs.Option.{option_copied, option_map};
+ghost use Rattle.object_id.specs.Spec.{IsSpec};
+ghost use Rattle.object_id.specs.declared.oid.Vid.{Vid as TheVid};
 ghost use Rattle.epoch_log.specs.Appending.{IsReservable};
 ghost use Rattle.vdi_directory.specs.declared.header.Header.{Header as TheHeader};
 ghost use Rattle.vdi_directory.specs.Effects.{header_of, live_of};
 ghost use Rattle.vdi_directory.specs.Decisions.{log_effects, decision_after, disk_found};
-ghost use Rattle.vdi_directory.specs.Dead.{IsDead};
+ghost use Rattle.vdi_directory.specs.States.{state_of};
+ghost use Rattle.vdi_directory.specs.Known.{IsHeaderOf};
+ghost use Rattle.vdi_directory.specs.References.{parent_of as the_parent, has_vid};
+ghost use Rattle.vdi_directory.specs.Chains.{chain_of};
+ghost use Rattle.vdi_directory.specs.Dead.{is_gone, IsDead, is_dead};
 ghost use Rattle.vdi_directory.specs.DirectoryState.{AreLocks};
 
 use crate::decision::Decision;
 use crate::directory_state::DirectoryState;
 use crate::header::Header;
-use crate::references::count_of;
+use crate::live_ids::has_id;
+use crate::references::{count_of, parent_of};
+use crate::reservations::reservation_on;
 use disk_lock::Locks;
 use object_id::{Entry, NoMemory, VdiSpec, Vid};
 use std::alloc::Global;
@@ -49,15 +57,18 @@ impl Directory {
         }
     }
 
-    /// The entries that were read, in order.
+    /// The entries that were read, in order. Costs nothing.
     pub fn entries(&self) -> &[Entry]
         ensures { result.now ≡ self.now }
     {
         self.entries.as_slice()
     }
 
-    /// Reads the next entry of the log: decides on it, and changes directory and locks by what was decided.
-    /// Without memory both are as before, and the entry isn't read.
+    /// Reads the next entry of the log: decides on it, and changes directory and locks by what was decided. Each entry is kept, also one
+    /// that is refused, so each takes memory. Without it both are as before, and the entry isn't read.
+    /// Costs the logarithm of the names, the known ids and the used ranges; a look at each reservation that stands and at each live
+    /// snapshot of the name; the move of the live ids or used ranges behind the one that changes. An entry that frees ids costs the
+    /// logarithm for each that it makes dead besides, and a Leave a look at each lock.
     pub fn read_entry(&mut self, entry: &Entry, locks: &mut Locks) -> Result<Decision, NoMemory>
         requires reservable { IsReservable entry.now }
         requires locks { AreLocks (log_effects self.old) locks.old }
@@ -76,7 +87,20 @@ impl Directory {
         Ok(outcome.decision)
     }
 
-    /// The live published working disk of a name, or its live snapshot with the tag; `None` exactly where there is none.
+    /// The ids that the next entry makes dead, each once: what `dead` says of them after the read, and not before. Nothing is read, so
+    /// a node can ask this first, and then let the rows of these ids alone go. Takes memory for these ids and for the names in the
+    /// entry, and costs the logarithm of the known ids for each, and for each reservation that a leave frees.
+    pub fn dead_by(&self, entry: &Entry, locks: &Locks) -> Result<Vec<Vid>, NoMemory>
+        requires { AreLocks (log_effects self.now) locks.now }
+        ensures { IfOk result (λ dead. (vid : ℕ) → has_vid vid dead.items
+            ≡ (is_dead (log_effects (self.now ++ entry.now ∷ [])) vid && not (is_dead (log_effects self.now) vid))) }
+    {
+        let outcome = self.outcome(entry, locks)?;
+        self.state.dead_by(self.alloc, &outcome.effect)
+    }
+
+    /// The live published working disk of a name, or its live snapshot with the tag; `None` exactly where there is none. Costs the
+    /// logarithm of the names, and with a tag a look at each live snapshot of the name.
     pub fn find(&self, name: &[u8], tag: Option<&[u8]>) -> Option<Vid>
         ensures { result ≡ disk_found self.now name.now (option_copied tag.entry) }
     {
@@ -86,32 +110,73 @@ impl Directory {
         }
     }
 
-    /// What a disk is made with; `None` exactly where no granted reservation has the id.
+    /// What a disk is made with; `None` exactly where no granted reservation has the id. Costs the logarithm of the known ids.
     pub fn spec(&self, vid: Vid) -> Option<VdiSpec>
-        ensures { result ≡ option_map (λ (header : TheHeader). header.spec) (header_of (log_effects self.now) vid.0) }
+        ensures value { result ≡ option_map (λ (header : TheHeader). header.spec) (header_of (log_effects self.now) vid.0) }
+        ensures valid { IfSome result IsSpec }
     {
-        match self.state.headers.get(&vid.0) {
+        match self.header(vid) {
             Some(header) => Some(header.spec),
             None => None,
         }
     }
 
     /// Whether an id is dead: deleted, or a reservation that was freed, and all its descendants with it. An id that was
-    /// never granted isn't.
+    /// never granted isn't. Costs the logarithm of the known ids.
     pub fn dead(&self, vid: Vid) -> bool
         ensures { IsTrue result ↔ IsDead (log_effects self.now) vid.0 }
     {
         self.state.headers.contains_key(&vid.0) && count_of(&self.state.references, vid) == 0
     }
 
-    /// A disk's header as it is now; `None` exactly where no granted reservation has the id.
+    /// A disk's header as it is now; `None` exactly where no granted reservation has the id. Costs the logarithm of the known ids.
     pub fn header(&self, vid: Vid) -> Option<&Header>
-        ensures { option_copied result ≡ header_of (log_effects self.now) vid.0 }
+        ensures value { option_copied result ≡ header_of (log_effects self.now) vid.0 }
+        ensures valid { IfSome (option_copied result) (IsHeaderOf (log_effects self.now) vid.0) }
     {
         self.state.headers.get(&vid.0)
     }
 
-    /// Number `k`, from 0, of the live ids in ascending order; `None` exactly past the last.
+    /// What an id was made from: the disk that became a snapshot before it, or the base of a clone. `None` where it was made from
+    /// nothing, or isn't known. Costs the logarithm of the known ids.
+    pub fn parent(&self, vid: Vid) -> Option<Vid>
+        ensures { result ≡ the_parent (log_effects self.now) vid.0 }
+    {
+        parent_of(&self.state.headers, vid)
+    }
+
+    /// The ids above one: its parent, its parent's parent and so on. Takes memory for them alone, and costs the logarithm of the known
+    /// ids for each.
+    pub fn chain(&self, vid: Vid) -> Result<Vec<Vid>, NoMemory>
+        ensures { IfOk result (λ chain. map (λ (id : TheVid). id.0) chain.items ≡ chain_of (log_effects self.now) vid.0) }
+    {
+        let mut chain = Vec::new(self.alloc);
+        let mut next = self.parent(vid);
+        while let Some(parent) = next {
+            chain.push(parent)?;
+            next = self.parent(parent);
+        }
+        Ok(chain)
+    }
+
+    /// Whether an id is gone: deleted, or a reservation that was freed. Its objects may have to stay for its descendants: see `dead`.
+    /// Costs the logarithm of the known ids, and a look at each reservation that stands.
+    pub fn is_gone(&self, vid: Vid) -> bool
+        ensures { result ≡ is_gone (state_of (log_effects self.now) vid.0) }
+    {
+        if !self.state.headers.contains_key(&vid.0) {
+            return false;
+        }
+        if has_id(self.state.live.as_slice(), vid) {
+            return false;
+        }
+        match reservation_on(&self.state.reservations, vid) {
+            Some(_reservation) => false,
+            None => true,
+        }
+    }
+
+    /// Number `k`, from 0, of the live ids in ascending order; `None` exactly past the last. Costs nothing.
     pub fn live_at(&self, k: usize) -> Option<Vid>
         ensures { result ≡ option_map (λ (vid : ℕ). record { 0 = vid }) (slice_get (live_of (log_effects self.now)) k) }
     {

@@ -1,13 +1,15 @@
-ghost use Rattle.std.specs.Prelude.{◌≡◌, ◌≤◌, ◌<◌, ℕ, ◌==◌, [], OnOk, OnErr, IsSome, vec_len, vec_capacity, if◌then◌else◌};
+ghost use Rattle.std.specs.Prelude.{◌≡◌, ◌≤◌, ◌<◌, ℕ, ◌==◌, [], IfOk, OnOk, OnErr, IsSome, vec_len, vec_capacity, if◌then◌else◌};
 ghost use Rattle.std.specs.List.Sorted.{IsNonDecreasing};
 ghost use Rattle.vdi_directory.specs.declared.effect.Effect.TheVariants as effects;
 ghost use Rattle.vdi_directory.specs.Vids.{AreRanges};
-ghost use Rattle.vdi_directory.specs.DirectoryState.{IsDirectoryState, AreMade, AreLocksMade, IsFresh, CanMake};
+ghost use Rattle.vdi_directory.specs.DirectoryState.{IsDirectoryState, AreMade, AreLocksMade, IsFresh, CanMake, lost_by, IsDeadList};
+ghost use Rattle.vdi_directory.specs.References.{one, reserved_by, parent_in, count_in, CanLose};
 
 use crate::effect::{Effect, Grant, Reservation, Snap};
 use crate::header::Header;
 use crate::headers::set_tag;
 use crate::live_ids::{add_id, drop_id};
+use crate::losses::Losses;
 use crate::names::Names;
 use crate::references::{add_child, add_place, drop_reference, drop_references_of};
 use crate::reservations::{drop_reservation, drop_reservations_of};
@@ -131,6 +133,42 @@ impl DirectoryState {
             node,
         );
         drop_reservations_of(&mut self.reservations, node);
+    }
+
+    fn dead_without(&self, alloc: Global, vid: Vid) -> Result<Vec<Vid>, NoMemory>
+        requires { CanLose (one vid.0) (parent_in self.now.headers) (count_in self.now.references) }
+        ensures { IfOk result (λ dead. IsDeadList (one vid.0) self.now dead.items) }
+    {
+        let mut losses = Losses::new(alloc);
+        losses.drop_reference(&self.headers, &self.references, vid)?;
+        Ok(losses.dead)
+    }
+
+    fn dead_without_node(&self, alloc: Global, node: NodeId) -> Result<Vec<Vid>, NoMemory>
+        requires { CanLose (reserved_by node self.now.reservations.items) (parent_in self.now.headers) (count_in self.now.references) }
+        ensures { IfOk result (λ dead. IsDeadList (reserved_by node self.now.reservations.items) self.now dead.items) }
+    {
+        let mut losses = Losses::new(alloc);
+        losses.drop_references_of(
+            &self.headers,
+            &self.references,
+            self.reservations.as_slice(),
+            node,
+        )?;
+        Ok(losses.dead)
+    }
+
+    /// The ids that an effect would make dead. Nothing changes.
+    pub fn dead_by(&self, alloc: Global, effect: &Effect) -> Result<Vec<Vid>, NoMemory>
+        requires { CanMake effect.now self.now }
+        ensures { IfOk result (λ dead. IsDeadList (lost_by effect.now self.now.reservations.items) self.now dead.items) }
+    {
+        match effect {
+            Effect::Deleted { vid, .. } => self.dead_without(alloc, *vid),
+            Effect::Withdrawn { vid } => self.dead_without(alloc, *vid),
+            Effect::Left { node } => self.dead_without_node(alloc, *node),
+            _ => Ok(Vec::new(alloc)),
+        }
     }
 
     /// Makes an effect. Without memory nothing changes.

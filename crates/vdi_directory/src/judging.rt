@@ -1,8 +1,10 @@
-//! What is decided on the next entry, and what it changes. Nothing is changed here.
-ghost use Rattle.std.specs.Prelude.{◌≡◌, ℕ, List, IfOk, if◌then◌else◌};
+//! What is decided on the next entry, and what it changes. Nothing is changed here. Memory is taken for the names and tags of an
+//! effect alone: a refusal, and a decision that names nothing, is never answered as `NoMemory`.
+ghost use Rattle.std.specs.Prelude.{◌≡◌, ℕ, true, List, IfOk, OnErr, if◌then◌else◌};
 ghost use Rattle.std.specs.Option.{option_copied};
-ghost use Rattle.vdi_directory.specs.Effects.{holder_of, reservations_of, reservation_on as the_reservation, name_of};
-ghost use Rattle.vdi_directory.specs.Decisions.{nothing, silent_outcome, grant_outcome, refusal_outcome, is_held_by, is_reserved_by, is_taken as has_taken, reservation_outcome as the_reserved, held_disk as the_held, reserved_snapshot as the_snapshot, reserved_clone as the_clone, reserve_outcome as the_reserve_outcome, publication, snapshot_outcome as the_replacement, free_disk as the_free, target as the_target, deletion, lock as the_lock, release as the_release, outcome as the_outcome, log_effects};
+ghost use Rattle.vdi_directory.specs.Vids.{free_id as first_free, as_vid};
+ghost use Rattle.vdi_directory.specs.Effects.{is_used, holder_of, reservations_of, reservation_on as the_reservation, name_of};
+ghost use Rattle.vdi_directory.specs.Decisions.{nothing, has_names, silent_outcome, grant_outcome, refusal_outcome, is_held_by, is_reserved_by, is_taken as has_taken, reservation_outcome as the_reserved, held_disk as the_held, reserved_snapshot as the_snapshot, reserved_clone as the_clone, reserve_outcome as the_reserve_outcome, publication, snapshot_outcome as the_replacement, free_disk as the_free, target as the_target, deletion, lock as the_lock, release as the_release, outcome as the_outcome, log_effects};
 ghost use Rattle.vdi_directory.specs.Sources.{is_for, tag_for as for_tag};
 ghost use Rattle.vdi_directory.specs.DirectoryState.{AreLocks};
 
@@ -11,7 +13,7 @@ use crate::directory::Directory;
 use crate::effect::{Effect, Grant, Reservation, Snap, Source};
 use crate::header::Header;
 use crate::reservations::{is_reserved, reservation_on};
-use crate::vid_range::free_vid;
+use crate::vid_range::{FullVdi, free_vid};
 use disk_lock::{Holder, Locks};
 use object_id::{Bytes, Cause, Entry, NoMemory, NodeId, Origin, VdiSpec, Vid};
 
@@ -100,6 +102,12 @@ impl Directory {
             || is_reserved(&self.state.reservations, name.as_slice())
     }
 
+    fn free_id(&self, name: &Bytes) -> Result<Vid, FullVdi>
+        ensures { result ≡ as_vid (first_free name.now (is_used (log_effects self.now))) }
+    {
+        free_vid(name.as_slice(), &self.state.used)
+    }
+
     /// Reserves a free id.
     fn reserve_id(
         &self,
@@ -110,9 +118,11 @@ impl Directory {
         parent: Option<Vid>,
         spec: VdiSpec,
     ) -> Result<Outcome, NoMemory>
-        ensures { IfOk result (λ o. o ≡ the_reserved (log_effects self.now) by session name.now source parent spec) }
+        ensures ok { IfOk result (λ o. o ≡ the_reserved (log_effects self.now) by session name.now source parent spec) }
+        ensures memory { OnErr result (has_names (the_reserved (log_effects self.now) by session name.now source parent spec).effect
+            ≡ true) }
     {
-        let Ok(vid) = free_vid(name.as_slice(), &self.state.used) else {
+        let Ok(vid) = self.free_id(name) else {
             return Ok(Outcome::refused(Cause::FullVdi));
         };
         let reservation = Reservation {
@@ -157,7 +167,8 @@ impl Directory {
         tag: &Bytes,
         held: Option<Vid>,
     ) -> Result<Outcome, NoMemory>
-        ensures { IfOk result (λ o. o ≡ the_snapshot (log_effects self.now) by session name.now tag.now held) }
+        ensures ok { IfOk result (λ o. o ≡ the_snapshot (log_effects self.now) by session name.now tag.now held) }
+        ensures memory { OnErr result (has_names (the_snapshot (log_effects self.now) by session name.now tag.now held).effect ≡ true) }
     {
         let Some(old) = held else {
             return Ok(Outcome::refused(Cause::VdiNotLocked));
@@ -173,6 +184,10 @@ impl Directory {
         let Some(spec) = self.spec(old) else {
             return Ok(Outcome::nothing());
         };
+        // A refusal takes no memory: so the tag is copied once there is an id.
+        let Ok(_free) = self.free_id(name) else {
+            return Ok(Outcome::refused(Cause::FullVdi));
+        };
         let source = Source::Snapshot {
             old,
             tag: tag.copy(self.alloc)?,
@@ -187,7 +202,8 @@ impl Directory {
         name: &Bytes,
         base: Option<Vid>,
     ) -> Result<Outcome, NoMemory>
-        ensures { IfOk result (λ o. o ≡ the_clone (log_effects self.now) by session name.now base) }
+        ensures ok { IfOk result (λ o. o ≡ the_clone (log_effects self.now) by session name.now base) }
+        ensures memory { OnErr result (has_names (the_clone (log_effects self.now) by session name.now base).effect ≡ true) }
     {
         let Some(base) = base else {
             return Ok(Outcome::refused(Cause::NoTag));
@@ -210,7 +226,9 @@ impl Directory {
         locks: &Locks,
     ) -> Result<Outcome, NoMemory>
         requires { AreLocks (log_effects self.now) locks.now }
-        ensures { IfOk result (λ o. o ≡ the_reserve_outcome (log_effects self.now) by session name.now origin.now) }
+        ensures ok { IfOk result (λ o. o ≡ the_reserve_outcome (log_effects self.now) by session name.now origin.now) }
+        ensures memory { OnErr result (has_names (the_reserve_outcome (log_effects self.now) by session name.now origin.now).effect
+            ≡ true) }
     {
         match origin {
             Origin::Fresh { spec } => {
@@ -235,7 +253,9 @@ impl Directory {
 
     /// Publishes an id for its node, where its reservation is of the right source.
     fn publication(&self, by: NodeId, vid: Vid, clones: bool) -> Result<Outcome, NoMemory>
-        ensures { IfOk result (λ o. o ≡ publication by (is_for clones) (the_reservation vid (reservations_of (log_effects self.now)))) }
+        ensures ok { IfOk result (λ o. o ≡ publication by (is_for clones) (the_reservation vid (reservations_of (log_effects self.now)))) }
+        ensures memory { OnErr result (has_names (publication by (is_for clones)
+            (the_reservation vid (reservations_of (log_effects self.now)))).effect ≡ true) }
     {
         let Some(reservation) = reservation_on(&self.state.reservations, vid) else {
             return Ok(Outcome::nothing());
@@ -258,7 +278,10 @@ impl Directory {
         locks: &Locks,
     ) -> Result<Outcome, NoMemory>
         requires { AreLocks (log_effects self.now) locks.now }
-        ensures { IfOk result (λ o. o ≡ the_replacement (log_effects self.now) by old (the_reservation vid (reservations_of (log_effects self.now)))) }
+        ensures ok { IfOk result (λ o. o ≡ the_replacement (log_effects self.now) by old
+            (the_reservation vid (reservations_of (log_effects self.now)))) }
+        ensures memory { OnErr result (has_names (the_replacement (log_effects self.now) by old
+            (the_reservation vid (reservations_of (log_effects self.now)))).effect ≡ true) }
     {
         let Some(reservation) = reservation_on(&self.state.reservations, vid) else {
             return Ok(Outcome::nothing());
@@ -316,7 +339,8 @@ impl Directory {
     }
 
     fn deletion(&self, name: &Bytes, target: Result<Vid, Cause>) -> Result<Outcome, NoMemory>
-        ensures { IfOk result (λ o. o ≡ deletion name.now target) }
+        ensures ok { IfOk result (λ o. o ≡ deletion name.now target) }
+        ensures memory { OnErr result (has_names (deletion name.now target).effect ≡ true) }
     {
         match target {
             Err(cause) => Ok(Outcome::refused(cause)),
@@ -344,7 +368,8 @@ impl Directory {
     /// What is decided on the next entry, and what it changes.
     pub(crate) fn outcome(&self, entry: &Entry, locks: &Locks) -> Result<Outcome, NoMemory>
         requires { AreLocks (log_effects self.now) locks.now }
-        ensures { IfOk result (λ o. o ≡ the_outcome (log_effects self.now) entry.now) }
+        ensures ok { IfOk result (λ o. o ≡ the_outcome (log_effects self.now) entry.now) }
+        ensures memory { OnErr result (has_names (the_outcome (log_effects self.now) entry.now).effect ≡ true) }
     {
         match entry {
             Entry::Format { .. }

@@ -1,5 +1,5 @@
 //! Laws of the definitions, for the proofs of the layers above: each is the contract of a function that does nothing.
-ghost use Rattle.std.specs.Prelude.{◌≡◌, ◌↔◌, ◌⊎◌, ℕ, ◌<◌, ◌≤◌, ◌==◌, ◌&&◌, Bool, true, false, List, [], ◌∷◌, ◌++◌, Option, Some, None, IsTrue};
+ghost use Rattle.std.specs.Prelude.{◌≡◌, ◌↔◌, ◌⊎◌, ℕ, ◌<◌, ◌≤◌, ◌==◌, ◌&&◌, Bool, true, false, List, [], ◌∷◌, ◌++◌, Option, Some, None, All, IsTrue};
 ghost use Rattle.std.specs.List.{list_any};
 ghost use Rattle.std.specs.FinMap as tree;
 ghost use Rattle.std.specs.List.Sorted.{IsStrictlyIncreasing};
@@ -10,6 +10,7 @@ ghost use Rattle.object_id.specs.declared.node.NodeId.{NodeId};
 ghost use Rattle.object_id.specs.declared.entry.Origin.TheVariants as origins;
 ghost use Rattle.object_id.specs.declared.entry.Entry.{Entry};
 ghost use Rattle.object_id.specs.declared.entry.Entry.TheVariants as the_entries;
+ghost use Rattle.epoch_log.specs.Appending.{IsReservable};
 ghost use Rattle.disk_lock.specs.declared.holder.Holder.{Holder};
 ghost use Rattle.vdi_directory.specs.declared.live_snapshot.LiveSnapshot.{LiveSnapshot};
 ghost use Rattle.vdi_directory.specs.declared.header.Header.{Header};
@@ -18,14 +19,17 @@ ghost use Rattle.vdi_directory.specs.declared.effect.Grant.{Grant};
 ghost use Rattle.vdi_directory.specs.declared.effect.Effect.{Effect};
 ghost use Rattle.vdi_directory.specs.declared.effect.Effect.TheVariants as effects;
 ghost use Rattle.vdi_directory.specs.declared.decision.Decision.TheVariants as decisions;
-ghost use Rattle.vdi_directory.specs.declared.vid_range.TheConstants.{VID_MAX};
+ghost use Rattle.object_id.specs.declared.limits.TheConstants.{VID_MAX};
 ghost use Rattle.vdi_directory.specs.Vids.{free_id};
 ghost use Rattle.vdi_directory.specs.Sources.{is_for, tag_for};
 ghost use Rattle.vdi_directory.specs.Effects.{is_used, header_of, name_of, reservations_of, reservation_on, live_of, holder_of};
 ghost use Rattle.vdi_directory.specs.Decisions.{outcome, log_effects, nothing, decision_after, disk_found, held_disk};
-ghost use Rattle.vdi_directory.specs.States.{Working, Snapshot, rank, state_of, owner_of, is_live_state, may_take};
+ghost use Rattle.vdi_directory.specs.States.{Working, Snapshot, rank, state_of, owner_of, is_live_state};
+ghost use Rattle.vdi_directory.specs.Known.{IsHeaderOf};
+ghost use Rattle.vdi_directory.specs.Holders.{takes_disk, may_take_disk};
 ghost use Rattle.vdi_directory.specs.Sound.{In, IsWorking, IsNameTaken};
-ghost use Rattle.vdi_directory.specs.Dead.{is_above, IsDead, is_dead};
+ghost use Rattle.vdi_directory.specs.Chains.{is_above, grant_place};
+ghost use Rattle.vdi_directory.specs.Dead.{IsDead, is_dead};
 ghost use Rattle.vdi_directory.specs.DirectoryState.{AreLocks};
 
 /// Before any entry was read nobody holds a disk: a new directory and new locks fit each other.
@@ -35,9 +39,11 @@ pub fn nobody_holds_at_first()
 
 /// An id that is granted is one that was never granted before, and it is used for ever after.
 pub fn an_id_is_granted_once()
-    ensures unused { (entries : List Entry) (entry : Entry) (grant : Grant) → (outcome (log_effects entries) entry).effect ≡ effects.Reserved grant
+    ensures unused { (entries : List Entry) (entry : Entry) (grant : Grant)
+        → (outcome (log_effects entries) entry).effect ≡ effects.Reserved grant
         → IsVid grant.reservation.vid.0 × (is_used (log_effects entries) grant.reservation.vid.0 ≡ false) }
-    ensures used { (entries : List Entry) (entry : Entry) (grant : Grant) → (outcome (log_effects entries) entry).effect ≡ effects.Reserved grant
+    ensures used { (entries : List Entry) (entry : Entry) (grant : Grant)
+        → (outcome (log_effects entries) entry).effect ≡ effects.Reserved grant
         → is_used (log_effects (entries ++ entry ∷ [])) grant.reservation.vid.0 ≡ true }
     ensures stays { (entries later : List Entry) (vid : ℕ) → is_used (log_effects entries) vid ≡ true
         → is_used (log_effects (entries ++ later)) vid ≡ true }
@@ -60,9 +66,24 @@ pub fn grants_are_known()
         × (header.parent ≡ Some parent) × (held_disk (log_effects entries) by session (disk_found entries name None) ≡ Some parent) }
 {}
 
+/// What is known of an id is valid, where each entry was one that may be reserved: the id is an id, its name a name, its tag empty or a
+/// tag, its spec valid. The same holds of what it was made from, which has its spec. A live snapshot's header has the snapshot's tag.
+pub fn what_is_known_is_valid()
+    ensures headers { (entries : List Entry) → All IsReservable entries → (vid : ℕ) (header : Header)
+        → header_of (log_effects entries) vid ≡ Some header → IsHeaderOf (log_effects entries) vid header }
+    ensures parents { (entries : List Entry) → All IsReservable entries → (vid : ℕ) (header : Header) (parent : Vid)
+        → header_of (log_effects entries) vid ≡ Some header → header.parent ≡ Some parent
+        → (base : Header) × (header_of (log_effects entries) parent.0 ≡ Some base) × IsHeaderOf (log_effects entries) parent.0 base
+        × (base.spec ≡ header.spec) }
+    ensures snapshots { (entries : List Entry) → All IsReservable entries → (vid : ℕ) (tag : List ℕ)
+        → state_of (log_effects entries) vid ≡ Snapshot tag
+        → (header : Header) × (header_of (log_effects entries) vid ≡ Some header) × (header.tag ≡ tag) }
+{}
+
 /// An id is reserved, then published, then a snapshot, then deleted; it may leave steps out, and never goes back.
 pub fn states_move_forward()
-    ensures { (entries later : List Entry) (vid : ℕ) → rank (state_of (log_effects entries) vid) ≤ rank (state_of (log_effects (entries ++ later)) vid) }
+    ensures { (entries later : List Entry) (vid : ℕ)
+        → rank (state_of (log_effects entries) vid) ≤ rank (state_of (log_effects (entries ++ later)) vid) }
 {}
 
 /// What a name finds is in that state, and was reserved for that name. Every working disk and
@@ -70,23 +91,27 @@ pub fn states_move_forward()
 pub fn names_find_their_disks()
     ensures working { (entries : List Entry) (name : List ℕ) (vid : Vid) → (name_of (log_effects entries) name).working ≡ Some vid
         → IsWorking (log_effects entries) name vid.0 }
-    ensures live_snapshots { (entries : List Entry) (name : List ℕ) (live_snapshot : LiveSnapshot) → In live_snapshot (name_of (log_effects entries) name).live_snapshots
+    ensures live_snapshots { (entries : List Entry) (name : List ℕ) (live_snapshot : LiveSnapshot)
+        → In live_snapshot (name_of (log_effects entries) name).live_snapshots
         → IsNameTaken (log_effects entries) name live_snapshot.vid.0 }
     ensures found { (entries : List Entry) (name : List ℕ) (vid : Vid) → IsWorking (log_effects entries) name vid.0
         → (name_of (log_effects entries) name).working ≡ Some vid }
     ensures listed { (entries : List Entry) (name tag : List ℕ) (vid : Vid) → state_of (log_effects entries) vid.0 ≡ Snapshot tag
-        → owner_of (log_effects entries) vid.0 ≡ Some name → In (record { vid = vid; tag = tag }) (name_of (log_effects entries) name).live_snapshots }
+        → owner_of (log_effects entries) vid.0 ≡ Some name
+        → In (record { vid = vid; tag = tag }) (name_of (log_effects entries) name).live_snapshots }
 {}
 
 /// The live ids are the working disks and the snapshots, each once, ascending.
 pub fn live_ids_are_published()
-    ensures each { (entries : List Entry) (vid : ℕ) → list_any (λ other. other == vid) (live_of (log_effects entries)) ≡ is_live_state (state_of (log_effects entries) vid) }
+    ensures each { (entries : List Entry) (vid : ℕ)
+        → list_any (λ other. other == vid) (live_of (log_effects entries)) ≡ is_live_state (state_of (log_effects entries) vid) }
     ensures ascending { (entries : List Entry) → IsStrictlyIncreasing (live_of (log_effects entries)) }
 {}
 
 /// A lock is granted where nobody holds the disk, and only working disks are held.
 pub fn one_holds_a_disk()
-    ensures free { (entries : List Entry) (entry : Entry) (vid : Vid) (holder : Holder) → (outcome (log_effects entries) entry).effect ≡ effects.Held vid holder
+    ensures free { (entries : List Entry) (entry : Entry) (vid : Vid) (holder : Holder)
+        → (outcome (log_effects entries) entry).effect ≡ effects.Held vid holder
         → (state_of (log_effects entries) vid.0 ≡ Working) × (holder_of (log_effects entries) vid.0 ≡ None) }
     ensures works { (entries : List Entry) (vid : ℕ) (holder : Holder) → holder_of (log_effects entries) vid ≡ Some holder
         → state_of (log_effects entries) vid ≡ Working }
@@ -100,25 +125,41 @@ pub fn a_node_that_left_has_nothing()
         → In reservation (reservations_of (log_effects (entries ++ the_entries.Leave node ∷ []))) → (reservation.by.0 == node.0) ≡ false }
 {}
 
-/// A disk stays with its holder as long as the holder's node puts no entry and doesn't leave, and the disk doesn't become
-/// a snapshot: so the next grant of a lost node's disk stands after the node's leave.
-pub fn a_disk_stays_with_its_holder()
-    ensures { (later entries : List Entry) (vid : ℕ) (holder : Holder) → holder_of (log_effects entries) vid ≡ Some holder
-        → list_any (may_take holder.node.0 vid) later ≡ false → holder_of (log_effects (entries ++ later)) vid ≡ Some holder }
+/// Three effects take a disk from its holder, and no other does: its lock is freed, it becomes a snapshot, or its holder's node
+/// leaves. So does one of three entries: the holder's own unlock, a snapshot of the disk, the leave of its node.
+pub fn three_effects_take_a_disk()
+    ensures stays { (entries : List Entry) (entry : Entry) (vid : ℕ) (holder : Holder) → holder_of (log_effects entries) vid ≡ Some holder
+        → takes_disk vid holder.node (outcome (log_effects entries) entry).effect ≡ false
+        → holder_of (log_effects (entries ++ entry ∷ [])) vid ≡ Some holder }
+    ensures goes { (entries : List Entry) (entry : Entry) (vid : ℕ) (holder : Holder) → holder_of (log_effects entries) vid ≡ Some holder
+        → takes_disk vid holder.node (outcome (log_effects entries) entry).effect ≡ true
+        → holder_of (log_effects (entries ++ entry ∷ [])) vid ≡ None }
+    ensures by_entry { (entries : List Entry) (entry : Entry) (vid : ℕ) (holder : Holder)
+        → holder_of (log_effects entries) vid ≡ Some holder
+        → takes_disk vid holder.node (outcome (log_effects entries) entry).effect ≡ true → may_take_disk vid holder entry ≡ true }
+    ensures later { (later entries : List Entry) (vid : ℕ) (holder : Holder) → holder_of (log_effects entries) vid ≡ Some holder
+        → list_any (may_take_disk vid holder) later ≡ false → holder_of (log_effects (entries ++ later)) vid ≡ Some holder }
 {}
 
 /// An entry that publishes an id without a reservation of its node and of its origin decides nothing and changes nothing.
 pub fn only_reservations_are_published()
     ensures unclaimed { (entries : List Entry) (by : NodeId) (vid : Vid) → reservation_on vid (reservations_of (log_effects entries)) ≡ None
-        → (outcome (log_effects entries) (the_entries.Publish by vid) ≡ nothing) × (outcome (log_effects entries) (the_entries.Clone by vid) ≡ nothing)
+        → (outcome (log_effects entries) (the_entries.Publish by vid) ≡ nothing)
+        × (outcome (log_effects entries) (the_entries.Clone by vid) ≡ nothing)
         × ((old : Vid) → outcome (log_effects entries) (the_entries.Snapshot by old vid) ≡ nothing) }
-    ensures publish { (entries : List Entry) (by : NodeId) (vid : Vid) (reservation : Reservation) → reservation_on vid (reservations_of (log_effects entries)) ≡ Some reservation
-        → (reservation.by.0 == by.0 && is_for false reservation.source) ≡ false → outcome (log_effects entries) (the_entries.Publish by vid) ≡ nothing }
-    ensures clone { (entries : List Entry) (by : NodeId) (vid : Vid) (reservation : Reservation) → reservation_on vid (reservations_of (log_effects entries)) ≡ Some reservation
-        → (reservation.by.0 == by.0 && is_for true reservation.source) ≡ false → outcome (log_effects entries) (the_entries.Clone by vid) ≡ nothing }
-    ensures snapshot { (entries : List Entry) (by : NodeId) (old vid : Vid) (reservation : Reservation) → reservation_on vid (reservations_of (log_effects entries)) ≡ Some reservation
+    ensures publish { (entries : List Entry) (by : NodeId) (vid : Vid) (reservation : Reservation)
+        → reservation_on vid (reservations_of (log_effects entries)) ≡ Some reservation
+        → (reservation.by.0 == by.0 && is_for false reservation.source) ≡ false
+        → outcome (log_effects entries) (the_entries.Publish by vid) ≡ nothing }
+    ensures clone { (entries : List Entry) (by : NodeId) (vid : Vid) (reservation : Reservation)
+        → reservation_on vid (reservations_of (log_effects entries)) ≡ Some reservation
+        → (reservation.by.0 == by.0 && is_for true reservation.source) ≡ false
+        → outcome (log_effects entries) (the_entries.Clone by vid) ≡ nothing }
+    ensures snapshot { (entries : List Entry) (by : NodeId) (old vid : Vid) (reservation : Reservation)
+        → reservation_on vid (reservations_of (log_effects entries)) ≡ Some reservation
         → (reservation.by.0 == by.0) ≡ false → outcome (log_effects entries) (the_entries.Snapshot by old vid) ≡ nothing }
-    ensures base { (entries : List Entry) (by : NodeId) (old vid : Vid) (reservation : Reservation) → reservation_on vid (reservations_of (log_effects entries)) ≡ Some reservation
+    ensures base { (entries : List Entry) (by : NodeId) (old vid : Vid) (reservation : Reservation)
+        → reservation_on vid (reservations_of (log_effects entries)) ≡ Some reservation
         → tag_for old reservation.source ≡ None → outcome (log_effects entries) (the_entries.Snapshot by old vid) ≡ nothing }
     ensures unheld { (entries : List Entry) (by : NodeId) (old vid : Vid) → holder_of (log_effects entries) old.0 ≡ None
         → outcome (log_effects entries) (the_entries.Snapshot by old vid) ≡ nothing }
@@ -126,9 +167,17 @@ pub fn only_reservations_are_published()
 
 /// What is dead stays dead, and takes along every id whose parent chain has it.
 pub fn the_dead_stay_dead()
-    ensures heirs { (entries : List Entry) (vid other : ℕ) → IsDead (log_effects entries) vid → is_above (log_effects entries) vid other ≡ true
+    ensures heirs { (entries : List Entry) (vid other : ℕ) → IsDead (log_effects entries) vid
+        → is_above (log_effects entries) vid other ≡ true
         → IsDead (log_effects entries) other }
-    ensures stays { (entries later : List Entry) (vid : ℕ) → IsDead (log_effects entries) vid → IsDead (log_effects (entries ++ later)) vid }
+    ensures stays { (entries later : List Entry) (vid : ℕ) → IsDead (log_effects entries) vid
+        → IsDead (log_effects (entries ++ later)) vid }
+{}
+
+/// A parent chain goes back in the log: each id that is above another was granted before it.
+pub fn chains_go_back_in_the_log()
+    ensures { (entries : List Entry) (elder vid : ℕ) → is_above (log_effects entries) elder vid ≡ true
+        → grant_place (log_effects entries) elder < grant_place (log_effects entries) vid }
 {}
 
 /// The test over the ids that were granted tells exactly which ids are dead.
@@ -144,5 +193,6 @@ pub fn a_free_id_is_the_first()
     ensures ahead { (name : List ℕ) (used : ℕ → Bool) (vid : ℕ) → free_id name used ≡ Some vid
         → own_vid name ≤ vid → (other : ℕ) → own_vid name ≤ other → other < vid → used other ≡ true }
     ensures round { (name : List ℕ) (used : ℕ → Bool) (vid : ℕ) → free_id name used ≡ Some vid
-        → vid < own_vid name → (other : ℕ) → ((1 ≤ other) × (other < vid)) ⊎ ((own_vid name ≤ other) × (other ≤ VID_MAX)) → used other ≡ true }
+        → vid < own_vid name → (other : ℕ) → ((1 ≤ other) × (other < vid)) ⊎ ((own_vid name ≤ other) × (other ≤ VID_MAX))
+        → used other ≡ true }
 {}

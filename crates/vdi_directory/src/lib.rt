@@ -23,6 +23,7 @@ mod judging;
 mod laws;
 mod live_ids;
 mod live_snapshot;
+mod losses;
 mod named;
 mod names;
 mod references;
@@ -36,9 +37,10 @@ pub use decision::Decision;
 pub use directory::Directory;
 pub use header::Header;
 pub use laws::{
-    a_disk_stays_with_its_holder, a_free_id_is_the_first, a_node_that_left_has_nothing,
-    a_test_finds_the_dead, an_id_is_granted_once, grants_are_known, live_ids_are_published,
+    a_free_id_is_the_first, a_node_that_left_has_nothing, a_test_finds_the_dead,
+    an_id_is_granted_once, chains_go_back_in_the_log, grants_are_known, live_ids_are_published,
     names_find_their_disks, nobody_holds_at_first, one_holds_a_disk,
     only_reservations_are_published, states_move_forward, the_dead_stay_dead,
+    three_effects_take_a_disk, what_is_known_is_valid,
 };
 pub use vid_range::{FullVdi, VidRange, free_vid};

@@ -1,4 +1,5 @@
-ghost use Rattle.std.specs.Prelude.{◌≡◌, ◌==◌, ◌<◌, ◌≤◌, not, filter, length, take, drop, ◌∷◌, ◌++◌, vec_len, vec_capacity};
+ghost use Rattle.std.specs.Prelude.{◌≡◌, ℕ, ◌==◌, slice_index_or, ◌<◌, ◌≤◌, not, filter, length, take, drop, ◌∷◌, ◌++◌, vec_len, vec_capacity};
+ghost use Rattle.std.specs.List.{list_any};
 ghost use Rattle.std.specs.List.Sorted.{IsNonDecreasing};
 ghost use Rattle.vdi_directory.specs.Effects.{ids_with};
 
@@ -9,8 +10,19 @@ fn place_of(live: &[u32], vid: u32) -> usize
     requires { IsNonDecreasing live.now }
     ensures within { result ≤ length live.now }
     ensures place { ids_with vid live.now ≡ take result live.now ++ vid ∷ drop result live.now }
+    ensures before { (k d : ℕ) → k < result → slice_index_or live.now k d ≤ vid }
+    ensures behind { (k d : ℕ) → result ≤ k → k < length live.now → vid < slice_index_or live.now k d }
 {
     live.partition_point(|other| *other <= vid)
+}
+
+/// Whether an id is there.
+pub fn has_id(live: &[u32], vid: Vid) -> bool
+    requires { IsNonDecreasing live.now }
+    ensures { result ≡ list_any (λ other. other == vid.0) live.now }
+{
+    let place = place_of(live, vid.0);
+    0 < place && live[place - 1] == vid.0
 }
 
 /// Adds an id, for which there is room, in its place.

@@ -47,7 +47,8 @@ pub fn add_child(references: &mut BTreeMap<u32, usize>, vid: Vid, parent: Option
     requires there { IsSome (get nat_cmp references.old vid.0) }
     requires new { count_in references.old vid.0 ≡ 0 }
     requires parent { IsReferenced parent (count_in references.old) }
-    ensures { (other : ℕ) → count_in references.new other ≡ count_in references.old other + one vid.0 other + one_parent_reference parent other }
+    ensures { (other : ℕ) → count_in references.new other
+        ≡ count_in references.old other + one vid.0 other + one_parent_reference parent other }
 {
     add_one(references, vid);
     if let Some(parent) = parent {
@@ -64,7 +65,8 @@ fn take_one(references: &mut BTreeMap<u32, usize>, vid: Vid)
     }
 }
 
-fn parent_of(headers: &BTreeMap<u32, Header>, vid: Vid) -> Option<Vid>
+/// What an id was made from.
+pub fn parent_of(headers: &BTreeMap<u32, Header>, vid: Vid) -> Option<Vid>
     ensures { result ≡ parent_in headers.now vid.0 }
 {
     match headers.get(&vid.0) {
@@ -98,8 +100,8 @@ pub fn drop_reference(
     references: &mut BTreeMap<u32, usize>,
     vid: Vid,
 )
-    requires { CanLose (one vid.0) headers.now references.old }
-    ensures { LosesReferences (one vid.0) headers.now references.old references.new }
+    requires { CanLose (one vid.0) (parent_in headers.now) (count_in references.old) }
+    ensures { LosesReferences (one vid.0) (parent_in headers.now) (count_in references.old) (count_in references.new) }
 {
     let mut next = Some(vid);
     while let Some(vid) = next {
@@ -113,8 +115,9 @@ fn drop_reserved(
     reservation: &Reservation,
     node: NodeId,
 )
-    requires { CanLose (reserved_once node reservation.now) headers.now references.old }
-    ensures { LosesReferences (reserved_once node reservation.now) headers.now references.old references.new }
+    requires { CanLose (reserved_once node reservation.now) (parent_in headers.now) (count_in references.old) }
+    ensures { LosesReferences (reserved_once node reservation.now) (parent_in headers.now) (count_in references.old)
+        (count_in references.new) }
 {
     if reservation.by == node {
         drop_reference(headers, references, reservation.vid);
@@ -128,8 +131,9 @@ pub fn drop_references_of(
     reservations: &[Reservation],
     node: NodeId,
 )
-    requires { CanLose (reserved_by node reservations.now) headers.now references.old }
-    ensures { LosesReferences (reserved_by node reservations.now) headers.now references.old references.new }
+    requires { CanLose (reserved_by node reservations.now) (parent_in headers.now) (count_in references.old) }
+    ensures { LosesReferences (reserved_by node reservations.now) (parent_in headers.now) (count_in references.old)
+        (count_in references.new) }
 {
     for reservation in reservations {
         drop_reserved(headers, references, reservation, node);

@@ -1,5 +1,5 @@
 //! Decisions that come from outside, and what no clause says.
-ghost use Rattle.std.specs.Prelude.{OnOk};
+ghost use Rattle.std.specs.Prelude.{IfOk, IfSome, OnOk};
 ghost use Rattle.vdi_directory.specs.Decisions.{log_effects};
 ghost use Rattle.vdi_directory.specs.DirectoryState.{AreLocks};
 
@@ -393,7 +393,9 @@ fn read_words(
     alloc: Global,
     words: &[u8],
     text: &mut Vec<u8>,
-) -> Result<Option<(Directory, Locks)>, NoMemory> {
+) -> Result<Option<(Directory, Locks)>, NoMemory>
+    ensures { IfOk result (λ read. IfSome read (λ kept. AreLocks (log_effects kept.0) kept.1)) }
+{
     nobody_holds_at_first();
     let opening = members();
     if !Log::may_open(&opening) {
@@ -527,6 +529,76 @@ fn finds_disks_and_headers(rt: HostRuntime) -> Result<(), Fail> {
         ),
         (Some(Vid(0x01_ec8c)), Some(Vid(0x01_ec8d)), None)
     );
+    Ok(())
+}
+
+// Two snapshots of a disk, of which the older one is deleted, and then the disk: the newer snapshot keeps the older one from being dead
+// until it goes too.
+#[test]
+fn walks_chains_and_tells_what_dies(rt: HostRuntime) -> Result<(), Fail> {
+    let alloc = rt.alloc();
+    let words =
+        b"F01a P0001ec8c O01a S01a:t N0001ec8c:01ec8d S01a:u N0001ec8d:01ec8e U0101ec8e D01a:t D01a";
+    let Some((directory, locks)) = read_words(alloc, words, &mut Vec::new(alloc))? else {
+        return Ok(assert!(rt; false, "not a log"));
+    };
+    let chain = directory.chain(Vid(0x01_ec8e))?;
+    assert_eq!(rt; chain.as_slice(), &[Vid(0x01_ec8d), Vid(0x01_ec8c)]);
+    assert_eq!(rt; directory.parent(Vid(0x01_ec8c)), None);
+    assert!(rt; directory.is_gone(Vid(0x01_ec8c)) && !directory.dead(Vid(0x01_ec8c)));
+    assert!(rt; !directory.is_gone(Vid(0x01_ec8d)) && !directory.is_gone(Vid(0x01_ec8f)));
+    let last = entry_of(alloc, b"D01a:u")?;
+    let dead = directory.dead_by(&last, &locks)?;
+    assert_eq!(rt; dead.as_slice(), &[Vid(0x01_ec8d), Vid(0x01_ec8c)]);
+    Ok(())
+}
+
+// A name and a tag of 255 bytes, the longest that there are.
+#[test]
+fn keeps_the_longest_names(rt: HostRuntime) -> Result<(), Fail> {
+    let alloc = rt.alloc();
+    nobody_holds_at_first();
+    let opening = members();
+    if !Log::may_open(&opening) {
+        return Ok(assert!(rt; false, "not a log"));
+    }
+    let log = Log::new(alloc, &opening)?;
+    let mut directory = Directory::new(alloc);
+    let mut locks = Locks::new(alloc);
+    let by = NodeId(0);
+    let name = [b'n'; 255];
+    let reserve = reserve_of(alloc, b'F', by, 1, &name)?;
+    let Some(vid) = put(&log, &mut directory, &mut locks, &reserve)? else {
+        return Ok(assert!(rt; false, "refused"));
+    };
+    put(
+        &log,
+        &mut directory,
+        &mut locks,
+        &Entry::Publish { by, vid },
+    )?;
+    let lock = Entry::Lock {
+        by,
+        session: 1,
+        name: Bytes::from_slice(alloc, &name)?,
+        tag: None,
+    };
+    put(&log, &mut directory, &mut locks, &lock)?;
+    // The name, and itself as the tag.
+    let mut names = [b'n'; 511];
+    names[255] = b':';
+    let reserve = reserve_of(alloc, b'S', by, 1, &names)?;
+    let Some(next) = put(&log, &mut directory, &mut locks, &reserve)? else {
+        return Ok(assert!(rt; false, "refused"));
+    };
+    let snapshot = Entry::Snapshot {
+        by,
+        old: vid,
+        vid: next,
+    };
+    put(&log, &mut directory, &mut locks, &snapshot)?;
+    assert_eq!(rt; directory.find(&name, None), Some(next));
+    assert_eq!(rt; directory.find(&name, Some(&name)), Some(vid));
     Ok(())
 }
 

@@ -2,8 +2,8 @@ ghost use Rattle.std.specs.Prelude.{◌≡◌, ◌<◌, ◌≤◌, ◌+◌, ◌+
 ghost use Rattle.vdi_directory.specs.declared.vid_range.VidRange.{VidRange};
 ghost use Rattle.vdi_directory.specs.Vids.{is_in, ranges_with, with_vid, AreRanges};
 
-use crate::vid_range::{VID_MAX, VidRange, place_of};
-use object_id::Vid;
+use crate::vid_range::{VidRange, place_of};
+use object_id::{VID_MAX, Vid};
 
 /// Adds the id behind a range to it, and joins it with the next one where they touch then.
 fn extend(used: &mut Vec<VidRange>, place: usize, vid: u32)

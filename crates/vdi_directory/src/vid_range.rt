@@ -3,10 +3,7 @@ ghost use Rattle.object_id.specs.Hash.{own_vid};
 ghost use Rattle.vdi_directory.specs.declared.vid_range.VidRange.{VidRange};
 ghost use Rattle.vdi_directory.specs.Vids.{free_id, as_vid, is_in, AreRanges};
 
-use object_id::{Vid, fnv1a};
-
-/// The greatest id of a disk; the least is 1.
-pub const VID_MAX: u32 = 0xff_ffff;
+use object_id::{VID_MAX, Vid, fnv1a};
 
 /// The ids from `first` to `last`.
 #[derive(Clone, Copy, Debug, PartialEq, Eq)]
@@ -40,7 +37,7 @@ pub fn place_of(ranges: &[VidRange], vid: u32) -> usize
 }
 
 /// The id of a new disk of this name: the low 24 bits of the name's hash, or the next id that is not used, where the
-/// first follows on the last and 0 is none. Takes no memory.
+/// first follows on the last and 0 is none. Takes no memory, and costs the logarithm of the ranges.
 pub fn free_vid(name: &[u8], used: &[VidRange]) -> Result<Vid, FullVdi>
     requires { AreRanges used.now }
     ensures { result ≡ as_vid (free_id name.now (is_in used.now)) }

@@ -18,7 +18,8 @@ use Rattle.vdi_directory.specs.declared.decision.Decision.TheVariants as decisio
 use Rattle.vdi_directory.specs.Effects.{header_of}
 use Rattle.vdi_ops.specs.declared.act.OpAct.TheVariants.{Append, Work, Reply}
 use Rattle.vdi_ops.specs.Entries.{first_entry}
-use Rattle.vdi_ops.specs.Tables.{chain_of, table_in, holes, inode_by}
+use Rattle.vdi_directory.specs.Chains.{chain_of}
+use Rattle.vdi_ops.specs.Tables.{table_in, holes, inode_by}
 use Rattle.vdi_ops.specs.InodeWorks.{read_inode, create_inode, write_back, write_tag}
 use Rattle.vdi_ops.specs.Op.{Asked, Op}
 use Rattle.vdi_ops.specs.Steps.{step_after_known_grant, copied_from, begun_with_entry, begin_command, on_decision, op_on_done}

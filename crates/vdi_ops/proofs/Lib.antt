@@ -1,4 +1,3 @@
-mod ChainLemmas
 pub mod StepLemmas
 mod TableLemmas
 mod CourseLemmas

@@ -14,7 +14,8 @@ use Rattle.vdi_directory.specs.declared.decision.Decision.{Decision}
 use Rattle.vdi_directory.specs.declared.decision.Decision.TheVariants as decisions
 use Rattle.vdi_directory.specs.Effects.{header_of}
 use Rattle.vdi_ops.specs.Entries.{first_entry}
-use Rattle.vdi_ops.specs.Tables.{chain_of, table_in, holes, inode_by}
+use Rattle.vdi_directory.specs.Chains.{chain_of}
+use Rattle.vdi_ops.specs.Tables.{table_in, holes, inode_by}
 use Rattle.vdi_ops.specs.InodeWorks.{read_inode, create_inode, write_back, write_tag}
 use Rattle.vdi_ops.specs.Op.{Task, Opening, WritingBack, Tagging, Copying, Making, OpStage, Asked, Working, Publishing, Answered, Op, op_stage_bytes, op_bytes_wanted, entry_wanted_at, entry_wanted, IsAwaitedByCommand}
 use Rattle.vdi_ops.specs.Steps.{begun_with_entry, begin_command, taken_over, copied_from, step_after_grant, step_after_known_grant, step_after_decision, decided_at, on_decision, task_done, done_at, op_on_done, refused_at, on_refusal}

@@ -19,7 +19,8 @@ use Rattle.vdi_directory.specs.Effects.{header_of}
 use Rattle.vdi_ops.specs.declared.act.OpAct.TheVariants.{Append, Work, Reply}
 use Rattle.vdi_ops.specs.declared.end.OpEnd.{OpEnd}
 use Rattle.vdi_ops.specs.Entries.{opens_snapshot, first_entry, unlock_of}
-use Rattle.vdi_ops.specs.Tables.{chain_of, table_in, holes, inode_by}
+use Rattle.vdi_directory.specs.Chains.{chain_of}
+use Rattle.vdi_ops.specs.Tables.{table_in, holes, inode_by}
 use Rattle.vdi_ops.specs.InodeWorks.{read_inode, create_inode, write_back, write_tag}
 use Rattle.vdi_ops.specs.Op.{Task, Opening, WritingBack, Tagging, Copying, Making, OpStage, Asked, Working, Publishing, Answered, Op, OpStep}
 

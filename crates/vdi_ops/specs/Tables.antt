@@ -1,38 +1,13 @@
 -- What an opening or a clone takes from an inode that it reads: the table alone, and of that the entries that may be there.
-use Rattle.std.specs.Prelude.{ℕ, ◌==◌, List, [], ◌∷◌, map, fold, replicate, Option, Some, None, if◌then◌else◌}
+use Rattle.std.specs.Prelude.{ℕ, ◌==◌, List, map, replicate, if◌then◌else◌}
 use Rattle.std.specs.List.{list_any}
 use Rattle.std.specs.Int.{w32}
-use Rattle.object_id.specs.declared.oid.Vid.{Vid}
 use Rattle.object_id.specs.declared.entry.VdiSpec.{VdiSpec}
 use Rattle.object_id.specs.Spec.{objects_of}
 use Rattle.object_id.specs.Fields.{numbers_at}
 use Rattle.inode.specs.declared.layout.TheConstants.{INODE_HEADER_BYTES}
 use Rattle.inode.specs.Layout.{Content, parent_number}
 use Rattle.vdi_directory.specs.declared.header.Header.{Header}
-use Rattle.vdi_directory.specs.declared.effect.Effect.{Effect}
-use Rattle.vdi_directory.specs.declared.effect.Effect.TheVariants as effects
-
--- a parent, and behind it the parent's own parents
-abbrev pub chain_from : (ℕ → List ℕ) → Option Vid → List ℕ
-chain_from chains None = []
-chain_from chains (Some parent) = parent.0 ∷ chains parent.0
-
--- the chains once an effect was made: that of an id comes with its grant
-abbrev pub chain_after : (ℕ → List ℕ) → Effect → ℕ → List ℕ
-chain_after chains effects.Nothing vid = chains vid
-chain_after chains (effects.Reserved grant) vid =
-    if grant.reservation.vid.0 == vid then chain_from chains grant.header.parent else chains vid
-chain_after chains (effects.Published of name) vid = chains vid
-chain_after chains (effects.Snapped snap) vid = chains vid
-chain_after chains (effects.Deleted of name) vid = chains vid
-chain_after chains (effects.Held of holder) vid = chains vid
-chain_after chains (effects.Freed of) vid = chains vid
-chain_after chains (effects.Withdrawn of) vid = chains vid
-chain_after chains (effects.Left node) vid = chains vid
-
--- the parent chain of an id by the directory, the nearest parent first
-unfoldable pub chain_of : List Effect → ℕ → List ℕ
-chain_of before = fold chain_after (λ vid. []) before
 
 -- an entry counts where it is one of these ids, and else is a hole
 abbrev pub kept_entry : List ℕ → ℕ → ℕ

@@ -20,10 +20,10 @@ ghost use Rattle.vdi_directory.specs.declared.decision.Decision.{Decision};
 ghost use Rattle.vdi_directory.specs.declared.decision.Decision.TheVariants as decisions;
 ghost use Rattle.vdi_directory.specs.declared.effect.Effect.{Effect};
 ghost use Rattle.vdi_directory.specs.Effects.{header_of};
-ghost use Rattle.vdi_directory.specs.Dead.{is_above};
 ghost use Rattle.vdi_ops.specs.declared.act.OpAct.TheVariants.{Append, Work, Reply};
 ghost use Rattle.vdi_ops.specs.Entries.{OpenDisk, own_bytes, command_refusal, first_entry};
-ghost use Rattle.vdi_ops.specs.Tables.{chain_of, kept_entry, table_in, holes, inode_by};
+ghost use Rattle.vdi_directory.specs.Chains.{chain_of};
+ghost use Rattle.vdi_ops.specs.Tables.{kept_entry, table_in, holes, inode_by};
 ghost use Rattle.vdi_ops.specs.InodeWorks.{written_bytes, written_back, read_inode, create_inode, write_back, write_tag};
 ghost use Rattle.vdi_ops.specs.Op.{Op, entry_wanted, op_bytes_wanted, IsAwaitedByCommand};
 ghost use Rattle.vdi_ops.specs.Steps.{begin_command, on_decision, op_on_done, on_refusal};
@@ -98,12 +98,6 @@ pub fn checks_are_refused_so()
     ensures taken { (disk : OpenDisk) → disk.snapshot ≡ false → own_bytes disk.inode ≤ 268435456
         → command_refusal (Some disk) Check ≡ None }
     ensures entry { (by : NodeId) (session : ℕ) (disk : Option Content) → begin_command by session Check disk ≡ None }
-{}
-
-/// The parent chain of an id is the ids that the directory calls above it.
-pub fn the_chain_is_what_stands_above()
-    ensures { (known : List Effect) (elder vid : ℕ)
-        → is_above known elder vid ≡ list_any (λ id. id == elder) (chain_of known vid) }
 {}
 
 /// What a command does is what it then waits for: the decision on an entry, a work, or nothing, once it has its reply.

@@ -9,6 +9,7 @@ use Rattle.vdi_directory.proofs.LiveLemmas.{live_of-sorted}
 use Rattle.vdi_directory.proofs.StateLemmas.{log_effects-push, state-push, locks-push, fresh-outcome}
 use Rattle.vdi_directory.proofs.LawfulLemmas.{lawful-outcome, sound-log_effects}
 use Rattle.vdi_directory.proofs.LineLemmas.{line-log_effects}
+use Rattle.vdi_directory.proofs.ValidLemmas.{known-happens}
 use Rattle.vdi_directory.proofs.StandLemmas.{reserved-log_effects, can-make, bear-push}
 use Rattle.vdi_directory.proofs.directory.Directory.read_entry.Goals as goal
 
@@ -16,7 +17,7 @@ pub make-requires-clause-fresh : goal.make-requires-clause-fresh
 make-requires-clause-fresh c =
     let before : List Entry = c.self.inside.entries.items in
     let is : c.in_ok-outcome.outcome ≡ outcome_of (log_effects before) c.args.entry.now
-    = c.in_ok-outcome.ensures ∙ ap (λ (all : List Entry). outcome_of (log_effects all) c.args.entry.now) c.reserve.ensures.items in
+    = c.in_ok-outcome.ensures.ok ∙ ap (λ (all : List Entry). outcome_of (log_effects all) c.args.entry.now) c.reserve.ensures.items in
     subst (λ (o : Outcome). IsFresh o.effect c.self.inside.state) (sym is)
     (fresh-outcome (log_effects before) c.self.inside.state c.self.invariant c.args.entry.now)
 
@@ -24,7 +25,7 @@ pub make-requires-clause-references : goal.make-requires-clause-references
 make-requires-clause-references c =
     let entries : List Entry = c.self.inside.entries.items in
     let is : c.in_ok-outcome.outcome ≡ outcome_of (log_effects entries) c.args.entry.now
-    = c.in_ok-outcome.ensures ∙ ap (λ (all : List Entry). outcome_of (log_effects all) c.args.entry.now) c.reserve.ensures.items in
+    = c.in_ok-outcome.ensures.ok ∙ ap (λ (all : List Entry). outcome_of (log_effects all) c.args.entry.now) c.reserve.ensures.items in
     subst (λ (o : Outcome). CanMake o.effect c.self.inside.state) (sym is)
     (can-make (log_effects entries) (sound-log_effects entries) (reserved-log_effects entries) (line-log_effects entries) c.self.inside.state c.self.invariant
     (outcome_of (log_effects entries) c.args.entry.now).effect (lawful-outcome (log_effects entries) (sound-log_effects entries) c.args.entry.now))
@@ -36,7 +37,7 @@ pub invariant_of-self-3 : goal.invariant_of-self-3
 invariant_of-self-3 c =
     let before : List Entry = c.self.inside.entries.items in
     let is : c.in_ok-outcome.outcome ≡ outcome_of (log_effects before) c.args.entry.now
-    = c.in_ok-outcome.ensures ∙ ap (λ (all : List Entry). outcome_of (log_effects all) c.args.entry.now) c.reserve.ensures.items in
+    = c.in_ok-outcome.ensures.ok ∙ ap (λ (all : List Entry). outcome_of (log_effects all) c.args.entry.now) c.reserve.ensures.items in
     let later : c.push_reserved.new.self.items ≡ before ++ c.args.entry.now ∷ []
     = c.push_reserved.ensures.items ∙ (λ i. c.reserve.ensures.items i ++ c.in_ok-copy.ensures i ∷ []) in
     let made : AreMade ((outcome_of (log_effects before) c.args.entry.now).effect) c.self.inside.state c.make.new.self
@@ -44,13 +45,14 @@ invariant_of-self-3 c =
     subst (λ (before : List Effect). IsDirectoryState before c.make.new.self) (sym (ap log_effects later ∙ log_effects-push before c.args.entry.now))
     (state-push (log_effects before) ((outcome_of (log_effects before) c.args.entry.now).effect) c.self.inside.state c.make.new.self c.self.invariant made
     (bear-push (log_effects before) (sound-log_effects before) (reserved-log_effects before) (line-log_effects before) c.self.inside.state c.self.invariant
-    (outcome_of (log_effects before) c.args.entry.now).effect (lawful-outcome (log_effects before) (sound-log_effects before) c.args.entry.now) c.make.new.self made.references))
+    (outcome_of (log_effects before) c.args.entry.now).effect (lawful-outcome (log_effects before) (sound-log_effects before) c.args.entry.now) c.make.new.self made.references)
+    (known-happens (log_effects before) (line-log_effects before) c.self.invariant.known (sound-log_effects before) c.args.entry.now c.requires.reservable))
 
 pub returns-clause-locks : goal.returns-clause-locks
 returns-clause-locks c =
     let before : List Entry = c.self.inside.entries.items in
     let is : c.in_ok-outcome.outcome ≡ outcome_of (log_effects before) c.args.entry.now
-    = c.in_ok-outcome.ensures ∙ ap (λ (all : List Entry). outcome_of (log_effects all) c.args.entry.now) c.reserve.ensures.items in
+    = c.in_ok-outcome.ensures.ok ∙ ap (λ (all : List Entry). outcome_of (log_effects all) c.args.entry.now) c.reserve.ensures.items in
     let later : c.push_reserved.new.self.items ≡ before ++ c.args.entry.now ∷ []
     = c.push_reserved.ensures.items ∙ (λ i. c.reserve.ensures.items i ++ c.in_ok-copy.ensures i ∷ []) in
     let made : AreLocksMade ((outcome_of (log_effects before) c.args.entry.now).effect) c.args.locks.now c.make.new.locks

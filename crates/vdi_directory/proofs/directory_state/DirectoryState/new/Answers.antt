@@ -7,6 +7,7 @@ use Rattle.vdi_directory.specs.Effects.{is_used, header_of, name_of, reservation
 use Rattle.vdi_directory.specs.States.{state_of}
 use Rattle.vdi_directory.specs.References.{parent_of, own_of, count_in}
 use Rattle.vdi_directory.proofs.ReferenceLemmas.{none-bear}
+use Rattle.vdi_directory.proofs.ValidLemmas.{known-none}
 use Rattle.vdi_directory.proofs.directory_state.DirectoryState.new.Goals as goal
 
 pub returns : goal.returns
@@ -20,4 +21,5 @@ returns c = record {
   used = λ vid. ap (λ ranges. is_in ranges vid) c.new-5.ensures.items;
   references = none-bear (parent_of []) (own_of []) (count_in c.new-6.result) (λ vid. refl)
       (λ vid. ap (λ entries. unwrap_or (lookup (is_at (nat_cmp vid)) entries) 0) c.new-6.ensures.empty);
+  known = known-none;
 }
