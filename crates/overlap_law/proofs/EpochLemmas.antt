@@ -25,17 +25,16 @@ use Rattle.sheep_node.specs.StepFacts.{only_reply}
 use Rattle.sheep_node.specs.Step.{is_due, node_step}
 use Rattle.sheep_node.proofs.StepLaws.{older_step, newer_step}
 use Rattle.sheep_world.specs.declared.name.MessageName.{MessageName}
-use Rattle.sheep_world.specs.World.{Packet, Request, Host, World, node_at, is_up, message_at}
+use Rattle.sheep_world.specs.World.{Packet, Request, Host, World, node_at, message_at}
 use Rattle.sheep_world.specs.NodeSteps.{world_after_step, host_stepped, node_stepped, at_rest}
 use Rattle.sheep_world.specs.Conditions.{may_deliver}
-use Rattle.sheep_world.specs.Messages.{without_message, with_reply_packet, request_got, request_delivered, delivered_as, message_delivered}
+use Rattle.sheep_world.specs.Messages.{request_got, request_delivered, delivered_as, message_delivered}
 use Rattle.sheep_world.specs.HistoryAdditions.{reply_grown}
 use Rattle.sheep_world.specs.Step.{EventOutcome, with_replies, step}
 use Rattle.overlap_law.specs.Words.{Hosts}
 use Rattle.overlap_law.specs.Past.{MomentWithPast, run_with_past}
 use Rattle.overlap_law.specs.Headline.{IsOfAnotherEpoch, ChangesNothing, OtherEpochsChangeNothing}
-use Rattle.overlap_law.proofs.RestEffects.{AreRested}
-use Rattle.overlap_law.proofs.RestLemmas.{run-rested}
+use Rattle.overlap_law.proofs.RestLemmas.{AreRested, run-rested}
 
 got-own : (hosts : Hosts) (n : ℕ) (host : Host) → tree.get (tree.insert hosts n host) n ≡ Some host
 got-own hosts n host =
@@ -75,24 +74,12 @@ unfolding node_stepped
 node-as_before script n input node rsp world found says_so =
     host-as_before script n input (tree.get world.hosts n) node rsp world found says_so
 
-with_reply_packet-as_before : (n : ℕ) (node : Node) (rsp : PeerRsp) (name : MessageName) (from : NodeId) (say : Option PeerRsp) (world : World)
-    → IsAsBefore n node rsp world → IsAsBefore n node rsp (with_reply_packet name from say world)
-with_reply_packet-as_before n node rsp name from None world before = before
-with_reply_packet-as_before n node rsp name from (Some said) world before = record { said = before.said; same = before.same }
-
-replied_if : (n : ℕ) (node : Node) (rsp : PeerRsp) (name : MessageName) (from : NodeId) (world : World) (b : Bool)
-    → IsAsBefore n node rsp world
-    → IsAsBefore n node rsp (cond b (with_reply_packet name from world.outputs.say world) (without_message name world))
-replied_if n node rsp name from world true before = with_reply_packet-as_before n node rsp name from world.outputs.say world before
-replied_if n node rsp name from world false before = record { said = before.said; same = before.same }
-
 got-as_before : (script : List Statement) (name : MessageName) (to : NodeId) (request : PeerReq) (node : Node) (rsp : PeerRsp) (world : World)
     → node_at to.0 world ≡ Some node → node_step (inputs.Request request) node ≡ saying node rsp
     → IsAsBefore to.0 node rsp (request_got script name to (Ok request) world)
 got-as_before script name to request node rsp world found says_so =
-    let after = node_stepped script to.0 (inputs.Request request) world in
-    replied_if to.0 node rsp name to after (is_up name.sender.0 after)
-    (node-as_before script to.0 (inputs.Request request) node rsp world found says_so)
+    let before = node-as_before script to.0 (inputs.Request request) node rsp world found says_so in
+    record { said = before.said; same = before.same }
 
 message_delivered-as_before : (script : List Statement) (name : MessageName) (to : NodeId) (bytes : List ℕ) (request : PeerReq) (node : Node) (rsp : PeerRsp)
     (world : World) → message_at name world ≡ Some (Request to bytes) → ask_in bytes ≡ Ok request → node_at to.0 world ≡ Some node

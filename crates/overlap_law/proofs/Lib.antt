@@ -3,7 +3,6 @@ pub mod RunLemmas
 pub mod UnitLemmas
 pub mod BaseLemmas
 pub mod WholeLemmas
-pub mod RestEffects
 pub mod RestLemmas
 pub mod EpochLemmas
 pub mod WorkedCases

@@ -5,7 +5,7 @@ use Rattle.std.proofs.lemmas.List.{append-nil, append_assoc}
 use Rattle.object_id.specs.declared.entry.Entry.{Entry}
 use Rattle.cluster_script.specs.declared.statement.Statement.{Statement}
 use Rattle.disk_history.specs.declared.event.HistEvent.{HistEvent}
-use Rattle.disk_history.specs.declared.event.HistEvent.TheVariants.{Create, Copy, Delete, WriteStart, WriteDone, WriteRefused, WriterLost, Read}
+use Rattle.disk_history.specs.declared.event.HistEvent.TheVariants.{Create}
 use Rattle.sheep_node.specs.declared.event.Event.{Event}
 use Rattle.sheep_world.specs.Step.{EventOutcome, step}
 use Rattle.sheep_world.specs.Run as runs

@@ -14,7 +14,7 @@ use Rattle.gateway.specs.Attempt as gateways
 use Rattle.gateway.specs.State.{WorkStage, Open, Ended, WaitsForMembers, Work, asker}
 use Rattle.sheep_node.specs.State.{Request}
 use Rattle.sheep_node.specs.declared.event.Event.{Event}
-use Rattle.sheep_node.specs.declared.event.Event.TheVariants.{Guest, Deliver, LoseRequest, LoseReply, LogNext, Put, RecoverTick, RetryTick, Lost, Leave, Join, Reweight, Back, Phase}
+use Rattle.sheep_node.specs.declared.event.Event.TheVariants.{Guest, Deliver, LoseRequest, LoseReply, LogNext, RetryTick}
 use Rattle.sheep_world.specs.declared.name.MessageName.{MessageName}
 use Rattle.sheep_world.specs.World as worlds
 use Rattle.sheep_world.specs.World.{Packet, Host, World, host_at, message_at}

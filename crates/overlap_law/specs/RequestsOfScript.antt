@@ -1,11 +1,10 @@
 -- The run against the script: each request at a gateway is the one of its number, of a session of this incarnation,
 -- with the disk on which it
 -- began; each attempt is for such a one; and who is to join is new.
-use Rattle.std.specs.Prelude.{◌≡◌, ℕ, true, false, List, length, ◌∷◌, ◌++◌, slice_get, Option, Some, ◌+◌, drop, flat_map, None}
+use Rattle.std.specs.Prelude.{◌≡◌, ℕ, true, false, List, length, ◌∷◌, ◌++◌, slice_get, Option, Some, None}
 use Rattle.std.specs.FinMap as tree
 use Rattle.cluster_script.specs.declared.statement.Statement.{Statement}
 use Rattle.cluster_script.specs.declared.statement.Statement.TheVariants as lines
-use Rattle.cluster_script.specs.Phases.{Phase, phases_of}
 use Rattle.cluster_script.specs.NumberedRequests.{session_of, request_at}
 use Rattle.cluster_script.specs.Sessions.{ScriptSession, session_numbered}
 use Rattle.peer_proto.specs.declared.guest.DiskAsk.{DiskAsk}
@@ -18,6 +17,7 @@ use Rattle.sheep_node.specs.declared.ask.Ask.TheVariants as asks
 use Rattle.sheep_node.specs.State.{Request, Course, Waiting, Driving, Commanding, session_at}
 use Rattle.sheep_world.specs.World.{Host, StartedRequest, World, progress_at, host_at}
 use Rattle.sheep_world.specs.BegunRequests.{WasBegun}
+use Rattle.sheep_world.specs.ControlsToCome.{controls_to_come}
 use Rattle.sheep_world.specs.Asking.{ask_of_statement, session_asking}
 use Rattle.overlap_law.specs.Attempts.{AttemptRecord}
 use Rattle.overlap_law.specs.Each.{EachAttempt}
@@ -96,10 +96,6 @@ pub record TheRefusedAreAnswered (script : List Statement) (world : World) (refu
       → is_object_among started.req refused ≡ false
   pub unanswered : (session place : ℕ) (started : StartedRequest) → slice_get (progress_at session world).unanswered place ≡ Some started
       → WasStarted script world started.req
-
--- the controls that are still to come: those that are left, then those of the phases behind
-abbrev pub controls_to_come : List Statement → World → List Statement
-controls_to_come script world = world.controls ++ flat_map (λ (phase : Phase). phase.controls) (drop (world.phase + 1) (phases_of script))
 
 -- a node whose join is to come isn't there, and joins once
 pub record JoinsAreNew (script : List Statement) (world : World) : Type 0 where

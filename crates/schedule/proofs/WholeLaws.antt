@@ -57,7 +57,7 @@ module _ (statements : List Statement) where
           phase-ends statements draft.world one.0 (ap (λ (event : Event). step statements event draft.world) (sym phase.0) ∙ one.1) in
           omega (arith, after, room, ended, phase.1)
       by_goes (inr counted) =
-          let on : draft.world.phase ≤ one.0.world.phase = never-back statements (choice statements draft).event draft.world one.0 one.1 in
+          let on : draft.world.phase ≤ one.0.world.phase = never-back statements draft.world one.0 (choice statements draft).event one.1 in
           omega (arith, after, room, on, counted.0, counted.1)
 
   record Ends (events : List Event) (moment : Moment) : Type 0 where

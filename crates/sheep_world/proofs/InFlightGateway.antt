@@ -1,5 +1,5 @@
 -- What a gateway does once it knows of one more message leaves nodes and wire together.
-use Rattle.std.proofs.Common.{◌≡◌, ◌==◌, not, ◌∷◌, ℕ, ◌+◌, ◌<◌, Bool, true, false, ◌&&◌, cond, List, [], length, All, Option, Some, None, is_some, refl, sym, ap, subst, ◌∙◌, ⊎_elim}
+use Rattle.std.proofs.Common.{◌≡◌, ◌==◌, not, ◌∷◌, ℕ, ◌+◌, ◌<◌, Bool, true, false, ◌&&◌, cond, List, [], length, Option, Some, None, is_some, refl, sym, ap, subst, ◌∙◌, ⊎_elim}
 use Rattle.std.proofs.lemmas.Bool.{or_cases}
 use Rattle.std.specs.Ordering.{nat_cmp}
 use Rattle.std.specs.List.{list_any}
@@ -8,13 +8,10 @@ use Rattle.std.specs.FinSet as set
 use Rattle.proof_tools.proofs.Booleans.{cond_either, has_value}
 use Rattle.proof_tools.proofs.FiniteMaps.{get-remove_same}
 use Rattle.object_id.specs.declared.cause.Cause.{Cause}
-use Rattle.object_id.specs.declared.node.NodeId.{NodeId}
-use Rattle.peer_proto.specs.declared.ask.PeerReq.{PeerReq}
 use Rattle.peer_proto.specs.declared.say.PeerRsp.{PeerRsp}
 use Rattle.peer_proto.specs.declared.say.PeerSay.{PeerSay}
 use Rattle.peer_proto.specs.declared.say.PeerSay.TheVariants as says
 use Rattle.peer_proto.specs.declared.work.ObjWork.{ObjWork}
-use Rattle.peer_proto.specs.Ask.{IsPeerReq}
 use Rattle.gateway.specs.Outcomes.{AreNumberedFrom}
 use Rattle.gateway.specs.Work.{is_making}
 use Rattle.gateway.specs.declared.message.Status.{Status}
@@ -198,16 +195,10 @@ module _ (node : Node) (driven : HasOneWorkPerRequest node) (number : ℕ) (stat
 
 -- ---- the step of a node
 
--- what a step on a message makes of what its node waits for but for that, where what it sends can be spelled
-pub record EndsWell (number : ℕ) (input : Input) (node : Node) : Type 0 where
-  pub asks : All (λ (send : NodeId × PeerReq). IsPeerReq send.1) (node_step input node).outputs.sends
-      → Asking (Other number) node (node_step input node).node (node_step input node).outputs.sends
-  pub driven : HasOneWorkPerRequest (node_step input node).node
-
 -- a step that a gateway makes so
 ends_by : (number : ℕ) (input : Input) (node between : Node) (so_far : StepState) → node_step input node ≡ recovered_put so_far → between.sends ≡ node.sends
     → ChainNeeds input node → HasOneWorkPerRequest node → Asking (Other number) node between [] → HasOneWorkPerRequest between → IsGood between so_far
-    → EndsWell number input node
+    → DoesWell (Other number) input node
 ends_by number input node between so_far is same needs driven first there good =
     let last : IsGood between (node_step input node) = subst (IsGood between) (sym is) (good_at_end between so_far good) in
     record {
@@ -270,11 +261,11 @@ recovery_driven node number said none driven =
     apart q waits =
         by_wait q (driven.recovers q waits) (recoveries.recovery_awaits q (recovery_steps.message_end number said (recovery_state_of node)).recovery) refl
 
-pub lost_well : (node : Node) (number : ℕ) → HasOneWorkPerRequest node → EndsWell number (inputs.Lost number) node
+pub lost_well : (node : Node) (number : ℕ) → HasOneWorkPerRequest node → DoesWell (Other number) (inputs.Lost number) node
 unfolding node_step on_input steps.on_loss recovery_steps.recovery_on_loss
 lost_well node number driven = by_waits (gateways.gateway_awaits number node.gateway) refl
   where
-    by_waits : (b : Bool) → gateways.gateway_awaits number node.gateway ≡ b → EndsWell number (inputs.Lost number) node
+    by_waits : (b : Bool) → gateways.gateway_awaits number node.gateway ≡ b → DoesWell (Other number) (inputs.Lost number) node
     by_waits true waits =
         ends_by number (inputs.Lost number) node (record node { gateway = (message_ended node.gateway number Lost).gateway })
         (after_gateway_step (message_ended node.gateway number Lost) (at_first node))
@@ -298,7 +289,7 @@ settled_by work (says.Row row) fit = absurd (cc (fit))
 settled_by work says.NoRow fit = absurd (cc (fit))
 settled_by work (says.Refused refusal) fit = refl
 
-fits_settled : (node : Node) (rsp : PeerRsp) → HasOneWorkPerRequest node → gateways.gateway_awaits rsp.number node.gateway ≡ true → fits_node rsp node ≡ true
+pub fits_settled : (node : Node) (rsp : PeerRsp) → HasOneWorkPerRequest node → gateways.gateway_awaits rsp.number node.gateway ≡ true → fits_node rsp node ≡ true
     → is_unanswered (status_by rsp.say) ≡ false
 fits_settled node rsp driven waits fit = ⊎_elim
     (λ (works : gateways.fits_gateway rsp node.gateway ≡ true). by_asker (asker rsp.number node.gateway) works)
@@ -315,11 +306,11 @@ fits_settled node rsp driven waits fit = ⊎_elim
     by_message None none fit = absurd (cc (fit))
     by_message (Some message) none fit = absurd (cc (none))
 
-pub replied_well : (node : Node) (rsp : PeerRsp) → HasOneWorkPerRequest node → fits_node rsp node ≡ true → EndsWell rsp.number (inputs.Reply rsp) node
+pub replied_well : (node : Node) (rsp : PeerRsp) → HasOneWorkPerRequest node → fits_node rsp node ≡ true → DoesWell (Other rsp.number) (inputs.Reply rsp) node
 unfolding node_step on_input steps.on_reply recovery_steps.recovery_on_reply
 replied_well node rsp driven fit = by_waits (gateways.gateway_awaits rsp.number node.gateway) refl
   where
-    by_waits : (b : Bool) → gateways.gateway_awaits rsp.number node.gateway ≡ b → EndsWell rsp.number (inputs.Reply rsp) node
+    by_waits : (b : Bool) → gateways.gateway_awaits rsp.number node.gateway ≡ b → DoesWell (Other rsp.number) (inputs.Reply rsp) node
     by_waits true waits =
         let status = status_by rsp.say in
         let settled = fits_settled node rsp driven waits fit in

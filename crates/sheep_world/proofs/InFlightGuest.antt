@@ -1,14 +1,10 @@
 -- A guest's request, and a command that goes on, leave nodes and wire together.
-use Rattle.std.proofs.Common.{◌≡◌, ℕ, ◌==◌, Bool, true, false, ◌&&◌, List, [], ◌∷◌, ◌++◌, Option, Some, None, is_none, refl, sym, ap, subst, ◌∙◌}
-use Rattle.std.specs.Option.{option_map_or, option_and_then, IfSome}
+use Rattle.std.proofs.Common.{◌≡◌, ℕ, Bool, true, ◌&&◌, [], ◌∷◌, ◌++◌, Option, Some, None, is_none, refl, sym, ap, ◌∙◌}
+use Rattle.std.specs.Option.{IfSome}
 use Rattle.std.specs.FinMap as tree
-use Rattle.std.proofs.lemmas.Bool.{eq-eqb, and_parts}
-use Rattle.std.proofs.lemmas.Option.{cond_some}
+use Rattle.std.proofs.lemmas.Bool.{eq-eqb}
 use Rattle.proof_tools.proofs.FiniteMaps.{get-insert_same}
 use Rattle.object_id.specs.declared.cause.Cause.{Cause}
-use Rattle.cluster_script.specs.declared.statement.Statement.{Statement}
-use Rattle.cluster_script.specs.NumberedRequests.{session_of, request_at}
-use Rattle.cluster_script.specs.Sessions.{ScriptSession, session_numbered}
 use Rattle.peer_proto.specs.declared.guest.DiskAsk.{DiskAsk}
 use Rattle.peer_proto.specs.declared.guest.VdiAsk.{VdiAsk}
 use Rattle.peer_proto.specs.declared.work.ObjWork.{ObjWork}
@@ -22,15 +18,12 @@ use Rattle.vdi_ops.specs.Steps.{begin_command}
 use Rattle.vdi_ops.proofs.StepLemmas.{begin_awaited}
 use Rattle.sheep_node.specs.declared.ask.Ask.{Ask}
 use Rattle.sheep_node.specs.declared.ask.Ask.TheVariants as asks
-use Rattle.sheep_node.specs.declared.event.Event.TheVariants as events
-use Rattle.sheep_node.specs.declared.input.Input.{Input}
 use Rattle.sheep_node.specs.declared.input.Input.TheVariants as inputs
 use Rattle.sheep_node.specs.State.{Waiting, Commanding, Request, Node}
 use Rattle.sheep_node.specs.StepState.{StepState, at_first, session_in, with_disk, with_course}
 use Rattle.sheep_node.specs.Courses.{disk_with_act, after_command_step, command_acted, command_stepped, command_went_on}
 use Rattle.sheep_node.specs.Guests as nodes
 use Rattle.sheep_node.specs.Guests.{request_refusal, inode_open, queued_as, with_queued_request, request_taken, request_taken_unless}
-use Rattle.sheep_node.specs.LogReading.{is_epoch_member}
 use Rattle.sheep_node.specs.Step.{on_input, node_step}
 use Rattle.sheep_world.specs.World.{Host, World, host_at, is_host_up}
 use Rattle.sheep_world.specs.Asking.{ask_of_statement, input_by, input_of}
@@ -44,7 +37,7 @@ use Rattle.sheep_node.specs.OneWork.{may_work_at, may_work_of, HasOneWorkPerRequ
 use Rattle.sheep_world.specs.OneWork.{NodesHaveOneWorkPerRequest, IsSentInRange, IsNewRequest}
 use Rattle.sheep_world.proofs.EnabledLaws.{looked_up}
 use Rattle.sheep_world.proofs.OneWorkLaws.{IsGood, IsFreeIn, free_session, good_session, good_course, ended_good, work_asked_good, course_begun_good}
-use Rattle.sheep_world.proofs.InFlightRetryTick.{good_first, good_at_end, DoesWell, good_well, step_together, StaysTogether}
+use Rattle.sheep_world.proofs.InFlightRetryTick.{good_first, good_at_end}
 
 -- ---- a command goes on
 
@@ -140,69 +133,3 @@ guest_good node req number ask driven new =
     by_work (Some work) there =
         let never : may_work_at None ≡ true = ap may_work_at (sym new) ∙ driven.driven.open_works req work there in
         absurd (cc (never))
-
--- ---- and in the world
-
--- a node steps well on an input, if there is one
-abbrev StepsWell : ℕ → Option Input → World → Type 0
-StepsWell n None world = Unit {0}
-StepsWell n (Some input) world = (host : Host) → host_at n world ≡ Some host → (is_host_up host ≡ true) × DoesWell input host.node
-
-module _ (statements : List Statement) (number : ℕ) (world : World) (session : ScriptSession)
-    (found : session_numbered statements number ≡ Some session) (asks : may_ask statements session world ≡ true)
-    (new : IsNewRequest statements number world) (driven : NodesHaveOneWorkPerRequest world) (wired : WireMatchesNodes world) where
-  is_served : (host : Host) → host_at session.node world ≡ Some host → is_host_up host ≡ true
-  is_served host at =
-      let serving : has_gateway session world ≡ true
-      = (and_parts (has_gateway session world)
-      (option_map_or (may_begin_request statements world.phase (progress_at session.number world)) (next_request statements session.number world) false) asks).0 in
-      let serves_so : serves session host ≡ true = sym (ap (λ (o : Option Host). option_map_or (serves session) o false) at) ∙ serving in
-      (and_parts (is_host_up host) (host.incarnation == session.incarnation) (and_parts (is_host_up host && host.incarnation == session.incarnation) (is_epoch_member host.node) serves_so).0).0
-
-  well_by : (req : ℕ) → next_request statements number world ≡ Some req → (of : Option ℕ) (ask : Option Ask)
-      → StepsWell session.node (input_by req of ask) world
-  well_by req next None ask = tt
-  well_by req next (Some of) None = tt
-  well_by req next (Some of) (Some ask) =
-      λ host at. (
-        is_served host at,
-        good_well (inputs.Guest req of ask) host.node (new session req host found next at) (driven session.node host at)
-            (guest_good host.node req of ask (driven session.node host at) (new session req host found next at)),
-      )
-
-  well_at : (req : ℕ) → next_request statements number world ≡ Some req → (inode_queue : Option Statement)
-      → StepsWell session.node (option_and_then (λ s. input_by req (session_of s) (ask_of_statement s)) inode_queue) world
-  well_at req next None = tt
-  well_at req next (Some inode_queue) = well_by req next (session_of inode_queue) (ask_of_statement inode_queue)
-
-  well_on : (o : Option ℕ) → next_request statements number world ≡ o → StepsWell session.node (option_and_then (input_of statements) o) world
-  well_on None next = tt
-  well_on (Some req) next = well_at req next (request_at statements req)
-
-  steps_on : (input : Option Input) → StepsWell session.node input world → (req : Option ℕ)
-      → StaysTogether (node_stepped_if statements session.node input (request_started session req (at_rest world)))
-  unfolding node_stepped
-  steps_on None well None = λ requests. (wired, driven)
-  steps_on None well (Some req) = λ requests. (wired, driven)
-  steps_on (Some input) well None =
-      step_together statements (at_rest world) session.node input (host_at session.node world) refl well driven wired
-  steps_on (Some input) well (Some req) =
-      step_together statements (request_started session (Some req) (at_rest world)) session.node input (host_at session.node world) refl well driven wired
-
-  guest_together : StaysTogether (gateway_node_stepped statements (Some session) (next_input statements number world) (requests_started statements (Some session) (at_rest world)))
-  guest_together =
-      steps_on (next_input statements number world) (well_on (next_request statements number world) refl)
-      (next_request statements session.number (at_rest world))
-
-pub wired-guest : (statements : List Statement) (world : World) (made : EventOutcome) (number : ℕ)
-    → step statements (events.Guest number) world ≡ Some made → IsNewRequest statements number world → IsSentInRange made.world → NodesHaveOneWorkPerRequest world
-    → WireMatchesNodes world → WireMatchesNodes made.world × NodesHaveOneWorkPerRequest made.world
-unfolding step guest_effect
-wired-guest statements world made number is new requests driven wired =
-    let t = cond_some (may_guest statements number world) (guest_made statements number world (guest_effect statements number world)) made is in
-    let (session, found, asks) = looked_up (λ session. may_ask statements session world) (session_numbered statements number) t.0 in
-    let together : StaysTogether (guest_effect statements number world)
-    = subst
-    (λ (o : Option ScriptSession). StaysTogether (gateway_node_stepped statements o (next_input statements number world) (requests_started statements o (at_rest world))))
-    (sym found) (guest_together statements number world session found asks new driven wired) in
-    subst (λ (made : EventOutcome). IsSentInRange made.world → WireMatchesNodes made.world × NodesHaveOneWorkPerRequest made.world) t.1 together requests

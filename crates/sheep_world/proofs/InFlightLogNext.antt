@@ -1,10 +1,10 @@
 -- A node that reads an entry of the log leaves nodes and wire together.
-use Rattle.std.proofs.Common.{◌≡◌, inl, ℕ, ◌+◌, ◌==◌, ◌<◌, nat_lt, Bool, true, false, ◌&&◌, ◌||◌, cond, List, [], ◌∷◌, ◌++◌, length, map, Contains, Option, Some, None, is_some, is_none, refl, sym, ap, subst, ◌∙◌, ⊎_elim}
+use Rattle.std.proofs.Common.{◌≡◌, inl, ℕ, ◌+◌, ◌==◌, ◌<◌, nat_lt, Bool, true, false, ◌||◌, cond, List, [], ◌∷◌, ◌++◌, length, map, Contains, Option, Some, None, is_some, is_none, refl, sym, ap, subst, ◌∙◌, ⊎_elim}
 use native.Mathlib.Omega.{arith}
-use Rattle.std.specs.Option.{option_map, option_map_or}
+use Rattle.std.specs.Option.{option_map}
 use Rattle.std.specs.FinMap as tree
-use Rattle.std.proofs.lemmas.Bool.{eqb-true, and_parts, or_cases, or_left, or_right}
-use Rattle.std.proofs.lemmas.Option.{cond_some, same_Some}
+use Rattle.std.proofs.lemmas.Bool.{eqb-true, or_cases, or_left, or_right}
+use Rattle.std.proofs.lemmas.Option.{same_Some}
 use Rattle.proof_tools.proofs.Booleans.{cond_either}
 use Rattle.proof_tools.proofs.Lists.{Contains-nil, find-contains}
 use Rattle.proof_tools.proofs.FiniteMaps.{get-entry}
@@ -15,7 +15,6 @@ use Rattle.object_id.specs.declared.entry.VdiSpec.{VdiSpec}
 use Rattle.object_id.specs.declared.node.NodeId.{NodeId}
 use Rattle.object_id.specs.Oid.{vid_of, kind_of}
 use Rattle.object_store.specs.declared.row.RowCopy.{RowCopy}
-use Rattle.cluster_script.specs.declared.statement.Statement.{Statement}
 use Rattle.epoch_log.specs.Epochs.{begins_epoch, epoch_of, settled_of}
 use Rattle.epoch_log.specs.Appending.{is_format}
 use Rattle.vnode_table.specs.Targets.{targets_in}
@@ -48,7 +47,6 @@ use Rattle.recovery.specs.Steps.{at_start, recovery_from_epoch, to_recover}
 use Rattle.vdi_ops.specs.Op.{entry_wanted}
 use Rattle.vdi_ops.specs.Steps.{on_decision}
 use Rattle.vdi_ops.proofs.StepLemmas.{decision_awaited}
-use Rattle.sheep_node.specs.declared.event.Event.TheVariants as events
 use Rattle.sheep_node.specs.declared.input.Input.TheVariants as inputs
 use Rattle.sheep_node.specs.State.{Course, Waiting, Driving, Commanding, Request, Node}
 use Rattle.sheep_node.specs.RecoveryView.{recovery_state_of}
@@ -73,7 +71,7 @@ use Rattle.sheep_world.specs.OneWork.{NodesHaveOneWorkPerRequest, IsSentInRange}
 use Rattle.sheep_world.proofs.InFlightSends.{Sends, Asking}
 use Rattle.sheep_world.proofs.InFlightRecoverTick.{Any}
 use Rattle.sheep_world.proofs.OneWorkLaws.{Requests, Sessions, IsGood, IsFreeIn, free_of, let_begin_good}
-use Rattle.sheep_world.proofs.InFlightRetryTick.{good_first, good_at_end, good_so_far_asks, good_driven, DoesWell, asks_after, step_together, StaysTogether}
+use Rattle.sheep_world.proofs.InFlightRetryTick.{good_first, good_at_end, good_so_far_asks, good_driven, DoesWell, asks_after}
 use Rattle.sheep_world.proofs.InFlightGuest.{command_went_on_good}
 
 -- ---- the length of an object's rows stays known
@@ -135,7 +133,7 @@ size_stays one other entry oid size more is = by_header (header_of (log_effects 
         (same_Some (row_size (kind_of oid) header.spec) size so)
 
 -- what was known of the lengths of rows is known still
-abbrev Grows : NodeView → NodeView → Type 0
+abbrev pub Grows : NodeView → NodeView → Type 0
 Grows one other = (oid size : ℕ) → one.size_of oid ≡ Some size → other.size_of oid ≡ Some size
 
 row_still : (one other : NodeView) (wanted : ℕ) (ask : PeerAsk) (row : RowCopy) → Grows one other
@@ -162,13 +160,13 @@ fit_still one other (Some message) (says.Refused refusal) grows fit = fit
 
 -- ---- what reading an entry keeps
 
-record Keeps (old new : Node) : Type 0 where
-  me_so : new.me ≡ old.me
-  gateway_so : new.gateway ≡ old.gateway
-  requests_so : new.requests ≡ old.requests
-  sessions_so : new.sessions ≡ old.sessions
-  sends_so : new.sends ≡ old.sends
-  messages_so : recoveries.all_unanswered new.recovery ≡ recoveries.all_unanswered old.recovery
+pub record Keeps (old new : Node) : Type 0 where
+  pub me_so : new.me ≡ old.me
+  pub gateway_so : new.gateway ≡ old.gateway
+  pub requests_so : new.requests ≡ old.requests
+  pub sessions_so : new.sessions ≡ old.sessions
+  pub sends_so : new.sends ≡ old.sends
+  pub messages_so : recoveries.all_unanswered new.recovery ≡ recoveries.all_unanswered old.recovery
 
 read_keeps : (entry : Entry) (node : Node) → Keeps node (nodes.entry_read entry node)
 unfolding nodes.entry_read
@@ -181,12 +179,10 @@ read_keeps entry node = record {
   messages_so = unanswered_reading entry node;
 }
 
--- a node that has read an entry waits for the same as before
-read_asks : (entry : Entry) (node : Node) → Asking Any node (nodes.entry_read entry node) []
-read_asks entry node =
-    let after = nodes.entry_read entry node in
-    let kept = read_keeps entry node in
-    let no_more : node.sends ≡ node.sends + 0 = omega arith in
+-- a node that keeps these waits for the same as before
+pub kept_asks : (old new : Node) → Keeps old new → Grows (recovery_state_of old).shown (recovery_state_of new).shown → Asking Any old new []
+kept_asks old new kept grows =
+    let no_more : old.sends ≡ old.sends + 0 = omega arith in
     record {
       me_so = kept.me_so;
       count_so = kept.sends_so ∙ no_more;
@@ -203,35 +199,40 @@ read_asks entry node =
           (λ i. gateways.gateway_awaits number (kept.gateway_so i) || is_some (recoveries.message_of number (kept.messages_so i))) ∙ waits;
       waits_too = λ send there. absurd (Contains-nil send there);
       fits_on = λ rsp below stays fit. ⊎_elim
-          (λ (works : gateways.fits_gateway rsp node.gateway ≡ true).
-          or_left (gateways.fits_gateway rsp after.gateway) (recovery_fits.fits_recovery rsp (recovery_state_of after)) (ap (gateways.fits_gateway rsp) kept.gateway_so ∙ works))
-          (λ (recovers : recovery_fits.fits_recovery rsp (recovery_state_of node) ≡ true).
-          or_right (gateways.fits_gateway rsp after.gateway) (recovery_fits.fits_recovery rsp (recovery_state_of after))
-          (ap (λ (messages : List Message). recovery_fits.fits_message (recovery_state_of after).shown (recoveries.message_of rsp.number messages) rsp.say) kept.messages_so
-          ∙ fit_still (recovery_state_of node).shown (recovery_state_of after).shown (recoveries.message_of rsp.number (recoveries.all_unanswered node.recovery)) rsp.say
-          (λ oid size known. size_stays node.peer after.peer entry oid size (entries_reading entry node) known) recovers))
-          (or_cases (gateways.fits_gateway rsp node.gateway) (recovery_fits.fits_recovery rsp (recovery_state_of node)) fit);
+          (λ (works : gateways.fits_gateway rsp old.gateway ≡ true).
+          or_left (gateways.fits_gateway rsp new.gateway) (recovery_fits.fits_recovery rsp (recovery_state_of new)) (ap (gateways.fits_gateway rsp) kept.gateway_so ∙ works))
+          (λ (recovers : recovery_fits.fits_recovery rsp (recovery_state_of old) ≡ true).
+          or_right (gateways.fits_gateway rsp new.gateway) (recovery_fits.fits_recovery rsp (recovery_state_of new))
+          (ap (λ (messages : List Message). recovery_fits.fits_message (recovery_state_of new).shown (recoveries.message_of rsp.number messages) rsp.say) kept.messages_so
+          ∙ fit_still (recovery_state_of old).shown (recovery_state_of new).shown (recoveries.message_of rsp.number (recoveries.all_unanswered old.recovery)) rsp.say grows recovers))
+          (or_cases (gateways.fits_gateway rsp old.gateway) (recovery_fits.fits_recovery rsp (recovery_state_of old)) fit);
     }
 
+pub kept_driven : (old new : Node) → Keeps old new → HasOneWorkPerRequest old → HasOneWorkPerRequest new
+kept_driven old new kept driven = record {
+  own = ap (λ (gateway : Gateway). gateway.me) kept.gateway_so ∙ driven.own ∙ sym kept.me_so;
+  driven = subst (λ (gateway : Gateway). HaveOneWorkPerRequest gateway.works new.requests new.sessions) (sym kept.gateway_so)
+      (subst (λ (requests : Requests). HaveOneWorkPerRequest old.gateway.works requests new.sessions) (sym kept.requests_so)
+      (subst (λ (sessions : Sessions). HaveOneWorkPerRequest old.gateway.works old.requests sessions) (sym kept.sessions_so) driven.driven));
+  once = subst (λ (gateway : Gateway). NumbersAreOfOneWork gateway.works) (sym kept.gateway_so) driven.once;
+  given = subst (λ (gateway : Gateway). NumbersAreBelow new.sends gateway.works) (sym kept.gateway_so)
+      (subst (λ (count : ℕ). NumbersAreBelow count old.gateway.works) (sym kept.sends_so) driven.given);
+  recovers = λ number waits.
+      ap (λ (messages : List Message). is_some (recoveries.message_of number messages)) kept.messages_so
+      ∙ driven.recovers number (sym (ap (λ (gateway : Gateway). gateways.gateway_awaits number gateway) kept.gateway_so) ∙ waits);
+  recovering = λ number waits.
+      subst (λ (count : ℕ). number < count) (sym kept.sends_so)
+      (driven.recovering number (sym (ap (λ (messages : List Message). is_some (recoveries.message_of number messages)) kept.messages_so) ∙ waits));
+}
+
+-- a node that has read an entry keeps them
+read_asks : (entry : Entry) (node : Node) → Asking Any node (nodes.entry_read entry node) []
+read_asks entry node =
+    let after = nodes.entry_read entry node in
+    kept_asks node after (read_keeps entry node) (λ oid size known. size_stays node.peer after.peer entry oid size (entries_reading entry node) known)
+
 read_driven : (entry : Entry) (node : Node) → HasOneWorkPerRequest node → HasOneWorkPerRequest (nodes.entry_read entry node)
-read_driven entry node driven =
-    let kept = read_keeps entry node in
-    record {
-      own = ap (λ (gateway : Gateway). gateway.me) kept.gateway_so ∙ driven.own ∙ sym kept.me_so;
-      driven = subst (λ (gateway : Gateway). HaveOneWorkPerRequest gateway.works (nodes.entry_read entry node).requests (nodes.entry_read entry node).sessions)
-          (sym kept.gateway_so)
-          (subst (λ (requests : Requests). HaveOneWorkPerRequest node.gateway.works requests (nodes.entry_read entry node).sessions) (sym kept.requests_so)
-          (subst (λ (sessions : Sessions). HaveOneWorkPerRequest node.gateway.works node.requests sessions) (sym kept.sessions_so) driven.driven));
-      once = subst (λ (gateway : Gateway). NumbersAreOfOneWork gateway.works) (sym kept.gateway_so) driven.once;
-      given = subst (λ (gateway : Gateway). NumbersAreBelow (nodes.entry_read entry node).sends gateway.works) (sym kept.gateway_so)
-          (subst (λ (count : ℕ). NumbersAreBelow count node.gateway.works) (sym kept.sends_so) driven.given);
-      recovers = λ number waits.
-          ap (λ (messages : List Message). is_some (recoveries.message_of number messages)) kept.messages_so
-          ∙ driven.recovers number (sym (ap (λ (gateway : Gateway). gateways.gateway_awaits number gateway) kept.gateway_so) ∙ waits);
-      recovering = λ number waits.
-          subst (λ (count : ℕ). number < count) (sym kept.sends_so)
-          (driven.recovering number (sym (ap (λ (messages : List Message). is_some (recoveries.message_of number messages)) kept.messages_so) ∙ waits));
-    }
+read_driven entry node driven = kept_driven node (nodes.entry_read entry node) (read_keeps entry node) driven
 
 -- ---- the decision goes to the command that waits for it
 
@@ -275,7 +276,7 @@ log_read_good entry node driven =
 
 -- ---- and in the world
 
-pub reads_well : (entry : Entry) (node : Node) → HasOneWorkPerRequest node → DoesWell (inputs.LogEntry entry) node
+pub reads_well : (entry : Entry) (node : Node) → HasOneWorkPerRequest node → DoesWell Any (inputs.LogEntry entry) node
 unfolding node_step on_input
 reads_well entry node driven =
     let after = nodes.entry_read entry node in
@@ -291,25 +292,3 @@ reads_well entry node driven =
           good requests);
       driven = good_driven after so_far (read_driven entry node driven) good;
     }
-
-read_together : (statements : List Statement) (world : World) (n : ℕ) (entry : Option Entry) → may_log_next n world ≡ true → NodesHaveOneWorkPerRequest world → WireMatchesNodes world
-    → StaysTogether (node_stepped_if statements n (option_map (λ entry. inputs.LogEntry entry) entry) (at_rest world))
-unfolding node_stepped
-read_together statements world n None may driven wired = λ requests. (wired, driven)
-read_together statements world n (Some entry) may driven wired =
-    step_together statements (at_rest world) n (inputs.LogEntry entry) (host_at n world) refl
-    (λ host at.
-    let passes : (is_host_up host && nat_lt (length host.node.peer.entries) (length world.log)) ≡ true
-    = sym (ap (λ (o : Option Host). option_map_or (λ (host : Host). is_host_up host && nat_lt (length host.node.peer.entries) (length world.log)) o false) at)
-    ∙ may in
-    ((and_parts (is_host_up host) (nat_lt (length host.node.peer.entries) (length world.log)) passes).0, reads_well entry host.node (driven n host at)))
-    driven wired
-
-pub wired-log_next : (statements : List Statement) (world : World) (made : EventOutcome) (node : NodeId)
-    → step statements (events.LogNext node) world ≡ Some made → IsSentInRange made.world → NodesHaveOneWorkPerRequest world → WireMatchesNodes world
-    → WireMatchesNodes made.world × NodesHaveOneWorkPerRequest made.world
-unfolding step log_next_effect
-wired-log_next statements world made node is requests driven wired =
-    let t = cond_some (may_log_next node.0 world) (with_replies statements world (log_next_effect statements node.0 world)) made is in
-    subst (λ (made : EventOutcome). IsSentInRange made.world → WireMatchesNodes made.world × NodesHaveOneWorkPerRequest made.world) t.1
-    (read_together statements world node.0 (next_entry world.log (node_at node.0 world)) t.0 driven wired) requests

@@ -1,18 +1,12 @@
 -- A tick of a recovery leaves nodes and wire together, and each recovery in range.
-use Rattle.std.proofs.Common.{◌≡◌, ◌≢◌, inl, inr, ℕ, ◌==◌, ◌≤◌, ◌^◌, ◌-◌, Bool, true, false, not, ◌&&◌, ◌||◌, cond, List, [], ◌∷◌, ◌++◌, length, map, Contains, Option, Some, None, is_some, refl, ap, subst, ◌∙◌, ⊎_elim}
+use Rattle.std.proofs.Common.{◌≡◌, inl, inr, ℕ, ◌==◌, ◌≤◌, ◌^◌, ◌-◌, Bool, true, false, not, ◌||◌, cond, List, [], ◌∷◌, ◌++◌, length, map, Contains, Some, is_some, refl, ap, subst, ◌∙◌, ⊎_elim}
 use native.Mathlib.Omega.{arith}
-use Rattle.std.specs.Ordering.{nat_cmp}
-use Rattle.std.specs.Option.{option_map_or}
-use Rattle.std.specs.FinMap as tree
 use Rattle.std.proofs.lemmas.Bool.{eq-eqb, eqb-true, leb-true, and_parts, or_left, or_right}
-use Rattle.std.proofs.lemmas.Option.{cond_some}
 use Rattle.std.proofs.lemmas.List.{append-nil}
 use Rattle.std.proofs.lemmas.List.Elements.{All-contains, Contains-append_left, Contains-append_cases}
 use Rattle.proof_tools.proofs.Booleans.{cond_either}
 use Rattle.proof_tools.proofs.Lists.{Contains-cons_cases, Contains-nil}
-use Rattle.proof_tools.proofs.FiniteMaps.{get-insert_cases}
 use Rattle.object_id.specs.declared.node.NodeId.{NodeId}
-use Rattle.cluster_script.specs.declared.statement.Statement.{Statement}
 use Rattle.peer_proto.specs.declared.ask.PeerReq.{PeerReq}
 use Rattle.peer_proto.specs.declared.say.PeerRsp.{PeerRsp}
 use Rattle.peer_proto.specs.Ask.{IsPeerReq}
@@ -26,7 +20,6 @@ use Rattle.recovery.specs.Frame.{Frame}
 use Rattle.recovery.proofs.StepLemmas.{frame_of_tick}
 use Rattle.recovery.proofs.RangeLemmas.{asked_by_own, asked_in_range, ticked_in_range}
 use Rattle.sheep_node.specs.declared.limits.TheConstants.{SENDS_MAX}
-use Rattle.sheep_node.specs.declared.event.Event.TheVariants as events
 use Rattle.sheep_node.specs.declared.input.Input.TheVariants as inputs
 use Rattle.sheep_node.specs.State.{Node}
 use Rattle.sheep_node.specs.RecoveryView.{recovery_state_of}
@@ -44,8 +37,7 @@ use Rattle.sheep_world.specs.WireMatch.{asked_by_gateway, asked_by_recovery, Wir
 use Rattle.sheep_node.specs.RecoveryRange.{RecoversInRange}
 use Rattle.sheep_world.specs.Ranges.{AllRecoverInRange, RecoveriesAreInRange}
 use Rattle.sheep_world.proofs.InFlightEvents.{none_there}
-use Rattle.sheep_world.proofs.InFlightPut.{next_host}
-use Rattle.sheep_world.proofs.InFlightSends.{Sends, Asking, Leaves, wired_asking}
+use Rattle.sheep_world.proofs.InFlightSends.{Sends, Asking}
 
 -- all numbers
 abbrev pub Any : ℕ → Type 0
@@ -206,43 +198,3 @@ module _ (node : Node) (may : may_tick node ≡ true) where
   pub recovered_range : has_numbers node ≡ true → RecoversInRange node → RecoversInRange (node_step inputs.RecoverTick node).node
   unfolding node_step on_input
   recovered_range numbers range = range_at_end (steps.on_recover_tick (at_first node)) (tick_range numbers range)
-
--- the recoveries of all nodes stay in range where one steps and its own does
-pub range_after : (hosts : tree.FinMap nat_cmp Host) (n : ℕ) (host : Host) → RecoversInRange host.node → AllRecoverInRange hosts
-    → AllRecoverInRange (tree.insert hosts n host)
-range_after hosts n host own range q at got = ⊎_elim
-    (λ (same : (q ≡ n) × (host ≡ at)). subst (λ (host : Host). RecoversInRange host.node) same.1 own)
-    (λ (other : (q ≢ n) × (tree.get hosts q ≡ Some at)). range q at other.1)
-    (get-insert_cases hosts n host q at got)
-
--- nothing leaves the wire
-pub nothing_leaves : (n : ℕ) (wire : tree.FinMap name_cmp Packet) → Leaves Any n wire wire
-nothing_leaves n wire = record {
-  others = λ name apart. refl;
-  kept = λ name own stays. refl;
-  was = λ name packet got. got;
-  stays = λ name packet got own. tt;
-}
-
-wired_ticked : (statements : List Statement) (world : World) (n : ℕ) (o : Option Host) → host_at n world ≡ o
-    → option_map_or (λ (host : Host). is_host_up host && may_tick host.node) o false ≡ true → RecoveriesAreInRange world → WireMatchesNodes world
-    → WireMatchesNodes (host_stepped statements n inputs.RecoverTick o (at_rest world)) × RecoveriesAreInRange (host_stepped statements n inputs.RecoverTick o (at_rest world))
-wired_ticked statements world n None there may range wired = absurd (cc (may))
-wired_ticked statements world n (Some host) there may range wired =
-    let (up, ticks) = and_parts (is_host_up host) (may_tick host.node) may in
-    let numbers = (and_parts (not host.is_lost) (has_numbers host.node) up).1 in
-    let so_far = node_step inputs.RecoverTick host.node in
-    let own = range n host there in (
-      wired_asking Any world.hosts world.wire world.wire n host so_far.node so_far.outputs.sends there up wired
-          (recovered_asks host.node ticks numbers own) (nothing_leaves n world.wire),
-      range_after world.hosts n (next_host host so_far.node) (recovered_range host.node ticks numbers own) range,
-    )
-
-pub wired-recover : (statements : List Statement) (world : World) (made : EventOutcome) (node : NodeId)
-    → step statements (events.RecoverTick node) world ≡ Some made → RecoveriesAreInRange world → WireMatchesNodes world
-    → WireMatchesNodes made.world × RecoveriesAreInRange made.world
-unfolding step recover_tick_effect node_stepped
-wired-recover statements world made node is range wired =
-    let t = cond_some (may_recover node.0 world) (with_replies statements world (recover_tick_effect statements node.0 world)) made is in
-    subst (λ (made : EventOutcome). WireMatchesNodes made.world × RecoveriesAreInRange made.world) t.1
-    (wired_ticked statements world node.0 (host_at node.0 world) refl t.0 range wired)

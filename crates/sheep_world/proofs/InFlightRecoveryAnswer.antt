@@ -1,19 +1,15 @@
 -- A message of a recovery that is lost or answered leaves the wire, and its node waits for it no more: they stay together.
-use Rattle.std.proofs.Common.{◌≡◌, ◌≢◌, inl, ℕ, ◌+◌, ◌-◌, ◌==◌, Bool, true, false, not, ◌&&◌, ◌||◌, cond, List, [], ◌∷◌, ◌++◌, map, filter, flat_map, find, Contains, Option, Some, None, is_some, Result, Ok, Err, refl, sym, ap, subst, ◌∙◌, ⊎_elim}
+use Rattle.std.proofs.Common.{◌≡◌, ◌≢◌, inl, ℕ, ◌+◌, ◌==◌, Bool, true, false, not, ◌||◌, cond, List, [], ◌∷◌, ◌++◌, map, filter, flat_map, find, Contains, Option, Some, None, is_some, Result, Ok, Err, refl, sym, ap, subst, ◌∙◌, ⊎_elim}
 use native.Mathlib.Omega.{arith}
-use Rattle.std.specs.Ordering.{nat_cmp, eq_by_cmp}
-use Rattle.std.specs.Option.{option_map_or}
+use Rattle.std.specs.Ordering.{eq_by_cmp}
 use Rattle.std.specs.List.{list_any}
 use Rattle.std.specs.FinMap as tree
 use Rattle.std.proofs.lemmas.Bool.{eq-eqb, eqb-true, eqb-false, cond-false, or_cases, or_left, or_right}
-use Rattle.std.proofs.lemmas.Option.{cond_some}
-use Rattle.std.proofs.lemmas.List.Elements.{All-weaker, Contains-append_left, Contains-append_right, Contains-append_cases, filter-append}
-use Rattle.proof_tools.proofs.Booleans.{cond_either}
+use Rattle.std.proofs.lemmas.List.Elements.{Contains-append_left, Contains-append_right, Contains-append_cases, filter-append}
 use Rattle.proof_tools.proofs.Lists.{Contains-first, Contains-cons, Contains-cons_cases, Contains-nil}
 use Rattle.object_id.specs.declared.node.Epoch.{Epoch}
 use Rattle.object_id.specs.declared.node.NodeId.{NodeId}
 use Rattle.object_store.specs.declared.row.RowCopy.{RowCopy}
-use Rattle.cluster_script.specs.declared.statement.Statement.{Statement}
 use Rattle.peer_proto.specs.declared.ask.PeerAsk.{PeerAsk}
 use Rattle.peer_proto.specs.declared.ask.PeerAsk.TheVariants as asks
 use Rattle.peer_proto.specs.declared.ask.PeerReq.{PeerReq}
@@ -32,7 +28,6 @@ use Rattle.recovery.specs.Fits as recovery_fits
 use Rattle.recovery.specs.Steps as recovery_steps
 use Rattle.recovery.specs.Steps.{messages_without, message_end}
 use Rattle.recovery.proofs.StepLemmas.{frame_of_end}
-use Rattle.sheep_node.specs.declared.event.Event.TheVariants as events
 use Rattle.sheep_node.specs.declared.input.Input.TheVariants as inputs
 use Rattle.sheep_node.specs.State.{Node}
 use Rattle.sheep_node.specs.RecoveryView.{recovery_state_of}
@@ -42,15 +37,10 @@ use Rattle.sheep_node.specs.Step as steps
 use Rattle.sheep_node.specs.Step.{recovery_stepped, on_input, node_step}
 use Rattle.sheep_world.specs.declared.name.MessageName.{MessageName}
 use Rattle.peer_proto.specs.declared.fault.PeerFault.{PeerFault}
-use Rattle.peer_proto.specs.Say.{say_in}
-use Rattle.sheep_world.specs.World.{name_cmp, Packet, Reply, Host, World, host_at, is_host_up, is_up, message_at, receiver_of, are_ends_up}
-use Rattle.sheep_world.specs.Conditions.{may_deliver, may_lose_request, may_lose_reply}
-use Rattle.sheep_world.specs.NodeSteps.{host_stepped, node_stepped, at_rest}
-use Rattle.sheep_world.specs.Messages.{without_message, loss_used, loss_told, message_lost, reply_got, reply_delivered, delivered_as, message_delivered}
-use Rattle.sheep_world.specs.Step.{EventOutcome, step, with_replies}
-use Rattle.sheep_world.specs.WireMatch.{unanswered_in, asked_by, asked_by_gateway, asked_by_recovery, own_name, IsInFlight, is_of_work, WireMatchesHosts, WireMatchesNodes}
+use Rattle.sheep_world.specs.World.{name_cmp, Packet}
+use Rattle.sheep_world.specs.WireMatch.{unanswered_in, asked_by_gateway, asked_by_recovery}
 use Rattle.sheep_world.proofs.NameTools.{name_cmp_total}
-use Rattle.sheep_world.proofs.InFlightSends.{Sends, Wire, Leaves, wired_asking, name_apart, name_itself}
+use Rattle.sheep_world.proofs.InFlightSends.{Sends, Wire, name_apart, name_itself}
 use Rattle.sheep_world.proofs.InFlightRecoverTick.{AsksFrom, asks_at_end}
 
 -- every number but one
@@ -290,96 +280,13 @@ pub without_apart : (wire : Wire) (name q : MessageName) → q ≢ name → tree
 without_apart wire name q apart =
     tree.get-remove name_cmp_total wire name q ∙ ap (λ b. cond b None (tree.get wire q)) (name_apart q name apart)
 
--- of its sender only it leaves
-pub one_leaves : (wire : Wire) (name : MessageName) → Leaves (Other name.number) name.sender.0 wire (tree.remove wire name)
-one_leaves wire name = record {
-  others = λ q apart. without_apart wire name q (λ (same : q ≡ name). apart (ap (λ (n : MessageName). n.sender.0) same));
-  kept = λ q own stays. without_apart wire name q (λ (same : q ≡ name). stays (ap (λ (n : MessageName). n.number) same));
-  was = λ q packet got. (without_got wire name q packet got).1;
-  stays = λ q packet got own same.
-      (without_got wire name q packet got).0 (λ i. record { sender = record { 0 = own i }; number = same i });
-}
+asked_or : PeerReq → Result PeerReq PeerFault → PeerReq
+asked_or none (Ok request) = request
+asked_or none (Err fault) = none
 
--- without a message of a node that isn't up the others stay together with the wire
-pub wired_without : (hosts : tree.FinMap nat_cmp Host) (wire : Wire) (name : MessageName)
-    → option_map_or is_host_up (tree.get hosts name.sender.0) false ≡ false → WireMatchesHosts hosts wire → WireMatchesHosts hosts (tree.remove wire name)
-wired_without hosts wire name down wired = record {
-  spelled = λ q packet got. wired.spelled q packet (without_got wire name q packet got).1;
-  given = λ q packet got. wired.given q packet (without_got wire name q packet got).1;
-  numbered = wired.numbered;
-  on_the_way = λ q host got up. All-weaker
-      (λ (send : NodeId × PeerReq). IsInFlight host.node send (tree.get wire (own_name host.node send)))
-      (λ (send : NodeId × PeerReq). IsInFlight host.node send (tree.get (tree.remove wire name) (own_name host.node send)))
-      (λ (send : NodeId × PeerReq) (way : IsInFlight host.node send (tree.get wire (own_name host.node send))). subst
-      (IsInFlight host.node send)
-      (sym (without_apart wire name (own_name host.node send)
-      (λ (same : own_name host.node send ≡ name). is_down q host got up (sym (wired.numbered q host got) ∙ ap (λ (n : MessageName). n.sender.0) same))))
-      way)
-      (asked_by host.node) (wired.on_the_way q host got up);
-  awaited = λ q packet host got at up. wired.awaited q packet host (without_got wire name q packet got).1 at up;
-}
-  where
-    is_down : (q : ℕ) (host : Host) → tree.get hosts q ≡ Some host → is_host_up host ≡ true → q ≡ name.sender.0 → ⊥
-    is_down q host got up same =
-        let no : is_host_up host ≡ false
-        = ap (λ (o : Option Host). option_map_or is_host_up o false) (sym (ap (tree.get hosts) (sym same) ∙ got)) ∙ down in
-        absurd (cc (up, no))
-
--- the loss of what no work waits for, or of a message of a node that isn't up
-module _ (statements : List Statement) (name : MessageName) (world : World) (wired : WireMatchesNodes world) where
-  without_host : (o : Option Host) → host_at name.sender.0 world ≡ o → option_map_or is_host_up o false ≡ false
-      → WireMatchesNodes (without_message name world)
-  without_host o at down =
-      wired_without world.hosts world.wire name (ap (λ (o : Option Host). option_map_or is_host_up o false) at ∙ down) wired
-
-  told_at : (o : Option Host) → host_at name.sender.0 world ≡ o
-      → option_map_or (λ (host : Host). is_host_up host && gateways.gateway_awaits name.number host.node.gateway) o false ≡ false
-      → WireMatchesNodes (cond (option_map_or is_host_up o false)
-      (host_stepped statements name.sender.0 (inputs.Lost name.number) o (without_message name world)) (without_message name world))
-  told_at None at none = without_host None at refl
-  told_at (Some host) at none = by_up (is_host_up host) refl none
-    where
-      by_up : (b : Bool) → is_host_up host ≡ b → (b && gateways.gateway_awaits name.number host.node.gateway) ≡ false
-          → WireMatchesNodes (cond b (host_stepped statements name.sender.0 (inputs.Lost name.number) (Some host) (without_message name world)) (without_message name world))
-      by_up true up free =
-          let so_far = node_step (inputs.Lost name.number) host.node in
-          wired_asking (Other name.number) world.hosts world.wire (tree.remove world.wire name) name.sender.0 host so_far.node so_far.outputs.sends
-          at up wired (lost_asks host.node name.number free) (one_leaves world.wire name)
-      by_up false down free = without_host (Some host) at down
-
-  told_wired : is_of_work name world ≡ false → WireMatchesNodes (loss_told statements name (without_message name world))
-  unfolding node_stepped
-  told_wired none = told_at (host_at name.sender.0 world) refl none
-
-lost_wired : (statements : List Statement) (name : MessageName) (world : World) → is_of_work name world ≡ false → WireMatchesNodes world
-    → WireMatchesNodes (message_lost statements name world)
-unfolding message_lost
-lost_wired statements name world none wired = by_packet (message_at name world)
-  where
-    by_packet : (o : Option Packet) → WireMatchesNodes (loss_told statements name (without_message name (loss_used name o (at_rest world))))
-    by_packet None = told_wired statements name (at_rest world) wired none
-    by_packet (Some packet) =
-        let fewer = record (at_rest world) { losses = world.losses - 1 } in
-        cond_either (λ (w : World). WireMatchesNodes (loss_told statements name (without_message name w))) (are_ends_up name packet (at_rest world)) fewer (at_rest world)
-        (told_wired statements name fewer wired none) (told_wired statements name (at_rest world) wired none)
-
-pub wired-lose_idle_request : (statements : List Statement) (world : World) (made : EventOutcome) (node : NodeId) (number : ℕ)
-    → step statements (events.LoseRequest node number) world ≡ Some made → is_of_work (record { sender = node; number = number }) world ≡ false
-    → WireMatchesNodes world → WireMatchesNodes made.world
-unfolding step
-wired-lose_idle_request statements world made node number is none wired =
-    let name : MessageName = record { sender = node; number = number } in
-    let t = cond_some (may_lose_request name world) (with_replies statements world (message_lost statements name world)) made is in
-    subst (λ (made : EventOutcome). WireMatchesNodes made.world) t.1 (lost_wired statements name world none wired)
-
-pub wired-lose_idle_reply : (statements : List Statement) (world : World) (made : EventOutcome) (node : NodeId) (number : ℕ)
-    → step statements (events.LoseReply node number) world ≡ Some made → is_of_work (record { sender = node; number = number }) world ≡ false
-    → WireMatchesNodes world → WireMatchesNodes made.world
-unfolding step
-wired-lose_idle_reply statements world made node number is none wired =
-    let name : MessageName = record { sender = node; number = number } in
-    let t = cond_some (may_lose_reply name world) (with_replies statements world (message_lost statements name world)) made is in
-    subst (λ (made : EventOutcome). WireMatchesNodes made.world) t.1 (lost_wired statements name world none wired)
+pub same_asked : (one other : PeerReq) → ◌≡◌ {A = Result PeerReq PeerFault} (Ok one) (Ok other) → one ≡ other
+unfolding asked_or
+same_asked one other same = ap (asked_or one) same
 
 said_or : PeerRsp → Result PeerRsp PeerFault → PeerRsp
 said_or none (Ok rsp) = rsp
@@ -388,43 +295,3 @@ said_or none (Err fault) = none
 pub same_said : (one other : PeerRsp) → ◌≡◌ {A = Result PeerRsp PeerFault} (Ok one) (Ok other) → one ≡ other
 unfolding said_or
 same_said one other same = ap (said_or one) same
-
--- the reply to what no work waits for
-module _ (statements : List Statement) (name : MessageName) (world : World) (wired : WireMatchesNodes world) where
-  got_at : (rsp : PeerRsp) (o : Option Host) → rsp.number ≡ name.number → host_at name.sender.0 world ≡ o
-      → option_map_or (λ (host : Host). is_host_up host && gateways.gateway_awaits name.number host.node.gateway) o false ≡ false
-      → option_map_or is_host_up o false ≡ true
-      → WireMatchesNodes (host_stepped statements name.sender.0 (inputs.Reply rsp) o (without_message name (at_rest world)))
-  got_at rsp None same at none up = absurd (cc (up))
-  got_at rsp (Some host) same at none up =
-      let so_far = node_step (inputs.Reply rsp) host.node in
-      let waits : gateways.gateway_awaits name.number host.node.gateway ≡ false
-      = ap (λ (b : Bool). b && gateways.gateway_awaits name.number host.node.gateway) (sym up) ∙ none in
-      let free : gateways.gateway_awaits rsp.number host.node.gateway ≡ false
-      = ap (λ (q : ℕ). gateways.gateway_awaits q host.node.gateway) same ∙ waits in
-      wired_asking (Other rsp.number) world.hosts world.wire (tree.remove world.wire name) name.sender.0 host so_far.node so_far.outputs.sends
-      at up wired (replied_asks host.node rsp free)
-      (subst (λ (q : ℕ). Leaves (Other q) name.sender.0 world.wire (tree.remove world.wire name)) (sym same) (one_leaves world.wire name))
-
-  got_wired : (from : NodeId) (bytes : List ℕ) (said : Result PeerRsp PeerFault) → say_in bytes ≡ said → message_at name world ≡ Some (Reply from bytes)
-      → is_of_work name world ≡ false → is_up name.sender.0 world ≡ true → WireMatchesNodes (reply_got statements name said (at_rest world))
-  unfolding node_stepped
-  got_wired from bytes (Ok rsp) says got none up =
-      let (read, reads, number) = wired.spelled name (Reply from bytes) got in
-      let same : read ≡ rsp = same_said read rsp (sym reads ∙ says) in
-      got_at rsp (host_at name.sender.0 world) (ap (λ (rsp : PeerRsp). rsp.number) (sym same) ∙ number) refl none up
-  got_wired from bytes (Err fault) says got none up = wired
-
-pub wired-deliver_idle_reply : (statements : List Statement) (world : World) (made : EventOutcome) (node : NodeId) (number : ℕ) (from : NodeId) (bytes : List ℕ)
-    → step statements (events.Deliver node number) world ≡ Some made
-    → message_at (record { sender = node; number = number }) world ≡ Some (Reply from bytes)
-    → is_of_work (record { sender = node; number = number }) world ≡ false → WireMatchesNodes world → WireMatchesNodes made.world
-unfolding step reply_delivered
-wired-deliver_idle_reply statements world made node number from bytes is got none wired =
-    let name : MessageName = record { sender = node; number = number } in
-    let t = cond_some (may_deliver name world) (with_replies statements world (message_delivered statements name world)) made is in
-    let up : is_up node.0 world ≡ true
-    = sym (ap (λ (o : Option Packet). option_map_or (λ packet. is_up (receiver_of name packet).0 world) o false) got) ∙ t.0 in
-    subst (λ (made : EventOutcome). WireMatchesNodes made.world) t.1
-    (subst (λ (o : Option Packet). WireMatchesNodes (delivered_as statements name o world)) (sym got)
-    (got_wired statements name world wired from bytes (say_in bytes) refl got none up))

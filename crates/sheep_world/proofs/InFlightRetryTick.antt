@@ -1,23 +1,20 @@
 -- A work that is tried again leaves nodes and wire together, and each request with one open work at most.
-use Rattle.std.proofs.Common.{◌≡◌, ◌<◌, ◌≤◌, ◌≢◌, inl, inr, ℕ, nat_lt, Bool, true, false, not, ◌&&◌, cond, T, List, [], ◌∷◌, flat_map, All, Contains, Option, Some, None, is_some, Ordering, Less, Equal, Greater, refl, sym, ap, subst, ◌∙◌, ⊎_elim, ◌+◌, length}
+use Rattle.std.proofs.Common.{◌≡◌, ◌<◌, ◌≤◌, ◌≢◌, inl, inr, ℕ, nat_lt, Bool, true, false, not, cond, List, [], ◌∷◌, flat_map, All, Contains, Option, Some, None, is_some, Ordering, Less, Equal, Greater, refl, sym, ap, subst, ◌∙◌, ⊎_elim, ◌+◌, length}
 use native.Mathlib.Omega.{arith}
-use Rattle.std.specs.Ordering.{nat_cmp, is_eq, is_lt, eq_by_cmp}
+use Rattle.std.specs.Ordering.{nat_cmp, is_eq, eq_by_cmp}
 use Rattle.std.specs.Cmp.{nat_cmp_total, eq_by_cmp_equiv}
-use Rattle.std.specs.Option.{option_map_or}
 use Rattle.std.specs.FinMap as tree
-use Rattle.std.specs.FinMap.Entries.{below_all, is_sorted, where_key, is_sorted-where_key, find-where_key}
-use Rattle.std.proofs.lemmas.Bool.{and_parts, or_cases, or_left, or_right, cases_eq}
-use Rattle.std.proofs.lemmas.Cmp.{tied_itself}
-use Rattle.std.proofs.lemmas.Option.{cond_some, same_Some}
+use Rattle.std.specs.FinMap.Entries.{where_key, is_sorted-where_key, find-where_key}
+use Rattle.std.proofs.lemmas.Bool.{or_cases, or_left, or_right, cases_eq}
+use Rattle.std.proofs.lemmas.Option.{same_Some}
 use Rattle.std.proofs.lemmas.List.Elements.{All-contains, Contains-append_left, Contains-append_right, Contains-append_cases}
-use Rattle.proof_tools.proofs.FiniteMaps.{entries-from_entries, get-remove_same, get-remove_other, entries-contain, get-insert_cases, get-entry}
+use Rattle.proof_tools.proofs.FiniteMaps.{entries-from_entries, get-remove_same, get-remove_other, entries-contain, get-entry}
 use Rattle.proof_tools.proofs.Booleans.{cond_either, has_value}
 use Rattle.proof_tools.proofs.Lists.{Contains-first, Contains-cons, Contains-cons_cases, Contains-nil, find-contains}
 use Rattle.object_id.specs.declared.cause.Cause.{Cause}
 use Rattle.object_id.specs.declared.cause.Cause.TheVariants.{Halt}
 use Rattle.object_id.specs.declared.node.Epoch.{Epoch}
 use Rattle.object_id.specs.declared.node.NodeId.{NodeId}
-use Rattle.cluster_script.specs.declared.statement.Statement.{Statement}
 use Rattle.hash_ring.specs.Placement.{zone_count}
 use Rattle.vnode_table.specs.Epochs.{members_at}
 use Rattle.vnode_table.specs.Targets.{targets_in}
@@ -36,14 +33,12 @@ use Rattle.guest_driver.specs.InodeQueue as lines
 use Rattle.recovery.specs.State as recoveries
 use Rattle.recovery.specs.State.{Recovery, Message}
 use Rattle.recovery.specs.Fits as recovery_fits
-use Rattle.sheep_node.specs.declared.event.Event.TheVariants as events
 use Rattle.sheep_node.specs.declared.input.Input.{Input}
 use Rattle.sheep_node.specs.declared.input.Input.TheVariants as inputs
 use Rattle.sheep_node.specs.State.{Node}
 use Rattle.sheep_node.specs.RecoveryView.{recovery_state_of}
 use Rattle.sheep_node.specs.StepState.{StepState, at_first, with_gateway}
 use Rattle.sheep_node.specs.Waiting.{after_act, after_gateway_step}
-use Rattle.sheep_node.specs.May.{has_work_to_retry}
 use Rattle.sheep_node.specs.Step as steps
 use Rattle.sheep_node.specs.Step.{is_due, with_recovered, recovered_put, on_input, node_step}
 use Rattle.sheep_node.proofs.StepChain.{ChainNeeds}
@@ -56,9 +51,8 @@ use Rattle.sheep_world.specs.Step.{EventOutcome, step, with_replies}
 use Rattle.sheep_world.specs.WireMatch.{unanswered_in, asked_by, asked_by_recovery, WireMatchesNodes}
 use Rattle.sheep_node.specs.OneWork.{may_work_at, waiting_in, HaveOneWorkPerRequest, HasOneWorkPerRequest}
 use Rattle.sheep_world.specs.OneWork.{NodesHaveOneWorkPerRequest, IsSentInRange}
-use Rattle.sheep_world.proofs.InFlightPut.{next_host}
-use Rattle.sheep_world.proofs.InFlightSends.{Sends, Asking, wired_asking}
-use Rattle.sheep_world.proofs.InFlightRecoverTick.{Any, nothing_leaves}
+use Rattle.sheep_world.proofs.InFlightSends.{Sends, Asking}
+use Rattle.sheep_world.proofs.InFlightRecoverTick.{Any}
 use Rattle.sheep_world.proofs.InFlightRecoveryAnswer.{same_fit}
 use Rattle.sheep_world.proofs.GatewaySteps.{Works, WaitedBefore, found_by, asked_in, Going, IsIdle, idle_number, going_opened, going_short}
 use Rattle.sheep_world.proofs.OneWorkLaws.{Requests, Sessions, IsGood, driven_insert, work_refused_good}
@@ -327,14 +321,6 @@ good_driven old so_far before good =
     not_recovering number new true waits = let given : number < old.sends = before.recovering number waits in absurd (omega (arith, new, given))
     not_recovering number new false waits = waits
 
--- the other nodes are as they were
-pub driven_after : (world : World) (n : ℕ) (host : Host) → HasOneWorkPerRequest host.node → NodesHaveOneWorkPerRequest world
-    → (q : ℕ) (at : Host) → tree.get (tree.insert world.hosts n host) q ≡ Some at → HasOneWorkPerRequest at.node
-driven_after world n host own driven q at got = ⊎_elim
-    (λ (same : (q ≡ n) × (host ≡ at)). subst (λ (host : Host). HasOneWorkPerRequest host.node) same.1 own)
-    (λ (other : (q ≢ n) × (tree.get world.hosts q ≡ Some at)). driven q at other.1)
-    (get-insert_cases world.hosts n host q at got)
-
 -- what is asked on one way, and then on another
 pub asks_after : (Stays : ℕ → Type 0) (one two three : Node) (sends : Sends) → Asking Stays one two [] → Asking Any two three sends
     → Asking Stays one three sends
@@ -361,31 +347,15 @@ asks_after Stays one two three sends first then =
     }
 
 -- what a step makes of what its node waits for and is driven to, where what it sends can be spelled
-pub record DoesWell (input : Input) (node : Node) : Type 0 where
+pub record DoesWell (Stays : ℕ → Type 0) (input : Input) (node : Node) : Type 0 where
   pub asks : All (λ (send : NodeId × PeerReq). IsPeerReq send.1) (node_step input node).outputs.sends
-      → Asking Any node (node_step input node).node (node_step input node).outputs.sends
+      → Asking Stays node (node_step input node).node (node_step input node).outputs.sends
   pub driven : HasOneWorkPerRequest (node_step input node).node
 
 -- a good step does well
-pub good_well : (input : Input) (node : Node) → ChainNeeds input node → HasOneWorkPerRequest node → IsGood node (node_step input node) → DoesWell input node
+pub good_well : (input : Input) (node : Node) → ChainNeeds input node → HasOneWorkPerRequest node → IsGood node (node_step input node) → DoesWell Any input node
 good_well input node needs driven good =
     record { asks = λ requests. good_asks input node needs driven good requests; driven = good_driven node (node_step input node) driven good }
-
--- a node steps, and what it sends can be spelled
-abbrev pub StaysTogether : World → Type 0
-StaysTogether world = IsSentInRange world → WireMatchesNodes world × NodesHaveOneWorkPerRequest world
-
--- where a node does well, all stay together
-pub step_together : (statements : List Statement) (world : World) (n : ℕ) (input : Input) (o : Option Host) → host_at n world ≡ o
-    → ((host : Host) → o ≡ Some host → (is_host_up host ≡ true) × DoesWell input host.node)
-    → NodesHaveOneWorkPerRequest world → WireMatchesNodes world → StaysTogether (host_stepped statements n input o world)
-step_together statements world n input None at well driven wired requests = (wired, driven)
-step_together statements world n input (Some host) at well driven wired requests =
-    let (up, does) = well host refl in
-    let so_far = node_step input host.node in (
-      wired_asking Any world.hosts world.wire world.wire n host so_far.node so_far.outputs.sends at up wired (does.asks requests) (nothing_leaves n world.wire),
-      driven_after world n (next_host host so_far.node) does.driven driven,
-    )
 
 -- ---- a work is tried again
 
@@ -467,21 +437,3 @@ retried_good node driven = by_found (next_try (record { 0 = node.peer.epoch }) n
 pub retry_good : (node : Node) → HasOneWorkPerRequest node → IsGood node (node_step inputs.RetryTick node)
 unfolding node_step on_input
 retry_good node driven = good_at_end node (steps.on_retry_tick (at_first node)) (retried_good node driven)
-
-retried_well : (statements : List Statement) (world : World) (n : ℕ) → conditions.may_retry n world ≡ true → NodesHaveOneWorkPerRequest world → WireMatchesNodes world
-    → StaysTogether (host_stepped statements n inputs.RetryTick (host_at n world) (at_rest world))
-retried_well statements world n may driven wired =
-    step_together statements (at_rest world) n inputs.RetryTick (host_at n world) refl
-    (λ host at.
-    let (up, retries) = and_parts (is_host_up host) (has_work_to_retry host.node)
-    (sym (ap (λ (o : Option Host). option_map_or (λ (host : Host). is_host_up host && has_work_to_retry host.node) o false) at) ∙ may) in
-    (up, good_well inputs.RetryTick host.node tt (driven n host at) (retry_good host.node (driven n host at))))
-    driven wired
-
-pub wired-retry : (statements : List Statement) (world : World) (made : EventOutcome) (node : NodeId)
-    → step statements (events.RetryTick node) world ≡ Some made → IsSentInRange made.world → NodesHaveOneWorkPerRequest world → WireMatchesNodes world
-    → WireMatchesNodes made.world × NodesHaveOneWorkPerRequest made.world
-unfolding step retry_tick_effect node_stepped
-wired-retry statements world made node is requests driven wired =
-    let t = cond_some (conditions.may_retry node.0 world) (with_replies statements world (retry_tick_effect statements node.0 world)) made is in
-    subst (λ (made : EventOutcome). StaysTogether made.world) t.1 (retried_well statements world node.0 t.0 driven wired) requests

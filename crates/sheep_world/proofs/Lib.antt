@@ -3,7 +3,6 @@ pub mod EnabledLaws
 pub mod RunLaws
 pub mod InFlightEvents
 pub mod InFlightOpening
-pub mod InFlightPut
 pub mod InFlightSends
 pub mod InFlightRecoverTick
 pub mod InFlightRecoveryAnswer
@@ -15,7 +14,6 @@ pub mod InFlightLogNext
 pub mod InFlightGatewayAnswer
 pub mod MarkedMessages
 pub mod InFlightGateway
-pub mod InFlightLoss
 pub mod OneWorkEvents
 pub mod RequestsAfterSteps
 pub mod SessionNumbers
@@ -26,3 +24,21 @@ pub mod NodeConditions
 pub mod AskedInputs
 pub mod InFlightBack
 pub mod SmallWorld
+pub mod AskedStatements
+pub mod EventInversion
+pub mod HostChangeLaws
+pub mod BegunWorlds
+pub mod LogFrontLaws
+pub mod ControlLaws
+pub mod ScriptControls
+pub mod MembersOfLog
+pub mod LogAtEvents
+pub mod LogAtOpening
+pub mod NextEntries
+pub mod SenderMatch
+pub mod StepsByCause
+pub mod WireAtEvents
+pub mod RangeAtEvents
+pub mod TogetherInRuns
+pub mod EnabledParts
+pub mod EventEffects

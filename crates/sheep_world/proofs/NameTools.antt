@@ -1,9 +1,8 @@
 -- The names of messages in their order, and what a map has at a key.
-use Rattle.std.proofs.Common.{◌≡◌, cond, List, [], ◌∷◌, Contains, Some, Ordering, Less, Equal, Greater, refl, sym, ◌∙◌}
-use Rattle.std.specs.Ordering.{ordering_then, nat_cmp, is_eq}
+use Rattle.std.proofs.Common.{◌≡◌, Ordering, Less, Equal, Greater, refl}
+use Rattle.std.specs.Ordering.{ordering_then, nat_cmp}
 use Rattle.std.specs.Cmp.{IsTotalOrder, then_total, on_total, nat_cmp_total}
 use Rattle.std.specs.FinMap as tree
-use Rattle.std.proofs.lemmas.Option.{same_Some}
 use Rattle.sheep_world.specs.declared.name.MessageName.{MessageName}
 use Rattle.sheep_world.specs.World.{name_cmp}
 

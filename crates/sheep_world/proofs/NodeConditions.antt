@@ -1,9 +1,9 @@
--- A node steps only on what it may: where an event may happen, the node's step meets its condition.
-use Rattle.std.proofs.Common.{◌≡◌, ℕ, ◌==◌, Bool, true, false, not, ◌&&◌, ◌||◌, cond, List, [], ◌∷◌, filter, find, Contains, Option, Some, Ok, refl, ap, subst, ◌∙◌, ⊎_elim}
+-- What a node waits for it asked; so a reply in the wire fits what was asked.
+use Rattle.std.proofs.Common.{◌≡◌, ℕ, ◌==◌, Bool, true, false, ◌||◌, cond, List, [], ◌∷◌, filter, find, Contains, Some, Ok, refl, sym, ap, subst, ◌∙◌, ⊎_elim}
 use Rattle.std.specs.List.{list_any}
 use Rattle.std.specs.FinMap as tree
-use Rattle.std.proofs.lemmas.Bool.{eqb-true, and_parts, or_cases}
-use Rattle.std.proofs.lemmas.List.Elements.{All-contains, Contains-append_left, Contains-append_right}
+use Rattle.std.proofs.lemmas.Bool.{eqb-true, or_cases}
+use Rattle.std.proofs.lemmas.List.Elements.{Contains-append_left, Contains-append_right}
 use Rattle.proof_tools.proofs.Lists.{Contains-first, Contains-cons, Contains-filter, find-contains, Contains-map, Contains-flat_map}
 use Rattle.proof_tools.proofs.Booleans.{has_value}
 use Rattle.object_id.specs.declared.node.NodeId.{NodeId}
@@ -15,46 +15,13 @@ use Rattle.gateway.specs.Attempt.{is_unanswered, is_awaited_message, send_of}
 use Rattle.gateway.specs.State as gateways
 use Rattle.gateway.specs.State.{Work, WorkStage, Open, Ended, WaitsForMembers, open_messages, is_awaited_in}
 use Rattle.recovery.specs.State as recoveries
-use Rattle.sheep_node.specs.declared.input.Input.TheVariants as inputs
 use Rattle.sheep_node.specs.State.{Node}
 use Rattle.sheep_node.specs.May as nodes
 use Rattle.sheep_node.specs.May.{has_numbers, fits_node, May}
-use Rattle.sheep_world.specs.declared.name.MessageName.{MessageName}
-use Rattle.sheep_world.specs.World.{Packet, Reply, Host, World, host_at, is_host_up, is_up, message_at}
-use Rattle.sheep_world.specs.Conditions.{may_put, may_recover, may_retry}
-use Rattle.sheep_world.specs.Meets.{MayStepOn}
-use Rattle.sheep_world.specs.WireMatch.{unanswered_in, asked_by_gateway, asked_by_recovery, asked_by, own_name, IsInFlight, WireMatchesNodes}
-use Rattle.sheep_world.proofs.EnabledLaws.{looked_up}
-
-numbers_left : (host : Host) → is_host_up host ≡ true → has_numbers host.node ≡ true
-numbers_left host up = (and_parts (not host.is_lost) (has_numbers host.node) up).1
-
--- the ticks, and what is put
-module _ (world : World) (node : ℕ) where
-  pub meets-put : may_put node world ≡ true → MayStepOn inputs.Put node world
-  meets-put may =
-      let (host, is, passes) = looked_up (λ (host : Host). is_host_up host && nodes.has_entry_to_put host.node) (host_at node world) may in
-      let (up, puts) = and_parts (is_host_up host) (nodes.has_entry_to_put host.node) passes in
-      (host, is, record { numbers = numbers_left host up; condition = puts })
-
-  pub meets-recover : may_recover node world ≡ true → MayStepOn inputs.RecoverTick node world
-  meets-recover may =
-      let (host, is, passes) = looked_up (λ (host : Host). is_host_up host && nodes.may_tick host.node) (host_at node world) may in
-      let (up, ticks) = and_parts (is_host_up host) (nodes.may_tick host.node) passes in
-      (host, is, record { numbers = numbers_left host up; condition = ticks })
-
-  pub meets-retry : may_retry node world ≡ true → MayStepOn inputs.RetryTick node world
-  meets-retry may =
-      let (host, is, passes) = looked_up (λ (host : Host). is_host_up host && nodes.has_work_to_retry host.node) (host_at node world) may in
-      let (up, retries) = and_parts (is_host_up host) (nodes.has_work_to_retry host.node) passes in
-      (host, is, record { numbers = numbers_left host up; condition = retries })
-
--- a loss of what is in the wire is one that its sender waits for
-pub meets-lost : (world : World) (name : MessageName) (packet : Packet) → WireMatchesNodes world → message_at name world ≡ Some packet
-    → is_up name.sender.0 world ≡ true → MayStepOn (inputs.Lost name.number) name.sender.0 world
-meets-lost world name packet wired got up =
-    let (host, is, host_up) = looked_up is_host_up (host_at name.sender.0 world) up in
-    (host, is, record { numbers = numbers_left host host_up; condition = wired.awaited name packet host got is host_up })
+use Rattle.sheep_world.specs.World.{Reply, Host, is_host_up}
+use Rattle.sheep_world.specs.WireMatch.{unanswered_in, asked_by_gateway, asked_by_recovery, asked_by, IsInFlight}
+use Rattle.sheep_world.proofs.InFlightRecoveryAnswer.{same_said}
+use Rattle.sheep_world.proofs.SenderMatch.{Packets, MatchesHost}
 
 -- an element that passes a test
 abbrev Passes : {X : Type 0} → (X → Bool) → List X → Type 0
@@ -132,22 +99,17 @@ node_asks number node is = ⊎_elim
     (send, Contains-append_right (asked_by_gateway node.me node.gateway) (asked_by_recovery node.recovery) send there, same))
     (or_cases (gateways.gateway_awaits number node.gateway) (recoveries.recovery_awaits number node.recovery) is)
 
-reply_fits : (node : Node) (send : NodeId × PeerReq) (from : NodeId) (bytes : List ℕ) (o : Option Packet) → o ≡ Some (Reply from bytes)
-    → IsInFlight node send o → (rsp : PeerRsp) × (say_in bytes ≡ Ok rsp) × (fits_node rsp node ≡ true)
-reply_fits node send from bytes o is way =
-    let (asked, (rsp, said, number, fit)) = subst (λ (o : Option Packet). IsInFlight node send o) is way in
-    (rsp, said, fit)
+-- a reply in the wire to an up node fits what it waits for
+pub reply_fits : (n number : ℕ) (host : Host) (packets : Packets) (from : NodeId) (bytes : List ℕ) (rsp : PeerRsp) → MatchesHost n host packets
+    → is_host_up host ≡ true → packets number ≡ Some (Reply from bytes) → say_in bytes ≡ Ok rsp → fits_node rsp host.node ≡ true
+reply_fits n number host packets from bytes rsp matches up got read =
+    let (send, there, same) = node_asks number host.node (matches.awaited up number (Reply from bytes) got) in
+    let (asked, (said, says, numbered, fit)) = subst (IsInFlight host.node send) (ap packets same ∙ got) (matches.on_the_way up send there) in
+    subst (λ (rsp : PeerRsp). fits_node rsp host.node ≡ true) (same_said said rsp (sym says ∙ read)) fit
 
--- a reply in the wire to an up node is one that it may step on
-pub meets-reply : (world : World) (name : MessageName) (from : NodeId) (bytes : List ℕ) → WireMatchesNodes world
-    → message_at name world ≡ Some (Reply from bytes) → is_up name.sender.0 world ≡ true
-    → (rsp : PeerRsp) × (say_in bytes ≡ Ok rsp) × MayStepOn (inputs.Reply rsp) name.sender.0 world
-meets-reply world name from bytes wired got up =
-    let (host, is, host_up) = looked_up is_host_up (host_at name.sender.0 world) up in
-    let (send, there, same) = node_asks name.number host.node (wired.awaited name (Reply from bytes) host got is host_up) in
-    let own : own_name host.node send ≡ name = λ i. record { sender = record { 0 = wired.numbered name.sender.0 host is i }; number = same i } in
-    let way : IsInFlight host.node send (tree.get world.wire (own_name host.node send))
-    = All-contains (λ (send : NodeId × PeerReq). IsInFlight host.node send (tree.get world.wire (own_name host.node send)))
-    (asked_by host.node) send (wired.on_the_way name.sender.0 host is host_up) there in
-    let (rsp, said, fit) = reply_fits host.node send from bytes (tree.get world.wire (own_name host.node send)) (ap (tree.get world.wire) own ∙ got) way in
-    (rsp, said, (host, is, record { numbers = numbers_left host host_up; condition = fit }))
+-- and has the number of its name
+pub reply_numbered : (n number : ℕ) (host : Host) (packets : Packets) (from : NodeId) (bytes : List ℕ) (rsp : PeerRsp) → MatchesHost n host packets
+    → packets number ≡ Some (Reply from bytes) → say_in bytes ≡ Ok rsp → rsp.number ≡ number
+reply_numbered n number host packets from bytes rsp matches got read =
+    let (said, says, same) = matches.spelled number (Reply from bytes) got in
+    subst (λ (rsp : PeerRsp). rsp.number ≡ number) (same_said said rsp (sym says ∙ read)) same

@@ -1,30 +1,21 @@
--- Which events leave works with their requests, and the numbers that nodes wait for apart.
-use Rattle.std.proofs.Common.{◌≡◌, ℕ, ◌+◌, ◌==◌, ◌<◌, ◌≤◌, Bool, true, false, ◌&&◌, cond, List, [], ◌∷◌, length, map, Contains, Option, Some, None, is_some, unwrap_or, Result, Ok, Err, refl, sym, ap, subst, ◌∙◌}
+-- What a tick leaves of the works and the numbers of a node; and a node without works, as it opens or comes back.
+use Rattle.std.proofs.Common.{◌≡◌, ℕ, ◌+◌, ◌==◌, ◌<◌, ◌≤◌, Bool, true, false, cond, List, [], ◌∷◌, length, map, Contains, Option, Some, is_some, unwrap_or, refl, sym, ap, subst, ◌∙◌}
 use native.Mathlib.Omega.{arith}
 use Rattle.std.specs.Ordering.{nat_cmp}
-use Rattle.std.specs.Option.{option_map_or}
 use Rattle.std.specs.FinMap as tree
-use Rattle.std.proofs.lemmas.Bool.{eqb-true, and_parts}
-use Rattle.std.proofs.lemmas.Option.{cond_some}
+use Rattle.std.proofs.lemmas.Bool.{eqb-true}
 use Rattle.proof_tools.proofs.Booleans.{cond_either, has_value}
 use Rattle.proof_tools.proofs.Lists.{Contains-first, Contains-cons, Contains-nil}
 use Rattle.object_id.specs.declared.entry.Entry.{Entry}
 use Rattle.object_id.specs.declared.entry.Member.{Member}
 use Rattle.object_id.specs.declared.node.NodeId.{NodeId}
-use Rattle.cluster_script.specs.declared.statement.Statement.{Statement}
-use Rattle.cluster_script.specs.Settings.{tries_of}
 use Rattle.peer_proto.specs.declared.ask.PeerReq.{PeerReq}
-use Rattle.peer_proto.specs.declared.fault.PeerFault.{PeerFault}
-use Rattle.peer_proto.specs.declared.say.PeerRsp.{PeerRsp}
-use Rattle.peer_proto.specs.Ask.{ask_in}
 use Rattle.guest_driver.specs.InodeQueue as lines
-use Rattle.sheep_world.specs.declared.name.MessageName.{MessageName}
 use Rattle.gateway.specs.State as gateways
 use Rattle.gateway.specs.State.{Work, is_awaited_in}
 use Rattle.recovery.specs.State as recoveries
 use Rattle.recovery.specs.State.{Message}
 use Rattle.recovery.specs.Tick.{tick_messages, tick_sends, state_after_tick}
-use Rattle.sheep_node.specs.declared.event.Event.TheVariants as events
 use Rattle.sheep_node.specs.declared.input.Input.TheVariants as inputs
 use Rattle.sheep_node.specs.State as nodes
 use Rattle.sheep_node.specs.State.{Node, Session, new_session}
@@ -47,57 +38,17 @@ use Rattle.sheep_world.specs.MembershipChanges.{lost_host, control_taken, host_c
 use Rattle.sheep_world.specs.Step.{EventOutcome, step, only, put_made, loss_made, with_replies}
 use Rattle.sheep_node.specs.OneWork.{waiting_in, AreOfDifferentRequests, HaveOneWorkPerRequest, NumbersAreOfOneWork, NumbersAreBelow, HasOneWorkPerRequest}
 use Rattle.sheep_world.specs.OneWork.{NodesHaveOneWorkPerRequest}
-use Rattle.sheep_world.proofs.InFlightPut.{next_host}
 use Rattle.sheep_world.proofs.InFlightSends.{numbers_within}
 use Rattle.sheep_world.proofs.InFlightRecoverTick.{asked_now}
-use Rattle.sheep_world.proofs.InFlightRetryTick.{found_got, driven_after}
+use Rattle.sheep_world.proofs.InFlightRetryTick.{found_got}
 use Rattle.sheep_world.proofs.GatewaySteps.{Works, found_by}
 use Rattle.sheep_world.proofs.OneWorkLaws.{Sessions}
 use Rattle.sheep_world.proofs.InFlightOpening.{opening_found}
 use Rattle.sheep_node.proofs.MessageNumbers.{unanswered_in_epoch}
 use Rattle.sheep_world.proofs.InFlightLogNext.{reads_well}
 
--- Phase, Leave and Reweight leave the nodes alone
-pub driven-phase : (statements : List Statement) (world : World) (made : EventOutcome) → step statements events.Phase world ≡ Some made
-    → NodesHaveOneWorkPerRequest world → NodesHaveOneWorkPerRequest made.world
-unfolding step phase_ended
-driven-phase statements world made is driven =
-    subst (λ (made : EventOutcome). NodesHaveOneWorkPerRequest made.world)
-    (cond_some (may_end_phase statements world) (only (phase_ended statements world)) made is).1 driven
-
-pub driven-leave : (statements : List Statement) (world : World) (made : EventOutcome) (node : NodeId) → step statements (events.Leave node) world ≡ Some made
-    → NodesHaveOneWorkPerRequest world → NodesHaveOneWorkPerRequest made.world
-unfolding step node_left
-driven-leave statements world made node is driven =
-    subst (λ (made : EventOutcome). NodesHaveOneWorkPerRequest made.world) (cond_some (may_leave node.0 world) (only (node_left node.0 world)) made is).1 driven
-
-pub driven-reweight : (statements : List Statement) (world : World) (made : EventOutcome) (node : NodeId)
-    → step statements (events.Reweight node) world ≡ Some made → NodesHaveOneWorkPerRequest world → NodesHaveOneWorkPerRequest made.world
-unfolding step node_reweighted
-driven-reweight statements world made node is driven =
-    subst (λ (made : EventOutcome). NodesHaveOneWorkPerRequest made.world) (cond_some (may_reweight node.0 world) (only (node_reweighted node.0 world)) made is).1 driven
-
--- a host that is given to a node as it was
-changed_driven : (change : Host → Host) → ((host : Host) → (change host).node ≡ host.node) → (world after : World) (n : ℕ) (o : Option Host)
-    → host_at n world ≡ o → after.hosts ≡ world.hosts → NodesHaveOneWorkPerRequest world → NodesHaveOneWorkPerRequest (host_changed change n o after)
-changed_driven change kept world after n None at same driven =
-    subst (λ (hosts : tree.FinMap nat_cmp Host). (q : ℕ) (host : Host) → tree.get hosts q ≡ Some host → HasOneWorkPerRequest host.node) (sym same) driven
-changed_driven change kept world after n (Some host) at same driven =
-    subst (λ (hosts : tree.FinMap nat_cmp Host). (q : ℕ) (at : Host) → tree.get (tree.insert hosts n (change host)) q ≡ Some at → HasOneWorkPerRequest at.node) (sym same)
-    (driven_after world n (change host) (subst HasOneWorkPerRequest (sym (kept host)) (driven n host at)) driven)
-
--- a lost node is as it was
-pub driven-lost : (statements : List Statement) (world : World) (made : EventOutcome) (node : NodeId) → step statements (events.Lost node) world ≡ Some made
-    → NodesHaveOneWorkPerRequest world → NodesHaveOneWorkPerRequest made.world
-unfolding step node_lost
-driven-lost statements world made node is driven = subst
-    (λ (made : EventOutcome). NodesHaveOneWorkPerRequest made.world)
-    (cond_some (may_lose_node node.0 world) (loss_made statements node.0 world (node_lost node.0 world)) made is).1
-    (changed_driven lost_host (λ host. refl) world (record (control_taken (at_rest world)) { wire = without_replies node.0 world.wire }) node.0
-    (host_at node.0 world) refl refl driven)
-
 -- what the end of a step leaves
-driven_at_end : (so_far : StepState) → HasOneWorkPerRequest so_far.node → HasOneWorkPerRequest (recovered_put so_far).node
+pub driven_at_end : (so_far : StepState) → HasOneWorkPerRequest so_far.node → HasOneWorkPerRequest (recovered_put so_far).node
 unfolding recovered_put
 driven_at_end so_far driven =
     cond_either (λ (so_far : StepState). HasOneWorkPerRequest so_far.node) (is_due so_far.node) (with_recovered so_far) so_far
@@ -110,35 +61,6 @@ driven_at_end so_far driven =
       recovering = driven.recovering;
     })
     driven
-
-put_driven : (node : Node) → HasOneWorkPerRequest node → HasOneWorkPerRequest (node_step inputs.Put node).node
-unfolding node_step on_input
-put_driven node driven = driven_at_end (on_put node.outbox (at_first node)) (by_outbox node.outbox)
-  where
-    by_outbox : (outbox : List Entry) → HasOneWorkPerRequest (on_put outbox (at_first node)).node
-    by_outbox [] = driven
-    by_outbox (entry ∷ later) = record {
-      own = driven.own;
-      driven = driven.driven;
-      once = driven.once;
-      given = driven.given;
-      recovers = driven.recovers;
-      recovering = driven.recovering;
-    }
-
-put_all : (statements : List Statement) (world : World) (n : ℕ) (o : Option Host) → host_at n world ≡ o → NodesHaveOneWorkPerRequest world
-    → NodesHaveOneWorkPerRequest (host_stepped statements n inputs.Put o (at_rest world))
-put_all statements world n None at driven = driven
-put_all statements world n (Some host) at driven =
-    driven_after world n (next_host host (node_step inputs.Put host.node).node) (put_driven host.node (driven n host at)) driven
-
-pub driven-put : (statements : List Statement) (world : World) (made : EventOutcome) (node : NodeId) → step statements (events.Put node) world ≡ Some made
-    → NodesHaveOneWorkPerRequest world → NodesHaveOneWorkPerRequest made.world
-unfolding step put_effect node_stepped
-driven-put statements world made node is driven =
-    subst (λ (made : EventOutcome). NodesHaveOneWorkPerRequest made.world)
-    (cond_some (may_put node.0 world) (put_made world (put_effect statements node.0 world)) made is).1
-    (put_all statements world node.0 (host_at node.0 world) refl driven)
 
 -- ---- a tick
 
@@ -195,24 +117,9 @@ module _ (node : Node) (may : may_tick node ≡ true) (driven : HasOneWorkPerReq
     recovering = λ q waits. (ticked_within q waits).1;
   }
 
-  recover_driven : HasOneWorkPerRequest (node_step inputs.RecoverTick node).node
+  pub recover_driven : HasOneWorkPerRequest (node_step inputs.RecoverTick node).node
   unfolding node_step on_input
   recover_driven = driven_at_end (steps.on_recover_tick (at_first node)) tick_driven
-
-recover_all : (statements : List Statement) (world : World) (n : ℕ) (o : Option Host) → host_at n world ≡ o
-    → option_map_or (λ (host : Host). is_host_up host && may_tick host.node) o false ≡ true → NodesHaveOneWorkPerRequest world
-    → NodesHaveOneWorkPerRequest (host_stepped statements n inputs.RecoverTick o (at_rest world))
-recover_all statements world n None at may driven = driven
-recover_all statements world n (Some host) at may driven =
-    driven_after world n (next_host host (node_step inputs.RecoverTick host.node).node)
-    (recover_driven host.node (and_parts (is_host_up host) (may_tick host.node) may).1 (driven n host at)) driven
-
-pub driven-recover : (statements : List Statement) (world : World) (made : EventOutcome) (node : NodeId)
-    → step statements (events.RecoverTick node) world ≡ Some made → NodesHaveOneWorkPerRequest world → NodesHaveOneWorkPerRequest made.world
-unfolding step recover_tick_effect node_stepped
-driven-recover statements world made node is driven =
-    let t = cond_some (may_recover node.0 world) (with_replies statements world (recover_tick_effect statements node.0 world)) made is in
-    subst (λ (made : EventOutcome). NodesHaveOneWorkPerRequest made.world) t.1 (recover_all statements world node.0 (host_at node.0 world) refl t.0 driven)
 
 -- ---- nodes without works
 
@@ -247,24 +154,8 @@ idle_driven me tries node me_so gateway_so requests_so sessions_so none = record
     open_works : node.gateway.works ≡ tree.empty
     open_works = ap (λ (gateway : gateways.Gateway). gateway.works) gateway_so
 
-opening_driven : (me : NodeId) (tries : ℕ) → HasOneWorkPerRequest (nodes.initial_node me tries)
+pub opening_driven : (me : NodeId) (tries : ℕ) → HasOneWorkPerRequest (nodes.initial_node me tries)
 opening_driven me tries = idle_driven me tries (nodes.initial_node me tries) refl refl refl refl refl
-
-pub driven-opening : (statements : List Statement) → NodesHaveOneWorkPerRequest (worlds.initial_world statements)
-unfolding worlds.initial_world
-driven-opening statements q host got =
-    let (member, own, is) = opening_found statements q host got in
-    subst (λ (host : Host). HasOneWorkPerRequest host.node) is
-    (reads_well (format_entry statements) (nodes.initial_node member.node (tries_of statements)) (opening_driven member.node (tries_of statements))).driven
-
-pub driven-join : (statements : List Statement) (world : World) (made : EventOutcome) (node : NodeId) → step statements (events.Join node) world ≡ Some made
-    → NodesHaveOneWorkPerRequest world → NodesHaveOneWorkPerRequest made.world
-unfolding step node_joined
-driven-join statements world made node is driven = subst
-    (λ (made : EventOutcome). NodesHaveOneWorkPerRequest made.world)
-    (cond_some (may_join node.0 world) (only (node_joined statements node.0 world)) made is).1
-    (driven_after world node.0 (initial_host (nodes.initial_node (record { 0 = node.0 }) (tries_of statements)))
-    (opening_driven (record { 0 = node.0 }) (tries_of statements)) driven)
 
 -- a node that comes back
 back_driven : (entries : List Entry) (node : Node) → HasOneWorkPerRequest (reading.on_back entries node)
@@ -274,70 +165,6 @@ back_driven entries node =
     idle_driven node.me node.gateway.tries (reading.on_back entries node) refl refl refl refl
     (unanswered_in_epoch lone)
 
-came_driven : (entries : List Entry) (node : Node) → HasOneWorkPerRequest (node_step (inputs.Back entries) node).node
+pub came_driven : (entries : List Entry) (node : Node) → HasOneWorkPerRequest (node_step (inputs.Back entries) node).node
 unfolding node_step on_input
 came_driven entries node = driven_at_end (with_node (reading.on_back entries node) (at_first node)) (back_driven entries node)
-
-back_all : (statements : List Statement) (world : World) (n : ℕ) (o : Option Host) → NodesHaveOneWorkPerRequest world
-    → NodesHaveOneWorkPerRequest (host_stepped statements n (inputs.Back world.log) o world)
-back_all statements world n None driven = driven
-back_all statements world n (Some host) driven =
-    driven_after world n (next_host host (node_step (inputs.Back world.log) host.node).node) (came_driven world.log host.node) driven
-
-pub driven-back : (statements : List Statement) (world : World) (made : EventOutcome) (node : NodeId) → step statements (events.Back node) world ≡ Some made
-    → NodesHaveOneWorkPerRequest world → NodesHaveOneWorkPerRequest made.world
-unfolding step came_back node_stepped
-driven-back statements world made node is driven =
-    let log = with_entries (join_of statements node.0 (last_weight world.log node.0) ∷ []) (control_taken (at_rest world)) in
-    let again = node_rejoined statements node.0 world in
-    subst (λ (made : EventOutcome). NodesHaveOneWorkPerRequest made.world)
-    (cond_some (may_come_back node.0 world) (only (came_back statements node.0 world)) made is).1
-    (back_all statements again node.0 (host_at node.0 again)
-    (changed_driven revived_host (λ host. refl) world log node.0 (host_at node.0 world) refl refl driven))
-
--- ---- a request is served
-
-served_driven : (request : PeerReq) (node : Node) → HasOneWorkPerRequest node → HasOneWorkPerRequest (node_step (inputs.Request request) node).node
-unfolding node_step on_input steps.on_request
-served_driven request node driven =
-    driven_at_end (steps.on_request request (at_first node))
-    (record {
-      own = driven.own;
-      driven = driven.driven;
-      once = driven.once;
-      given = driven.given;
-      recovers = driven.recovers;
-      recovering = driven.recovering;
-    })
-
-served_all : (statements : List Statement) (world : World) (n : ℕ) (request : PeerReq) (o : Option Host) → host_at n world ≡ o → NodesHaveOneWorkPerRequest world
-    → NodesHaveOneWorkPerRequest (host_stepped statements n (inputs.Request request) o world)
-served_all statements world n request None at driven = driven
-served_all statements world n request (Some host) at driven =
-    driven_after world n (next_host host (node_step (inputs.Request request) host.node).node) (served_driven request host.node (driven n host at)) driven
-
-replied_all : (name : MessageName) (from : NodeId) (said : Option PeerRsp) (world : World) → NodesHaveOneWorkPerRequest world
-    → NodesHaveOneWorkPerRequest (with_reply_packet name from said world)
-replied_all name from None world driven = driven
-replied_all name from (Some rsp) world driven = driven
-
-got_all : (statements : List Statement) (name : MessageName) (to : NodeId) (request : Result PeerReq PeerFault) (world : World) → NodesHaveOneWorkPerRequest world
-    → NodesHaveOneWorkPerRequest (request_got statements name to request world)
-unfolding node_stepped
-got_all statements name to (Ok request) world driven =
-    let after = node_stepped statements to.0 (inputs.Request request) world in
-    let there = served_all statements world to.0 request (host_at to.0 world) refl driven in
-    cond_either NodesHaveOneWorkPerRequest (is_up name.sender.0 after) (with_reply_packet name to after.outputs.say after) (without_message name after)
-    (replied_all name to after.outputs.say after there) there
-got_all statements name to (Err fault) world driven = driven
-
-pub driven-deliver_request : (statements : List Statement) (world : World) (made : EventOutcome) (node : NodeId) (number : ℕ) (to : NodeId) (bytes : List ℕ)
-    → step statements (events.Deliver node number) world ≡ Some made
-    → message_at (record { sender = node; number = number }) world ≡ Some (Sent to bytes) → NodesHaveOneWorkPerRequest world → NodesHaveOneWorkPerRequest made.world
-unfolding step request_delivered
-driven-deliver_request statements world made node number to bytes is got driven =
-    let name : MessageName = record { sender = node; number = number } in
-    subst (λ (made : EventOutcome). NodesHaveOneWorkPerRequest made.world)
-    (cond_some (may_deliver name world) (with_replies statements world (message_delivered statements name world)) made is).1
-    (subst (λ (o : Option Packet). NodesHaveOneWorkPerRequest (delivered_as statements name o world)) (sym got)
-    (got_all statements name to (ask_in bytes) (at_rest world) driven))

@@ -32,11 +32,11 @@ abbrev pub HasOnlyBegun : List Statement → tree.FinMap nat_cmp SessionProgress
 HasOnlyBegun statements guests node host =
     (req : ℕ) (request : Request) → tree.get host.node.requests req ≡ Some request → IsBegun statements guests node host.incarnation req
 
--- the same of each node
+-- each node has only such requests
 abbrev pub AllHaveOnlyBegun : List Statement → tree.FinMap nat_cmp Host → tree.FinMap nat_cmp SessionProgress → Type 0
 AllHaveOnlyBegun statements hosts guests = (node : ℕ) (host : Host) → tree.get hosts node ≡ Some host
     → HasOnlyBegun statements guests node host
 
--- the same of a world
+-- the nodes of a world have only such requests
 abbrev pub RequestsWereBegun : List Statement → World → Type 0
 RequestsWereBegun statements world = AllHaveOnlyBegun statements world.hosts world.guests

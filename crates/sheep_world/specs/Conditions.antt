@@ -73,7 +73,7 @@ abbrev pub may_lose_request : MessageName → World → Bool
 may_lose_request name world =
     option_map_or (λ packet. is_request_packet packet && may_go name packet world) (message_at name world) false
 
--- LoseReply: the same for a reply
+-- LoseReply: the message is in the wire as a reply, and may go
 abbrev pub may_lose_reply : MessageName → World → Bool
 may_lose_reply name world =
     option_map_or (λ packet. not (is_request_packet packet) && may_go name packet world) (message_at name world) false

@@ -39,7 +39,7 @@ abbrev pub requests_started : List Statement → Option ScriptSession → World 
 requests_started statements None world = world
 requests_started statements (Some session) world = request_started session (next_request statements session.number world) world
 
--- the same by the session's number
+-- the next request of the session of this number is started
 abbrev pub guest_begun : List Statement → ℕ → World → World
 guest_begun statements number world = requests_started statements (session_numbered statements number) world
 

@@ -1,5 +1,5 @@
 -- The events that may happen in a world, in the order in which a schedule draws them.
-use Rattle.std.specs.Prelude.{ℕ, Bool, List, [], ◌∷◌, ◌++◌, map, flat_map, filter}
+use Rattle.std.specs.Prelude.{ℕ, ◌-◌, ◌==◌, nat_lt, Bool, List, [], ◌∷◌, ◌++◌, length, map, flat_map, filter, sum_by, Option, None, slice_get, if◌then◌else◌}
 use Rattle.std.specs.Option.{option_map_or}
 use Rattle.std.specs.FinMap as tree
 use Rattle.cluster_script.specs.declared.statement.Statement.{Statement}
@@ -65,3 +65,41 @@ looked_at statements world =
 -- those of them that may happen, in this order
 unfoldable pub enabled_events : List Statement → World → List Event
 enabled_events statements world = filter (is_enabled statements world) (looked_at statements world)
+
+-- ---- the list in parts, so that an event of it is counted and found without the others
+
+-- a message before those that are by sender
+abbrev pub with_first_message : MessageName × Packet → List (List (MessageName × Packet)) → List (List (MessageName × Packet))
+with_first_message found [] = (found ∷ []) ∷ []
+with_first_message found ([] ∷ later) = (found ∷ []) ∷ later
+with_first_message found ((next ∷ same) ∷ later) =
+    if found.0.sender.0 == next.0.sender.0 then (found ∷ next ∷ same) ∷ later else (found ∷ []) ∷ (next ∷ same) ∷ later
+
+-- messages by sender: those of one sender next to each other are a part
+abbrev pub messages_by_sender : List (MessageName × Packet) → List (List (MessageName × Packet))
+messages_by_sender [] = []
+messages_by_sender (found ∷ later) = with_first_message found (messages_by_sender later)
+
+-- the events that are looked at, in parts: of the sessions, of each sender's messages, of each node, of the next control
+abbrev pub looked_at_parts : List Statement → World → List (List Event)
+looked_at_parts statements world =
+    (guest_events statements ∷ map (flat_map message_events) (messages_by_sender (tree.entries world.wire)))
+    ++ map node_events (tree.keys world.hosts) ++ option_map_or control_event (next_control world) [] ∷ []
+
+-- those of each part that may happen
+unfoldable pub enabled_parts : List Statement → World → List (List Event)
+enabled_parts statements world = map (filter (is_enabled statements world)) (looked_at_parts statements world)
+
+-- how many events may happen but for Phase: the sum of the parts' counts
+abbrev pub enabled_count : List Statement → World → ℕ
+enabled_count statements world = sum_by length (enabled_parts statements world)
+
+-- the event at a place, in the first part that has so many
+abbrev pub event_in_parts : List (List Event) → ℕ → Option Event
+event_in_parts [] place = None
+event_in_parts (part ∷ later) place =
+    if nat_lt place (length part) then slice_get part place else event_in_parts later (place - length part)
+
+-- the event at a place of the enabled list
+abbrev pub enabled_at : List Statement → World → ℕ → Option Event
+enabled_at statements world place = event_in_parts (enabled_parts statements world) place

@@ -1,5 +1,5 @@
 -- What each event adds to the history.
-use Rattle.std.specs.Prelude.{ℕ, ◌+◌, ◌*◌, ◌/◌, ◌==◌, Bool, true, false, ◌&&◌, List, [], ◌∷◌, length, take, drop, map, flat_map, filter, find, Option, Some, None, is_some}
+use Rattle.std.specs.Prelude.{◌≡◌, ℕ, ◌+◌, ◌*◌, ◌/◌, ◌==◌, Bool, true, false, ◌&&◌, List, [], ◌∷◌, length, take, drop, map, flat_map, filter, find, Contains, Option, Some, None, is_some}
 use Rattle.std.specs.List.{range_with_len}
 use Rattle.std.specs.Option.{option_and_then, option_map_or}
 use Rattle.object_id.specs.declared.limits.TheConstants.{BLOCK_BYTES}
@@ -28,6 +28,11 @@ abbrev pub each_block : (ℕ → List ℕ → HistEvent) → ℕ → List ℕ �
 each_block event offset bytes =
     map (λ place. event (offset / BLOCK_BYTES + place) (block_in bytes place)) (range_with_len 0 (length bytes / BLOCK_BYTES))
 
+-- the block that an event says a write of begins, if it says that
+abbrev pub begun_block : HistEvent → Option ℕ
+begun_block (WriteStart req disk block coded bytes) = Some block
+begun_block event = None
+
 -- the writes of a piece to an open disk begin
 abbrev pub writes_begin : ℕ → ℕ → List ℕ → Disk → List HistEvent
 writes_begin req offset bytes disk =
@@ -47,7 +52,7 @@ request_grown statements world session None = []
 request_grown statements world session (Some req) =
     option_map_or (begins_on req (open_disk_at session world)) (request_at statements req) []
 
--- the same by the session's number
+-- what the next request of the session of this number begins
 abbrev pub writes_grown : List Statement → ℕ → World → List HistEvent
 writes_grown statements number world = option_map_or
     (λ session. request_grown statements world session (next_request statements number world))
@@ -89,7 +94,7 @@ reply_adds req rsp disk (lines.Read session offset length) = blocks_read disk of
 reply_adds req rsp disk (lines.Write session offset length pattern) = write_ended req rsp ∷ []
 reply_adds req rsp disk s = []
 
--- the same where the request began on a disk, and is one of the script
+-- what a reply adds where its request began on a disk, and is one of the script
 abbrev pub added_by : ℕ → GuestRsp → Option ℕ → Option Statement → List HistEvent
 added_by req rsp None s = []
 added_by req rsp (Some disk) None = []
@@ -127,6 +132,20 @@ writers_lost statements world node (Some host) =
     map (λ (request : ℕ × Statement). WriterLost request.0)
     (filter (is_lost_write statements world node host.incarnation) (numbered_requests statements))
 
--- the same by the node's number
+-- the writers that the loss of the node of this number leaves without reply
 abbrev pub loss_grown : List Statement → ℕ → World → List HistEvent
 loss_grown statements node world = writers_lost statements world node (host_at node world)
+
+-- a write that a node's loss leaves without reply: of a session of the node's present incarnation, begun on an open disk
+pub record IsLostWrite (statements : List Statement) (world : World) (node : ℕ) (request : ℕ × Statement) : Type 0 where
+  pub host : Host
+  pub there : host_at node world ≡ Some host
+  pub asked : Contains (numbered_requests statements) request
+  pub writes : is_write request.1 ≡ true
+  pub number : ℕ
+  pub of : session_of request.1 ≡ Some number
+  pub session : ScriptSession
+  pub declared : session_numbered statements number ≡ Some session
+  pub gateway : session.node ≡ node
+  pub lived : session.incarnation ≡ host.incarnation
+  pub on_disk : is_some (disk_of statements request.0 world) ≡ true

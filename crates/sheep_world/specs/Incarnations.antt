@@ -93,6 +93,6 @@ counts_for epoch world ended node = option_map_or
 abbrev pub is_incarnation_gone : ScriptSession → Host → Bool
 is_incarnation_gone session host = nat_lt session.incarnation host.incarnation || (session.incarnation == host.incarnation && host.is_lost)
 
--- the same of a session, in a world
+-- whether the incarnation that a session belongs to is gone in a world
 abbrev pub is_session_gone : ScriptSession → World → Bool
 is_session_gone session world = option_map_or (is_incarnation_gone session) (host_at session.node world) false

@@ -18,3 +18,11 @@ pub mod OneWork
 pub mod BegunRequests
 pub mod Meets
 pub mod Example
+pub mod NodeCauses
+pub mod EventKinds
+pub mod HostChanges
+pub mod Began
+pub mod LogFronts
+pub mod ControlsToCome
+pub mod LogHolds
+pub mod HoldsTogether

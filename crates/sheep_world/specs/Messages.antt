@@ -1,5 +1,5 @@
 -- What becomes of the messages in the wire: they are delivered or lost.
-use Rattle.std.specs.Prelude.{ℕ, ◌-◌, List, Option, Some, None, Result, Ok, Err, if◌then◌else◌}
+use Rattle.std.specs.Prelude.{ℕ, ◌-◌, Bool, true, false, List, Option, Some, None, Result, Ok, Err, if◌then◌else◌}
 use Rattle.std.specs.FinMap as tree
 use Rattle.object_id.specs.declared.node.NodeId.{NodeId}
 use Rattle.cluster_script.specs.declared.statement.Statement.{Statement}
@@ -10,22 +10,23 @@ use Rattle.peer_proto.specs.Ask.{ask_in}
 use Rattle.peer_proto.specs.Say.{say_bytes, say_in}
 use Rattle.sheep_node.specs.declared.input.Input.TheVariants as inputs
 use Rattle.sheep_world.specs.declared.name.MessageName.{MessageName}
-use Rattle.sheep_world.specs.World.{Packet, Request, Reply, World, is_up, message_at, are_ends_up}
+use Rattle.sheep_world.specs.World.{name_cmp, Packet, Request, Reply, World, is_up, message_at, are_ends_up}
 use Rattle.sheep_world.specs.NodeSteps.{node_stepped, at_rest}
 
 -- a message isn't in the wire
 abbrev pub without_message : MessageName → World → World
 without_message name world = record world { wire = tree.remove world.wire name }
 
--- a reply enters the wire in the place of its request, on its way back
-abbrev pub with_reply_packet : MessageName → NodeId → Option PeerRsp → World → World
-with_reply_packet name from None world = world
-with_reply_packet name from (Some rsp) world = record world { wire = tree.insert world.wire name (Reply from (say_bytes rsp)) }
+-- the wire once a request was served: the reply takes its place, on its way back, where the sender is up, and else is dropped
+abbrev pub wire_with_reply : MessageName → NodeId → Bool → Option PeerRsp → tree.FinMap name_cmp Packet → tree.FinMap name_cmp Packet
+wire_with_reply name from false say wire = tree.remove wire name
+wire_with_reply name from true None wire = wire
+wire_with_reply name from true (Some rsp) wire = tree.insert wire name (Reply from (say_bytes rsp))
 
--- a request was served: the reply enters the wire where the sender is up, and else is dropped
+-- a request was served, and what was said is the reply
 abbrev pub reply_sent : MessageName → NodeId → World → World
 reply_sent name from world =
-    if is_up name.sender.0 world then with_reply_packet name from world.outputs.say world else without_message name world
+    record world { wire = wire_with_reply name from (is_up name.sender.0 world) world.outputs.say world.wire }
 
 -- a node gets a request; bytes that are none change nothing
 abbrev pub request_got : List Statement → MessageName → NodeId → Result PeerReq PeerFault → World → World
@@ -57,11 +58,14 @@ delivered_as statements name (Some (Reply from bytes)) world = reply_delivered s
 abbrev pub message_delivered : List Statement → MessageName → World → World
 message_delivered statements name world = delivered_as statements name (message_at name world) world
 
--- a message is lost: one of the losses left is used where both ends are up
+-- the losses that are left once a message is lost: one less where both its ends are up
+abbrev pub losses_after_loss : MessageName → Packet → World → ℕ
+losses_after_loss name packet world = if are_ends_up name packet world then world.losses - 1 else world.losses
+
+-- a message is lost, and uses one of the losses left where it has to
 abbrev pub loss_used : MessageName → Option Packet → World → World
 loss_used name None world = world
-loss_used name (Some packet) world =
-    if are_ends_up name packet world then record world { losses = world.losses - 1 } else world
+loss_used name (Some packet) world = record world { losses = losses_after_loss name packet world }
 
 -- the sender of the request is told, where it is up
 abbrev pub loss_told : List Statement → MessageName → World → World

@@ -35,7 +35,7 @@ progress_after_reply_in req None guests = guests
 progress_after_reply_in req (Some session) guests =
     tree.insert guests session (progress_without_request req (unwrap_or (tree.get guests session) no_progress))
 
--- the same of a reply, by the session that asked
+-- the request that a reply is to has its reply, in the session that asked
 abbrev pub progress_after_reply : List Statement → tree.FinMap nat_cmp SessionProgress → ℕ × GuestRsp → tree.FinMap nat_cmp SessionProgress
 progress_after_reply statements guests reply = progress_after_reply_in reply.0 (session_asking statements reply.0) guests
 

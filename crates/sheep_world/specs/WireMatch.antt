@@ -1,6 +1,5 @@
 -- What holds of the wire in every world of a run: what is in it can be read, and it has each message that a node waits for.
-use Rattle.std.specs.Prelude.{◌≡◌, ℕ, ◌<◌, Bool, true, false, ◌&&◌, List, [], ◌++◌, map, flat_map, filter, All, Option, Some, None, Ok, IsTrue}
-use Rattle.std.specs.Option.{option_map_or}
+use Rattle.std.specs.Prelude.{◌≡◌, ℕ, ◌<◌, true, List, [], ◌++◌, map, flat_map, filter, All, Option, Some, None, Ok, IsTrue}
 use Rattle.std.specs.Ordering.{nat_cmp}
 use Rattle.std.specs.FinMap as tree
 use Rattle.object_id.specs.declared.node.NodeId.{NodeId}
@@ -16,7 +15,7 @@ use Rattle.recovery.specs.State as recoveries
 use Rattle.sheep_node.specs.State.{Node}
 use Rattle.sheep_node.specs.May.{node_awaits, fits_node}
 use Rattle.sheep_world.specs.declared.name.MessageName.{MessageName}
-use Rattle.sheep_world.specs.World.{name_cmp, Packet, Request, Reply, Host, World, host_at, is_host_up}
+use Rattle.sheep_world.specs.World.{name_cmp, Packet, Request, Reply, Host, World, is_host_up}
 use Rattle.sheep_world.specs.NodeSteps.{request_name}
 
 -- the requests of an attempt that aren't answered, each with the node that it goes to
@@ -90,12 +89,6 @@ abbrev pub InFlightIsAwaited : tree.FinMap nat_cmp Host → tree.FinMap name_cmp
 InFlightIsAwaited hosts wire = (name : MessageName) (packet : Packet) (host : Host) → tree.get wire name ≡ Some packet
     → tree.get hosts name.sender.0 ≡ Some host → is_host_up host ≡ true → node_awaits name.number host.node ≡ true
 
--- whether a work of an up node waits for the message of a name
-abbrev pub is_of_work : MessageName → World → Bool
-is_of_work name world =
-    option_map_or (λ (host : Host). is_host_up host
-    && gateways.gateway_awaits name.number host.node.gateway) (host_at name.sender.0 world) false
-
 -- the nodes and the wire go together
 pub record WireMatchesHosts (hosts : tree.FinMap nat_cmp Host) (wire : tree.FinMap name_cmp Packet) : Type 0 where
   pub spelled : PacketsAreReadable wire
@@ -104,6 +97,6 @@ pub record WireMatchesHosts (hosts : tree.FinMap nat_cmp Host) (wire : tree.FinM
   pub on_the_way : AwaitedIsInFlight hosts wire
   pub awaited : InFlightIsAwaited hosts wire
 
--- the same of a world
+-- the nodes and the wire of a world go together
 abbrev pub WireMatchesNodes : World → Type 0
 WireMatchesNodes world = WireMatchesHosts world.hosts world.wire

@@ -1,5 +1,5 @@
 //! Laws of the definitions, for the proofs of the layers above: each is the contract of a function that does nothing.
-ghost use Rattle.std.specs.Prelude.{◌≡◌, ◌≢◌, ◌<◌, ℕ, true, false, List, [], ◌∷◌, ◌++◌, Contains, Some, None, Ok, is_some};
+ghost use Rattle.std.specs.Prelude.{◌≡◌, ◌≢◌, ◌+◌, ◌/◌, map, flat_map, cond, ◌<◌, ℕ, true, false, List, [], ◌∷◌, ◌++◌, Contains, length, slice_get, Some, None, Ok, is_some};
 ghost use Rattle.object_id.specs.declared.node.NodeId.{NodeId};
 ghost use Rattle.object_id.specs.declared.entry.Entry.{Entry};
 ghost use Rattle.object_id.specs.declared.entry.Entry.TheVariants as entries;
@@ -9,25 +9,37 @@ ghost use Rattle.cluster_script.specs.Language.{IsScript};
 ghost use Rattle.peer_proto.specs.declared.say.PeerRsp.{PeerRsp};
 ghost use Rattle.peer_proto.specs.Say.{say_in};
 ghost use Rattle.disk_history.specs.declared.event.HistEvent.{HistEvent};
+ghost use Rattle.disk_history.specs.declared.event.HistEvent.TheVariants.{WriterLost};
+ghost use Rattle.guest_driver.specs.declared.disk.Disk.{Disk};
+ghost use Rattle.object_id.specs.declared.piece.TheConstants.{BLOCK_BYTES};
+ghost use Rattle.std.specs.List.{range_with_len};
 ghost use Rattle.sheep_node.specs.declared.event.Event.{Event};
 ghost use Rattle.sheep_node.specs.declared.event.Event.TheVariants as events;
 ghost use Rattle.sheep_node.specs.declared.ask.Ask.{Ask};
 ghost use Rattle.sheep_node.specs.declared.input.Input.TheVariants as inputs;
+ghost use Rattle.sheep_node.specs.May.{MayRead, May};
 ghost use Rattle.sheep_world.specs.declared.name.MessageName.{MessageName};
-ghost use Rattle.sheep_world.specs.World.{Packet, Request, Reply, World, host_at, message_at, is_up};
-ghost use Rattle.sheep_world.specs.Opening.{initial_world};
-ghost use Rattle.sheep_world.specs.Conditions.{may_put, may_recover, may_retry};
+ghost use Rattle.sheep_world.specs.World.{Host, World, host_at, is_host_up, message_at};
+ghost use Rattle.sheep_world.specs.Opening.{initial_world, controls_at, losses_at};
 ghost use Rattle.sheep_world.specs.Asking.{input_of, session_asking};
-ghost use Rattle.sheep_world.specs.MembershipChanges.{last_weight};
+ghost use Rattle.sheep_world.specs.MembershipChanges.{last_weight, is_reply_to};
+ghost use Rattle.sheep_world.specs.HistoryAdditions.{begun_block, writes_begin, IsLostWrite};
 ghost use Rattle.sheep_world.specs.Granted.{entry_adds};
-ghost use Rattle.sheep_world.specs.Meets.{MayStepOn};
+ghost use Rattle.sheep_world.specs.Meets.{MeetsBeside};
 ghost use Rattle.sheep_world.specs.Incarnations.{incarnation_in};
 ghost use Rattle.sheep_world.specs.Example.{lived_log, small_script};
 ghost use Rattle.sheep_world.specs.Step.{EventOutcome, step};
+ghost use Rattle.sheep_world.specs.NodeCauses.{NodeCause, input_of_cause, IsCause};
+ghost use Rattle.sheep_world.specs.EventKinds.{EventKind};
+ghost use Rattle.sheep_world.specs.HoldsTogether.{MessagesAreInRange, HoldsTogether};
+ghost use Rattle.sheep_world.specs.Began.{Began};
+ghost use Rattle.sheep_world.specs.LogFronts.{AllReadTheLog};
+ghost use Rattle.sheep_world.specs.ControlsToCome.{ControlsFit};
+ghost use Rattle.sheep_world.specs.LogHolds.{MayGrow, LogHolds};
 ghost use Rattle.sheep_world.specs.Run.{Moment, run_from};
-ghost use Rattle.sheep_world.specs.Enabled.{is_enabled, enabled_events};
-ghost use Rattle.sheep_world.specs.WireMatch.{is_of_work, WireMatchesNodes};
-ghost use Rattle.sheep_world.specs.Ranges.{RecoveriesAreInRange};
+ghost use Rattle.sheep_world.specs.Enabled.{is_enabled, enabled_events, enabled_parts, enabled_count, enabled_at};
+ghost use Rattle.sheep_world.specs.WireMatch.{WireMatchesNodes};
+ghost use Rattle.sheep_world.specs.Ranges.{RecoveriesAreInRange, tells_recovery};
 ghost use Rattle.sheep_world.specs.BegunRequests.{RequestsWereBegun};
 ghost use Rattle.sheep_world.specs.OneWork.{NodesHaveOneWorkPerRequest, IsSentInRange, IsNewRequest};
 
@@ -47,6 +59,43 @@ pub fn the_enabled_list_has_what_may_happen()
         → Contains (enabled_events statements world) event → event ≢ events.Phase }
 {}
 
+/// The enabled list is that of its parts, of the sessions, of each sender's messages, of each node and of the next control, in this
+/// order: it has as many events as they have, and the event at a place is found part by part.
+pub fn the_enabled_list_is_in_parts()
+    ensures whole { (statements : List Statement) (world : World)
+        → flat_map (λ (part : List Event). part) (enabled_parts statements world) ≡ enabled_events statements world }
+    ensures count { (statements : List Statement) (world : World)
+        → enabled_count statements world ≡ length (enabled_events statements world) }
+    ensures at { (statements : List Statement) (world : World) (place : ℕ)
+        → enabled_at statements world place ≡ slice_get (enabled_events statements world) place }
+{}
+
+/// Lost takes the replies to the node out of the wire, and leaves all else there. A writer that it adds to the history is a write of the
+/// node's present incarnation that has no reply.
+pub fn a_lost_node_gets_no_reply()
+    ensures wire { (statements : List Statement) (world : World) (made : EventOutcome) (node : NodeId)
+        → step statements (events.Lost node) world ≡ Some made → (name : MessageName)
+        → message_at name made.world ≡ cond (is_reply_to node.0 name (message_at name world)) None (message_at name world) }
+    ensures writers { (statements : List Statement) (world : World) (made : EventOutcome) (node : NodeId)
+        → step statements (events.Lost node) world ≡ Some made → (event : HistEvent) → Contains made.grown event
+        → (request : ℕ × Statement) × (event ≡ WriterLost request.0) × IsLostWrite statements world node.0 request }
+{}
+
+/// Phase makes the next phase present: its losses replace those that are left, and its controls stand behind those that are left.
+pub fn a_phase_brings_its_losses()
+    ensures { (statements : List Statement) (world : World) (made : EventOutcome)
+        → step statements events.Phase world ≡ Some made
+        → (made.world.phase ≡ world.phase + 1) × (made.world.losses ≡ losses_at statements (world.phase + 1))
+        × (made.world.controls ≡ world.controls ++ controls_at statements (world.phase + 1)) }
+{}
+
+/// A guest's write begins one write of each of its blocks, in order.
+pub fn a_write_begins_each_block_once()
+    ensures { (req offset : ℕ) (bytes : List ℕ) (disk : Disk)
+        → map begun_block (writes_begin req offset bytes disk)
+        ≡ map (λ (block : ℕ). Some block) (range_with_len (offset / BLOCK_BYTES) (length bytes / BLOCK_BYTES)) }
+{}
+
 /// A run is cut where one likes: its first events are a run, and the others one from where these lead.
 pub fn a_run_is_cut_anywhere()
     ensures { (statements : List Statement) (events later : List Event) (moment last : Moment)
@@ -61,162 +110,84 @@ pub fn a_history_only_grows()
         → (grown : List HistEvent) × (last.history ≡ moment.history ++ grown) }
 {}
 
-/// The nodes and the wire stay together: what is in the wire can be read, and it has exactly what up nodes wait for.
+/// The nodes and the wire stay together: what is in the wire can be read, and it has exactly what up nodes wait for. And open works go
+/// with the requests that may have them, at most one of each; a number that a node waits for is of one work, or else of recoveries. So
+/// it is when a script opens, so it stays at each event, and so it is in each world of a run, as long as what is sent and replied is in
+/// range.
 pub fn nodes_and_wire_stay_together()
-    ensures opening { (statements : List Statement) → WireMatchesNodes (initial_world statements) }
-    ensures phase { (statements : List Statement) (world : World) (made : EventOutcome)
-        → step statements events.Phase world ≡ Some made → WireMatchesNodes world → WireMatchesNodes made.world }
-    ensures put { (statements : List Statement) (world : World) (made : EventOutcome) (node : NodeId)
-        → step statements (events.Put node) world ≡ Some made → WireMatchesNodes world → WireMatchesNodes made.world }
-    ensures leave { (statements : List Statement) (world : World) (made : EventOutcome) (node : NodeId)
-        → step statements (events.Leave node) world ≡ Some made → WireMatchesNodes world → WireMatchesNodes made.world }
-    ensures reweight { (statements : List Statement) (world : World) (made : EventOutcome) (node : NodeId)
-        → step statements (events.Reweight node) world ≡ Some made → WireMatchesNodes world → WireMatchesNodes made.world }
-    // A node that joins has a number that was never used.
-    ensures join { (statements : List Statement) (world : World) (made : EventOutcome) (node : NodeId)
-        → step statements (events.Join node) world ≡ Some made → host_at node.0 world ≡ None → WireMatchesNodes world
-        → WireMatchesNodes made.world }
-    ensures lost { (statements : List Statement) (world : World) (made : EventOutcome) (node : NodeId)
-        → step statements (events.Lost node) world ≡ Some made → WireMatchesNodes world → WireMatchesNodes made.world }
-    ensures back { (statements : List Statement) (world : World) (made : EventOutcome) (node : NodeId)
-        → step statements (events.Back node) world ≡ Some made → WireMatchesNodes world → WireMatchesNodes made.world }
-    // What a recovery asks is read where all that it knows of is in range; and that it stays.
-    ensures recover { (statements : List Statement) (world : World) (made : EventOutcome) (node : NodeId)
-        → step statements (events.RecoverTick node) world ≡ Some made → RecoveriesAreInRange world → WireMatchesNodes world
-        → WireMatchesNodes made.world × RecoveriesAreInRange made.world }
-    // What a work asks when it is tried again, and what then begins in its place, is read where it is in range. Each open work is
-    // of a request that may have it, and that stays so.
-    ensures retry { (statements : List Statement) (world : World) (made : EventOutcome) (node : NodeId)
-        → step statements (events.RetryTick node) world ≡ Some made → IsSentInRange made.world → NodesHaveOneWorkPerRequest world
-        → WireMatchesNodes world
+    ensures opening { (statements : List Statement)
+        → WireMatchesNodes (initial_world statements) × NodesHaveOneWorkPerRequest (initial_world statements) }
+    ensures kept { (statements : List Statement) (event : Event) (world : World) (made : EventOutcome)
+        → step statements event world ≡ Some made → HoldsTogether statements world → IsSentInRange made.world
         → WireMatchesNodes made.world × NodesHaveOneWorkPerRequest made.world }
-    // The same of what a guest's request lets begin, where the request is new to its gateway.
-    ensures guest { (statements : List Statement) (world : World) (made : EventOutcome) (session : ℕ)
-        → step statements (events.Guest session) world ≡ Some made → IsNewRequest statements session world → IsSentInRange made.world
-        → NodesHaveOneWorkPerRequest world → WireMatchesNodes world → WireMatchesNodes made.world × NodesHaveOneWorkPerRequest made.world }
-    // And of what the decision on an entry lets begin.
-    ensures log_next { (statements : List Statement) (world : World) (made : EventOutcome) (node : NodeId)
-        → step statements (events.LogNext node) world ≡ Some made → IsSentInRange made.world → NodesHaveOneWorkPerRequest world
-        → WireMatchesNodes world
-        → WireMatchesNodes made.world × NodesHaveOneWorkPerRequest made.world }
-    // And of what a loss or a reply lets begin.
-    ensures lose_request { (statements : List Statement) (world : World) (made : EventOutcome) (node : NodeId) (number : ℕ)
-        → step statements (events.LoseRequest node number) world ≡ Some made → IsSentInRange made.world → NodesHaveOneWorkPerRequest world
-        → WireMatchesNodes world → WireMatchesNodes made.world × NodesHaveOneWorkPerRequest made.world }
-    ensures lose_reply { (statements : List Statement) (world : World) (made : EventOutcome) (node : NodeId) (number : ℕ)
-        → step statements (events.LoseReply node number) world ≡ Some made → IsSentInRange made.world → NodesHaveOneWorkPerRequest world
-        → WireMatchesNodes world → WireMatchesNodes made.world × NodesHaveOneWorkPerRequest made.world }
-    ensures deliver_reply { (statements : List Statement) (world : World) (made : EventOutcome) (node : NodeId) (number : ℕ)
-        (from : NodeId) (bytes : List ℕ)
-        → step statements (events.Deliver node number) world ≡ Some made
-        → message_at (record { sender = node; number = number }) world ≡ Some (Reply from bytes) → IsSentInRange made.world
-        → NodesHaveOneWorkPerRequest world → WireMatchesNodes world → WireMatchesNodes made.world × NodesHaveOneWorkPerRequest made.world }
-    // A message that no work of an up node waits for, as one of a recovery, lets nothing begin.
-    ensures lose_idle_request { (statements : List Statement) (world : World) (made : EventOutcome) (node : NodeId) (number : ℕ)
-        → step statements (events.LoseRequest node number) world ≡ Some made
-        → is_of_work (record { sender = node; number = number }) world ≡ false → WireMatchesNodes world → WireMatchesNodes made.world }
-    ensures lose_idle_reply { (statements : List Statement) (world : World) (made : EventOutcome) (node : NodeId) (number : ℕ)
-        → step statements (events.LoseReply node number) world ≡ Some made
-        → is_of_work (record { sender = node; number = number }) world ≡ false → WireMatchesNodes world → WireMatchesNodes made.world }
-    ensures deliver_idle_reply { (statements : List Statement) (world : World) (made : EventOutcome) (node : NodeId) (number : ℕ)
-        (from : NodeId) (bytes : List ℕ)
-        → step statements (events.Deliver node number) world ≡ Some made
-        → message_at (record { sender = node; number = number }) world ≡ Some (Reply from bytes)
-        → is_of_work (record { sender = node; number = number }) world ≡ false → WireMatchesNodes world → WireMatchesNodes made.world }
+    ensures began { (statements : List Statement) → IsScript statements
+        → ((world : World) → Began statements world → MessagesAreInRange world)
+        → (world : World) → Began statements world → HoldsTogether statements world }
 {}
 
-/// Open works go with the requests that may have them, at most one of each, and a number that a node waits for is of one work or
-/// else of recoveries. So it is at first, and so it stays at the events at which no work begins; of the others it is part of
-/// `nodes_and_wire_stay_together`.
-pub fn works_go_with_their_requests()
-    ensures opening { (statements : List Statement) → NodesHaveOneWorkPerRequest (initial_world statements) }
-    ensures deliver_request { (statements : List Statement) (world : World) (made : EventOutcome) (node : NodeId) (number : ℕ)
-        (to : NodeId) (bytes : List ℕ)
-        → step statements (events.Deliver node number) world ≡ Some made
-        → message_at (record { sender = node; number = number }) world ≡ Some (Request to bytes) → NodesHaveOneWorkPerRequest world
-        → NodesHaveOneWorkPerRequest made.world }
-    ensures phase { (statements : List Statement) (world : World) (made : EventOutcome)
-        → step statements events.Phase world ≡ Some made → NodesHaveOneWorkPerRequest world → NodesHaveOneWorkPerRequest made.world }
-    ensures put { (statements : List Statement) (world : World) (made : EventOutcome) (node : NodeId)
-        → step statements (events.Put node) world ≡ Some made → NodesHaveOneWorkPerRequest world → NodesHaveOneWorkPerRequest made.world }
-    ensures recover { (statements : List Statement) (world : World) (made : EventOutcome) (node : NodeId)
-        → step statements (events.RecoverTick node) world ≡ Some made → NodesHaveOneWorkPerRequest world
-        → NodesHaveOneWorkPerRequest made.world }
-    ensures lost { (statements : List Statement) (world : World) (made : EventOutcome) (node : NodeId)
-        → step statements (events.Lost node) world ≡ Some made → NodesHaveOneWorkPerRequest world → NodesHaveOneWorkPerRequest made.world }
-    ensures leave { (statements : List Statement) (world : World) (made : EventOutcome) (node : NodeId)
-        → step statements (events.Leave node) world ≡ Some made → NodesHaveOneWorkPerRequest world → NodesHaveOneWorkPerRequest made.world }
-    ensures join { (statements : List Statement) (world : World) (made : EventOutcome) (node : NodeId)
-        → step statements (events.Join node) world ≡ Some made → NodesHaveOneWorkPerRequest world → NodesHaveOneWorkPerRequest made.world }
-    ensures reweight { (statements : List Statement) (world : World) (made : EventOutcome) (node : NodeId)
-        → step statements (events.Reweight node) world ≡ Some made → NodesHaveOneWorkPerRequest world
-        → NodesHaveOneWorkPerRequest made.world }
-    ensures back { (statements : List Statement) (world : World) (made : EventOutcome) (node : NodeId)
-        → step statements (events.Back node) world ≡ Some made → NodesHaveOneWorkPerRequest world → NodesHaveOneWorkPerRequest made.world }
-{}
-
-/// What the recoveries know of is in range when a script opens, and stays so at the events that tell them nothing, and at losses. Of
-/// RecoverTick it is part of `nodes_and_wire_stay_together`.
+/// What the recoveries know of is in range when a script opens, and stays so at the events that tell them nothing new.
 pub fn recoveries_stay_in_range()
     ensures opening { (statements : List Statement) → IsScript statements → RecoveriesAreInRange (initial_world statements) }
-    ensures phase { (statements : List Statement) (world : World) (made : EventOutcome)
-        → step statements events.Phase world ≡ Some made → RecoveriesAreInRange world → RecoveriesAreInRange made.world }
-    ensures put { (statements : List Statement) (world : World) (made : EventOutcome) (node : NodeId)
-        → step statements (events.Put node) world ≡ Some made → RecoveriesAreInRange world → RecoveriesAreInRange made.world }
-    ensures lost { (statements : List Statement) (world : World) (made : EventOutcome) (node : NodeId)
-        → step statements (events.Lost node) world ≡ Some made → RecoveriesAreInRange world → RecoveriesAreInRange made.world }
-    ensures leave { (statements : List Statement) (world : World) (made : EventOutcome) (node : NodeId)
-        → step statements (events.Leave node) world ≡ Some made → RecoveriesAreInRange world → RecoveriesAreInRange made.world }
-    ensures reweight { (statements : List Statement) (world : World) (made : EventOutcome) (node : NodeId)
-        → step statements (events.Reweight node) world ≡ Some made → RecoveriesAreInRange world → RecoveriesAreInRange made.world }
-    ensures join { (statements : List Statement) (world : World) (made : EventOutcome) (node : NodeId)
-        → step statements (events.Join node) world ≡ Some made → node.0 < 64 → RecoveriesAreInRange world
-        → RecoveriesAreInRange made.world }
-    ensures guest { (statements : List Statement) (world : World) (made : EventOutcome) (session : ℕ)
-        → step statements (events.Guest session) world ≡ Some made → IsNewRequest statements session world
-        → NodesHaveOneWorkPerRequest world
-        → RecoveriesAreInRange world → RecoveriesAreInRange made.world }
-    ensures retry { (statements : List Statement) (world : World) (made : EventOutcome) (node : NodeId)
-        → step statements (events.RetryTick node) world ≡ Some made → NodesHaveOneWorkPerRequest world → RecoveriesAreInRange world
-        → RecoveriesAreInRange made.world }
-    ensures lose_request { (statements : List Statement) (world : World) (made : EventOutcome) (node : NodeId) (number : ℕ)
-        → step statements (events.LoseRequest node number) world ≡ Some made → NodesHaveOneWorkPerRequest world → RecoveriesAreInRange world
-        → RecoveriesAreInRange made.world }
-    ensures lose_reply { (statements : List Statement) (world : World) (made : EventOutcome) (node : NodeId) (number : ℕ)
-        → step statements (events.LoseReply node number) world ≡ Some made → NodesHaveOneWorkPerRequest world → RecoveriesAreInRange world
-        → RecoveriesAreInRange made.world }
+    ensures kept { (statements : List Statement) (event : Event) (world : World) (made : EventOutcome)
+        → step statements event world ≡ Some made → tells_recovery event ≡ false
+        → NodesHaveOneWorkPerRequest world → RequestsWereBegun statements world
+        → ControlsFit statements world → RecoveriesAreInRange world → RecoveriesAreInRange made.world }
 {}
 
-/// Each request that a node has is one that a session has begun whose gateway the node is, in its present
-/// incarnation: so it is in the opening world, and so it stays at each event. So the next request of a session is
-/// new to its gateway.
+/// An event is of one of nine kinds: a node steps, for one of eight causes; a message is lost and no node is told; bytes come that are
+/// no message; a node is lost, leaves, gets another weight, joins or comes back; a phase ends.
+pub fn each_event_is_of_a_kind()
+    ensures { (statements : List Statement) (event : Event) (world : World) (made : EventOutcome)
+        → step statements event world ≡ Some made → EventKind statements event world made }
+{}
+
+/// In each world of a run a request that a node has is one that a session has begun whose gateway the node is, in its present incarnation.
+/// So the next request of a session is new to its gateway.
 pub fn requests_were_begun()
-    ensures opening { (statements : List Statement) → RequestsWereBegun statements (initial_world statements) }
-    ensures kept { (statements : List Statement) (world : World) (made : EventOutcome) (event : Event)
-        → step statements event world ≡ Some made → RequestsWereBegun statements world → RequestsWereBegun statements made.world }
+    ensures began { (statements : List Statement) (world : World) → Began statements world → RequestsWereBegun statements world }
     ensures new { (statements : List Statement) (session : ℕ) (world : World)
         → RequestsWereBegun statements world → IsNewRequest statements session world }
 {}
 
-/// A node steps only on what it may. So a loss that it is told is of a message that it waits for, and so is a reply, which
-/// fits what it asked, as long as nodes and wire go together.
+/// As long as messages are in range, the entries that a node has read are the first ones of the log, in each world of a run.
+pub fn nodes_have_read_fronts_of_the_log()
+    ensures { (statements : List Statement) → IsScript statements
+        → ((world : World) → Began statements world → MessagesAreInRange world)
+        → (world : World) → Began statements world → AllReadTheLog world }
+{}
+
+/// In each world of a run of a script the controls that are still to come fit the nodes.
+pub fn the_controls_to_come_fit()
+    ensures { (statements : List Statement) (world : World) → IsScript statements → Began statements world → ControlsFit statements world }
+{}
+
+/// As long as the outboxes have entries that may be put, and there is room for an epoch, the log of each world is a log, whose members
+/// are the nodes that are there; so, as long as messages are in range too, a node may read the entry that is its next.
+pub fn the_log_holds()
+    ensures log { (statements : List Statement) → IsScript statements → ((world : World) → Began statements world → MayGrow world)
+        → (world : World) → Began statements world → LogHolds world }
+    ensures next { (statements : List Statement) → IsScript statements
+        → ((world : World) → Began statements world → MessagesAreInRange world)
+        → ((world : World) → Began statements world → MayGrow world)
+        → (world : World) → Began statements world → (node : ℕ) (host : Host) (entry : Entry) → host_at node world ≡ Some host
+        → slice_get world.log (length host.node.peer.entries) ≡ Some entry → MayRead host.node.peer.entries entry }
+{}
+
+/// A node that is up steps only on what it may, where it has room for a guest's request, may serve a peer's and may read an entry. So a
+/// loss that it is told is of a message that it waits for, and a reply fits what it asked.
 pub fn nodes_step_on_what_they_may()
-    ensures put { (world : World) (node : ℕ) → may_put node world ≡ true → MayStepOn inputs.Put node world }
-    ensures recover { (world : World) (node : ℕ) → may_recover node world ≡ true → MayStepOn inputs.RecoverTick node world }
-    ensures retry { (world : World) (node : ℕ) → may_retry node world ≡ true → MayStepOn inputs.RetryTick node world }
-    ensures lost { (world : World) (name : MessageName) (packet : Packet) → WireMatchesNodes world → message_at name world ≡ Some packet
-        → is_up name.sender.0 world ≡ true → MayStepOn (inputs.Lost name.number) name.sender.0 world }
-    ensures reply { (world : World) (name : MessageName) (from : NodeId) (bytes : List ℕ) → WireMatchesNodes world
-        → message_at name world ≡ Some (Reply from bytes) → is_up name.sender.0 world ≡ true
-        → (rsp : PeerRsp) × (say_in bytes ≡ Ok rsp) × MayStepOn (inputs.Reply rsp) name.sender.0 world }
+    ensures { (statements : List Statement) (world : World) (node : ℕ) (host : Host) (cause : NodeCause)
+        → HoldsTogether statements world → host_at node world ≡ Some host → is_host_up host ≡ true
+        → IsCause statements world node host cause
+        → MeetsBeside cause host.node → May (input_of_cause cause) host.node }
 {}
 
 /// A request that the script has, and no other, has an input: of its session, and what its statement asks.
 pub fn requests_have_inputs()
     ensures has { (statements : List Statement) (req : ℕ) → is_some (input_of statements req) ≡ is_some (request_at statements req) }
     ensures session { (statements : List Statement) (req number session : ℕ) (ask : Ask)
-        → input_of statements req ≡ Some (inputs.Guest number session ask) → (number ≡ req)
-        × (session_asking statements req ≡ Some session) }
+        → input_of statements req ≡ Some (inputs.Guest number session ask)
+        → (number ≡ req) × (session_asking statements req ≡ Some session) }
 {}
 
 /// What joins, leaves or gets a weight makes no disk.

@@ -3,14 +3,19 @@
 //! The crate stands on `sheep_node`, `cluster_script` and `disk_history`. Here stand the names of messages and the faults
 //! of applying an event as types, and as definitions all that may happen to a cluster: what a world is
 //! (`specs/World.antt`) and which one a script opens with (`specs/Opening.antt`); when each event may happen
-//! (`specs/Conditions.antt`); what it makes of the world (`specs/Stepped.antt`, `specs/Effects.antt`,
-//! `specs/Messages.antt`, `specs/Changes.antt`) and adds to the history (`specs/Grown.antt`, `specs/Granted.antt`); both
-//! together, one clause an event (`specs/Step.antt`); runs (`specs/Run.antt`), the list of what may happen
-//! (`specs/Enabled.antt`), and the incarnations of nodes (`specs/Lives.antt`).
-//! The laws of `laws.rt` say what these mean: what may happen is what is made, and the enabled list has it all but Phase;
-//! runs are cut anywhere and histories only grow; and for the events that are proved so far, what is in the wire
-//! (`specs/Wired.antt`) can be read and is what up nodes wait for, as long as what they ask is in range (`specs/Ranges.antt`)
-//! and their works go with their requests (`specs/Driven.antt`).
+//! (`specs/Conditions.antt`); what it makes of the world (`specs/NodeSteps.antt`, `specs/Effects.antt`,
+//! `specs/Messages.antt`, `specs/MembershipChanges.antt`) and adds to the history (`specs/HistoryAdditions.antt`,
+//! `specs/Granted.antt`); both together, one clause an event (`specs/Step.antt`); runs (`specs/Run.antt`), the worlds that
+//! runs reach (`specs/Began.antt`), the list of what may happen (`specs/Enabled.antt`), and the incarnations of nodes
+//! (`specs/Incarnations.antt`).
+//!
+//! The laws of `laws.rt` say what these mean. An event is made exactly if it may happen, and is of one of nine kinds
+//! (`specs/EventKinds.antt`), of which the step of a node has eight causes (`specs/NodeCauses.antt`); so a proof goes by
+//! kinds, and what holds of each node follows from its five changes (`specs/HostChanges.antt`). In each world that a run
+//! reaches the requests of nodes were begun, what nodes have read is a front of the log (`specs/LogFronts.antt`), and the
+//! controls to come fit (`specs/ControlsToCome.antt`). As long as messages are in range, nodes and wire go together there
+//! (`specs/WireMatch.antt`, `specs/HoldsTogether.antt`), and works go with their requests (`specs/OneWork.antt`); and as
+//! long as the outboxes have what may be put, the log is a log of the nodes that are there (`specs/LogHolds.antt`).
 #![tactic(auto)]
 
 mod fault;
@@ -19,9 +24,12 @@ mod name;
 
 pub use fault::ApplyFault;
 pub use laws::{
-    a_history_only_grows, a_run_is_cut_anywhere, a_small_world_worked_out, lives_worked_out,
-    members_make_no_disk, nodes_and_wire_stay_together, nodes_step_on_what_they_may,
-    recoveries_stay_in_range, requests_have_inputs, the_enabled_list_has_what_may_happen,
-    what_may_happen_is_made, works_go_with_their_requests,
+    a_history_only_grows, a_lost_node_gets_no_reply, a_phase_brings_its_losses, a_run_is_cut_anywhere,
+    a_small_world_worked_out, a_write_begins_each_block_once, each_event_is_of_a_kind,
+    lives_worked_out, members_make_no_disk, nodes_and_wire_stay_together,
+    nodes_have_read_fronts_of_the_log, nodes_step_on_what_they_may, recoveries_stay_in_range,
+    requests_have_inputs, requests_were_begun, the_controls_to_come_fit,
+    the_enabled_list_has_what_may_happen, the_enabled_list_is_in_parts, the_log_holds,
+    what_may_happen_is_made,
 };
 pub use name::MessageName;

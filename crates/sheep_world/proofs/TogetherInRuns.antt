@@ -1,0 +1,76 @@
+-- In each world of a run nodes and wire go together, and works go with their requests.
+use Rattle.std.proofs.Common.{◌≡◌, ℕ, List, Some}
+use Rattle.cluster_script.specs.declared.statement.Statement.{Statement}
+use Rattle.cluster_script.specs.Language.{IsScript}
+use Rattle.cluster_script.specs.Settings.{tries_of}
+use Rattle.sheep_node.specs.declared.event.Event.{Event}
+use Rattle.sheep_node.specs.State as nodes
+use Rattle.sheep_world.specs.World.{Host, World}
+use Rattle.sheep_world.specs.Opening as worlds
+use Rattle.sheep_world.specs.Opening.{format_entry}
+use Rattle.sheep_world.specs.Step.{EventOutcome, step}
+use Rattle.sheep_world.specs.WireMatch.{WireMatchesNodes}
+use Rattle.sheep_world.specs.OneWork.{IsSentInRange, NodesHaveOneWorkPerRequest}
+use Rattle.sheep_node.specs.OneWork.{HasOneWorkPerRequest}
+use Rattle.sheep_world.specs.Began.{Began, IsInvariant}
+use Rattle.sheep_world.specs.EventKinds.{log_after_return}
+use Rattle.sheep_world.specs.HostChanges.{HostsKeep}
+use Rattle.sheep_world.specs.HoldsTogether.{MessagesAreInRange, HoldsTogether}
+use Rattle.sheep_world.proofs.BegunRequestLaws.{were_begun}
+use Rattle.sheep_world.proofs.BegunWorlds.{goes_on, by_induction}
+use Rattle.sheep_world.proofs.EventInversion.{happens}
+use Rattle.sheep_world.proofs.HostChangeLaws.{each_kept, each_opens}
+use Rattle.sheep_world.proofs.OneWorkEvents.{opening_driven, came_driven}
+use Rattle.sheep_world.proofs.InFlightOpening.{opening-wired}
+use Rattle.sheep_world.proofs.InFlightLogNext.{reads_well}
+use Rattle.sheep_world.proofs.ScriptControls.{controls-fit}
+use Rattle.sheep_world.proofs.StepsByCause.{does_well}
+use Rattle.sheep_world.proofs.WireAtEvents.{is_ready, wired_after}
+
+-- a node whose works go with its requests
+abbrev Drives : World → ℕ → Host → Type 0
+Drives world n host = HasOneWorkPerRequest host.node
+
+driven_kept : (statements : List Statement) → HostsKeep statements (HoldsTogether statements) Drives
+driven_kept statements = record {
+  opens = λ member. (reads_well (format_entry statements) (nodes.initial_node member.node (tries_of statements)) (opening_driven member.node (tries_of statements))).driven;
+  stays = λ event world made h i n host so. so;
+  steps = λ world n host cause i there up caused so. (does_well statements world n host cause caused (is_ready statements world i n host there up)).driven;
+  fails = λ world n host i so. so;
+  returns = λ world n host i there so. came_driven (log_after_return statements n world) host.node;
+  joins = λ world n i control. opening_driven (record { 0 = n }) (tries_of statements);
+}
+
+abbrev pub GoTogether : World → Type 0
+GoTogether world = WireMatchesNodes world × NodesHaveOneWorkPerRequest world
+
+pub opening-together : (statements : List Statement) → GoTogether (worlds.initial_world statements)
+opening-together statements = (opening-wired statements, each_opens statements (HoldsTogether statements) Drives (driven_kept statements))
+
+-- each event keeps it
+pub together_kept : (statements : List Statement) (event : Event) (world : World) (made : EventOutcome) → step statements event world ≡ Some made
+    → HoldsTogether statements world → IsSentInRange made.world → GoTogether made.world
+together_kept statements event world made is holds requests = (
+  wired_after statements event world made holds (happens statements event world made is) requests,
+  each_kept statements (HoldsTogether statements) Drives (driven_kept statements) event world made is holds holds.driven,
+)
+
+module _ (statements : List Statement) (script : IsScript statements) (messages : (world : World) → Began statements world → MessagesAreInRange world) where
+  holds_before : (world : World) → Began statements world → GoTogether world → HoldsTogether statements world
+  holds_before world began together = record {
+    wired = together.0;
+    driven = together.1;
+    begun = were_begun statements world began;
+    fit = controls-fit statements world script began;
+    messages = messages world began;
+  }
+
+  together_invariant : IsInvariant statements GoTogether
+  together_invariant = record {
+    opens = opening-together statements;
+    keeps = λ event world made began is together. together_kept
+        statements event world made is (holds_before world began together) (messages made.world (goes_on statements event world made began is)).sent;
+  }
+
+  pub holds_together : (world : World) → Began statements world → HoldsTogether statements world
+  holds_together world began = holds_before world began (by_induction statements GoTogether together_invariant world began)
