@@ -3,3 +3,4 @@ pub mod StepLemmas
 mod TableLemmas
 mod CourseLemmas
 mod CheckRefusals
+mod DiskChanges
