@@ -116,9 +116,9 @@ steps_numbered so_far session req next moved (DiskGoesOn number work attempt sta
     freed_numbered session req number work attempt status so_far ends.ends.learns numbered
 steps_numbered so_far session req next moved (CommandBegins ask step arrival is) numbered =
     numbered
-steps_numbered so_far session req next moved (CommandGoesOn number work attempt status bytes ask op step ends is) numbered =
+steps_numbered so_far session req next moved (CommandGoesOn number work attempt status bytes op step ends is) numbered =
     freed_numbered session req number work attempt status so_far ends.ends.learns numbered
-steps_numbered so_far session req next moved (CommandDecided entry ask op step from read there waits is) numbered =
+steps_numbered so_far session req next moved (CommandDecided entry op step from read there waits is) numbered =
     numbered
 
 pub comes_numbered : {input : Input} {node : Node} → (so_far : StepState) (session req : ℕ) (asked : Work) (lined : StepState) → WorkIsNext input node so_far session req asked lined → StepHasOneNumber so_far → StepHasOneNumber lined
@@ -134,7 +134,7 @@ refused_numbered : (session req : ℕ) (cause : Cause) (course : Course) (so_far
 unfolding request_ended
 refused_numbered session req cause (Waiting ask) so_far numbered = numbered
 refused_numbered session req cause (Driving driver) so_far numbered = numbered
-refused_numbered session req cause (Commanding ask op) so_far numbered = by_end (on_refusal cause op)
+refused_numbered session req cause (Commanding op) so_far numbered = by_end (on_refusal cause op)
   where
     by_end : (end : Option OpEnd) → StepHasOneNumber (command_refused session req end so_far)
     by_end None = numbered

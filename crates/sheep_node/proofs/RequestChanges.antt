@@ -59,14 +59,14 @@ module _ (P : ℕ → Type 0) where
       (λ (other : q ≢ req). all q at (sym (get-remove_other requests req q other) ∙ got))
       (cases_eq q req)
 
-  command_are : (session req : ℕ) (ask : VdiAsk) (step : ops.OpStep) (so_far : StepState) → P req → In so_far → In (after_command_step session req ask step so_far)
-  command_are session req ask step so_far so all = put_are so_far.node.requests req (record { session = session; course = Commanding ask step.op }) so all
+  command_are : (session req : ℕ) (step : ops.OpStep) (so_far : StepState) → P req → In so_far → In (after_command_step session req step so_far)
+  command_are session req step so_far so all = put_are so_far.node.requests req (record { session = session; course = Commanding step.op }) so all
 
   refused_are : (session req : ℕ) (cause : Cause) (course : Course) (so_far : StepState) → In so_far → In (course_refused session req cause course so_far)
   unfolding request_ended
   refused_are session req cause (Waiting ask) so_far all = all
   refused_are session req cause (Driving driver) so_far all = gone_are so_far.node.requests req all
-  refused_are session req cause (Commanding ask op) so_far all = by_end (on_refusal cause op)
+  refused_are session req cause (Commanding op) so_far all = by_end (on_refusal cause op)
     where
       by_end : (end : Option OpEnd) → In (command_refused session req end so_far)
       by_end None = all
@@ -100,11 +100,11 @@ module _ (P : ℕ → Type 0) where
     steps_are so_far session req next moved (DiskGoesOn number work attempt status bytes driver disk step ends on is) all =
         put_are so_far.node.requests req (record { session = session; course = Driving step.driver }) (all req (record { session = session; course = Driving driver }) ends.ends.request) all
     steps_are so_far session req next moved (CommandBegins ask step arrival is) all =
-        command_are session req ask step so_far (asked req session (asks.Vdi ask) arrival.from) all
-    steps_are so_far session req next moved (CommandGoesOn number work attempt status bytes ask op step ends is) all =
-        command_are session req ask step (changes.without_ended_work session req work status so_far) (all req (record { session = session; course = Commanding ask op }) ends.ends.request) all
-    steps_are so_far session req next moved (CommandDecided entry ask op step from read there waits is) all =
-        command_are session req ask step so_far (all req (record { session = session; course = Commanding ask op }) there) all
+        command_are session req step so_far (asked req session (asks.Vdi ask) arrival.from) all
+    steps_are so_far session req next moved (CommandGoesOn number work attempt status bytes op step ends is) all =
+        command_are session req step (changes.without_ended_work session req work status so_far) (all req (record { session = session; course = Commanding op }) ends.ends.request) all
+    steps_are so_far session req next moved (CommandDecided entry op step from read there waits is) all =
+        command_are session req step so_far (all req (record { session = session; course = Commanding op }) there) all
 
     comes_are : (so_far : StepState) (session req : ℕ) (tried : Work) (lined : StepState) → WorkIsNext input node so_far session req tried lined → In so_far → In lined
     comes_are so_far session req tried lined (AtOnce work moved steps begins) all = steps_are so_far session req (ToWork work) moved steps all

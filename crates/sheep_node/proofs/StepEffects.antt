@@ -124,7 +124,7 @@ module _ (first : ℕ) (was_recovered : Bool) (old : Untouched) where
       → IsInOrder (course_refused session req cause course so_far)
   refused_in_order session req cause (Waiting ask) so_far s = s
   refused_in_order session req cause (Driving driver) so_far s = ended_in_order session req (Refused cause) so_far s
-  refused_in_order session req cause (Commanding ask op) so_far s = by_end (on_refusal cause op)
+  refused_in_order session req cause (Commanding op) so_far s = by_end (on_refusal cause op)
     where
       by_end : (end : Option OpEnd) → IsInOrder (command_refused session req end so_far)
       by_end None = s
@@ -135,8 +135,8 @@ module _ (first : ℕ) (was_recovered : Bool) (old : Untouched) where
   steps_in_order so_far session req outcome moved (DiskBegins ask disk there on may) s = s
   steps_in_order so_far session req outcome moved (DiskGoesOn number work attempt status bytes driver disk step ends on is) s = s
   steps_in_order so_far session req outcome moved (CommandBegins ask step arrival is) s = s
-  steps_in_order so_far session req outcome moved (CommandGoesOn number work attempt status bytes ask op step ends is) s = s
-  steps_in_order so_far session req outcome moved (CommandDecided entry ask op step from read there waits is) s = s
+  steps_in_order so_far session req outcome moved (CommandGoesOn number work attempt status bytes op step ends is) s = s
+  steps_in_order so_far session req outcome moved (CommandDecided entry op step from read there waits is) s = s
 
   next_in_order : {input : Input} {node : Node} → (so_far : StepState) (session req : ℕ) (asked : Work) (lined : StepState)
       → WorkIsNext input node so_far session req asked lined → IsInOrder so_far → IsInOrder lined
