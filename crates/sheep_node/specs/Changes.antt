@@ -8,11 +8,13 @@ use Rattle.object_id.specs.declared.entry.Entry.{Entry}
 use Rattle.hash_ring.specs.Placement.{zone_count}
 use Rattle.vnode_table.specs.Epochs.{members_at}
 use Rattle.vnode_table.specs.Targets.{targets_in}
+use Rattle.inode.specs.Layout.{Content}
 use Rattle.peer_proto.specs.Work.{oid_of, policy_of}
 use Rattle.peer_proto.specs.declared.guest.DiskAsk.{DiskAsk}
 use Rattle.peer_proto.specs.declared.guest.VdiAsk.{VdiAsk}
 use Rattle.peer_proto.specs.declared.guest.GuestRsp.{GuestRsp}
-use Rattle.peer_proto.specs.declared.guest.GuestRsp.TheVariants.{Refused}
+use Rattle.peer_proto.specs.declared.guest.GuestRsp.TheVariants.{Refused, Checked}
+use Rattle.peer_proto.specs.declared.guest.VdiAsk.TheVariants as disk_commands
 use Rattle.peer_proto.specs.declared.work.ObjWork.{ObjWork}
 use Rattle.peer_service.specs.State.{effects_of}
 use Rattle.peer_service.specs.LogReading.{decision_on}
@@ -31,18 +33,22 @@ use Rattle.guest_driver.specs.Driver as drivers
 use Rattle.guest_driver.specs.Driver.{Driver}
 use Rattle.guest_driver.specs.InodeQueue as lines
 use Rattle.guest_driver.specs.InodeQueue.{may_open_work, queue_with_open, queue_with_waiting}
+use Rattle.disk_check.specs.declared.act.CheckAct.{CheckAct}
+use Rattle.disk_check.specs.declared.act.CheckAct.TheVariants as check_acts
+use Rattle.disk_check.specs.Check as checks
+use Rattle.disk_check.specs.Check.{Check, begin_check, check_on_done}
 use Rattle.vdi_ops.specs.declared.act.OpAct.{OpAct}
 use Rattle.vdi_ops.specs.declared.act.OpAct.TheVariants as op_acts
 use Rattle.vdi_ops.specs.Op as ops
 use Rattle.vdi_ops.specs.Op.{Op}
 use Rattle.vdi_ops.specs.Steps.{begin_command, op_on_done, on_decision}
 use Rattle.recovery.specs.Steps as recovery_steps
-use Rattle.sheep_node.specs.State.{Course, Waiting, Driving, Commanding, Node}
+use Rattle.sheep_node.specs.State.{Course, Waiting, Driving, Commanding, Checking, DoingWork, AwaitingDecision, Node}
 use Rattle.sheep_node.specs.RecoveryView.{recovery_state_of}
 use Rattle.sheep_node.specs.StepState.{StepState, at_first, with_node, with_sends, with_guest_reply, with_outbox_entry, with_gateway}
-use Rattle.sheep_node.specs.StepState.{with_session, session_in, with_inode_queue, with_disk, with_course, request_ended}
+use Rattle.sheep_node.specs.StepState.{with_session, session_in, with_inode_queue, with_disk, with_course, with_sole_request, request_ended}
 use Rattle.sheep_node.specs.RequestWorks.{course_refused, queue_left}
-use Rattle.sheep_node.specs.Courses.{after_driver_step, inode_open, after_command_step}
+use Rattle.sheep_node.specs.Courses.{after_driver_step, inode_open, after_command_step, work_reply, decision_reply}
 use Rattle.sheep_node.specs.declared.ask.Ask.{Ask}
 use Rattle.sheep_node.specs.declared.ask.Ask.TheVariants as asks
 use Rattle.sheep_node.specs.declared.input.Input.{Input}
@@ -85,6 +91,10 @@ abbrev pub outcome_of_command : OpAct → Outcome
 outcome_of_command (op_acts.Append entry) = ToEntry entry
 outcome_of_command (op_acts.Work work) = ToWork work
 outcome_of_command (op_acts.Reply reply) = ToReply reply
+
+abbrev pub outcome_of_check : CheckAct → Outcome
+outcome_of_check (check_acts.Work work) = ToWork work
+outcome_of_check (check_acts.Reply found) = ToReply (Checked found)
 
 -- a work that has had no attempt
 abbrev pub new_work : ObjWork → Work
@@ -151,6 +161,9 @@ IsOverWith bytes disk (Waiting ask) = Unit {0}
 IsOverWith bytes None (Driving driver) = Unit {0}
 IsOverWith bytes (Some disk) (Driving driver) = drivers.driver_on_done disk.inode bytes driver ≡ None
 IsOverWith bytes disk (Commanding op) = op_on_done bytes op ≡ None
+IsOverWith bytes disk (Checking check) = check_on_done bytes check ≡ None
+IsOverWith bytes disk (DoingWork work) = ⊥
+IsOverWith bytes disk (AwaitingDecision entry) = Unit {0}
 
 -- what happens as a node steps on an input, once that was received
 module _ (input : Input) (node : Node) where
@@ -210,6 +223,26 @@ module _ (input : Input) (node : Node) where
         → on_decision (effects_of so_far.node.peer) (inode_open (session_in session so_far).disk) (decision_on entry node.peer) op
         ≡ Some step
         → RequestSteps so_far session req (outcome_of_command step.act) (after_command_step session req step so_far)
+    CheckBegins : (inode : Content) → Arrival so_far session req (asks.Vdi disk_commands.Check) None
+        → inode_open (session_in session so_far).disk ≡ Some inode
+        → RequestSteps so_far session req (outcome_of_check (begin_check inode).act)
+        (with_sole_request session req (Checking (begin_check inode).check) so_far)
+    CheckGoesOn : (number : ℕ) (work : Work) (attempt : Attempt) (status : Status) (bytes : List ℕ) (check : Check)
+        (step : checks.CheckStep) → EndsWork so_far session req number work attempt status (Checking check) bytes
+        → check_on_done bytes check ≡ Some step
+        → RequestSteps so_far session req (outcome_of_check step.act)
+        (with_sole_request session req (Checking step.check) (without_ended_work session req work status so_far))
+    ObjectBegins : (asked : ObjWork) → Arrival so_far session req (asks.Object asked) None
+        → RequestSteps so_far session req (ToWork asked) (with_sole_request session req (DoingWork asked) so_far)
+    ObjectIsDone : (number : ℕ) (work : Work) (attempt : Attempt) (status : Status) (bytes : List ℕ) (asked : ObjWork)
+        → EndsWork so_far session req number work attempt status (DoingWork asked) bytes
+        → RequestSteps so_far session req (ToReply (work_reply asked bytes)) (without_ended_work session req work status so_far)
+    EntryBegins : (entry : Entry) → Arrival so_far session req (asks.Entry entry) None
+        → RequestSteps so_far session req (ToEntry entry) (with_sole_request session req (AwaitingDecision entry) so_far)
+    EntryDecided : (entry wanted : Entry) → input ≡ inputs.LogEntry entry
+        → so_far.node.peer ≡ (entry_read entry node).peer → HasRequest session req (AwaitingDecision wanted) so_far
+        → waits_for_entry entry (AwaitingDecision wanted) ≡ true
+        → RequestSteps so_far session req (ToReply (decision_reply (decision_on entry node.peer))) so_far
 
   -- a work's turn has come: that of a step at once, the first that waits in its line, or the first that may be tried again
   pub data WorkIsNext (so_far : StepState) (session req : ℕ) : Work → StepState → Type 0 where

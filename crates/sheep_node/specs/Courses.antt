@@ -3,20 +3,29 @@ use Rattle.std.specs.Prelude.{ℕ, List, Option, Some, None}
 use Rattle.std.specs.Option.{option_map}
 use Rattle.inode.specs.Layout.{Content}
 use Rattle.peer_proto.specs.declared.guest.DiskAsk.{DiskAsk}
+use Rattle.peer_proto.specs.declared.guest.GuestRsp.{GuestRsp}
+use Rattle.peer_proto.specs.declared.guest.GuestRsp.TheVariants as replies
+use Rattle.peer_proto.specs.declared.work.ObjWork.{ObjWork}
+use Rattle.peer_proto.specs.declared.work.ObjWork.TheVariants.{Create, Write, Read, ReadAll}
 use Rattle.vdi_directory.specs.declared.decision.Decision.{Decision}
+use Rattle.vdi_directory.specs.declared.decision.Decision.TheVariants as decisions
 use Rattle.peer_service.specs.State.{effects_of}
 use Rattle.guest_driver.specs.declared.disk.Disk.{Disk}
 use Rattle.guest_driver.specs.declared.act.DriverAct.{DriverAct}
 use Rattle.guest_driver.specs.declared.act.DriverAct.TheVariants as driver_acts
 use Rattle.guest_driver.specs.Driver as drivers
 use Rattle.guest_driver.specs.Driver.{Driver}
+use Rattle.disk_check.specs.declared.act.CheckAct.{CheckAct}
+use Rattle.disk_check.specs.declared.act.CheckAct.TheVariants as check_acts
+use Rattle.disk_check.specs.Check as checks
+use Rattle.disk_check.specs.Check.{check_on_done}
 use Rattle.vdi_ops.specs.declared.act.OpAct.{OpAct}
 use Rattle.vdi_ops.specs.declared.act.OpAct.TheVariants as op_acts
 use Rattle.vdi_ops.specs.Op as ops
 use Rattle.vdi_ops.specs.Op.{DiskChange, Stays, Opens, Closes, disk_change}
 use Rattle.vdi_ops.specs.Steps.{on_decision, op_on_done}
-use Rattle.sheep_node.specs.State.{Course, Waiting, Driving, Commanding}
-use Rattle.sheep_node.specs.StepState.{StepState, with_outbox_entry, with_session, session_in, with_disk, with_course, request_ended}
+use Rattle.sheep_node.specs.State.{Course, Waiting, Driving, Commanding, Checking, DoingWork, AwaitingDecision}
+use Rattle.sheep_node.specs.StepState.{StepState, with_outbox_entry, with_session, session_in, with_disk, with_course, with_sole_request, request_ended}
 use Rattle.sheep_node.specs.RequestWorks.{work_asked}
 
 -- a driver's act: a work is come to, or the request ends
@@ -84,17 +93,50 @@ abbrev pub command_went_on : ℕ → ℕ → Option ops.OpStep → StepState →
 command_went_on number req None so_far = so_far
 command_went_on number req (Some step) so_far = command_stepped number req step so_far
 
+-- a check's act: a work is come to, or the request ends with what was found
+abbrev pub check_acted : ℕ → ℕ → CheckAct → StepState → StepState
+check_acted number req (check_acts.Work work) so_far = work_asked number req work so_far
+check_acted number req (check_acts.Reply found) so_far = request_ended number req (replies.Checked found) so_far
+
+-- a check goes on by a step
+unfoldable pub check_stepped : ℕ → ℕ → checks.CheckStep → StepState → StepState
+check_stepped number req step so_far = check_acted number req step.act (with_sole_request number req (Checking step.check) so_far)
+
+-- a check goes on by a step, if there is one
+abbrev pub check_went_on : ℕ → ℕ → Option checks.CheckStep → StepState → StepState
+check_went_on number req None so_far = so_far
+check_went_on number req (Some step) so_far = check_stepped number req step so_far
+
+-- what a client without a script is told of its work: a read's bytes
+abbrev pub work_reply : ObjWork → List ℕ → GuestRsp
+work_reply (Create oid policy size offset written) bytes = replies.Done
+work_reply (Write oid policy offset written) bytes = replies.Done
+work_reply (Read oid policy offset size) bytes = replies.Piece bytes
+work_reply (ReadAll oid policy size) bytes = replies.Piece bytes
+
+-- what it is told of its entry: which id was granted, or the refusal; the end of a lock is granted nothing
+abbrev pub decision_reply : Decision → GuestRsp
+decision_reply decisions.None = replies.Done
+decision_reply (decisions.Granted vid) = replies.Granted vid
+decision_reply (decisions.Refused cause) = replies.Refused cause
+
 -- a request's work is done, and the request goes on with the bytes that it gave
 unfoldable pub course_went_on : ℕ → ℕ → List ℕ → Course → StepState → StepState
 course_went_on number req bytes (Waiting ask) so_far = so_far
 course_went_on number req bytes (Driving driver) so_far =
     disk_went_on number req bytes driver (session_in number so_far).disk so_far
 course_went_on number req bytes (Commanding op) so_far = command_went_on number req (op_on_done bytes op) so_far
+course_went_on number req bytes (Checking check) so_far = check_went_on number req (check_on_done bytes check) so_far
+course_went_on number req bytes (DoingWork work) so_far = request_ended number req (work_reply work bytes) so_far
+course_went_on number req bytes (AwaitingDecision entry) so_far = so_far
 
--- the entry that a command waits for was read and decided; by now the directory knows what the entry did
+-- the entry that a request waits for was read and decided; by now the directory knows what the entry did
 unfoldable pub course_decided : ℕ → ℕ → Decision → Course → StepState → StepState
 course_decided number req decision (Waiting ask) so_far = so_far
 course_decided number req decision (Driving driver) so_far = so_far
 course_decided number req decision (Commanding op) so_far =
     command_went_on number req
     (on_decision (effects_of so_far.node.peer) (inode_open (session_in number so_far).disk) decision op) so_far
+course_decided number req decision (Checking check) so_far = so_far
+course_decided number req decision (DoingWork work) so_far = so_far
+course_decided number req decision (AwaitingDecision entry) so_far = request_ended number req (decision_reply decision) so_far

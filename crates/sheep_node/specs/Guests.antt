@@ -3,6 +3,8 @@ use Rattle.std.specs.Prelude.{ℕ, Bool, false, ◌∷◌, [], ◌++◌, Option,
 use Rattle.std.specs.Option.{option_map}
 use Rattle.object_id.specs.declared.cause.Cause.{Cause}
 use Rattle.peer_proto.specs.declared.guest.DiskAsk.{DiskAsk}
+use Rattle.peer_proto.specs.declared.guest.VdiAsk.{VdiAsk}
+use Rattle.peer_proto.specs.declared.guest.VdiAsk.TheVariants.{Check}
 use Rattle.peer_proto.specs.declared.guest.GuestRsp.TheVariants.{Refused}
 use Rattle.vdi_directory.specs.States.{state_of}
 use Rattle.vdi_directory.specs.Dead.{is_gone}
@@ -11,13 +13,15 @@ use Rattle.gateway_queue.specs.declared.queue.Queued.{Queued}
 use Rattle.guest_driver.specs.declared.disk.Disk.{Disk}
 use Rattle.guest_driver.specs.Pieces.{offset_of, size_of, first_index, last_index}
 use Rattle.guest_driver.specs.Refusals as disk_refusals
+use Rattle.disk_check.specs.Check.{begin_check}
 use Rattle.vdi_ops.specs.Entries as entries
 use Rattle.vdi_ops.specs.Steps.{begin_command}
 use Rattle.sheep_node.specs.declared.ask.Ask.{Ask}
 use Rattle.sheep_node.specs.declared.ask.Ask.TheVariants as asks
-use Rattle.sheep_node.specs.State.{Waiting}
-use Rattle.sheep_node.specs.StepState.{StepState, with_guest_reply, session_in, with_session, with_course}
-use Rattle.sheep_node.specs.Courses.{inode_open, command_went_on}
+use Rattle.sheep_node.specs.State.{Waiting, DoingWork, AwaitingDecision}
+use Rattle.sheep_node.specs.StepState.{StepState, with_guest_reply, with_outbox_entry, session_in, with_session, with_course, with_sole_request}
+use Rattle.sheep_node.specs.RequestWorks.{work_asked}
+use Rattle.sheep_node.specs.Courses.{inode_open, command_went_on, check_went_on}
 use Rattle.sheep_node.specs.Waiting.{course_begun}
 
 -- whether a session's disk is deleted, by the entries that the node has read
@@ -52,16 +56,22 @@ with_queued_request number req ask (Some disk) so_far = with_session
     (record (session_in number so_far) { queue = (session_in number so_far).queue ++ queued_as disk.inode.spec.shift req ask ∷ [] })
     so_far
 
--- a request that isn't refused: a read or write begins, if it may run; a command begins with its entry in the outbox. A check,
--- a work and an entry from outside aren't begun yet
+-- a command begins with its entry in the outbox, and a check of the open disk with its first work
+abbrev pub command_taken : ℕ → ℕ → VdiAsk → StepState → StepState
+command_taken number req Check so_far =
+    check_went_on number req (option_map begin_check (inode_open (session_in number so_far).disk)) so_far
+command_taken number req ask so_far =
+    command_went_on number req (begin_command so_far.node.me number ask (inode_open (session_in number so_far).disk)) so_far
+
+-- a request that isn't refused: a read or write begins, if it may run, and any other at once
 abbrev pub request_taken : ℕ → ℕ → Ask → StepState → StepState
 request_taken number req (asks.Disk ask) so_far =
     course_begun number req (Waiting ask)
     (with_queued_request number req ask (session_in number so_far).disk (with_course number req (Waiting ask) so_far))
-request_taken number req (asks.Vdi ask) so_far =
-    command_went_on number req (begin_command so_far.node.me number ask (inode_open (session_in number so_far).disk)) so_far
-request_taken number req (asks.Object work) so_far = so_far
-request_taken number req (asks.Entry entry) so_far = so_far
+request_taken number req (asks.Vdi ask) so_far = command_taken number req ask so_far
+request_taken number req (asks.Object work) so_far = work_asked number req work (with_sole_request number req (DoingWork work) so_far)
+request_taken number req (asks.Entry entry) so_far =
+    with_outbox_entry entry (with_sole_request number req (AwaitingDecision entry) so_far)
 
 -- a request is refused for a cause, if there is one
 abbrev pub request_taken_unless : Option Cause → ℕ → ℕ → Ask → StepState → StepState

@@ -8,6 +8,7 @@ pub mod Waiting
 pub mod Guests
 pub mod LogReading
 pub mod Step
+pub mod OutsideAsks
 pub mod May
 pub mod StepFacts
 pub mod RecoveryRange

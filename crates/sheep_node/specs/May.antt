@@ -19,7 +19,8 @@ use Rattle.sheep_node.specs.declared.input.Input.{Input}
 use Rattle.sheep_node.specs.declared.limits.TheConstants.{REQUESTS_AT_ONCE, SENDS_MAX}
 use Rattle.sheep_node.specs.declared.input.Input.TheVariants as inputs
 use Rattle.peer_proto.specs.declared.say.PeerRsp.{PeerRsp}
-use Rattle.sheep_node.specs.State.{Course, Waiting, Driving, Commanding, Session, Node, session_at}
+use Rattle.sheep_node.specs.State.{Course, Waiting, Driving, Commanding, Checking, DoingWork, AwaitingDecision, Session, Node, session_at}
+use Rattle.sheep_node.specs.OutsideAsks.{IsObjectAsk, IsEntryAsk}
 use Rattle.sheep_node.specs.RecoveryView.{recovery_state_of}
 use Rattle.sheep_node.specs.LogReading.{is_epoch_member}
 
@@ -56,33 +57,36 @@ abbrev pub is_disk_course : Course → Bool
 is_disk_course (Waiting ask) = true
 is_disk_course (Driving driver) = true
 is_disk_course (Commanding op) = false
+is_disk_course (Checking check) = false
+is_disk_course (DoingWork work) = false
+is_disk_course (AwaitingDecision entry) = false
 
--- how many reads and writes of a session may be without reply where a request comes: none at a command, and at another one fewer
--- than may be at once
+-- how many reads and writes of a session may be without reply where a request comes: at a read or write fewer than may be at once, at
+-- any other none
 abbrev pub queued_at_most : Ask → ℕ
 queued_at_most (asks.Disk ask) = REQUESTS_AT_ONCE - 1
 queued_at_most (asks.Vdi ask) = 0
 queued_at_most (asks.Object work) = 0
 queued_at_most (asks.Entry entry) = 0
 
--- whether the session has room for a request: no command of it is without reply
+-- whether the session has room for a request: none that is alone in it is without reply
 abbrev pub has_room_for : Ask → Session → Bool
 has_room_for ask session = is_none session.command && nat_le (length session.queue) (queued_at_most ask)
 
--- what is asked is as it may be: whole blocks and one at least, and names, tags and specs that may be such. A work or an entry
--- from outside isn't taken yet
-abbrev pub IsGuestAsk : Ask → Type 0
-IsGuestAsk (asks.Disk ask) = IsTrue (is_ask ask)
-IsGuestAsk (asks.Vdi ask) = IsVdiAsk ask
-IsGuestAsk (asks.Object work) = ⊥
-IsGuestAsk (asks.Entry entry) = ⊥
+-- what is asked of a node is as it may be: whole blocks and one at least, and names, tags and specs that may be such; of a client
+-- without a script a work on an object that the node knows, or a lock
+abbrev pub IsGuestAsk : Node → Ask → Type 0
+IsGuestAsk node (asks.Disk ask) = IsTrue (is_ask ask)
+IsGuestAsk node (asks.Vdi ask) = IsVdiAsk ask
+IsGuestAsk node (asks.Object work) = IsObjectAsk node.peer work
+IsGuestAsk node (asks.Entry entry) = IsEntryAsk node.me entry
 
 -- what a guest's request must meet
 pub record MayGuest (req session : ℕ) (ask : Ask) (node : Node) : Type 0 where
   pub room : IsTrue (has_room_for ask (session_at session node))
   pub number : IsTrue (not (tree.contains_key node.requests req))
   pub member : IsTrue (is_epoch_member node)
-  pub asked : IsGuestAsk ask
+  pub asked : IsGuestAsk node ask
 
 -- which entry may be the first
 abbrev pub MayBeFirst : Entry → Type 0

@@ -10,13 +10,16 @@ use Rattle.gateway.specs.State.{Work, is_awaited_in}
 use Rattle.recovery.specs.State as recoveries
 use Rattle.guest_driver.specs.InodeQueue as lines
 use Rattle.vdi_ops.specs.Op.{entry_wanted}
-use Rattle.sheep_node.specs.State.{Course, Waiting, Driving, Commanding, Request, Session, Node, new_session}
+use Rattle.sheep_node.specs.State.{Course, Waiting, Driving, Commanding, Checking, DoingWork, AwaitingDecision, Request, Session, Node, new_session}
 
--- whether a request may have a work: a read or write that began, or a command that waits for no entry
+-- whether a request may have a work: a read or write that began, or another request that waits for no entry
 abbrev pub may_work : Course → Bool
 may_work (Waiting ask) = false
 may_work (Driving driver) = true
 may_work (Commanding op) = is_none (entry_wanted op)
+may_work (Checking check) = true
+may_work (DoingWork work) = true
+may_work (AwaitingDecision entry) = false
 
 -- whether a request that was looked up is there, and may have one
 abbrev pub may_work_at : Option Request → Bool

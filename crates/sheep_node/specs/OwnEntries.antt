@@ -1,4 +1,4 @@
--- Whose entries a node has in its outbox: its commands' and its own `Recovered`.
+-- Whose entries a node has in its outbox: its requests' and its own `Recovered`.
 use Rattle.std.specs.Prelude.{◌≡◌, ℕ, List, All, Option, Some}
 use Rattle.std.specs.Ordering.{nat_cmp}
 use Rattle.std.specs.FinMap as tree
@@ -7,7 +7,7 @@ use Rattle.object_id.specs.declared.entry.Entry.{Entry}
 use Rattle.object_id.specs.declared.entry.Entry.TheVariants.{Format, Join, Leave, Reweight, Recovered, Reserve, Publish, Clone, Snapshot}
 use Rattle.object_id.specs.declared.entry.Entry.TheVariants.{Delete, Lock, Unlock}
 use Rattle.vdi_ops.specs.Op.{Task, Opening, WritingBack, Tagging, Copying, Making, OpStage, Asked, Working, Publishing, Answered, Op}
-use Rattle.sheep_node.specs.State.{Course, Waiting, Driving, Commanding, Request, Node}
+use Rattle.sheep_node.specs.State.{Course, Waiting, Driving, Commanding, Checking, DoingWork, AwaitingDecision, Request, Node}
 
 -- an entry is one that this node puts
 abbrev pub IsEntryOf : NodeId → Entry → Type 0
@@ -47,8 +47,11 @@ abbrev pub IsCourseOf : NodeId → Course → Type 0
 IsCourseOf me (Waiting ask) = Unit {0}
 IsCourseOf me (Driving driver) = Unit {0}
 IsCourseOf me (Commanding op) = IsCommandOf me op
+IsCourseOf me (Checking check) = Unit {0}
+IsCourseOf me (DoingWork work) = Unit {0}
+IsCourseOf me (AwaitingDecision entry) = IsEntryOf me entry
 
--- each command is of the node, and each entry of the outbox
+-- each request is of the node, and each entry of the outbox
 pub record AreOwnEntries (me own : NodeId) (requests : tree.FinMap nat_cmp Request) (outbox : List Entry) : Type 0 where
   pub own_so : own ≡ me
   pub commands : (req : ℕ) (request : Request) → tree.get requests req ≡ Some request → IsCourseOf me request.course

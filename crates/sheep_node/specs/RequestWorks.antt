@@ -10,7 +10,7 @@ use Rattle.gateway.specs.Step as gateways
 use Rattle.guest_driver.specs.InodeQueue.{may_open_work, queue_with_open, queue_with_waiting, queue_after_end}
 use Rattle.vdi_ops.specs.declared.end.OpEnd.{OpEnd}
 use Rattle.vdi_ops.specs.Steps.{on_refusal}
-use Rattle.sheep_node.specs.State.{Course, Waiting, Driving, Commanding, Request, Node}
+use Rattle.sheep_node.specs.State.{Course, Waiting, Driving, Commanding, Checking, DoingWork, AwaitingDecision, Request, Node}
 use Rattle.sheep_node.specs.StepState.{StepState, with_sends, with_optional_entry, with_gateway, session_in, with_inode_queue}
 use Rattle.sheep_node.specs.StepState.{request_ended}
 
@@ -19,11 +19,14 @@ abbrev pub command_refused : ℕ → ℕ → Option OpEnd → StepState → Step
 command_refused number req None so_far = so_far
 command_refused number req (Some end) so_far = request_ended number req end.reply (with_optional_entry end.unlock so_far)
 
--- a request ends with the refusal of its work; one that waits for its turn has none
+-- a request ends with the refusal of its work; one that waits for its turn, or for a decision, has none
 abbrev pub course_refused : ℕ → ℕ → Cause → Course → StepState → StepState
 course_refused number req cause (Waiting ask) so_far = so_far
 course_refused number req cause (Driving driver) so_far = request_ended number req (Refused cause) so_far
 course_refused number req cause (Commanding op) so_far = command_refused number req (on_refusal cause op) so_far
+course_refused number req cause (Checking check) so_far = request_ended number req (Refused cause) so_far
+course_refused number req cause (DoingWork work) so_far = request_ended number req (Refused cause) so_far
+course_refused number req cause (AwaitingDecision entry) so_far = so_far
 
 -- a request that was looked up ends so, if it is there
 abbrev pub request_refused : ℕ → Cause → Option Request → StepState → StepState

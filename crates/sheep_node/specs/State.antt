@@ -6,6 +6,7 @@ use Rattle.object_id.specs.declared.node.NodeId.{NodeId}
 use Rattle.object_id.specs.declared.entry.Entry.{Entry}
 use Rattle.vnode_table.specs.Epochs.{EpochMembers}
 use Rattle.peer_proto.specs.declared.guest.DiskAsk.{DiskAsk}
+use Rattle.peer_proto.specs.declared.work.ObjWork.{ObjWork}
 use Rattle.peer_service.specs.State as peers
 use Rattle.peer_service.specs.State.{Peer}
 use Rattle.gateway.specs.State as gateways
@@ -16,6 +17,7 @@ use Rattle.gateway_queue.specs.declared.queue.Queued.{Queued}
 use Rattle.guest_driver.specs.declared.disk.Disk.{Disk}
 use Rattle.guest_driver.specs.Driver.{Driver}
 use Rattle.guest_driver.specs.InodeQueue.{InodeQueue, empty_inode_queue}
+use Rattle.disk_check.specs.Check.{Check}
 use Rattle.vdi_ops.specs.Op.{Op}
 
 -- where a request is that has no reply
@@ -26,14 +28,20 @@ pub data Course : Type 0 where
   Driving : Driver → Course
   -- a command on disks
   Commanding : Op → Course
+  -- a check of the open disk
+  Checking : Check → Course
+  -- one work on an object, which a client without a script asked for
+  DoingWork : ObjWork → Course
+  -- an entry of such a client, which waits for its decision
+  AwaitingDecision : Entry → Course
 
 -- a request that has no reply: its session, and where it is
 pub record Request : Type 0 where
   pub session : ℕ
   pub course : Course
 
--- a session: the disk that it has open, its reads and writes without reply with their objects, its command without reply, and the
--- works on its disk's inode
+-- a session: the disk that it has open, its reads and writes without reply with their objects, or its one other request without reply,
+-- which is alone in it, and the works on its disk's inode
 pub record Session : Type 0 where
   pub disk : Option Disk
   pub queue : List Queued

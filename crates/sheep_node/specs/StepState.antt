@@ -79,6 +79,11 @@ with_course number req course so_far = record so_far {
   node = record so_far.node { requests = tree.insert so_far.node.requests req (record { session = number; course = course }) };
 }
 
+-- a request is there, and is alone in its session
+abbrev pub with_sole_request : ℕ → ℕ → Course → StepState → StepState
+with_sole_request number req course so_far =
+    with_session number (record (session_in number so_far) { command = Some req }) (with_course number req course so_far)
+
 -- a request is no more: the gateway forgets it, it leaves the requests and the session's queue, or was the session's command
 abbrev pub without_request : ℕ → ℕ → StepState → StepState
 without_request number req so_far = with_session

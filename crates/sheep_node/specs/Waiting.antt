@@ -11,7 +11,7 @@ use Rattle.gateway_queue.specs.declared.queue.Queued.{Queued}
 use Rattle.gateway_queue.specs.Queue.{may_run}
 use Rattle.guest_driver.specs.InodeQueue as lines
 use Rattle.guest_driver.specs.InodeQueue.{next_work, queue_after_start}
-use Rattle.sheep_node.specs.State.{Course, Waiting, Driving, Commanding, Request, Session}
+use Rattle.sheep_node.specs.State.{Course, Waiting, Driving, Commanding, Checking, DoingWork, AwaitingDecision, Request, Session}
 use Rattle.sheep_node.specs.StepState.{StepState, with_sends, with_gateway, session_in, with_inode_queue}
 use Rattle.sheep_node.specs.RequestWorks.{request_refused, queue_left, work_begun}
 use Rattle.sheep_node.specs.Courses.{disk_begun, course_went_on}
@@ -29,6 +29,9 @@ course_begun number req (Waiting ask) so_far =
     if may_run req (session_in number so_far).queue then disk_begun number req ask (session_in number so_far).disk so_far else so_far
 course_begun number req (Driving driver) so_far = so_far
 course_begun number req (Commanding op) so_far = so_far
+course_begun number req (Checking check) so_far = so_far
+course_begun number req (DoingWork work) so_far = so_far
+course_begun number req (AwaitingDecision entry) so_far = so_far
 
 -- a request begins, if it is there and waits
 abbrev pub found_request_begun : ℕ → Option Request → StepState → StepState
