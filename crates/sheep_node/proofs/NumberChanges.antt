@@ -37,16 +37,16 @@ use Rattle.vdi_ops.specs.Op.{Op}
 use Rattle.vdi_ops.specs.Steps.{on_refusal}
 use Rattle.sheep_node.specs.declared.input.Input.{Input}
 use Rattle.sheep_node.specs.declared.input.Input.TheVariants as inputs
-use Rattle.sheep_node.specs.State.{Course, Waiting, Driving, Commanding, Node, initial_node}
+use Rattle.sheep_node.specs.State.{Course, Waiting, Driving, Commanding, Node, initial_node, Checking, DoingWork, AwaitingDecision}
 use Rattle.sheep_node.specs.RecoveryView.{recovery_state_of}
-use Rattle.sheep_node.specs.StepState.{StepState, at_first, with_optional_entry, with_gateway, request_ended}
+use Rattle.sheep_node.specs.StepState.{StepState, at_first, with_optional_entry, with_gateway, request_ended, with_sole_request}
 use Rattle.sheep_node.specs.RequestWorks.{command_refused, course_refused, queue_left}
 use Rattle.sheep_node.specs.LogReading.{entry_read, epoch_members, come_back_with, on_back}
 use Rattle.sheep_node.specs.Step.{on_request, recovery_stepped, on_put, on_recover_tick, node_step}
 use Rattle.sheep_node.specs.May.{Meets, May}
 use Rattle.sheep_node.specs.OneWork.{NumbersAreOfOneWork, NumbersAreBelow, HasOneWorkPerRequest}
 use Rattle.sheep_node.specs.Changes as changes
-use Rattle.sheep_node.specs.Changes.{LearnsStatus, gateway_with_touch, without_ended_work, Outcome, ToWork, ToEntry, ToReply, RequestSteps, DiskBegins, DiskGoesOn, CommandBegins, CommandGoesOn, CommandDecided, WorkIsNext, AtOnce, InTurn, Again, attempt_in, input_received, Change}
+use Rattle.sheep_node.specs.Changes.{LearnsStatus, gateway_with_touch, without_ended_work, Outcome, ToWork, ToEntry, ToReply, RequestSteps, DiskBegins, DiskGoesOn, CommandBegins, CommandGoesOn, CommandDecided, WorkIsNext, AtOnce, InTurn, Again, attempt_in, input_received, Change, CheckBegins, CheckGoesOn, ObjectBegins, ObjectIsDone, EntryBegins, EntryDecided}
 use Rattle.sheep_node.proofs.AwaitedWorks.{Works, found_by, found_got, got_found}
 use Rattle.sheep_node.proofs.MessageNumbers.{all_before, fresh_apart, fresh_below, left_before, ticked_within, unanswered_in_epoch, unanswered_reading}
 use Rattle.sheep_node.proofs.OneWorkChanges.{StepHasOneWork, none_good, change_keeps_one_work, received_one_work}
@@ -120,6 +120,14 @@ steps_numbered so_far session req next moved (CommandGoesOn number work attempt 
     freed_numbered session req number work attempt status so_far ends.ends.learns numbered
 steps_numbered so_far session req next moved (CommandDecided entry op step from read there waits is) numbered =
     numbered
+steps_numbered so_far session req next moved (CheckBegins inode arrival on) numbered = numbered
+steps_numbered so_far session req next moved (CheckGoesOn number work attempt status bytes check step ends is) numbered =
+    freed_numbered session req number work attempt status so_far ends.ends.learns numbered
+steps_numbered so_far session req next moved (ObjectBegins asked arrival) numbered = numbered
+steps_numbered so_far session req next moved (ObjectIsDone number work attempt status bytes asked ends) numbered =
+    freed_numbered session req number work attempt status so_far ends.ends.learns numbered
+steps_numbered so_far session req next moved (EntryBegins entry arrival) numbered = numbered
+steps_numbered so_far session req next moved (EntryDecided entry wanted from read there waits) numbered = numbered
 
 pub comes_numbered : {input : Input} {node : Node} → (so_far : StepState) (session req : ℕ) (asked : Work) (lined : StepState) → WorkIsNext input node so_far session req asked lined → StepHasOneNumber so_far → StepHasOneNumber lined
 comes_numbered so_far session req asked lined (AtOnce work moved steps begins) numbered = steps_numbered so_far session req (ToWork work) moved steps numbered
@@ -139,6 +147,9 @@ refused_numbered session req cause (Commanding op) so_far numbered = by_end (on_
     by_end : (end : Option OpEnd) → StepHasOneNumber (command_refused session req end so_far)
     by_end None = numbered
     by_end (Some end) = numbered
+refused_numbered session req cause (Checking check) so_far numbered = numbered
+refused_numbered session req cause (DoingWork work) so_far numbered = numbered
+refused_numbered session req cause (AwaitingDecision entry) so_far numbered = numbered
 
 -- ---- an attempt begins
 

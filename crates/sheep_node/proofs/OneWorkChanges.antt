@@ -27,6 +27,9 @@ use Rattle.guest_driver.specs.Driver as drivers
 use Rattle.guest_driver.specs.Driver.{Driver}
 use Rattle.guest_driver.specs.InodeQueue as lines
 use Rattle.guest_driver.specs.InodeQueue.{InodeQueue, queue_with_open, queue_with_waiting, queue_after_end}
+use Rattle.disk_check.specs.declared.act.CheckAct.{CheckAct}
+use Rattle.disk_check.specs.declared.act.CheckAct.TheVariants as check_acts
+use Rattle.disk_check.specs.Check.{Check, begin_check}
 use Rattle.vdi_ops.specs.declared.act.OpAct.{OpAct}
 use Rattle.vdi_ops.specs.declared.act.OpAct.TheVariants as op_acts
 use Rattle.vdi_ops.specs.declared.end.OpEnd.{OpEnd}
@@ -37,9 +40,9 @@ use Rattle.vdi_ops.proofs.StepLemmas.{begin_awaited, done_awaited, decision_awai
 use Rattle.recovery.specs.Steps as recovery_steps
 use Rattle.sheep_node.specs.declared.input.Input.{Input}
 use Rattle.sheep_node.specs.declared.input.Input.TheVariants as inputs
-use Rattle.sheep_node.specs.State.{Course, Waiting, Driving, Commanding, Request, Session, Node, new_session}
+use Rattle.sheep_node.specs.State.{Course, Waiting, Driving, Commanding, Checking, DoingWork, AwaitingDecision, Request, Session, Node, new_session}
 use Rattle.sheep_node.specs.RecoveryView.{recovery_state_of}
-use Rattle.sheep_node.specs.StepState.{StepState, at_first, with_optional_entry, with_gateway, session_in, with_inode_queue, with_course, request_ended}
+use Rattle.sheep_node.specs.StepState.{StepState, at_first, with_optional_entry, with_gateway, session_in, with_inode_queue, with_course, with_sole_request, request_ended}
 use Rattle.sheep_node.specs.RequestWorks.{command_refused, course_refused, queue_left}
 use Rattle.sheep_node.specs.Courses.{after_driver_step, disk_after, inode_open, after_command_step}
 use Rattle.sheep_node.specs.Guests.{queued_as}
@@ -53,7 +56,7 @@ use Rattle.proof_tools.proofs.Lists.{Contains-first, Contains-nil}
 use Rattle.proof_tools.proofs.FiniteMaps.{get-insert_same, get-remove_same}
 use Rattle.sheep_node.specs.OneWork.{may_work, may_work_at, may_work_of, waiting_in, AreOfDifferentRequests, HaveOneWorkPerRequest, HasNoWork}
 use Rattle.sheep_node.specs.Changes as changes
-use Rattle.sheep_node.specs.Changes.{HasRequest, LearnsStatus, EndsAttempt, gateway_with_touch, without_ended_work, Outcome, ToWork, ToEntry, ToReply, outcome_of_driver, outcome_of_command, RequestSteps, DiskBegins, DiskGoesOn, CommandBegins, CommandGoesOn, CommandDecided, new_work, WorkIsNext, AtOnce, InTurn, Again, with_open_attempt, with_work_held, without_denied_work, attempt_in, zones_of_members, input_received, Change}
+use Rattle.sheep_node.specs.Changes.{HasRequest, LearnsStatus, EndsAttempt, gateway_with_touch, without_ended_work, Outcome, ToWork, ToEntry, ToReply, outcome_of_driver, outcome_of_command, outcome_of_check, RequestSteps, DiskBegins, DiskGoesOn, CommandBegins, CommandGoesOn, CommandDecided, CheckBegins, CheckGoesOn, ObjectBegins, ObjectIsDone, EntryBegins, EntryDecided, new_work, WorkIsNext, AtOnce, InTurn, Again, with_open_attempt, with_work_held, without_denied_work, attempt_in, zones_of_members, input_received, Change}
 use Rattle.sheep_node.proofs.OneWorkParts.{Requests, Sessions, driven_session, free_session, may_at, driven_insert, driven_queued, driven_taken, free_taken, driven_removed, driven_course, driven_gone, free_at, free_removed}
 
 abbrev pub StepHasOneWork : StepState → Type 0
@@ -128,6 +131,25 @@ command_moved session req step so_far awaited free good =
       may = may_command step.act step.op awaited;
     }
 
+may_check : (act : CheckAct) (check : Check) → MayComeTo (outcome_of_check act) (Checking check)
+may_check (check_acts.Work work) check = refl
+may_check (check_acts.Reply found) check = tt
+
+sole_moved : (session req : ℕ) (next : Outcome) (course : Course) (so_far : StepState) → MayComeTo next course → HasNoWorkIn req so_far
+    → StepHasOneWork so_far → HasSteppedFree session req next (with_sole_request session req course so_far)
+sole_moved session req next course so_far may free good =
+    let works = so_far.node.gateway.works in
+    let request : Request = record { session = session; course = course } in
+    let after = record (session_in session so_far) { command = Some req } in
+    record {
+      good = driven_session works (tree.insert so_far.node.requests req request) so_far.node.sessions session after refl
+          (driven_course works so_far.node.requests so_far.node.sessions req free good request);
+      free = free_session req works so_far.node.sessions session after refl free;
+      course = course;
+      there = get-insert_same so_far.node.requests req request;
+      may = may;
+    }
+
 -- a request whose work is no more
 pub freed_good : {input : Input} {node : Node} → (session req number : ℕ) (work : Work) (attempt : Attempt) (status : Status) (so_far : StepState)
     → LearnsStatus input node so_far req number work attempt status → StepHasOneWork so_far
@@ -149,6 +171,9 @@ wanted_never entry (Commanding op) waits = by_entry (entry_wanted op) waits
     by_entry : (o : Option Entry) → option_map_or (λ (wanted : Entry). is_same_entry wanted entry) o false ≡ true → is_none o ≡ false
     by_entry None waits = absurd (cc (waits))
     by_entry (Some wanted) waits = refl
+wanted_never entry (Checking check) waits = absurd (cc (waits))
+wanted_never entry (DoingWork work) waits = absurd (cc (waits))
+wanted_never entry (AwaitingDecision wanted) waits = refl
 
 pub free_in : (req : ℕ) (so_far : StepState) → may_work_at (tree.get so_far.node.requests req) ≡ false → StepHasOneWork so_far → HasNoWorkIn req so_far
 free_in req so_far never good = free_at so_far.node.gateway.works so_far.node.requests so_far.node.sessions req never good
@@ -176,6 +201,28 @@ steps_free {input} {node} so_far session req next moved (CommandDecided entry op
     (awaited_of (on_decision (effects_of so_far.node.peer) (inode_open (session_in session so_far).disk) (decision_on entry node.peer) op) step
     (decision_awaited (effects_of so_far.node.peer) (inode_open (session_in session so_far).disk) (decision_on entry node.peer) op) is)
     (free_in req so_far (ap may_work_at there ∙ wanted_never entry (Commanding op) waits) good) good
+steps_free so_far session req next moved (CheckBegins inode arrival on) good =
+    let step = begin_check inode in
+    sole_moved session req (outcome_of_check step.act) (Checking step.check) so_far (may_check step.act step.check)
+    (free_in req so_far (ap may_work_at arrival.none) good) good
+steps_free so_far session req next moved (CheckGoesOn number work attempt status bytes check step ends is) good =
+    let (now, free) = freed_good session req number work attempt status so_far ends.ends.learns good in
+    sole_moved session req (outcome_of_check step.act) (Checking step.check) (without_ended_work session req work status so_far)
+    (may_check step.act step.check) free now
+steps_free so_far session req next moved (ObjectBegins asked arrival) good =
+    sole_moved session req (ToWork asked) (DoingWork asked) so_far refl (free_in req so_far (ap may_work_at arrival.none) good) good
+steps_free so_far session req next moved (ObjectIsDone number work attempt status bytes asked ends) good =
+    let (now, free) = freed_good session req number work attempt status so_far ends.ends.learns good in
+    record { good = now; free = free; course = DoingWork asked; there = ends.ends.request; may = tt }
+steps_free so_far session req next moved (EntryBegins entry arrival) good =
+    sole_moved session req (ToEntry entry) (AwaitingDecision entry) so_far tt (free_in req so_far (ap may_work_at arrival.none) good) good
+steps_free so_far session req next moved (EntryDecided entry wanted from read there waits) good = record {
+  good = good;
+  free = free_in req so_far (ap may_work_at there) good;
+  course = AwaitingDecision wanted;
+  there = there;
+  may = tt;
+}
 
 -- ---- a work whose turn has come
 
@@ -260,6 +307,9 @@ pub course_refused_good : (session req : ℕ) (cause : Cause) (course : Course) 
 course_refused_good session req cause (Waiting ask) so_far free good = good
 course_refused_good session req cause (Driving driver) so_far free good = ended_good session req (Refused cause) so_far free good
 course_refused_good session req cause (Commanding op) so_far free good = command_refused_good session req (on_refusal cause op) so_far free good
+course_refused_good session req cause (Checking check) so_far free good = ended_good session req (Refused cause) so_far free good
+course_refused_good session req cause (DoingWork work) so_far free good = ended_good session req (Refused cause) so_far free good
+course_refused_good session req cause (AwaitingDecision entry) so_far free good = good
 
 denied_good : (session req : ℕ) (asked : Work) (so_far : StepState) → MayOpenWork session req so_far
     → StepHasOneWork (without_denied_work session req asked so_far) × HasNoWorkIn req (without_denied_work session req asked so_far)

@@ -45,20 +45,25 @@ use Rattle.vdi_ops.specs.Steps.{begun_with_entry, begin_command, taken_over, cop
 use Rattle.vdi_ops.proofs.StepLemmas.{begin_awaited, done_awaited, decision_awaited}
 use Rattle.sheep_node.specs.declared.input.Input.{Input}
 use Rattle.sheep_node.specs.declared.input.Input.TheVariants as inputs
-use Rattle.sheep_node.specs.State.{Course, Waiting, Driving, Commanding, Request, Node, initial_node}
-use Rattle.sheep_node.specs.May.{May}
+use Rattle.sheep_node.specs.State.{Course, Waiting, Driving, Commanding, Request, Node, initial_node, Checking, DoingWork, AwaitingDecision}
+use Rattle.sheep_node.specs.May.{May, Meets}
 use Rattle.sheep_node.specs.OneWork.{HasOneWorkPerRequest}
 use Rattle.sheep_node.specs.RecoveryView.{recovery_state_of}
-use Rattle.sheep_node.specs.StepState.{StepState, at_first, with_optional_entry, session_in, request_ended}
+use Rattle.sheep_node.specs.StepState.{StepState, at_first, with_optional_entry, session_in, request_ended, with_sole_request}
 use Rattle.sheep_node.specs.RequestWorks.{command_refused, course_refused}
 use Rattle.sheep_node.specs.Courses.{inode_open, after_command_step}
 use Rattle.sheep_node.specs.LogReading.{entry_read, on_back}
 use Rattle.sheep_node.specs.Step.{on_request, recovery_stepped, on_put, on_recover_tick, node_step}
 use Rattle.sheep_node.specs.OwnEntries.{IsEntryOf, IsTaskOf, IsStageOf, IsCommandOf, IsCourseOf, AreOwnEntries, HasOnlyOwnEntries}
 use Rattle.sheep_node.specs.Changes as changes
-use Rattle.sheep_node.specs.Changes.{HasRequest, Outcome, ToWork, ToEntry, ToReply, outcome_of_driver, outcome_of_command, without_ended_work, RequestSteps, DiskBegins, DiskGoesOn, CommandBegins, CommandGoesOn, CommandDecided, WorkIsNext, AtOnce, InTurn, Again, input_received, Change}
+use Rattle.sheep_node.specs.Changes.{HasRequest, Outcome, ToWork, ToEntry, ToReply, outcome_of_driver, outcome_of_command, without_ended_work, RequestSteps, DiskBegins, DiskGoesOn, CommandBegins, CommandGoesOn, CommandDecided, WorkIsNext, AtOnce, InTurn, Again, input_received, Change, CheckBegins, CheckGoesOn, ObjectBegins, ObjectIsDone, EntryBegins, EntryDecided, outcome_of_check}
 use Rattle.sheep_node.proofs.OneWorkChanges.{awaited_of}
 use Rattle.sheep_node.proofs.StepChain.{kept_by_chain, step_chain}
+use Rattle.disk_check.specs.declared.act.CheckAct.{CheckAct}
+use Rattle.disk_check.specs.Check.{begin_check}
+use Rattle.sheep_node.specs.OutsideAsks.{IsEntryAsk}
+use Rattle.disk_check.specs.declared.act.CheckAct.TheVariants as check_acts
+use Rattle.sheep_node.specs.declared.ask.Ask.TheVariants as asks
 
 -- ---- the steps of a command
 
@@ -215,101 +220,135 @@ module _ (me : NodeId) where
   driver_next (driver_acts.Work work) = tt
   driver_next (driver_acts.Reply reply) = tt
 
-  steps_own : {input : Input} {node : Node} → (so_far : StepState) (session req : ℕ) (next : Outcome) (moved : StepState) → RequestSteps input node so_far session req next moved → OnlyOwn so_far → OnlyOwn moved × NextOf next
-  steps_own so_far session req next moved (DiskBegins ask disk there on may) own = (
-    record {
-      own_so = own.own_so;
-      commands = all_put At so_far.node.requests own.commands req (record { session = session; course = Driving (drivers.begin_driver disk ask).driver }) tt;
-      entries = own.entries;
-    },
-    driver_next (drivers.begin_driver disk ask).act,
-  )
-  steps_own so_far session req next moved (DiskGoesOn number work attempt status bytes driver disk step ends on is) own = (
-    record {
-      own_so = own.own_so;
-      commands = all_put At so_far.node.requests own.commands req (record { session = session; course = Driving step.driver }) tt;
-      entries = own.entries;
-    },
-    driver_next step.act,
-  )
-  steps_own so_far session req next moved (CommandBegins ask step arrival is) own =
-      let disk = inode_open (session_in session so_far).disk in
-      command_own session req step so_far
-      (awaited_of (begin_command so_far.node.me session ask disk) step (begin_awaited so_far.node.me session ask disk) is)
-      (subst (λ (by : NodeId). IsCommandOf by step.op) own.own_so
-      (step_of so_far.node.me (begin_command so_far.node.me session ask disk) step (begin_of so_far.node.me session ask disk) is)) own
-  steps_own so_far session req next moved (CommandGoesOn number work attempt status bytes op step ends is) own =
-      let of = own.commands req (record { session = session; course = Commanding op }) ends.ends.request in
-      command_own session req step (without_ended_work session req work status so_far)
-      (awaited_of (op_on_done bytes op) step (done_awaited bytes op) is) (step_of me (op_on_done bytes op) step (done_of me op of.0 bytes of.1) is)
-      (record { own_so = own.own_so; commands = own.commands; entries = own.entries })
-  steps_own {input} {node} so_far session req next moved (CommandDecided entry op step from read there waits is) own =
-      let of = own.commands req (record { session = session; course = Commanding op }) there in
-      command_own session req step so_far
-      (awaited_of (on_decision (effects_of so_far.node.peer) (inode_open (session_in session so_far).disk) (decision_on entry node.peer) op) step
-      (decision_awaited (effects_of so_far.node.peer) (inode_open (session_in session so_far).disk) (decision_on entry node.peer) op) is)
-      (step_of me (on_decision (effects_of so_far.node.peer) (inode_open (session_in session so_far).disk) (decision_on entry node.peer) op) step
-      (decision_of me op of.0 (effects_of so_far.node.peer) (inode_open (session_in session so_far).disk) (decision_on entry node.peer)) is) own
+  check_next : (act : CheckAct) → NextOf (outcome_of_check act)
+  check_next (check_acts.Work work) = tt
+  check_next (check_acts.Reply found) = tt
 
-  comes_own : {input : Input} {node : Node} → (so_far : StepState) (session req : ℕ) (asked : Work) (lined : StepState) → WorkIsNext input node so_far session req asked lined → OnlyOwn so_far → OnlyOwn lined
-  comes_own so_far session req asked lined (AtOnce work moved steps begins) own =
-      let m = (steps_own so_far session req (ToWork work) moved steps own).0 in
-      record { own_so = m.own_so; commands = m.commands; entries = m.entries }
-  comes_own so_far session req asked lined (InTurn work later none is) own = record { own_so = own.own_so; commands = own.commands; entries = own.entries }
-  comes_own so_far session req asked lined (Again work course from next there request) own = own
-
-  ended_own : (session req : ℕ) (reply : GuestRsp) (so_far : StepState) → OnlyOwn so_far → OnlyOwn (request_ended session req reply so_far)
-  unfolding request_ended
-  ended_own session req reply so_far own =
-      record { own_so = own.own_so; commands = all_gone At so_far.node.requests own.commands req; entries = own.entries }
-
-  more_own : (outbox : List Entry) (entry : Entry) → All (IsEntryOf me) outbox → IsEntryOf me entry → All (IsEntryOf me) (outbox ++ entry ∷ [])
-  more_own outbox entry all of = All-push (IsEntryOf me) outbox entry all of
-
-  refused_own : (session req : ℕ) (cause : Cause) (course : Course) (so_far : StepState) → IsCourseOf me course → OnlyOwn so_far
-      → OnlyOwn (course_refused session req cause course so_far)
-  refused_own session req cause (Waiting ask) so_far of own = own
-  refused_own session req cause (Driving driver) so_far of own = ended_own session req (Refused cause) so_far own
-  refused_own session req cause (Commanding op) so_far of own = by_end (on_refusal cause op) (refusal_of me op of.0 cause)
-    where
-      more : (unlock : Option Entry) → IfSome unlock (IsEntryOf me) → All (IsEntryOf me) (so_far.node.outbox ++ option_to_list unlock)
-      more None of = subst (All (IsEntryOf me)) (sym (append-nil so_far.node.outbox)) own.entries
-      more (Some entry) of = more_own so_far.node.outbox entry own.entries of
-
-      by_end : (end : Option OpEnd) → IfSome end (λ (end : OpEnd). IfSome end.unlock (IsEntryOf me)) → OnlyOwn (command_refused session req end so_far)
-      by_end None of = own
-      by_end (Some end) of =
-          ended_own session req end.reply (with_optional_entry end.unlock so_far)
-          (record { own_so = own.own_so; commands = own.commands; entries = more end.unlock of })
-
-  pub change_keeps_own_entries : {input : Input} {node : Node} → (so_far next : StepState) → Change input node so_far next → OnlyOwn so_far → OnlyOwn next
-  change_keeps_own_entries so_far next (changes.Marks req number work attempt status learns over) own = own
-  change_keeps_own_entries so_far next (changes.Fails session req number work attempt status course ends done why) own = own
-  change_keeps_own_entries so_far next (changes.Stops session req number work attempt status course bytes ends over) own = own
-  change_keeps_own_entries so_far next (changes.Refuses session req number work attempt status course cause ends done why) own =
-      refused_own session req cause course (without_ended_work session req work status so_far) (own.commands req (record { session = session; course = course }) ends.request) own
-  change_keeps_own_entries so_far next (changes.Opens session req asked lined comes short) own = comes_own so_far session req asked lined comes own
-  change_keeps_own_entries so_far next (changes.Holds session req asked lined comes short touched) own = comes_own so_far session req asked lined comes own
-  change_keeps_own_entries so_far next (changes.Denies session req asked lined course comes short untouched there) own =
-      let l = comes_own so_far session req asked lined comes own in
-      refused_own session req (Halt (changes.zones_of_members lined.node) (zones_for asked.work)) course (changes.without_denied_work session req asked lined) (l.commands req (record { session = session; course = course }) there) l
-  change_keeps_own_entries so_far next (changes.Lines session req work moved steps waits) own = (steps_own so_far session req (ToWork work) moved steps own).0
-  change_keeps_own_entries so_far next (changes.Appends session req entry moved steps) own =
-      let m = steps_own so_far session req (ToEntry entry) moved steps own in
-      record { own_so = m.0.own_so; commands = m.0.commands; entries = more_own moved.node.outbox entry m.0.entries m.1 }
-  change_keeps_own_entries so_far next (changes.Replies session req reply moved steps) own =
-      ended_own session req reply moved (steps_own so_far session req (ToReply reply) moved steps own).0
-  change_keeps_own_entries so_far next (changes.Arrives session req ask disk arrival on) own = record {
+  sole_own : (session req : ℕ) (course : Course) (so_far : StepState) → IsCourseOf me course → OnlyOwn so_far
+      → OnlyOwn (with_sole_request session req course so_far)
+  sole_own session req course so_far of own = record {
     own_so = own.own_so;
-    commands = all_put At so_far.node.requests own.commands req (record { session = session; course = Waiting ask }) tt;
+    commands = all_put At so_far.node.requests own.commands req (record { session = session; course = course }) of;
     entries = own.entries;
   }
-  change_keeps_own_entries so_far next (changes.Rejects session req ask cause arrival) own = own
-  change_keeps_own_entries so_far next (changes.Recovers due) own = record {
-    own_so = own.own_so;
-    commands = own.commands;
-    entries = more_own so_far.node.outbox (Recovered so_far.node.me (record { 0 = so_far.node.recovery.epoch })) own.entries own.own_so;
-  }
+
+  -- an entry that is asked for from outside is this node's
+  abbrev AsksOwn : Input → Type 0
+  AsksOwn input = (req session : ℕ) (entry : Entry) → input ≡ inputs.Guest req session (asks.Entry entry) → IsEntryOf me entry
+
+  module _ (input : Input) (node : Node) (entries_own : AsksOwn input) where
+    steps_own : (so_far : StepState) (session req : ℕ) (next : Outcome) (moved : StepState) → RequestSteps input node so_far session req next moved → OnlyOwn so_far → OnlyOwn moved × NextOf next
+    steps_own so_far session req next moved (DiskBegins ask disk there on may) own = (
+      record {
+        own_so = own.own_so;
+        commands = all_put At so_far.node.requests own.commands req (record { session = session; course = Driving (drivers.begin_driver disk ask).driver }) tt;
+        entries = own.entries;
+      },
+      driver_next (drivers.begin_driver disk ask).act,
+    )
+    steps_own so_far session req next moved (DiskGoesOn number work attempt status bytes driver disk step ends on is) own = (
+      record {
+        own_so = own.own_so;
+        commands = all_put At so_far.node.requests own.commands req (record { session = session; course = Driving step.driver }) tt;
+        entries = own.entries;
+      },
+      driver_next step.act,
+    )
+    steps_own so_far session req next moved (CommandBegins ask step arrival is) own =
+        let disk = inode_open (session_in session so_far).disk in
+        command_own session req step so_far
+        (awaited_of (begin_command so_far.node.me session ask disk) step (begin_awaited so_far.node.me session ask disk) is)
+        (subst (λ (by : NodeId). IsCommandOf by step.op) own.own_so
+        (step_of so_far.node.me (begin_command so_far.node.me session ask disk) step (begin_of so_far.node.me session ask disk) is)) own
+    steps_own so_far session req next moved (CommandGoesOn number work attempt status bytes op step ends is) own =
+        let of = own.commands req (record { session = session; course = Commanding op }) ends.ends.request in
+        command_own session req step (without_ended_work session req work status so_far)
+        (awaited_of (op_on_done bytes op) step (done_awaited bytes op) is) (step_of me (op_on_done bytes op) step (done_of me op of.0 bytes of.1) is)
+        (record { own_so = own.own_so; commands = own.commands; entries = own.entries })
+    steps_own so_far session req next moved (CommandDecided entry op step from read there waits is) own =
+        let of = own.commands req (record { session = session; course = Commanding op }) there in
+        command_own session req step so_far
+        (awaited_of (on_decision (effects_of so_far.node.peer) (inode_open (session_in session so_far).disk) (decision_on entry node.peer) op) step
+        (decision_awaited (effects_of so_far.node.peer) (inode_open (session_in session so_far).disk) (decision_on entry node.peer) op) is)
+        (step_of me (on_decision (effects_of so_far.node.peer) (inode_open (session_in session so_far).disk) (decision_on entry node.peer) op) step
+        (decision_of me op of.0 (effects_of so_far.node.peer) (inode_open (session_in session so_far).disk) (decision_on entry node.peer)) is) own
+    steps_own so_far session req next moved (CheckBegins inode arrival on) own =
+        (sole_own session req (Checking (begin_check inode).check) so_far tt own, check_next (begin_check inode).act)
+    steps_own so_far session req next moved (CheckGoesOn number work attempt status bytes check step ends is) own = (
+      sole_own session req (Checking step.check) (without_ended_work session req work status so_far) tt
+          (record { own_so = own.own_so; commands = own.commands; entries = own.entries }),
+      check_next step.act,
+    )
+    steps_own so_far session req next moved (ObjectBegins asked arrival) own = (sole_own session req (DoingWork asked) so_far tt own, tt)
+    steps_own so_far session req next moved (ObjectIsDone number work attempt status bytes asked ends) own =
+        (record { own_so = own.own_so; commands = own.commands; entries = own.entries }, tt)
+    steps_own so_far session req next moved (EntryBegins entry arrival) own =
+        let of = entries_own req session entry arrival.from in
+        (sole_own session req (AwaitingDecision entry) so_far of own, of)
+    steps_own so_far session req next moved (EntryDecided entry wanted from read there waits) own = (own, tt)
+
+    comes_own : (so_far : StepState) (session req : ℕ) (asked : Work) (lined : StepState) → WorkIsNext input node so_far session req asked lined → OnlyOwn so_far → OnlyOwn lined
+    comes_own so_far session req asked lined (AtOnce work moved steps begins) own =
+        let m = (steps_own so_far session req (ToWork work) moved steps own).0 in
+        record { own_so = m.own_so; commands = m.commands; entries = m.entries }
+    comes_own so_far session req asked lined (InTurn work later none is) own = record { own_so = own.own_so; commands = own.commands; entries = own.entries }
+    comes_own so_far session req asked lined (Again work course from next there request) own = own
+
+    ended_own : (session req : ℕ) (reply : GuestRsp) (so_far : StepState) → OnlyOwn so_far → OnlyOwn (request_ended session req reply so_far)
+    unfolding request_ended
+    ended_own session req reply so_far own =
+        record { own_so = own.own_so; commands = all_gone At so_far.node.requests own.commands req; entries = own.entries }
+
+    more_own : (outbox : List Entry) (entry : Entry) → All (IsEntryOf me) outbox → IsEntryOf me entry → All (IsEntryOf me) (outbox ++ entry ∷ [])
+    more_own outbox entry all of = All-push (IsEntryOf me) outbox entry all of
+
+    refused_own : (session req : ℕ) (cause : Cause) (course : Course) (so_far : StepState) → IsCourseOf me course → OnlyOwn so_far
+        → OnlyOwn (course_refused session req cause course so_far)
+    refused_own session req cause (Waiting ask) so_far of own = own
+    refused_own session req cause (Driving driver) so_far of own = ended_own session req (Refused cause) so_far own
+    refused_own session req cause (Checking check) so_far of own = ended_own session req (Refused cause) so_far own
+    refused_own session req cause (DoingWork work) so_far of own = ended_own session req (Refused cause) so_far own
+    refused_own session req cause (AwaitingDecision entry) so_far of own = own
+    refused_own session req cause (Commanding op) so_far of own = by_end (on_refusal cause op) (refusal_of me op of.0 cause)
+      where
+        more : (unlock : Option Entry) → IfSome unlock (IsEntryOf me) → All (IsEntryOf me) (so_far.node.outbox ++ option_to_list unlock)
+        more None of = subst (All (IsEntryOf me)) (sym (append-nil so_far.node.outbox)) own.entries
+        more (Some entry) of = more_own so_far.node.outbox entry own.entries of
+
+        by_end : (end : Option OpEnd) → IfSome end (λ (end : OpEnd). IfSome end.unlock (IsEntryOf me)) → OnlyOwn (command_refused session req end so_far)
+        by_end None of = own
+        by_end (Some end) of =
+            ended_own session req end.reply (with_optional_entry end.unlock so_far)
+            (record { own_so = own.own_so; commands = own.commands; entries = more end.unlock of })
+
+    pub change_keeps_own_entries : (so_far next : StepState) → Change input node so_far next → OnlyOwn so_far → OnlyOwn next
+    change_keeps_own_entries so_far next (changes.Marks req number work attempt status learns over) own = own
+    change_keeps_own_entries so_far next (changes.Fails session req number work attempt status course ends done why) own = own
+    change_keeps_own_entries so_far next (changes.Stops session req number work attempt status course bytes ends over) own = own
+    change_keeps_own_entries so_far next (changes.Refuses session req number work attempt status course cause ends done why) own =
+        refused_own session req cause course (without_ended_work session req work status so_far) (own.commands req (record { session = session; course = course }) ends.request) own
+    change_keeps_own_entries so_far next (changes.Opens session req asked lined comes short) own = comes_own so_far session req asked lined comes own
+    change_keeps_own_entries so_far next (changes.Holds session req asked lined comes short touched) own = comes_own so_far session req asked lined comes own
+    change_keeps_own_entries so_far next (changes.Denies session req asked lined course comes short untouched there) own =
+        let l = comes_own so_far session req asked lined comes own in
+        refused_own session req (Halt (changes.zones_of_members lined.node) (zones_for asked.work)) course (changes.without_denied_work session req asked lined) (l.commands req (record { session = session; course = course }) there) l
+    change_keeps_own_entries so_far next (changes.Lines session req work moved steps waits) own = (steps_own so_far session req (ToWork work) moved steps own).0
+    change_keeps_own_entries so_far next (changes.Appends session req entry moved steps) own =
+        let m = steps_own so_far session req (ToEntry entry) moved steps own in
+        record { own_so = m.0.own_so; commands = m.0.commands; entries = more_own moved.node.outbox entry m.0.entries m.1 }
+    change_keeps_own_entries so_far next (changes.Replies session req reply moved steps) own =
+        ended_own session req reply moved (steps_own so_far session req (ToReply reply) moved steps own).0
+    change_keeps_own_entries so_far next (changes.Arrives session req ask disk arrival on) own = record {
+      own_so = own.own_so;
+      commands = all_put At so_far.node.requests own.commands req (record { session = session; course = Waiting ask }) tt;
+      entries = own.entries;
+    }
+    change_keeps_own_entries so_far next (changes.Rejects session req ask cause arrival) own = own
+    change_keeps_own_entries so_far next (changes.Recovers due) own = record {
+      own_so = own.own_so;
+      commands = own.commands;
+      entries = more_own so_far.node.outbox (Recovered so_far.node.me (record { 0 = so_far.node.recovery.epoch })) own.entries own.own_so;
+    }
 
   received_own_entries : (input : Input) (node : Node) → OnlyOwn (at_first node) → OnlyOwn (input_received input (at_first node))
   unfolding entry_read on_request on_recover_tick on_back
@@ -336,12 +375,21 @@ module _ (me : NodeId) where
     entries = All-nil (IsEntryOf me);
   }
 
+entry_asked_own : (me : NodeId) (entry : Entry) → IsEntryAsk me entry → IsEntryOf me entry
+entry_asked_own me (Lock by session name tag) asked = asked.0
+entry_asked_own me (Unlock by session vid) asked = asked.0
+entry_asked_own me _ asked = absurd asked
+
+asks_own : (input : Input) (node : Node) → May input node → AsksOwn node.me input
+asks_own input node may req session entry from =
+    entry_asked_own node.me entry (subst (λ (input : Input). Meets input node) from may.condition).asked
+
 -- a node whose outbox has its own entries keeps it so
 pub own_entries_stay : (input : Input) (node : Node) → May input node → HasOneWorkPerRequest node → HasOnlyOwnEntries node
     → HasOnlyOwnEntries (node_step input node).node
 own_entries_stay input node may driven own =
     let after : AreOwnEntries node.me (node_step input node).node.me (node_step input node).node.requests (node_step input node).node.outbox
-    = kept_by_chain (OnlyOwn node.me) (change_keeps_own_entries node.me) (step_chain input node may driven)
+    = kept_by_chain (OnlyOwn node.me) (change_keeps_own_entries node.me input node (asks_own input node may)) (step_chain input node may driven)
     (received_own_entries node.me input node own) in
     subst (λ (me : NodeId). AreOwnEntries me (node_step input node).node.me (node_step input node).node.requests (node_step input node).node.outbox)
     (sym after.own_so) after

@@ -32,9 +32,9 @@ use Rattle.vdi_ops.specs.Op.{Op, disk_change}
 use Rattle.vdi_ops.specs.Steps.{on_refusal}
 use Rattle.sheep_node.specs.declared.input.Input.{Input}
 use Rattle.sheep_node.specs.declared.input.Input.TheVariants as inputs
-use Rattle.sheep_node.specs.State.{Course, Waiting, Driving, Commanding, Request, Session, Node, new_session}
+use Rattle.sheep_node.specs.State.{Course, Waiting, Driving, Commanding, Request, Session, Node, new_session, Checking, DoingWork, AwaitingDecision}
 use Rattle.sheep_node.specs.RecoveryView.{recovery_state_of}
-use Rattle.sheep_node.specs.StepState.{StepState, at_first, with_optional_entry, session_in, with_course, request_ended}
+use Rattle.sheep_node.specs.StepState.{StepState, at_first, with_optional_entry, session_in, with_course, request_ended, with_sole_request}
 use Rattle.sheep_node.specs.RequestWorks.{command_refused, course_refused}
 use Rattle.sheep_node.specs.Courses.{after_driver_step, disk_after, after_command_step}
 use Rattle.sheep_node.specs.Guests.{queued_as}
@@ -44,9 +44,10 @@ use Rattle.sheep_node.specs.May.{is_disk_course, May}
 use Rattle.sheep_node.specs.OneWork.{HasOneWorkPerRequest}
 use Rattle.sheep_node.specs.SessionQueues.{is_disk_request_of, session_among, queue_in, IsQueued, AreDiskRequests, QueuesAreDiskRequests}
 use Rattle.sheep_node.specs.Changes as changes
-use Rattle.sheep_node.specs.Changes.{HasRequest, Outcome, ToWork, ToEntry, ToReply, without_ended_work, RequestSteps, DiskBegins, DiskGoesOn, CommandBegins, CommandGoesOn, CommandDecided, WorkIsNext, AtOnce, InTurn, Again, input_received, Change}
+use Rattle.sheep_node.specs.Changes.{HasRequest, Outcome, ToWork, ToEntry, ToReply, without_ended_work, RequestSteps, DiskBegins, DiskGoesOn, CommandBegins, CommandGoesOn, CommandDecided, WorkIsNext, AtOnce, InTurn, Again, input_received, Change, CheckBegins, CheckGoesOn, ObjectBegins, ObjectIsDone, EntryBegins, EntryDecided}
 use Rattle.sheep_node.proofs.OneWorkParts.{Requests, Sessions}
 use Rattle.sheep_node.proofs.StepChain.{kept_by_chain, step_chain}
+use Rattle.disk_check.specs.Check.{begin_check}
 
 -- ---- a session among others
 
@@ -179,6 +180,9 @@ refused_queued session req cause (Commanding op) so_far there queued = by_end (o
     by_end : (end : Option OpEnd) → QueuesAre (command_refused session req end so_far)
     by_end None = queued
     by_end (Some end) = ended_queued session req (Commanding op) end.reply (with_optional_entry end.unlock so_far) there queued
+refused_queued session req cause (Checking check) so_far there queued = ended_queued session req (Checking check) (Refused cause) so_far there queued
+refused_queued session req cause (DoingWork work) so_far there queued = ended_queued session req (DoingWork work) (Refused cause) so_far there queued
+refused_queued session req cause (AwaitingDecision entry) so_far there queued = queued
 
 -- ---- a step that a request takes
 
@@ -222,6 +226,26 @@ command_took session req step so_far same queued =
           (queued_course so_far.node.requests so_far.node.sessions req request same queued);
     }
 
+sole_took : (session req : ℕ) (course : Course) (so_far : StepState)
+    → ((number : ℕ) → is_disk_request_of number (Some (record { session = session; course = course })) ≡ is_disk_request_of number (tree.get so_far.node.requests req))
+    → QueuesAre so_far → HasSteppedQueued session req (with_sole_request session req course so_far)
+sole_took session req course so_far same queued =
+    let request : Request = record { session = session; course = course } in
+    record {
+      course = course;
+      there = get-insert_same so_far.node.requests req request;
+      queued = queued_session (tree.insert so_far.node.requests req request) so_far.node.sessions session
+          (record (session_in session so_far) { command = Some req }) refl
+          (queued_course so_far.node.requests so_far.node.sessions req request same queued);
+    }
+
+-- a request that comes is no read or write where its course isn't one
+sole_arrives : (session req : ℕ) (course : Course) (so_far : StepState) → is_disk_course course ≡ false → tree.get so_far.node.requests req ≡ None
+    → QueuesAre so_far → HasSteppedQueued session req (with_sole_request session req course so_far)
+sole_arrives session req course so_far off none queued =
+    sole_took session req course so_far
+    (λ number. ap (λ (b : Bool). session == number && b) off ∙ and-false (session == number) ∙ ap (is_disk_request_of number) (sym none)) queued
+
 -- a command is no read or write
 off_disk : (session number : ℕ) (op : Op) → is_disk_request_of number (Some (record { session = session; course = Commanding op })) ≡ false
 off_disk session number op = and-false (session == number)
@@ -244,6 +268,20 @@ steps_took so_far session req next moved (CommandGoesOn number work attempt stat
     (same_there session req (Commanding step.op) (Commanding op) so_far ends.ends.request refl) (freed_queued session req work status so_far queued)
 steps_took so_far session req next moved (CommandDecided entry op step from read there waits is) queued =
     command_took session req step so_far (same_there session req (Commanding step.op) (Commanding op) so_far there refl) queued
+steps_took so_far session req next moved (CheckBegins inode arrival on) queued =
+    sole_arrives session req (Checking (begin_check inode).check) so_far refl arrival.none queued
+steps_took so_far session req next moved (CheckGoesOn number work attempt status bytes check step ends is) queued =
+    sole_took session req (Checking step.check) (without_ended_work session req work status so_far)
+    (same_there session req (Checking step.check) (Checking check) so_far ends.ends.request refl)
+    (freed_queued session req work status so_far queued)
+steps_took so_far session req next moved (ObjectBegins asked arrival) queued =
+    sole_arrives session req (DoingWork asked) so_far refl arrival.none queued
+steps_took so_far session req next moved (ObjectIsDone number work attempt status bytes asked ends) queued =
+    record { course = DoingWork asked; there = ends.ends.request; queued = freed_queued session req work status so_far queued }
+steps_took so_far session req next moved (EntryBegins entry arrival) queued =
+    sole_arrives session req (AwaitingDecision entry) so_far refl arrival.none queued
+steps_took so_far session req next moved (EntryDecided entry wanted from read there waits) queued =
+    record { course = AwaitingDecision wanted; there = there; queued = queued }
 
 comes_queued : {input : Input} {node : Node} → (so_far : StepState) (session req : ℕ) (asked : Work) (lined : StepState) → WorkIsNext input node so_far session req asked lined → QueuesAre so_far → QueuesAre lined
 comes_queued so_far session req asked lined (AtOnce work moved steps begins) queued =

@@ -23,9 +23,9 @@ use Rattle.sheep_node.specs.declared.ask.Ask.{Ask}
 use Rattle.sheep_node.specs.declared.ask.Ask.TheVariants as asks
 use Rattle.sheep_node.specs.declared.input.Input.{Input}
 use Rattle.sheep_node.specs.declared.input.Input.TheVariants as inputs
-use Rattle.sheep_node.specs.State.{Course, Waiting, Driving, Commanding, Request, Node}
+use Rattle.sheep_node.specs.State.{Course, Waiting, Driving, Commanding, Request, Node, Checking, DoingWork, AwaitingDecision}
 use Rattle.sheep_node.specs.RecoveryView.{recovery_state_of}
-use Rattle.sheep_node.specs.StepState.{StepState, at_first, with_optional_entry, request_ended}
+use Rattle.sheep_node.specs.StepState.{StepState, at_first, with_optional_entry, request_ended, with_sole_request}
 use Rattle.sheep_node.specs.RequestWorks.{command_refused, course_refused}
 use Rattle.sheep_node.specs.Courses.{after_command_step}
 use Rattle.sheep_node.specs.LogReading.{entry_read, on_back}
@@ -33,9 +33,11 @@ use Rattle.sheep_node.specs.Step.{on_request, recovery_stepped, on_put, on_recov
 use Rattle.sheep_node.specs.May.{May}
 use Rattle.sheep_node.specs.OneWork.{HasOneWorkPerRequest}
 use Rattle.sheep_node.specs.Changes as changes
-use Rattle.sheep_node.specs.Changes.{Outcome, ToWork, ToEntry, ToReply, RequestSteps, DiskBegins, DiskGoesOn, CommandBegins, CommandGoesOn, CommandDecided, WorkIsNext, AtOnce, InTurn, Again, input_received, Change}
+use Rattle.sheep_node.specs.Changes.{Outcome, ToWork, ToEntry, ToReply, RequestSteps, DiskBegins, DiskGoesOn, CommandBegins, CommandGoesOn, CommandDecided, WorkIsNext, AtOnce, InTurn, Again, input_received, Change, CheckBegins, CheckGoesOn, ObjectBegins, ObjectIsDone, EntryBegins, EntryDecided}
 use Rattle.sheep_node.proofs.OneWorkParts.{Requests}
 use Rattle.sheep_node.proofs.StepChain.{kept_by_chain, step_chain}
+use Rattle.disk_check.specs.Check.{begin_check}
+use Rattle.peer_proto.specs.declared.guest.VdiAsk.TheVariants as disk_commands
 
 -- each number of a request is so
 abbrev pub AllAre : (ℕ → Type 0) → Requests → Type 0
@@ -71,6 +73,9 @@ module _ (P : ℕ → Type 0) where
       by_end : (end : Option OpEnd) → In (command_refused session req end so_far)
       by_end None = all
       by_end (Some end) = gone_are so_far.node.requests req all
+  refused_are session req cause (Checking check) so_far all = gone_are so_far.node.requests req all
+  refused_are session req cause (DoingWork work) so_far all = gone_are so_far.node.requests req all
+  refused_are session req cause (AwaitingDecision entry) so_far all = all
 
   received_requests : (input : Input) (node : Node) → In (at_first node) → In (input_received input (at_first node))
   unfolding entry_read on_request on_recover_tick on_back
@@ -105,6 +110,20 @@ module _ (P : ℕ → Type 0) where
         command_are session req step (changes.without_ended_work session req work status so_far) (all req (record { session = session; course = Commanding op }) ends.ends.request) all
     steps_are so_far session req next moved (CommandDecided entry op step from read there waits is) all =
         command_are session req step so_far (all req (record { session = session; course = Commanding op }) there) all
+    steps_are so_far session req next moved (CheckBegins inode arrival on) all =
+        put_are so_far.node.requests req (record { session = session; course = Checking (begin_check inode).check })
+        (asked req session (asks.Vdi disk_commands.Check) arrival.from) all
+    steps_are so_far session req next moved (CheckGoesOn number work attempt status bytes check step ends is) all =
+        put_are so_far.node.requests req (record { session = session; course = Checking step.check })
+        (all req (record { session = session; course = Checking check }) ends.ends.request) all
+    steps_are so_far session req next moved (ObjectBegins work arrival) all =
+        put_are so_far.node.requests req (record { session = session; course = DoingWork work })
+        (asked req session (asks.Object work) arrival.from) all
+    steps_are so_far session req next moved (ObjectIsDone number work attempt status bytes does ends) all = all
+    steps_are so_far session req next moved (EntryBegins entry arrival) all =
+        put_are so_far.node.requests req (record { session = session; course = AwaitingDecision entry })
+        (asked req session (asks.Entry entry) arrival.from) all
+    steps_are so_far session req next moved (EntryDecided entry wanted from read there waits) all = all
 
     comes_are : (so_far : StepState) (session req : ℕ) (tried : Work) (lined : StepState) → WorkIsNext input node so_far session req tried lined → In so_far → In lined
     comes_are so_far session req tried lined (AtOnce work moved steps begins) all = steps_are so_far session req (ToWork work) moved steps all

@@ -3,6 +3,7 @@ use Rattle.std.proofs.Common.{◌≡◌, ◌≢◌, ℕ, ◌+◌, ◌==◌, nat_
 use Rattle.std.specs.Prelude.{IsTrue}
 use Rattle.std.specs.Ordering.{nat_cmp}
 use Rattle.std.specs.List.{list_any}
+use Rattle.std.specs.Option.{option_map}
 use Rattle.std.specs.FinMap as tree
 use Rattle.std.proofs.lemmas.Bool.{eqb-true, or_cases}
 use Rattle.proof_tools.proofs.Booleans.{has_value}
@@ -19,6 +20,9 @@ use Rattle.vnode_table.specs.Targets.{targets_in}
 use Rattle.peer_proto.specs.Work.{oid_of, policy_of}
 use Rattle.peer_proto.specs.declared.guest.DiskAsk.{DiskAsk}
 use Rattle.peer_proto.specs.declared.guest.VdiAsk.{VdiAsk}
+use Rattle.peer_proto.specs.declared.guest.VdiAsk.TheVariants.{Create, Attach, Close, Snapshot, Clone, Delete}
+use Rattle.peer_proto.specs.declared.guest.VdiAsk.TheVariants as disk_commands
+use Rattle.peer_proto.specs.declared.guest.GuestRsp.TheVariants.{Checked}
 use Rattle.peer_proto.specs.declared.say.PeerSay.{PeerSay}
 use Rattle.peer_proto.specs.declared.say.PeerSay.TheVariants as says
 use Rattle.peer_proto.specs.declared.say.PeerRsp.{PeerRsp}
@@ -41,6 +45,11 @@ use Rattle.guest_driver.specs.Driver as drivers
 use Rattle.guest_driver.specs.Driver.{Driver}
 use Rattle.guest_driver.specs.InodeQueue as lines
 use Rattle.guest_driver.specs.InodeQueue.{InodeQueue, may_open_work, queue_with_open, queue_with_waiting, first_waiting, next_work, taken_from, queue_after_start}
+use Rattle.inode.specs.Layout.{Content}
+use Rattle.disk_check.specs.declared.act.CheckAct.{CheckAct}
+use Rattle.disk_check.specs.declared.act.CheckAct.TheVariants as check_acts
+use Rattle.disk_check.specs.Check as checks
+use Rattle.disk_check.specs.Check.{Check, begin_check, check_on_done}
 use Rattle.vdi_ops.specs.declared.act.OpAct.{OpAct}
 use Rattle.vdi_ops.specs.declared.act.OpAct.TheVariants as op_acts
 use Rattle.vdi_ops.specs.Op as ops
@@ -53,13 +62,13 @@ use Rattle.sheep_node.specs.declared.ask.Ask.{Ask}
 use Rattle.sheep_node.specs.declared.ask.Ask.TheVariants as asks
 use Rattle.sheep_node.specs.declared.input.Input.{Input}
 use Rattle.sheep_node.specs.declared.input.Input.TheVariants as inputs
-use Rattle.sheep_node.specs.State.{Course, Waiting, Driving, Commanding, Request, Node}
+use Rattle.sheep_node.specs.State.{Course, Waiting, Driving, Commanding, Checking, DoingWork, AwaitingDecision, Request, Node}
 use Rattle.sheep_node.specs.RecoveryView.{recovery_state_of}
-use Rattle.sheep_node.specs.StepState.{StepState, at_first, with_node, with_gateway, session_in, with_inode_queue, with_course}
+use Rattle.sheep_node.specs.StepState.{StepState, at_first, with_node, with_gateway, session_in, with_inode_queue, with_course, with_sole_request}
 use Rattle.sheep_node.specs.RequestWorks.{request_refused, queue_left, after_start, work_begun, work_asked}
-use Rattle.sheep_node.specs.Courses.{inode_open, after_driver_step, driver_acted, driver_stepped, driver_went_on, disk_went_on, disk_begun, after_command_step, command_acted, command_stepped, command_went_on, course_went_on, course_decided}
+use Rattle.sheep_node.specs.Courses.{inode_open, after_driver_step, driver_acted, driver_stepped, driver_went_on, disk_went_on, disk_begun, after_command_step, command_acted, command_stepped, command_went_on, check_acted, check_stepped, check_went_on, work_reply, decision_reply, course_went_on, course_decided}
 use Rattle.sheep_node.specs.Waiting.{next_begun, course_begun, found_request_begun, begun_if_may, passed_over, queued_requests, let_begin, work_done, work_refused, after_act, after_gateway_step}
-use Rattle.sheep_node.specs.Guests.{request_refusal, with_queued_request, request_taken, request_taken_unless, on_guest}
+use Rattle.sheep_node.specs.Guests.{request_refusal, with_queued_request, command_taken, request_taken, request_taken_unless, on_guest}
 use Rattle.sheep_node.specs.AwaitedEntry.{waits_for_entry}
 use Rattle.sheep_node.specs.LogReading.{entry_read, asker_of, decision_told, on_log_entry}
 use Rattle.sheep_node.specs.Step as steps
@@ -67,7 +76,7 @@ use Rattle.sheep_node.specs.Step.{recovery_stepped, on_put, on_input, is_due, wi
 use Rattle.sheep_node.specs.May.{fits_node, May}
 use Rattle.sheep_node.specs.OneWork.{may_work_at, HasOneWorkPerRequest}
 use Rattle.sheep_node.specs.Changes as changes
-use Rattle.sheep_node.specs.Changes.{IsTold, input_received, IsOverWith, HasRequest, LearnsStatus, EndsAttempt, EndsWork, Arrival, gateway_with_touch, without_ended_work, refusal_after_status, ToWork, outcome_of_driver, outcome_of_command, RequestSteps, DiskBegins, DiskGoesOn, CommandBegins, CommandGoesOn, CommandDecided, new_work, WorkIsNext, AtOnce, InTurn, Again, has_too_few_zones, zones_of_members, without_denied_work, Change, Leads, Still, Then}
+use Rattle.sheep_node.specs.Changes.{IsTold, input_received, IsOverWith, HasRequest, LearnsStatus, EndsAttempt, EndsWork, Arrival, gateway_with_touch, without_ended_work, refusal_after_status, ToWork, outcome_of_driver, outcome_of_command, outcome_of_check, RequestSteps, DiskBegins, DiskGoesOn, CommandBegins, CommandGoesOn, CommandDecided, CheckBegins, CheckGoesOn, ObjectBegins, ObjectIsDone, EntryBegins, EntryDecided, new_work, WorkIsNext, AtOnce, InTurn, Again, has_too_few_zones, zones_of_members, without_denied_work, Change, Leads, Still, Then}
 use Rattle.sheep_node.proofs.AwaitedWorks.{found_got}
 use Rattle.sheep_node.proofs.OneWorkChanges.{StepHasOneWork, comes_free, change_keeps_one_work, received_one_work}
 
@@ -160,6 +169,20 @@ module _ (input : Input) (node : Node) (first : StepState) where
   command_stepped_walk so_far session req step freed steps walk =
       command_walk so_far session req step.act (after_command_step session req step freed) steps walk
 
+  check_walk : (so_far : StepState) (session req : ℕ) (act : CheckAct) (moved : StepState)
+      → RequestSteps input node so_far session req (outcome_of_check act) moved → IsReached input node first so_far
+      → IsReached input node first (check_acted session req act moved)
+  check_walk so_far session req (check_acts.Work work) moved steps walk = asked_walk so_far session req work moved steps walk
+  check_walk so_far session req (check_acts.Reply found) moved steps walk =
+      reached_by walk (changes.Replies session req (Checked found) moved steps)
+
+  check_stepped_walk : (so_far : StepState) (session req : ℕ) (step : checks.CheckStep) (freed : StepState)
+      → RequestSteps input node so_far session req (outcome_of_check step.act) (with_sole_request session req (Checking step.check) freed)
+      → IsReached input node first so_far → IsReached input node first (check_stepped session req step freed)
+  unfolding check_stepped
+  check_stepped_walk so_far session req step freed steps walk =
+      check_walk so_far session req step.act (with_sole_request session req (Checking step.check) freed) steps walk
+
   -- ---- what waited begins
 
   disk_begun_walk : (so_far : StepState) (session req : ℕ) (ask : DiskAsk) (disk : Option Disk) → HasRequest session req (Waiting ask) so_far
@@ -179,6 +202,9 @@ module _ (input : Input) (node : Node) (first : StepState) where
       by_run false waits = walk
   course_begun_walk so_far session req (Driving driver) there walk = walk
   course_begun_walk so_far session req (Commanding op) there walk = walk
+  course_begun_walk so_far session req (Checking check) there walk = walk
+  course_begun_walk so_far session req (DoingWork work) there walk = walk
+  course_begun_walk so_far session req (AwaitingDecision entry) there walk = walk
 
   request_begun_walk : (so_far : StepState) (req : ℕ) (request : Option Request) → tree.get so_far.node.requests req ≡ request → IsReached input node first so_far
       → IsReached input node first (found_request_begun req request so_far)
@@ -263,11 +289,23 @@ module _ (input : Input) (node : Node) (first : StepState) where
           command_stepped_walk so_far session req step freed
           (CommandGoesOn number work attempt status bytes_now op step (ends_as (Commanding op) same) next) walk
 
+      check_done_walk : (check : Check) → course ≡ Checking check → (step : Option checks.CheckStep) → check_on_done bytes_now check ≡ step
+          → IsReached input node first (check_went_on session req step freed)
+      check_done_walk check same None none = stops (Checking check) same none
+      check_done_walk check same (Some step) next =
+          check_stepped_walk so_far session req step freed
+          (CheckGoesOn number work attempt status bytes_now check step (ends_as (Checking check) same) next) walk
+
       went_on_walk : (at : Course) → course ≡ at → IsReached input node first (course_went_on session req bytes_now at freed)
       unfolding course_went_on
       went_on_walk (Waiting ask) same = stops (Waiting ask) same tt
       went_on_walk (Driving driver) same = disk_walk driver same (session_in session freed).disk refl
       went_on_walk (Commanding op) same = command_done_walk op same (op_on_done bytes_now op) refl
+      went_on_walk (Checking check) same = check_done_walk check same (check_on_done bytes_now check) refl
+      went_on_walk (DoingWork asked) same = reached_by walk
+          (changes.Replies session req (work_reply asked bytes_now) freed
+          (ObjectIsDone number work attempt status bytes_now asked (ends_as (DoingWork asked) same)))
+      went_on_walk (AwaitingDecision entry) same = stops (AwaitingDecision entry) same tt
 
       pub done_walk : IsReached input node first (after_gateway_act (done_step (gateway_with_touch req work status so_far) req work.work bytes_now))
       done_walk =
@@ -418,13 +456,38 @@ module _ (input : Input) (node : Node) (first : StepState) where
     command_begun_walk session req ask arrival (Some step) is =
         command_stepped_walk so_far session req step so_far (CommandBegins ask step arrival is) walk
 
+    check_begun_walk : (session req : ℕ) → Arrival input node so_far session req (asks.Vdi disk_commands.Check) None
+        → (inode : Option Content) → inode_open (session_in session so_far).disk ≡ inode
+        → IsReached input node first (check_went_on session req (option_map begin_check inode) so_far)
+    check_begun_walk session req arrival None is = walk
+    check_begun_walk session req arrival (Some inode) is =
+        check_stepped_walk so_far session req (begin_check inode) so_far (CheckBegins inode arrival is) walk
+
+    command_taken_walk : (session req : ℕ) (ask : VdiAsk) → Arrival input node so_far session req (asks.Vdi ask) None
+        → IsReached input node first (command_taken session req ask so_far)
+    command_taken_walk session req disk_commands.Check arrival =
+        check_begun_walk session req arrival (inode_open (session_in session so_far).disk) refl
+    command_taken_walk session req (Create name spec) arrival = command_begun_walk session req (Create name spec) arrival
+        (begin_command so_far.node.me session (Create name spec) (inode_open (session_in session so_far).disk)) refl
+    command_taken_walk session req (Attach name tag) arrival = command_begun_walk session req (Attach name tag) arrival
+        (begin_command so_far.node.me session (Attach name tag) (inode_open (session_in session so_far).disk)) refl
+    command_taken_walk session req Close arrival = command_begun_walk session req Close arrival
+        (begin_command so_far.node.me session Close (inode_open (session_in session so_far).disk)) refl
+    command_taken_walk session req (Snapshot tag) arrival = command_begun_walk session req (Snapshot tag) arrival
+        (begin_command so_far.node.me session (Snapshot tag) (inode_open (session_in session so_far).disk)) refl
+    command_taken_walk session req (Clone base tag name) arrival = command_begun_walk session req (Clone base tag name) arrival
+        (begin_command so_far.node.me session (Clone base tag name) (inode_open (session_in session so_far).disk)) refl
+    command_taken_walk session req (Delete name tag) arrival = command_begun_walk session req (Delete name tag) arrival
+        (begin_command so_far.node.me session (Delete name tag) (inode_open (session_in session so_far).disk)) refl
+
     taken_walk : (session req : ℕ) (ask : Ask) → Arrival input node so_far session req ask None
         → IsReached input node first (request_taken session req ask so_far)
     taken_walk session req (asks.Disk ask) arrival = arrives_walk session req ask arrival (session_in session so_far).disk refl
-    taken_walk session req (asks.Vdi ask) arrival =
-        command_begun_walk session req ask arrival (begin_command so_far.node.me session ask (inode_open (session_in session so_far).disk)) refl
-    taken_walk session req (asks.Object work) arrival = walk
-    taken_walk session req (asks.Entry entry) arrival = walk
+    taken_walk session req (asks.Vdi ask) arrival = command_taken_walk session req ask arrival
+    taken_walk session req (asks.Object work) arrival =
+        asked_walk so_far session req work (with_sole_request session req (DoingWork work) so_far) (ObjectBegins work arrival) walk
+    taken_walk session req (asks.Entry entry) arrival = reached_by walk
+        (changes.Appends session req entry (with_sole_request session req (AwaitingDecision entry) so_far) (EntryBegins entry arrival))
 
     pub guest_walk : (session req : ℕ) (ask : Ask) → so_far ≡ at_first node → input ≡ inputs.Guest req session ask
         → tree.get so_far.node.requests req ≡ None → IsReached input node first (on_guest req session ask so_far)
@@ -458,6 +521,10 @@ module _ (input : Input) (node : Node) (first : StepState) where
     course_walk req session (Driving driver) there waits = walk
     course_walk req session (Commanding op) there waits =
         decided_walk req session op there waits (on_decision (effects_of so_far.node.peer) (inode_open (session_in session so_far).disk) decision op) refl
+    course_walk req session (Checking check) there waits = walk
+    course_walk req session (DoingWork work) there waits = walk
+    course_walk req session (AwaitingDecision wanted) there waits = reached_by walk
+        (changes.Replies session req (decision_reply decision) so_far (EntryDecided entry wanted from read there waits))
 
     pub told_walk : (found : Option (ℕ × Request)) → asker_of entry node ≡ found
         → IsReached input node first (decision_told decision found so_far)

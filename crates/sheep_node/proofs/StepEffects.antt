@@ -30,16 +30,16 @@ use Rattle.vdi_ops.specs.declared.end.OpEnd.{OpEnd}
 use Rattle.vdi_ops.specs.Steps.{on_refusal}
 use Rattle.sheep_node.specs.declared.input.Input.{Input}
 use Rattle.sheep_node.specs.declared.input.Input.TheVariants as inputs
-use Rattle.sheep_node.specs.State.{Course, Waiting, Driving, Commanding, Node}
+use Rattle.sheep_node.specs.State.{Course, Waiting, Driving, Commanding, Node, Checking, DoingWork, AwaitingDecision}
 use Rattle.sheep_node.specs.RecoveryView.{recovery_state_of}
-use Rattle.sheep_node.specs.StepState.{StepState, at_first, with_node, with_sends, replies_in_order, with_guest_reply, with_optional_entry, with_gateway, without_request, request_ended}
+use Rattle.sheep_node.specs.StepState.{StepState, at_first, with_node, with_sends, replies_in_order, with_guest_reply, with_optional_entry, with_gateway, without_request, request_ended, with_sole_request}
 use Rattle.sheep_node.specs.RequestWorks.{command_refused, course_refused}
 use Rattle.sheep_node.specs.LogReading.{entry_read, on_back}
 use Rattle.sheep_node.specs.Step.{on_request, recovery_stepped, on_put, on_recover_tick, node_step}
 use Rattle.sheep_node.specs.StepFacts.{AscendFrom, Ascend}
 use Rattle.sheep_node.specs.OneWork.{HasOneWorkPerRequest}
 use Rattle.sheep_node.specs.Changes as changes
-use Rattle.sheep_node.specs.Changes.{Outcome, ToWork, ToEntry, ToReply, without_ended_work, zones_of_members, without_denied_work, attempt_in, RequestSteps, DiskBegins, DiskGoesOn, CommandBegins, CommandGoesOn, CommandDecided, WorkIsNext, AtOnce, InTurn, Again, input_received, Change}
+use Rattle.sheep_node.specs.Changes.{Outcome, ToWork, ToEntry, ToReply, without_ended_work, zones_of_members, without_denied_work, attempt_in, RequestSteps, DiskBegins, DiskGoesOn, CommandBegins, CommandGoesOn, CommandDecided, WorkIsNext, AtOnce, InTurn, Again, input_received, Change, CheckBegins, CheckGoesOn, ObjectBegins, ObjectIsDone, EntryBegins, EntryDecided}
 use Rattle.sheep_node.proofs.Numbers.{tick_numbers, numbers_joined}
 use Rattle.sheep_node.proofs.StepChain.{ChainNeeds, kept_by_chain, chain_of_step}
 
@@ -129,6 +129,9 @@ module _ (first : ℕ) (was_recovered : Bool) (old : Untouched) where
       by_end : (end : Option OpEnd) → IsInOrder (command_refused session req end so_far)
       by_end None = s
       by_end (Some end) = ended_in_order session req end.reply (with_optional_entry end.unlock so_far) s
+  refused_in_order session req cause (Checking check) so_far s = ended_in_order session req (Refused cause) so_far s
+  refused_in_order session req cause (DoingWork work) so_far s = ended_in_order session req (Refused cause) so_far s
+  refused_in_order session req cause (AwaitingDecision entry) so_far s = s
 
   steps_in_order : {input : Input} {node : Node} → (so_far : StepState) (session req : ℕ) (outcome : Outcome) (moved : StepState)
       → RequestSteps input node so_far session req outcome moved → IsInOrder so_far → IsInOrder moved
@@ -137,6 +140,12 @@ module _ (first : ℕ) (was_recovered : Bool) (old : Untouched) where
   steps_in_order so_far session req outcome moved (CommandBegins ask step arrival is) s = s
   steps_in_order so_far session req outcome moved (CommandGoesOn number work attempt status bytes op step ends is) s = s
   steps_in_order so_far session req outcome moved (CommandDecided entry op step from read there waits is) s = s
+  steps_in_order so_far session req outcome moved (CheckBegins inode arrival on) s = s
+  steps_in_order so_far session req outcome moved (CheckGoesOn number work attempt status bytes check step ends is) s = s
+  steps_in_order so_far session req outcome moved (ObjectBegins asked arrival) s = s
+  steps_in_order so_far session req outcome moved (ObjectIsDone number work attempt status bytes asked ends) s = s
+  steps_in_order so_far session req outcome moved (EntryBegins entry arrival) s = s
+  steps_in_order so_far session req outcome moved (EntryDecided entry wanted from read there waits) s = s
 
   next_in_order : {input : Input} {node : Node} → (so_far : StepState) (session req : ℕ) (asked : Work) (lined : StepState)
       → WorkIsNext input node so_far session req asked lined → IsInOrder so_far → IsInOrder lined
