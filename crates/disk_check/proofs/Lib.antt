@@ -1,5 +1,5 @@
 mod TableLemmas
 mod ValueLemmas
-mod WorkLemmas
+pub mod WorkLemmas
 mod CourseLemmas
 mod WorkedCheck

@@ -17,3 +17,4 @@ pub mod Changes
 pub mod OwnEntries
 pub mod SessionQueues
 pub mod NodeInvariant
+pub mod CheckWrites

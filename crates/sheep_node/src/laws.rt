@@ -1,5 +1,5 @@
 //! Laws of a step, for the proofs of the layers above: each is the contract of a function that does nothing.
-ghost use Rattle.std.specs.Prelude.{◌≡◌, ◌⊎◌, ℕ, Bool, ◌+◌, ◌<◌, true, false, List, [], ◌∷◌, ◌++◌, length, Option, Some, None, IsTrue};
+ghost use Rattle.std.specs.Prelude.{◌≡◌, ◌⊎◌, ℕ, Bool, ◌+◌, ◌<◌, true, false, List, [], ◌∷◌, ◌++◌, length, Option, Some, None, IsTrue, ◌↔◌, All};
 ghost use Rattle.std.specs.FinMap.{contains_key};
 ghost use Rattle.object_id.specs.declared.cause.Cause.{Cause};
 ghost use Rattle.object_id.specs.declared.node.NodeId.{NodeId};
@@ -9,7 +9,7 @@ ghost use Rattle.object_id.specs.declared.entry.Entry.TheVariants as entries;
 ghost use Rattle.object_id.specs.declared.entry.Origin.TheVariants.{Fresh};
 ghost use Rattle.object_id.specs.declared.entry.VdiSpec.{VdiSpec};
 ghost use Rattle.peer_proto.specs.declared.ask.PeerReq.{PeerReq};
-ghost use Rattle.peer_proto.specs.declared.guest.VdiAsk.TheVariants.{Create};
+ghost use Rattle.peer_proto.specs.declared.guest.VdiAsk.TheVariants.{Create, Check};
 ghost use Rattle.peer_proto.specs.declared.say.PeerSay.TheVariants.{Refused};
 ghost use Rattle.peer_proto.specs.declared.say.Refusal.TheVariants.{OldEpoch, NewEpoch};
 ghost use Rattle.peer_proto.specs.declared.work.ObjWork.{ObjWork};
@@ -19,22 +19,35 @@ ghost use Rattle.guest_driver.specs.declared.disk.Disk.{Disk};
 ghost use Rattle.inode.specs.Layout.{Content};
 ghost use Rattle.vdi_ops.specs.Op.{Op, Task, Working, Stays, Opens, Closes, entry_wanted};
 ghost use Rattle.sheep_node.specs.declared.ask.Ask.{Ask};
-ghost use Rattle.sheep_node.specs.declared.ask.Ask.TheVariants.{Vdi};
+ghost use Rattle.sheep_node.specs.declared.ask.Ask.TheVariants.{Vdi, Object};
 ghost use Rattle.sheep_node.specs.declared.input.Input.{Input};
 ghost use Rattle.sheep_node.specs.declared.input.Input.TheVariants as inputs;
-ghost use Rattle.sheep_node.specs.State.{Node, Commanding, initial_node};
-ghost use Rattle.sheep_node.specs.StepState.{StepState, at_first};
+ghost use Rattle.sheep_node.specs.State.{Node, Commanding, initial_node, Checking, DoingWork, AwaitingDecision};
+ghost use Rattle.sheep_node.specs.StepState.{StepState, at_first, session_in, with_sole_request, request_ended};
 ghost use Rattle.sheep_node.specs.NodeInvariant.{IsSoundNode};
 ghost use Rattle.sheep_node.specs.OneWork.{HasOneWorkPerRequest};
 ghost use Rattle.sheep_node.specs.OwnEntries.{HasOnlyOwnEntries};
 ghost use Rattle.sheep_node.specs.SessionQueues.{QueuesAreDiskRequests};
 ghost use Rattle.sheep_node.specs.Changes.{input_received, Leads};
 ghost use Rattle.sheep_node.specs.AwaitedEntry.{waits_for_entry};
-ghost use Rattle.sheep_node.specs.RequestWorks.{work_begun, course_refused};
-ghost use Rattle.sheep_node.specs.Courses.{disk_after};
+ghost use Rattle.sheep_node.specs.RequestWorks.{work_begun, course_refused, work_asked};
+ghost use Rattle.sheep_node.specs.Courses.{disk_after, check_stepped, decision_reply, course_went_on, course_decided};
 ghost use Rattle.sheep_node.specs.May.{May};
 ghost use Rattle.sheep_node.specs.Step.{is_due, recovered_put, node_step};
 ghost use Rattle.sheep_node.specs.StepFacts.{read_after, may_begin_recovery, only_reply, said_on, put_on, Ascend, IsByTheLog};
+ghost use Rattle.sheep_node.specs.Guests.{request_refusal, on_guest};
+ghost use Rattle.sheep_node.specs.OutsideAsks.{IsObjectAsk};
+ghost use Rattle.sheep_node.specs.CheckWrites.{CheckWrite, write_of_course};
+ghost use Rattle.peer_proto.specs.declared.guest.GuestRsp.TheVariants.{Piece};
+ghost use Rattle.peer_proto.specs.declared.work.ObjWork.TheVariants.{Read};
+ghost use Rattle.peer_proto.specs.Work.{IsWork};
+ghost use Rattle.peer_service.specs.State.{Peer};
+ghost use Rattle.epoch_log.specs.Appending.{IsReservable};
+ghost use Rattle.vdi_directory.specs.declared.decision.Decision.{Decision};
+ghost use Rattle.object_id.specs.declared.policy.Policy.{Policy};
+ghost use Rattle.disk_check.specs.Check.{Check as TheCheck, begin_check, write_value};
+ghost use Rattle.peer_proto.specs.declared.guest.GuestRsp.TheVariants as replies;
+ghost use Rattle.sheep_node.specs.declared.ask.Ask.TheVariants as asks;
 
 /// The sends of a step are numbered upwards from the node's count, and the count grows by how many they are. So no two
 /// sends of a node have one number.
@@ -114,6 +127,46 @@ pub fn a_decision_is_on_the_entry_wanted()
         → entry_wanted op ≡ Some entry }
     ensures each { (entry : Entry) (op : Op) → entry_wanted op ≡ Some entry
         → waits_for_entry entry (Commanding op) ≡ true }
+{}
+
+/// A client without a script is told the decision on exactly the entry that it asked for, and of its work what it gave.
+pub fn a_client_is_told_what_its_ask_came_to()
+    ensures waits { (entry wanted : Entry) → (waits_for_entry entry (AwaitingDecision wanted) ≡ true) ↔ (wanted ≡ entry) }
+    ensures decided { (session req : ℕ) (wanted : Entry) (decision : Decision) (so_far : StepState)
+        → course_decided session req decision (AwaitingDecision wanted) so_far ≡ request_ended session req (decision_reply decision) so_far }
+    ensures read { (session req oid offset size : ℕ) (policy : Policy) (bytes : List ℕ) (so_far : StepState)
+        → course_went_on session req bytes (DoingWork (Read oid policy offset size)) so_far
+        ≡ request_ended session req (Piece bytes) so_far }
+    ensures refused { (session req : ℕ) (work : ObjWork) (cause : Cause) (so_far : StepState)
+        → course_refused session req cause (DoingWork work) so_far ≡ request_ended session req (replies.Refused cause) so_far }
+{}
+
+/// A client's ask is never refused on the spot: its work is come to at once, and its entry stands in the outbox.
+pub fn a_clients_ask_begins_at_once()
+    ensures work { (req session : ℕ) (work : ObjWork) (so_far : StepState) → on_guest req session (Object work) so_far
+        ≡ work_asked session req work (with_sole_request session req (DoingWork work) so_far) }
+    ensures entry { (req session : ℕ) (entry : Entry) (so_far : StepState)
+        → (on_guest req session (asks.Entry entry) so_far).node.outbox ≡ so_far.node.outbox ++ entry ∷ [] }
+{}
+
+/// What a client may ask on an object is a work that a gateway may do.
+pub fn a_clients_work_may_be_done()
+    ensures { (peer : Peer) (work : ObjWork) → All IsReservable peer.entries → IsObjectAsk peer work → IsWork work }
+{}
+
+/// A check of the working disk that a session has open begins with its first work, or replies at once where no object is the disk's own.
+pub fn a_check_begins_on_the_open_disk()
+    ensures { (req session : ℕ) (disk : Disk) (so_far : StepState) → (session_in session so_far).disk ≡ Some disk
+        → request_refusal so_far.node.peer (Some disk) (Vdi Check) ≡ None
+        → on_guest req session (Vdi Check) so_far ≡ check_stepped session req (begin_check disk.inode) so_far }
+{}
+
+/// The write that the history has of a check is the one that the check comes to.
+pub fn the_history_has_the_write_of_a_check()
+    ensures { (session req : ℕ) (bytes : List ℕ) (check : TheCheck) (write : CheckWrite) (so_far : StepState)
+        → write_of_course req bytes (Checking check) ≡ Some write
+        → (moved : StepState) × (course_went_on session req bytes (Checking check) so_far
+        ≡ work_asked session req (write_value write.check write.index write.value) moved) }
 {}
 
 /// A touched request's work begins or waits, and no guest is replied to: it is never refused at its start.

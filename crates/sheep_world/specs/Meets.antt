@@ -8,7 +8,7 @@ use Rattle.sheep_world.specs.NodeCauses.{NodeCause, GuestAsks, RequestComes, Rep
 -- what a node must meet beside what was found: room for a guest's request, which asks what it may; a peer's request that may be served;
 -- an entry that may be read
 abbrev pub MeetsBeside : NodeCause → Node → Type 0
-MeetsBeside (GuestAsks session req ask) node = IsTrue (has_room_for session.number ask node) × IsGuestAsk ask
+MeetsBeside (GuestAsks session req ask) node = IsTrue (has_room_for session.number ask node) × IsGuestAsk node ask
 MeetsBeside (RequestComes name to request) node = MayServe node.peer request.ask
 MeetsBeside (ReplyComes name from rsp) node = Unit {0}
 MeetsBeside (LossIsTold name packet) node = Unit {0}
