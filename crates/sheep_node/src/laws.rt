@@ -175,8 +175,8 @@ pub fn a_touched_work_is_not_refused()
         → (work_begun number req work so_far).outputs.replies ≡ so_far.outputs.replies }
 {}
 
-/// What a session has open after its command's reply: the inode that a command leaves open takes the place of what was open, if
-/// there was something.
+/// What a session has open after its command's reply, by what the command left of it: what it had, or that inode, as a snapshot
+/// exactly if the command says so, or nothing.
 pub fn what_a_command_leaves_open()
     ensures stays { (disk : Option Disk) → disk_after Stays disk ≡ disk }
     ensures opens { (snapshot : Bool) (inode : Content) (disk : Option Disk)
