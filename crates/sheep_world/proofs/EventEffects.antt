@@ -80,20 +80,23 @@ module _ (statements : List Statement) (world : World) (made : EventOutcome) (no
           let (number, of, own) = looked_up (is_of_incarnation statements node.0 host.incarnation) (session_of request.1) writes.1 in
           let (session, declared, is_own) = looked_up (λ (of : ScriptSession). of.node == node.0 && of.incarnation == host.incarnation)
           (session_numbered statements number) own in
-          let ends = and_parts (session.node == node.0) (session.incarnation == host.incarnation) is_own in
-          (request, sym same, record {
-            host = host;
-            there = at;
-            asked = asked;
-            writes = writes.0;
-            number = number;
-            of = of;
-            session = session;
-            declared = declared;
-            gateway = eqb-true session.node node.0 ends.0;
-            lived = eqb-true session.incarnation host.incarnation ends.1;
-            on_disk = parts.1;
-          })
+          let ends = and_parts (session.node == node.0) (session.incarnation == host.incarnation) is_own in (
+            request,
+            sym same,
+            record {
+              host = host;
+              there = at;
+              asked = asked;
+              writes = writes.0;
+              number = number;
+              of = of;
+              session = session;
+              declared = declared;
+              gateway = eqb-true session.node node.0 ends.0;
+              lived = eqb-true session.incarnation host.incarnation ends.1;
+              on_disk = parts.1;
+            },
+          )
 
 -- the next phase is present, with its own losses, and its controls behind those that are left
 pub phase_is_present : (statements : List Statement) (world : World) (made : EventOutcome) → step statements events.Phase world ≡ Some made
