@@ -47,8 +47,7 @@ pub fn sends_are_numbered()
 
 /// Only an entry of the log, and coming back, change what a node has read; and it stays itself.
 pub fn only_the_log_is_read()
-    ensures read { (input : Input) (node : Node)
-        → (node_step input node).node.peer.entries ≡ read_after input node.peer.entries }
+    ensures read { (input : Input) (node : Node) → (node_step input node).node.peer.entries ≡ read_after input node.peer.entries }
     ensures own { (input : Input) (node : Node) → (node_step input node).node.me ≡ node.me }
 {}
 
@@ -99,8 +98,7 @@ pub fn what_is_put_leaves_the_outbox()
 pub fn recovered_is_put_once()
     ensures due { (input : Input) (node : Node) → is_due (node_step input node).node ≡ false }
     ensures once { (so_far : StepState) → so_far.node.recovered ≡ true → recovered_put so_far ≡ so_far }
-    ensures stays { (input : Input) (node : Node)
-        → may_begin_recovery input ≡ false → node.recovered ≡ true
+    ensures stays { (input : Input) (node : Node) → may_begin_recovery input ≡ false → node.recovered ≡ true
         → (node_step input node).node.recovered ≡ true }
 {}
 
@@ -178,8 +176,7 @@ pub fn a_request_has_one_work()
 /// The entries that a node puts are its own: its commands' and its own `Recovered`.
 pub fn a_node_puts_its_own_entries()
     ensures opens { (me : NodeId) (tries : ℕ) → HasOnlyOwnEntries (initial_node me tries) }
-    ensures stays { (input : Input) (node : Node) → HasOnlyOwnEntries node
-        → HasOnlyOwnEntries (node_step input node).node }
+    ensures stays { (input : Input) (node : Node) → HasOnlyOwnEntries node → HasOnlyOwnEntries (node_step input node).node }
 {}
 
 /// A session's queue is its reads and writes without reply.
