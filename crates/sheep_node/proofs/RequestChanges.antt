@@ -8,14 +8,11 @@ use Rattle.proof_tools.proofs.FiniteMaps.{get-insert_cases, get-remove_other, ge
 use Rattle.object_id.specs.declared.cause.Cause.{Cause}
 use Rattle.object_id.specs.declared.cause.Cause.TheVariants.{Halt}
 use Rattle.object_id.specs.declared.entry.Entry.{Entry}
-use Rattle.peer_proto.specs.declared.guest.VdiAsk.{VdiAsk}
 use Rattle.gateway.specs.Work.{zones_for}
 use Rattle.gateway.specs.State as gateways
 use Rattle.gateway.specs.State.{Work}
 use Rattle.recovery.specs.Steps as recovery_steps
 use Rattle.guest_driver.specs.Driver as drivers
-use Rattle.vdi_ops.specs.declared.act.OpAct.{OpAct}
-use Rattle.vdi_ops.specs.declared.act.OpAct.TheVariants as op_acts
 use Rattle.vdi_ops.specs.declared.end.OpEnd.{OpEnd}
 use Rattle.vdi_ops.specs.Op as ops
 use Rattle.vdi_ops.specs.Steps.{on_refusal}
@@ -25,7 +22,7 @@ use Rattle.sheep_node.specs.declared.input.Input.{Input}
 use Rattle.sheep_node.specs.declared.input.Input.TheVariants as inputs
 use Rattle.sheep_node.specs.State.{Course, Waiting, Driving, Commanding, Request, Node}
 use Rattle.sheep_node.specs.RecoveryView.{recovery_state_of}
-use Rattle.sheep_node.specs.StepState.{StepState, at_first, with_optional_entry, request_ended}
+use Rattle.sheep_node.specs.StepState.{StepState, at_first, request_ended}
 use Rattle.sheep_node.specs.RequestWorks.{command_refused, course_refused, request_refused}
 use Rattle.sheep_node.specs.Courses.{after_command_step}
 use Rattle.sheep_node.specs.LogReading.{entry_read, on_back}
@@ -57,14 +54,14 @@ module _ (P : ℕ → Type 0) where
       (λ (other : q ≢ req). all q at (sym (get-remove_other requests req q other) ∙ got))
       (cases_eq q req)
 
-  command_are : (session req : ℕ) (ask : VdiAsk) (step : ops.OpStep) (so_far : StepState) → P req → In so_far → In (after_command_step session req ask step so_far)
-  command_are session req ask step so_far so all = put_are so_far.node.requests req (record { session = session; course = Commanding ask step.op }) so all
+  command_are : (session req : ℕ) (step : ops.OpStep) (so_far : StepState) → P req → In so_far → In (after_command_step session req step so_far)
+  command_are session req step so_far so all = put_are so_far.node.requests req (record { session = session; course = Commanding step.op }) so all
 
   refused_are : (session req : ℕ) (cause : Cause) (course : Course) (so_far : StepState) → In so_far → In (course_refused session req cause course so_far)
   unfolding request_ended
   refused_are session req cause (Waiting ask) so_far all = all
   refused_are session req cause (Driving driver) so_far all = gone_are so_far.node.requests req all
-  refused_are session req cause (Commanding ask op) so_far all = by_end (on_refusal cause op)
+  refused_are session req cause (Commanding op) so_far all = by_end (on_refusal cause op)
     where
       by_end : (end : Option OpEnd) → In (command_refused session req end so_far)
       by_end None = all
@@ -102,11 +99,11 @@ module _ (P : ℕ → Type 0) where
     steps_are so_far session req next moved (DiskGoesOn number work attempt status bytes driver disk step ends on is) all =
         put_are so_far.node.requests req (record { session = session; course = Driving step.driver }) (all req (record { session = session; course = Driving driver }) ends.ends.request) all
     steps_are so_far session req next moved (CommandBegins ask step arrival is) all =
-        command_are session req ask step so_far (asked req session (asks.Vdi ask) arrival.from) all
-    steps_are so_far session req next moved (CommandGoesOn number work attempt status bytes ask op step ends is) all =
-        command_are session req ask step (changes.without_ended_work session req work status so_far) (all req (record { session = session; course = Commanding ask op }) ends.ends.request) all
-    steps_are so_far session req next moved (CommandDecided entry ask op step from read there waits is) all =
-        command_are session req ask step so_far (all req (record { session = session; course = Commanding ask op }) there) all
+        command_are session req step so_far (asked req session (asks.Vdi ask) arrival.from) all
+    steps_are so_far session req next moved (CommandGoesOn number work attempt status bytes op step ends is) all =
+        command_are session req step (changes.without_ended_work session req work status so_far) (all req (record { session = session; course = Commanding op }) ends.ends.request) all
+    steps_are so_far session req next moved (CommandDecided entry op step from read there waits is) all =
+        command_are session req step so_far (all req (record { session = session; course = Commanding op }) there) all
 
     comes_are : (so_far : StepState) (session req : ℕ) (tried : Work) (lined : StepState) → WorkIsNext input node so_far session req tried lined → In so_far → In lined
     comes_are so_far session req tried lined (AtOnce work moved steps begins) all = steps_are so_far session req (ToWork work) moved steps all

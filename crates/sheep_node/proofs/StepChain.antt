@@ -1,11 +1,10 @@
 -- The step of a node is a chain of changes.
-use Rattle.std.proofs.Common.{◌≡◌, ◌≢◌, ℕ, ◌+◌, ◌==◌, nat_lt, not, ◌||◌, Bool, true, false, cond, List, [], ◌∷◌, ◌++◌, fold, Contains, Option, Some, None, is_some, is_none, refl, sym, ap, subst, ◌∙◌, ⊎_elim}
+use Rattle.std.proofs.Common.{◌≡◌, ℕ, not, Bool, true, false, cond, List, [], ◌∷◌, fold, Option, Some, None, is_some, is_none, refl, sym, ap, subst, ◌∙◌, ⊎_elim}
 use Rattle.std.specs.Prelude.{IsTrue}
 use Rattle.std.specs.Ordering.{nat_cmp}
 use Rattle.std.specs.List.{list_any}
 use Rattle.std.specs.FinMap as tree
-use Rattle.std.proofs.lemmas.Bool.{eqb-true, or_cases}
-use Rattle.proof_tools.proofs.Booleans.{has_value}
+use Rattle.std.proofs.lemmas.Bool.{or_cases}
 use Rattle.proof_tools.proofs.Lists.{find-contains}
 use Rattle.proof_tools.proofs.FiniteMaps.{get-entry, get-insert_same}
 use Rattle.object_id.specs.declared.cause.Cause.{Cause}
@@ -13,8 +12,6 @@ use Rattle.object_id.specs.declared.cause.Cause.TheVariants.{Halt}
 use Rattle.object_id.specs.declared.node.Epoch.{Epoch}
 use Rattle.object_id.specs.declared.entry.Entry.{Entry}
 use Rattle.vdi_directory.specs.declared.decision.Decision.{Decision}
-use Rattle.hash_ring.specs.Placement.{zone_count}
-use Rattle.vnode_table.specs.Epochs.{members_at}
 use Rattle.vnode_table.specs.Targets.{targets_in}
 use Rattle.peer_proto.specs.Work.{oid_of, policy_of}
 use Rattle.peer_proto.specs.declared.guest.DiskAsk.{DiskAsk}
@@ -56,10 +53,10 @@ use Rattle.sheep_node.specs.declared.input.Input.TheVariants as inputs
 use Rattle.sheep_node.specs.State.{Course, Waiting, Driving, Commanding, Request, Node}
 use Rattle.sheep_node.specs.RecoveryView.{recovery_state_of}
 use Rattle.sheep_node.specs.StepState.{StepState, at_first, with_node, with_gateway, session_in, with_inode_queue, with_course}
-use Rattle.sheep_node.specs.RequestWorks.{request_refused, queue_left, after_start, work_begun, work_asked}
-use Rattle.sheep_node.specs.Courses.{after_driver_step, driver_acted, driver_stepped, driver_went_on, disk_went_on, disk_begun, after_command_step, command_acted, command_stepped, command_went_on, course_went_on, course_decided}
+use Rattle.sheep_node.specs.RequestWorks.{request_refused, after_start, work_begun, work_asked}
+use Rattle.sheep_node.specs.Courses.{inode_open, after_driver_step, driver_acted, driver_stepped, driver_went_on, disk_went_on, disk_begun, after_command_step, command_acted, command_stepped, command_went_on, course_went_on, course_decided}
 use Rattle.sheep_node.specs.Waiting.{next_begun, course_begun, found_request_begun, begun_if_may, passed_over, queued_requests, let_begin, work_done, work_refused, after_act, after_gateway_step}
-use Rattle.sheep_node.specs.Guests.{request_refusal, inode_open, with_queued_request, request_taken, request_taken_unless, on_guest}
+use Rattle.sheep_node.specs.Guests.{request_refusal, with_queued_request, request_taken, request_taken_unless, on_guest}
 use Rattle.sheep_node.specs.AwaitedEntry.{waits_for_entry}
 use Rattle.sheep_node.specs.LogReading.{entry_read, asker_of, decision_told, on_log_entry}
 use Rattle.sheep_node.specs.Step as steps
@@ -137,12 +134,12 @@ module _ (input : Input) (node : Node) (first : StepState) where
   command_walk so_far session req (op_acts.Work work) moved steps walk = asked_walk so_far session req work moved steps walk
   command_walk so_far session req (op_acts.Reply reply) moved steps walk = reached_by walk (changes.Replies session req reply moved steps)
 
-  command_stepped_walk : (so_far : StepState) (session req : ℕ) (ask : VdiAsk) (step : ops.OpStep) (freed : StepState)
-      → RequestSteps input node so_far session req (outcome_of_command step.act) (after_command_step session req ask step freed) → IsReached input node first so_far
-      → IsReached input node first (command_stepped session req ask step freed)
+  command_stepped_walk : (so_far : StepState) (session req : ℕ) (step : ops.OpStep) (freed : StepState)
+      → RequestSteps input node so_far session req (outcome_of_command step.act) (after_command_step session req step freed) → IsReached input node first so_far
+      → IsReached input node first (command_stepped session req step freed)
   unfolding command_stepped
-  command_stepped_walk so_far session req ask step freed steps walk =
-      command_walk so_far session req step.act (after_command_step session req ask step freed) steps walk
+  command_stepped_walk so_far session req step freed steps walk =
+      command_walk so_far session req step.act (after_command_step session req step freed) steps walk
 
   -- ---- what waited begins
 
@@ -162,7 +159,7 @@ module _ (input : Input) (node : Node) (first : StepState) where
       by_run true may = disk_begun_walk so_far session req ask (session_in session so_far).disk there refl may walk
       by_run false waits = walk
   course_begun_walk so_far session req (Driving driver) there walk = walk
-  course_begun_walk so_far session req (Commanding ask op) there walk = walk
+  course_begun_walk so_far session req (Commanding op) there walk = walk
 
   request_begun_walk : (so_far : StepState) (req : ℕ) (request : Option Request) → tree.get so_far.node.requests req ≡ request → IsReached input node first so_far
       → IsReached input node first (found_request_begun req request so_far)
@@ -240,18 +237,18 @@ module _ (input : Input) (node : Node) (first : StepState) where
               driver_stepped_walk so_far session req disk step freed
               (DiskGoesOn number work attempt status bytes_now driver disk step (ends_as (Driving driver) same) on next) walk
 
-      command_done_walk : (ask : VdiAsk) (op : Op) → course ≡ Commanding ask op → (step : Option ops.OpStep) → op_on_done bytes_now op ≡ step
-          → IsReached input node first (command_went_on session req ask step freed)
-      command_done_walk ask op same None none = stops (Commanding ask op) same none
-      command_done_walk ask op same (Some step) next =
-          command_stepped_walk so_far session req ask step freed
-          (CommandGoesOn number work attempt status bytes_now ask op step (ends_as (Commanding ask op) same) next) walk
+      command_done_walk : (op : Op) → course ≡ Commanding op → (step : Option ops.OpStep) → op_on_done bytes_now op ≡ step
+          → IsReached input node first (command_went_on session req step freed)
+      command_done_walk op same None none = stops (Commanding op) same none
+      command_done_walk op same (Some step) next =
+          command_stepped_walk so_far session req step freed
+          (CommandGoesOn number work attempt status bytes_now op step (ends_as (Commanding op) same) next) walk
 
       went_on_walk : (at : Course) → course ≡ at → IsReached input node first (course_went_on session req bytes_now at freed)
       unfolding course_went_on
       went_on_walk (Waiting ask) same = stops (Waiting ask) same tt
       went_on_walk (Driving driver) same = disk_walk driver same (session_in session freed).disk refl
-      went_on_walk (Commanding ask op) same = command_done_walk ask op same (op_on_done bytes_now op) refl
+      went_on_walk (Commanding op) same = command_done_walk op same (op_on_done bytes_now op) refl
 
       pub done_walk : IsReached input node first (after_gateway_act (done_step (gateway_with_touch req work status so_far) req work.work bytes_now))
       done_walk =
@@ -432,10 +429,10 @@ module _ (input : Input) (node : Node) (first : StepState) where
 
     command_begun_walk : (session req : ℕ) (ask : VdiAsk) → Arrival input node so_far session req (asks.Vdi ask) None
         → (step : Option ops.OpStep) → begin_command so_far.node.me session ask (inode_open (session_in session so_far).disk) ≡ step
-        → IsReached input node first (command_went_on session req ask step so_far)
+        → IsReached input node first (command_went_on session req step so_far)
     command_begun_walk session req ask arrival None is = walk
     command_begun_walk session req ask arrival (Some step) is =
-        command_stepped_walk so_far session req ask step so_far (CommandBegins ask step arrival is) walk
+        command_stepped_walk so_far session req step so_far (CommandBegins ask step arrival is) walk
 
     taken_walk : (session req : ℕ) (ask : Ask) → Arrival input node so_far session req ask None
         → IsReached input node first (request_taken session req ask so_far)
@@ -463,20 +460,20 @@ module _ (input : Input) (node : Node) (first : StepState) where
     abbrev pub decision : Decision
     decision = decision_on entry node.peer
 
-    decided_walk : (req session : ℕ) (ask : VdiAsk) (op : Op) → HasRequest session req (Commanding ask op) so_far
-        → waits_for_entry entry (Commanding ask op) ≡ true → (step : Option ops.OpStep)
-        → on_decision (effects_of so_far.node.peer) decision op ≡ step → IsReached input node first (command_went_on session req ask step so_far)
-    decided_walk req session ask op there waits None none = walk
-    decided_walk req session ask op there waits (Some step) next =
-        command_stepped_walk so_far session req ask step so_far (CommandDecided entry ask op step from read there waits next) walk
+    decided_walk : (req session : ℕ) (op : Op) → HasRequest session req (Commanding op) so_far
+        → waits_for_entry entry (Commanding op) ≡ true → (step : Option ops.OpStep)
+        → on_decision (effects_of so_far.node.peer) (inode_open (session_in session so_far).disk) decision op ≡ step → IsReached input node first (command_went_on session req step so_far)
+    decided_walk req session op there waits None none = walk
+    decided_walk req session op there waits (Some step) next =
+        command_stepped_walk so_far session req step so_far (CommandDecided entry op step from read there waits next) walk
 
     course_walk : (req session : ℕ) (course : Course) → HasRequest session req course so_far → waits_for_entry entry course ≡ true
         → IsReached input node first (course_decided session req decision course so_far)
     unfolding course_decided
     course_walk req session (Waiting ask) there waits = walk
     course_walk req session (Driving driver) there waits = walk
-    course_walk req session (Commanding ask op) there waits =
-        decided_walk req session ask op there waits (on_decision (effects_of so_far.node.peer) decision op) refl
+    course_walk req session (Commanding op) there waits =
+        decided_walk req session op there waits (on_decision (effects_of so_far.node.peer) (inode_open (session_in session so_far).disk) decision op) refl
 
     pub told_walk : (found : Option (ℕ × Request)) → asker_of entry node ≡ found
         → IsReached input node first (decision_told decision found so_far)

@@ -25,14 +25,13 @@ use Rattle.gateway.specs.Outcomes.{AreNumberedFrom}
 use Rattle.gateway.proofs.SendLaws.{sends-numbers}
 use Rattle.recovery.specs.State.{Recovery, RecoveryState}
 use Rattle.recovery.specs.Steps as recovery_steps
-use Rattle.recovery.specs.Tick.{tick_sends, state_after_tick}
 use Rattle.vdi_ops.specs.declared.end.OpEnd.{OpEnd}
 use Rattle.vdi_ops.specs.Steps.{on_refusal}
 use Rattle.sheep_node.specs.declared.input.Input.{Input}
 use Rattle.sheep_node.specs.declared.input.Input.TheVariants as inputs
 use Rattle.sheep_node.specs.State.{Course, Waiting, Driving, Commanding, Request, Node}
 use Rattle.sheep_node.specs.RecoveryView.{recovery_state_of}
-use Rattle.sheep_node.specs.StepState.{StepState, at_first, with_node, with_sends, replies_in_order, with_guest_reply, with_optional_entry, with_gateway, without_request, request_ended}
+use Rattle.sheep_node.specs.StepState.{StepState, at_first, with_sends, replies_in_order, with_guest_reply, with_optional_entry, with_gateway, without_request, request_ended}
 use Rattle.sheep_node.specs.RequestWorks.{command_refused, course_refused, request_refused}
 use Rattle.sheep_node.specs.LogReading.{entry_read, on_back}
 use Rattle.sheep_node.specs.Step.{on_request, recovery_stepped, on_put, on_recover_tick, node_step}
@@ -123,7 +122,7 @@ module _ (first : ℕ) (was_recovered : Bool) (old : Untouched) where
       → IsInOrder (course_refused session req cause course so_far)
   refused_in_order session req cause (Waiting ask) so_far s = s
   refused_in_order session req cause (Driving driver) so_far s = ended_in_order session req (Refused cause) so_far s
-  refused_in_order session req cause (Commanding ask op) so_far s = by_end (on_refusal cause op)
+  refused_in_order session req cause (Commanding op) so_far s = by_end (on_refusal cause op)
     where
       by_end : (end : Option OpEnd) → IsInOrder (command_refused session req end so_far)
       by_end None = s
@@ -139,8 +138,8 @@ module _ (first : ℕ) (was_recovered : Bool) (old : Untouched) where
   steps_in_order so_far session req outcome moved (DiskBegins ask disk there on may) s = s
   steps_in_order so_far session req outcome moved (DiskGoesOn number work attempt status bytes driver disk step ends on is) s = s
   steps_in_order so_far session req outcome moved (CommandBegins ask step arrival is) s = s
-  steps_in_order so_far session req outcome moved (CommandGoesOn number work attempt status bytes ask op step ends is) s = s
-  steps_in_order so_far session req outcome moved (CommandDecided entry ask op step from read there waits is) s = s
+  steps_in_order so_far session req outcome moved (CommandGoesOn number work attempt status bytes op step ends is) s = s
+  steps_in_order so_far session req outcome moved (CommandDecided entry op step from read there waits is) s = s
 
   next_in_order : {input : Input} {node : Node} → (so_far : StepState) (session req : ℕ) (asked : Work) (lined : StepState)
       → WorkIsNext input node so_far session req asked lined → IsInOrder so_far → IsInOrder lined

@@ -40,14 +40,14 @@ use Rattle.recovery.specs.Steps as recovery_steps
 use Rattle.sheep_node.specs.State.{Course, Waiting, Driving, Commanding, Request, Node}
 use Rattle.sheep_node.specs.RecoveryView.{recovery_state_of}
 use Rattle.sheep_node.specs.StepState.{StepState, at_first, with_node, with_sends, with_guest_reply, with_outbox_entry, with_gateway}
-use Rattle.sheep_node.specs.StepState.{with_session, session_in, with_inode_queue, with_disk, with_course, request_ended}
+use Rattle.sheep_node.specs.StepState.{with_session, session_in, with_inode_queue, with_course, request_ended}
 use Rattle.sheep_node.specs.RequestWorks.{course_refused, request_refused, queue_left}
-use Rattle.sheep_node.specs.Courses.{after_driver_step, after_command_step}
+use Rattle.sheep_node.specs.Courses.{after_driver_step, inode_open, after_command_step}
 use Rattle.sheep_node.specs.declared.ask.Ask.{Ask}
 use Rattle.sheep_node.specs.declared.ask.Ask.TheVariants as asks
 use Rattle.sheep_node.specs.declared.input.Input.{Input}
 use Rattle.sheep_node.specs.declared.input.Input.TheVariants as inputs
-use Rattle.sheep_node.specs.Guests.{request_refusal, inode_open, queued_as}
+use Rattle.sheep_node.specs.Guests.{request_refusal, queued_as}
 use Rattle.sheep_node.specs.AwaitedEntry.{waits_for_entry}
 use Rattle.sheep_node.specs.LogReading.{entry_read, on_back}
 use Rattle.sheep_node.specs.Step.{on_request, recovery_stepped, on_put, on_recover_tick, is_due, with_recovered}
@@ -152,7 +152,7 @@ abbrev pub IsOverWith : List ℕ → Option Disk → Course → Type 0
 IsOverWith bytes disk (Waiting ask) = Unit {0}
 IsOverWith bytes None (Driving driver) = Unit {0}
 IsOverWith bytes (Some disk) (Driving driver) = drivers.driver_on_done disk.inode bytes driver ≡ None
-IsOverWith bytes disk (Commanding ask op) = op_on_done bytes op ≡ None
+IsOverWith bytes disk (Commanding op) = op_on_done bytes op ≡ None
 
 -- a request that was looked up is there, of this session
 abbrev pub IsOfSession : ℕ → Option Request → Type 0
@@ -208,18 +208,19 @@ module _ (input : Input) (node : Node) where
         (after_driver_step session req disk step (without_ended_work session req work status so_far))
     CommandBegins : (ask : VdiAsk) (step : ops.OpStep) → Arrival so_far session req (asks.Vdi ask) None
         → begin_command so_far.node.me session ask (inode_open (session_in session so_far).disk) ≡ Some step
-        → RequestSteps so_far session req (outcome_of_command step.act) (after_command_step session req ask step so_far)
-    CommandGoesOn : (number : ℕ) (work : Work) (attempt : Attempt) (status : Status) (bytes : List ℕ) (ask : VdiAsk) (op : Op)
-        (step : ops.OpStep) → EndsWork so_far session req number work attempt status (Commanding ask op) bytes
+        → RequestSteps so_far session req (outcome_of_command step.act) (after_command_step session req step so_far)
+    CommandGoesOn : (number : ℕ) (work : Work) (attempt : Attempt) (status : Status) (bytes : List ℕ) (op : Op)
+        (step : ops.OpStep) → EndsWork so_far session req number work attempt status (Commanding op) bytes
         → op_on_done bytes op ≡ Some step
         → RequestSteps so_far session req (outcome_of_command step.act)
-        (after_command_step session req ask step (without_ended_work session req work status so_far))
+        (after_command_step session req step (without_ended_work session req work status so_far))
     -- the entry is decided by the entries before it; by now the node has read it
-    CommandDecided : (entry : Entry) (ask : VdiAsk) (op : Op) (step : ops.OpStep) → input ≡ inputs.LogEntry entry
-        → so_far.node.peer ≡ (entry_read entry node).peer → HasRequest session req (Commanding ask op) so_far
-        → waits_for_entry entry (Commanding ask op) ≡ true
-        → on_decision (effects_of so_far.node.peer) (decision_on entry node.peer) op ≡ Some step
-        → RequestSteps so_far session req (outcome_of_command step.act) (after_command_step session req ask step so_far)
+    CommandDecided : (entry : Entry) (op : Op) (step : ops.OpStep) → input ≡ inputs.LogEntry entry
+        → so_far.node.peer ≡ (entry_read entry node).peer → HasRequest session req (Commanding op) so_far
+        → waits_for_entry entry (Commanding op) ≡ true
+        → on_decision (effects_of so_far.node.peer) (inode_open (session_in session so_far).disk) (decision_on entry node.peer) op
+        ≡ Some step
+        → RequestSteps so_far session req (outcome_of_command step.act) (after_command_step session req step so_far)
 
   -- a work's turn has come: that of a step at once, the first that waits in its line, or the first that may be tried again
   pub data WorkIsNext (so_far : StepState) (session req : ℕ) : Work → StepState → Type 0 where

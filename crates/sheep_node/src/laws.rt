@@ -1,5 +1,5 @@
 //! Laws of a step, for the proofs of the layers above: each is the contract of a function that does nothing.
-ghost use Rattle.std.specs.Prelude.{◌≡◌, ◌⊎◌, ℕ, ◌+◌, ◌<◌, true, false, List, [], ◌∷◌, ◌++◌, length, Option, Some, None, IsTrue};
+ghost use Rattle.std.specs.Prelude.{◌≡◌, ◌⊎◌, ℕ, Bool, ◌+◌, ◌<◌, true, false, List, [], ◌∷◌, ◌++◌, length, Option, Some, None, IsTrue};
 ghost use Rattle.std.specs.FinMap.{contains_key};
 ghost use Rattle.object_id.specs.declared.cause.Cause.{Cause};
 ghost use Rattle.object_id.specs.declared.node.NodeId.{NodeId};
@@ -9,8 +9,7 @@ ghost use Rattle.object_id.specs.declared.entry.Entry.TheVariants as entries;
 ghost use Rattle.object_id.specs.declared.entry.Origin.TheVariants.{Fresh};
 ghost use Rattle.object_id.specs.declared.entry.VdiSpec.{VdiSpec};
 ghost use Rattle.peer_proto.specs.declared.ask.PeerReq.{PeerReq};
-ghost use Rattle.peer_proto.specs.declared.guest.VdiAsk.{VdiAsk};
-ghost use Rattle.peer_proto.specs.declared.guest.VdiAsk.TheVariants.{Create, Attach, Close, Snapshot, Clone, Delete};
+ghost use Rattle.peer_proto.specs.declared.guest.VdiAsk.TheVariants.{Create};
 ghost use Rattle.peer_proto.specs.declared.say.PeerSay.TheVariants.{Refused};
 ghost use Rattle.peer_proto.specs.declared.say.Refusal.TheVariants.{OldEpoch, NewEpoch};
 ghost use Rattle.peer_proto.specs.declared.work.ObjWork.{ObjWork};
@@ -18,7 +17,7 @@ ghost use Rattle.gateway.specs.State.{is_touched};
 ghost use Rattle.gateway.specs.Outcomes.{AreNumberedFrom};
 ghost use Rattle.guest_driver.specs.declared.disk.Disk.{Disk};
 ghost use Rattle.inode.specs.Layout.{Content};
-ghost use Rattle.vdi_ops.specs.Op.{Op, Task, Working, entry_wanted};
+ghost use Rattle.vdi_ops.specs.Op.{Op, Task, Working, Stays, Opens, Closes, entry_wanted};
 ghost use Rattle.sheep_node.specs.declared.ask.Ask.{Ask};
 ghost use Rattle.sheep_node.specs.declared.ask.Ask.TheVariants.{Vdi};
 ghost use Rattle.sheep_node.specs.declared.input.Input.{Input};
@@ -104,10 +103,10 @@ pub fn recovered_is_put_once()
 
 /// A decision goes to a command that waits for exactly the entry that was read.
 pub fn a_decision_is_on_the_entry_wanted()
-    ensures only { (entry : Entry) (ask : VdiAsk) (op : Op) → waits_for_entry entry (Commanding ask op) ≡ true
+    ensures only { (entry : Entry) (op : Op) → waits_for_entry entry (Commanding op) ≡ true
         → entry_wanted op ≡ Some entry }
-    ensures each { (entry : Entry) (ask : VdiAsk) (op : Op) → entry_wanted op ≡ Some entry
-        → waits_for_entry entry (Commanding ask op) ≡ true }
+    ensures each { (entry : Entry) (op : Op) → entry_wanted op ≡ Some entry
+        → waits_for_entry entry (Commanding op) ≡ true }
 {}
 
 /// A touched request's work begins or waits, and no guest is replied to: it is never refused at its start.
@@ -116,32 +115,20 @@ pub fn a_touched_work_is_not_refused()
         → (work_begun number req work so_far).outputs.replies ≡ so_far.outputs.replies }
 {}
 
-/// What a session has open after its command's reply: the inode that an opening or a snapshot leaves, as a snapshot only
-/// where a tag was asked for; nothing after a close; else what it had.
+/// What a session has open after its command's reply, by what the command left of it: what it had, or that inode, as a snapshot
+/// exactly if the command says so, or nothing.
 pub fn what_a_command_leaves_open()
-    ensures create { (name : List ℕ) (spec : VdiSpec) (opened : Option Content) (disk : Option Disk)
-        → disk_after (Create name spec) opened disk ≡ disk }
-    ensures attach { (name : List ℕ) (inode : Content) (disk : Option Disk)
-        → disk_after (Attach name None) (Some inode) disk ≡ Some (record { inode = inode; snapshot = false }) }
-    ensures attach_snapshot { (name tag : List ℕ) (inode : Content) (disk : Option Disk)
-        → disk_after (Attach name (Some tag)) (Some inode) disk ≡ Some (record { inode = inode; snapshot = true }) }
-    ensures close { (opened : Option Content) (disk : Option Disk) → disk_after Close opened disk ≡ None }
-    ensures snapshot { (tag : List ℕ) (inode : Content) (disk : Option Disk)
-        → disk_after (Snapshot tag) (Some inode) disk ≡ Some (record { inode = inode; snapshot = false }) }
-    ensures clone { (base tag name : List ℕ) (opened : Option Content) (disk : Option Disk)
-        → disk_after (Clone base tag name) opened disk ≡ disk }
-    ensures delete { (name : List ℕ) (tag : Option (List ℕ)) (opened : Option Content) (disk : Option Disk)
-        → disk_after (Delete name tag) opened disk ≡ disk }
-    // A command that was refused leaves what was open, but for a close.
-    ensures refused { (name : List ℕ) (tag : Option (List ℕ)) (disk : Option Disk)
-        → disk_after (Attach name tag) None disk ≡ disk }
+    ensures stays { (disk : Option Disk) → disk_after Stays disk ≡ disk }
+    ensures opens { (snapshot : Bool) (inode : Content) (disk : Option Disk)
+        → disk_after (Opens snapshot inode) disk ≡ Some (record { inode = inode; snapshot = snapshot }) }
+    ensures closes { (disk : Option Disk) → disk_after Closes disk ≡ None }
 {}
 
 /// A command whose work is refused gives back the id that it was granted: its `Unlock` stands in the outbox.
 pub fn a_refused_work_gives_its_id_back()
-    ensures { (number req : ℕ) (cause : Cause) (ask : VdiAsk) (op : Op) (vid : Vid) (task : Task) (so_far : StepState)
+    ensures { (number req : ℕ) (cause : Cause) (op : Op) (vid : Vid) (task : Task) (so_far : StepState)
         → op.stage ≡ Working vid task
-        → (course_refused number req cause (Commanding ask op) so_far).node.outbox
+        → (course_refused number req cause (Commanding op) so_far).node.outbox
         ≡ so_far.node.outbox ++ entries.Unlock op.by op.session vid ∷ [] }
 {}
 

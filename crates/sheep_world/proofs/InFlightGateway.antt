@@ -68,8 +68,8 @@ unfolding course_went_on
 course_went_on_good old number req bytes (Waiting ask) so_far free good = good
 course_went_on_good old number req bytes (Driving driver) so_far free good =
     disk_went_on_good old number req bytes driver (session_in number so_far).disk so_far free good
-course_went_on_good old number req bytes (Commanding ask op) so_far free good =
-    command_went_on_good old number req ask (op_on_done bytes op) so_far (done_awaited bytes op) free good
+course_went_on_good old number req bytes (Commanding op) so_far free good =
+    command_went_on_good old number req (op_on_done bytes op) so_far (done_awaited bytes op) free good
 
 work_done_good : (old : Node) (work : ObjWork) (req : ℕ) (bytes : List ℕ) (request : Option Request) (so_far : StepState) → IsFreeIn req so_far
     → IsGood old so_far → IsGood old (work_done work req bytes request so_far)
