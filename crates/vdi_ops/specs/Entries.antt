@@ -1,6 +1,6 @@
 -- The entry that each command begins with, and when a command is refused on the spot.
-use Rattle.std.specs.Prelude.{ℕ, ◌*◌, ◌^◌, ◌==◌, nat_le, false, Bool, List, count_by, Option, Some, None, option_map}
-use Rattle.std.specs.Prelude.{is_some, if◌then◌else◌}
+use Rattle.std.specs.Prelude.{ℕ, ◌*◌, ◌^◌, ◌==◌, nat_le, Bool, List, count_by, Option, Some, None, option_map}
+use Rattle.std.specs.Prelude.{if◌then◌else◌}
 use Rattle.object_id.specs.declared.node.NodeId.{NodeId}
 use Rattle.object_id.specs.declared.cause.Cause.{Cause}
 use Rattle.object_id.specs.declared.cause.Cause.TheVariants.{Readonly, VdiNotLocked, InvalidParms}
@@ -69,16 +69,6 @@ command_refusal disk (Snapshot tag) = needs_working_disk disk
 command_refusal disk (Clone base tag name) = None
 command_refusal disk (Delete name tag) = None
 command_refusal disk Check = check_refusal disk
-
--- whether what a command opens is a snapshot
-abbrev pub opens_snapshot : VdiAsk → Bool
-opens_snapshot (Create name spec) = false
-opens_snapshot (Attach name tag) = is_some tag
-opens_snapshot Close = false
-opens_snapshot (Snapshot tag) = false
-opens_snapshot (Clone base tag name) = false
-opens_snapshot (Delete name tag) = false
-opens_snapshot Check = false
 
 -- the entry that gives a disk back, or the reservation of an id
 abbrev pub unlock_of : NodeId → ℕ → ℕ → Entry
