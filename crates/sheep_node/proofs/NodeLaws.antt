@@ -10,7 +10,7 @@ use Rattle.sheep_node.specs.Step.{node_step}
 use Rattle.sheep_node.specs.May.{May}
 use Rattle.sheep_node.specs.NodeInvariant.{IsSoundNode}
 use Rattle.sheep_node.proofs.NumberChanges.{one_work_at_opening, one_work_stays}
-use Rattle.sheep_node.proofs.OwnEntryChanges.{own_entries_at_opening, own_entries_stay}
+use Rattle.sheep_node.proofs.OwnEntryChanges.{own_entries_at_opening, own_entries_stay, asks_for_own}
 use Rattle.sheep_node.proofs.QueueChanges.{none_queued, queues_stay}
 use Rattle.sheep_node.proofs.LogLaws.{opening_follows, step_follows}
 use Rattle.sheep_node.proofs.StepResults.{step_not_due}
@@ -27,8 +27,8 @@ IsSoundNode-initial me tries = record {
 pub IsSoundNode-step : (input : Input) (node : Node) → May input node → IsSoundNode node → IsSoundNode (node_step input node).node
 IsSoundNode-step input node may is = record {
   one_work = one_work_stays input node may is.one_work;
-  own_entries = own_entries_stay input node may is.one_work is.own_entries;
+  own_entries = own_entries_stay input node (asks_for_own input node may) is.own_entries;
   queues = queues_stay input node may is.one_work is.queues;
-  by_the_log = step_follows input node may is.one_work is.by_the_log;
+  by_the_log = step_follows input node may is.by_the_log;
   none_due = step_not_due input node;
 }

@@ -1,5 +1,5 @@
 -- Every change leaves the outbox to this node's entries.
-use Rattle.std.proofs.Common.{◌≡◌, ◌≢◌, ℕ, Bool, true, false, List, [], ◌∷◌, ◌++◌, All, option_to_list, Option, Some, None, option_map, IfSome, refl, sym, ap, subst, ◌∙◌, ⊎_elim}
+use Rattle.std.proofs.Common.{◌≡◌, ◌≢◌, ℕ, true, false, List, [], ◌∷◌, ◌++◌, All, option_to_list, Option, Some, None, IfSome, refl, sym, ap, subst, ◌∙◌, ⊎_elim}
 use Rattle.std.specs.Ordering.{nat_cmp}
 use Rattle.std.specs.FinMap as tree
 use Rattle.std.proofs.lemmas.List.{append-nil}
@@ -46,22 +46,21 @@ use Rattle.vdi_ops.proofs.StepLemmas.{begin_awaited, done_awaited, decision_awai
 use Rattle.sheep_node.specs.declared.input.Input.{Input}
 use Rattle.sheep_node.specs.declared.input.Input.TheVariants as inputs
 use Rattle.sheep_node.specs.State.{Course, Waiting, Driving, Commanding, Request, Node, initial_node, Checking, DoingWork, AwaitingDecision}
-use Rattle.sheep_node.specs.May.{May, Meets}
-use Rattle.sheep_node.specs.OneWork.{HasOneWorkPerRequest}
 use Rattle.sheep_node.specs.RecoveryView.{recovery_state_of}
 use Rattle.sheep_node.specs.StepState.{StepState, at_first, with_optional_entry, session_in, request_ended, with_sole_request}
-use Rattle.sheep_node.specs.RequestWorks.{command_refused, course_refused}
+use Rattle.sheep_node.specs.RequestWorks.{command_refused, course_refused, request_refused}
 use Rattle.sheep_node.specs.Courses.{inode_open, after_command_step}
 use Rattle.sheep_node.specs.LogReading.{entry_read, on_back}
 use Rattle.sheep_node.specs.Step.{on_request, recovery_stepped, on_put, on_recover_tick, node_step}
-use Rattle.sheep_node.specs.OwnEntries.{IsEntryOf, IsTaskOf, IsStageOf, IsCommandOf, IsCourseOf, AreOwnEntries, HasOnlyOwnEntries}
+use Rattle.sheep_node.specs.OwnEntries.{IsEntryOf, IsTaskOf, IsStageOf, IsCommandOf, IsCourseOf, AreOwnEntries, HasOnlyOwnEntries, AsksForOwn}
 use Rattle.sheep_node.specs.Changes as changes
-use Rattle.sheep_node.specs.Changes.{HasRequest, Outcome, ToWork, ToEntry, ToReply, outcome_of_driver, outcome_of_command, without_ended_work, RequestSteps, DiskBegins, DiskGoesOn, CommandBegins, CommandGoesOn, CommandDecided, WorkIsNext, AtOnce, InTurn, Again, input_received, Change, CheckBegins, CheckGoesOn, ObjectBegins, ObjectIsDone, EntryBegins, EntryDecided, outcome_of_check}
+use Rattle.sheep_node.specs.Changes.{HasRequest, Outcome, ToWork, ToEntry, ToReply, outcome_of_driver, outcome_of_command, without_ended_work, RequestSteps, DiskBegins, DiskGoesOn, CommandBegins, CommandGoesOn, CommandDecided, WorkIsNext, AtOnce, InTurn, Again, AgainAlone, input_received, Change, CheckBegins, CheckGoesOn, ObjectBegins, ObjectIsDone, EntryBegins, EntryDecided, outcome_of_check}
 use Rattle.sheep_node.proofs.OneWorkChanges.{awaited_of}
 use Rattle.sheep_node.proofs.StepChain.{kept_by_chain, step_chain}
 use Rattle.disk_check.specs.declared.act.CheckAct.{CheckAct}
 use Rattle.disk_check.specs.Check.{begin_check}
 use Rattle.sheep_node.specs.OutsideAsks.{IsEntryAsk}
+use Rattle.sheep_node.specs.May.{May}
 use Rattle.disk_check.specs.declared.act.CheckAct.TheVariants as check_acts
 use Rattle.sheep_node.specs.declared.ask.Ask.TheVariants as asks
 
@@ -232,11 +231,12 @@ module _ (me : NodeId) where
     entries = own.entries;
   }
 
-  -- an entry that is asked for from outside is this node's
-  abbrev AsksOwn : Input → Type 0
-  AsksOwn input = (req session : ℕ) (entry : Entry) → input ≡ inputs.Guest req session (asks.Entry entry) → IsEntryOf me entry
+  -- an entry that the input asks for is this node's
+  entry_asked_own : (input : Input) (req session : ℕ) (entry : Entry) → AsksForOwn me input → input ≡ inputs.Guest req session (asks.Entry entry)
+      → IsEntryOf me entry
+  entry_asked_own input req session entry own from = subst (AsksForOwn me) from own
 
-  module _ (input : Input) (node : Node) (entries_own : AsksOwn input) where
+  module _ (input : Input) (node : Node) (asked_own : AsksForOwn me input) where
     steps_own : (so_far : StepState) (session req : ℕ) (next : Outcome) (moved : StepState) → RequestSteps input node so_far session req next moved → OnlyOwn so_far → OnlyOwn moved × NextOf next
     steps_own so_far session req next moved (DiskBegins ask disk there on may) own = (
       record {
@@ -283,7 +283,7 @@ module _ (me : NodeId) where
     steps_own so_far session req next moved (ObjectIsDone number work attempt status bytes asked ends) own =
         (record { own_so = own.own_so; commands = own.commands; entries = own.entries }, tt)
     steps_own so_far session req next moved (EntryBegins entry arrival) own =
-        let of = entries_own req session entry arrival.from in
+        let of = entry_asked_own input req session entry asked_own arrival.from in
         (sole_own session req (AwaitingDecision entry) so_far of own, of)
     steps_own so_far session req next moved (EntryDecided entry wanted from read there waits) own = (own, tt)
 
@@ -293,6 +293,7 @@ module _ (me : NodeId) where
         record { own_so = m.own_so; commands = m.commands; entries = m.entries }
     comes_own so_far session req asked lined (InTurn work later none is) own = record { own_so = own.own_so; commands = own.commands; entries = own.entries }
     comes_own so_far session req asked lined (Again work course from next there request) own = own
+    comes_own so_far session req asked lined (AgainAlone work from next there none) own = own
 
     ended_own : (session req : ℕ) (reply : GuestRsp) (so_far : StepState) → OnlyOwn so_far → OnlyOwn (request_ended session req reply so_far)
     unfolding request_ended
@@ -321,6 +322,12 @@ module _ (me : NodeId) where
             ended_own session req end.reply (with_optional_entry end.unlock so_far)
             (record { own_so = own.own_so; commands = own.commands; entries = more end.unlock of })
 
+    request_refused_own : (req : ℕ) (cause : Cause) (request : Option Request) (so_far : StepState) → tree.get so_far.node.requests req ≡ request → OnlyOwn so_far
+        → OnlyOwn (request_refused req cause request so_far)
+    request_refused_own req cause None so_far there own = own
+    request_refused_own req cause (Some request) so_far there own =
+        refused_own request.session req cause request.course so_far (own.commands req request there) own
+
     pub change_keeps_own_entries : (so_far next : StepState) → Change input node so_far next → OnlyOwn so_far → OnlyOwn next
     change_keeps_own_entries so_far next (changes.Marks req number work attempt status learns over) own = own
     change_keeps_own_entries so_far next (changes.Fails session req number work attempt status course ends done why) own = own
@@ -329,9 +336,10 @@ module _ (me : NodeId) where
         refused_own session req cause course (without_ended_work session req work status so_far) (own.commands req (record { session = session; course = course }) ends.request) own
     change_keeps_own_entries so_far next (changes.Opens session req asked lined comes short) own = comes_own so_far session req asked lined comes own
     change_keeps_own_entries so_far next (changes.Holds session req asked lined comes short touched) own = comes_own so_far session req asked lined comes own
-    change_keeps_own_entries so_far next (changes.Denies session req asked lined course comes short untouched there) own =
-        let l = comes_own so_far session req asked lined comes own in
-        refused_own session req (Halt (changes.zones_of_members lined.node) (zones_for asked.work)) course (changes.without_denied_work session req asked lined) (l.commands req (record { session = session; course = course }) there) l
+    change_keeps_own_entries so_far next (changes.Denies session req asked lined request comes short untouched there is_own) own =
+        request_refused_own req (Halt (changes.zones_of_members lined.node) (zones_for asked.work)) request (changes.without_denied_work session req asked lined) there
+        (comes_own so_far session req asked lined comes own)
+    change_keeps_own_entries so_far next (changes.Strays req work gateway there none) own = own
     change_keeps_own_entries so_far next (changes.Lines session req work moved steps waits) own = (steps_own so_far session req (ToWork work) moved steps own).0
     change_keeps_own_entries so_far next (changes.Appends session req entry moved steps) own =
         let m = steps_own so_far session req (ToEntry entry) moved steps own in
@@ -375,21 +383,32 @@ module _ (me : NodeId) where
     entries = All-nil (IsEntryOf me);
   }
 
-entry_asked_own : (me : NodeId) (entry : Entry) → IsEntryAsk me entry → IsEntryOf me entry
-entry_asked_own me (Lock by session name tag) asked = asked.0
-entry_asked_own me (Unlock by session vid) asked = asked.0
-entry_asked_own me _ asked = absurd asked
-
-asks_own : (input : Input) (node : Node) → May input node → AsksOwn node.me input
-asks_own input node may req session entry from =
-    entry_asked_own node.me entry (subst (λ (input : Input). Meets input node) from may.condition).asked
+-- a node that may step on an input is asked for entries of its own alone
+pub asks_for_own : (input : Input) (node : Node) → May input node → AsksForOwn node.me input
+asks_for_own (inputs.Guest req session (asks.Disk ask)) node may = tt
+asks_for_own (inputs.Guest req session (asks.Vdi ask)) node may = tt
+asks_for_own (inputs.Guest req session (asks.Object work)) node may = tt
+asks_for_own (inputs.Guest req session (asks.Entry entry)) node may = by_kind entry may.condition.asked
+  where
+    by_kind : (entry : Entry) → IsEntryAsk node.me entry → IsEntryOf node.me entry
+    by_kind (Lock by session name tag) asked = asked.0
+    by_kind (Unlock by session vid) asked = asked.0
+    by_kind _ asked = absurd asked
+asks_for_own (inputs.Request request) node may = tt
+asks_for_own (inputs.Reply rsp) node may = tt
+asks_for_own (inputs.Lost number) node may = tt
+asks_for_own (inputs.LogEntry entry) node may = tt
+asks_for_own inputs.Put node may = tt
+asks_for_own inputs.RecoverTick node may = tt
+asks_for_own inputs.RetryTick node may = tt
+asks_for_own (inputs.Back entries) node may = tt
 
 -- a node whose outbox has its own entries keeps it so
-pub own_entries_stay : (input : Input) (node : Node) → May input node → HasOneWorkPerRequest node → HasOnlyOwnEntries node
+pub own_entries_stay : (input : Input) (node : Node) → AsksForOwn node.me input → HasOnlyOwnEntries node
     → HasOnlyOwnEntries (node_step input node).node
-own_entries_stay input node may driven own =
+own_entries_stay input node asked own =
     let after : AreOwnEntries node.me (node_step input node).node.me (node_step input node).node.requests (node_step input node).node.outbox
-    = kept_by_chain (OnlyOwn node.me) (change_keeps_own_entries node.me input node (asks_own input node may)) (step_chain input node may driven)
+    = kept_by_chain (OnlyOwn node.me) (change_keeps_own_entries node.me input node asked) (step_chain input node)
     (received_own_entries node.me input node own) in
     subst (λ (me : NodeId). AreOwnEntries me (node_step input node).node.me (node_step input node).node.requests (node_step input node).node.outbox)
     (sym after.own_so) after

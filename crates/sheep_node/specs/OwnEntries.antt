@@ -8,6 +8,9 @@ use Rattle.object_id.specs.declared.entry.Entry.TheVariants.{Format, Join, Leave
 use Rattle.object_id.specs.declared.entry.Entry.TheVariants.{Delete, Lock, Unlock}
 use Rattle.vdi_ops.specs.Op.{Task, Opening, WritingBack, Tagging, Copying, Making, OpStage, Asked, Working, Publishing, Answered, Op}
 use Rattle.sheep_node.specs.State.{Course, Waiting, Driving, Commanding, Checking, DoingWork, AwaitingDecision, Request, Node}
+use Rattle.sheep_node.specs.declared.input.Input.{Input}
+use Rattle.sheep_node.specs.declared.input.Input.TheVariants as inputs
+use Rattle.sheep_node.specs.declared.ask.Ask.TheVariants as asks
 
 -- an entry is one that this node puts
 abbrev pub IsEntryOf : NodeId → Entry → Type 0
@@ -60,3 +63,8 @@ pub record AreOwnEntries (me own : NodeId) (requests : tree.FinMap nat_cmp Reque
 -- a node's entries are its own
 abbrev pub HasOnlyOwnEntries : Node → Type 0
 HasOnlyOwnEntries node = AreOwnEntries node.me node.me node.requests node.outbox
+
+-- where the input asks for an entry, it is one that this node puts
+abbrev pub AsksForOwn : NodeId → Input → Type 0
+AsksForOwn me (inputs.Guest req session (asks.Entry entry)) = IsEntryOf me entry
+AsksForOwn me _ = Unit {0}
