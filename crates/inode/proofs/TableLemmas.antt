@@ -2,8 +2,9 @@
 use Rattle.std.proofs.Common.{◌≡◌, ℕ, suc, ◌+◌, ◌-◌, ◌*◌, ◌^◌, ◌<◌, ◌≤◌, Bool, true, false, ◌&&◌, List, [], ◌∷◌, refl, sym, ap, ◌∙◌, arith, All}
 use Rattle.std.specs.List.{list_all, AllByRecursion}
 use Rattle.std.specs.Int.{w32}
-use Rattle.std.proofs.lemmas.Bool.{ltb-true, lt-ltb, and_parts, and_from, and_left}
+use Rattle.std.proofs.lemmas.Bool.{leb-true, le-leb, and_parts, and_from, and_left}
 use Rattle.std.proofs.lemmas.List.Elements.{recursion_from_All, All-from_recursion}
+use Rattle.object_id.specs.declared.limits.TheConstants.{VID_MAX}
 use Rattle.object_id.specs.Fields.{number_at, numbers_at}
 use Rattle.inode.specs.Layout.{IsEntry}
 use Rattle.inode.specs.Reading.{is_entry}
@@ -12,14 +13,14 @@ entries-by_test : (table : List ℕ) → list_all is_entry table ≡ true → Al
 entries-by_test [] h = tt
 entries-by_test (e ∷ es) h =
     let both = and_parts (is_entry e) (list_all is_entry es) h in
-    (ltb-true e (2 ^ 24) both.0, entries-by_test es both.1)
+    (leb-true e VID_MAX both.0, entries-by_test es both.1)
 
 pub entries-pass : (table : List ℕ) → list_all is_entry table ≡ true → All IsEntry table
 entries-pass table h = All-from_recursion IsEntry table (entries-by_test table h)
 
 test-by_entries : (table : List ℕ) → AllByRecursion IsEntry table → list_all is_entry table ≡ true
 test-by_entries [] h = refl
-test-by_entries (e ∷ es) h = and_from (is_entry e) (list_all is_entry es) (lt-ltb e (2 ^ 24) h.0) (test-by_entries es h.1)
+test-by_entries (e ∷ es) h = and_from (is_entry e) (list_all is_entry es) (le-leb e VID_MAX h.0) (test-by_entries es h.1)
 
 pub pass-entries : (table : List ℕ) → All IsEntry table → list_all is_entry table ≡ true
 pass-entries table h = test-by_entries table (recursion_from_All IsEntry table h)

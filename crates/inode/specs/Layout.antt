@@ -1,8 +1,9 @@
 -- The layout of an inode: 4,664 bytes of header, then the table, four bytes an entry.
-use Rattle.std.specs.Prelude.{◌≡◌, ◌≢◌, ℕ, ◌-◌, ◌^◌, ◌<◌, List, ◌∷◌, ◌++◌, length, All, Option, Some, None}
+use Rattle.std.specs.Prelude.{◌≡◌, ◌≢◌, ℕ, ◌-◌, ◌^◌, ◌<◌, ◌≤◌, List, ◌∷◌, ◌++◌, length, All, Option, Some, None}
 use Rattle.std.specs.Int.{w32}
 use Rattle.object_id.specs.declared.oid.Vid.{Vid}
 use Rattle.object_id.specs.declared.entry.VdiSpec.{VdiSpec}
+use Rattle.object_id.specs.declared.limits.TheConstants.{VID_MAX}
 use Rattle.object_id.specs.Oid.{IsVid}
 use Rattle.object_id.specs.Policy.{policy_byte, strips_of}
 use Rattle.object_id.specs.Spec.{IsSpec, objects_of}
@@ -65,9 +66,9 @@ pub record SpellsInode (bytes : List ℕ) (content : Content) : Type 0 where
 abbrev pub IsFieldText : List ℕ → Type 0
 IsFieldText text = (length text < TEXT_BYTES) × All (λ byte. byte ≢ 0) text
 
--- what may stand in a table
+-- what may stand in a table: 0 for a hole, else a disk's id
 abbrev pub IsEntry : ℕ → Type 0
-IsEntry entry = entry < 2 ^ 24
+IsEntry entry = entry ≤ VID_MAX
 
 -- what an inode of the format may say
 pub record IsContent (content : Content) : Type 0 where

@@ -6,7 +6,7 @@ use Rattle.std.specs.Int.{w32}
 use Rattle.object_id.specs.declared.policy.Policy.{Policy}
 use Rattle.object_id.specs.declared.policy.Policy.TheVariants.{Copies, Coded}
 use Rattle.object_id.specs.declared.entry.VdiSpec.{VdiSpec}
-use Rattle.object_id.specs.declared.limits.TheConstants.{SHIFT_MIN, SHIFT_MAX, VID_MAX}
+use Rattle.object_id.specs.declared.limits.TheConstants.{BLOCK_BYTES, COPIES_MAX, OBJECTS_MAX, SHIFT_MIN, SHIFT_MAX, VID_MAX}
 use Rattle.object_id.specs.Policy.{is_width}
 use Rattle.object_id.specs.Spec.{objects_of}
 use Rattle.object_id.specs.Fields.{u8_at, u32_at, u64_at, numbers_at}
@@ -53,7 +53,7 @@ text_at at bytes = text_in_field (slice_range bytes at (at + TEXT_BYTES))
 abbrev pub spelled_policy : ℕ → ℕ → Option Policy
 spelled_policy byte copies =
     if byte == 0 then
-    if nat_le 1 copies && nat_le copies 31 then Some (Copies copies) else None
+    if nat_le 1 copies && nat_le copies COPIES_MAX then Some (Copies copies) else None
     else
     if is_width (byte / 16 * 2) && not (byte % 16 == 0) && copies == byte / 16 * 2 + byte % 16
     then Some (Coded (byte / 16 * 2) (byte % 16)) else None
@@ -65,9 +65,9 @@ shift_at bytes = if nat_le SHIFT_MIN (u8_at 555 bytes) && nat_le (u8_at 555 byte
 unfoldable pub policy_at : List ℕ → Result Policy InodeFault
 policy_at bytes = ok_or (spelled_policy (u8_at 552 bytes) (u8_at 554 bytes)) faults.BadPolicy
 
--- whole blocks, that at most 2^20 objects hold
+-- whole blocks, in as many objects at most as a disk may have
 abbrev pub is_size : ℕ → ℕ → Bool
-is_size shift size = not (size == 0) && size % 512 == 0 && nat_le size (2 ^ 20 * 2 ^ shift)
+is_size shift size = not (size == 0) && size % BLOCK_BYTES == 0 && nat_le size (OBJECTS_MAX * 2 ^ shift)
 
 unfoldable pub size_at : ℕ → List ℕ → Result ℕ InodeFault
 size_at shift bytes = if is_size shift (u64_at 536 bytes) then Ok (u64_at 536 bytes) else Err faults.BadSize
@@ -82,10 +82,11 @@ spec_at bytes = do
 unfoldable pub vid_at : List ℕ → Result ℕ InodeFault
 vid_at bytes = if nat_le 1 (u32_at 560 bytes) && nat_le (u32_at 560 bytes) VID_MAX then Ok (u32_at 560 bytes) else Err faults.BadSize
 
--- as many entries as the disk has objects
+-- 0 for a hole, else a disk's id
 abbrev pub is_entry : ℕ → Bool
-is_entry entry = nat_lt entry (2 ^ 24)
+is_entry entry = nat_le entry VID_MAX
 
+-- as many entries as the disk has objects
 unfoldable pub table_at : VdiSpec → List ℕ → Result (List ℕ) InodeFault
 table_at spec bytes =
     if nat_lt (length bytes) (INODE_HEADER_BYTES + 4 * objects_of spec) then Err faults.ShortInode else

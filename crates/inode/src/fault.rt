@@ -18,10 +18,10 @@ pub enum InodeFault {
     BadShift,
     #[error("the policy isn't one")]
     BadPolicy,
-    /// The size is 0, no multiple of 512, or more than 2^20 objects have; or the disk's id isn't 1 to 2^24 - 1.
+    /// The size is 0, isn't whole blocks, or is more than the objects that a disk may have hold; or the id isn't one.
     #[error("the size or the id isn't one")]
     BadSize,
-    /// An entry of the table isn't below 2^24.
+    /// An entry of the table is neither 0 nor a disk's id.
     #[error("an entry is no disk's id")]
     BadEntry,
     #[error("no memory")]

@@ -1,5 +1,6 @@
 //! Laws of the spelling, for the proofs of the layers above: each is the contract of a function that does nothing.
 ghost use Rattle.std.specs.Prelude.{◌≡◌, ℕ, ◌+◌, ◌*◌, ◌^◌, List, ◌++◌};
+ghost use Rattle.object_id.specs.declared.limits.TheConstants.{OBJECTS_MAX};
 ghost use Rattle.inode.specs.declared.layout.TheConstants.{INODE_BYTES, INODE_HEADER_BYTES};
 ghost use Rattle.inode.specs.Layout.{Content, IsFieldText, IsContent, SpellsInode, inode_bytes, unread_zeros};
 
@@ -13,5 +14,5 @@ pub fn inodes_are_read_again()
 
 /// An inode object has room for the header and the most entries that a disk may have.
 pub fn an_inode_has_room_for_all_entries()
-    ensures { INODE_BYTES ≡ INODE_HEADER_BYTES + 4 * 2 ^ 20 }
+    ensures { INODE_BYTES ≡ INODE_HEADER_BYTES + 4 * OBJECTS_MAX }
 {}

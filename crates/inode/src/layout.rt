@@ -6,5 +6,3 @@ pub const CHILDREN_BYTES: usize = 4_096;
 pub const INODE_HEADER_BYTES: usize = 4_664;
 /// How many bytes an inode object has: the header, and four for each of the 2^20 objects that a disk may have.
 pub const INODE_BYTES: u32 = 4_198_968;
-/// What every entry of a table is below.
-pub const ENTRY_END: u32 = 1 << 24;

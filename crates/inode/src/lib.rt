@@ -21,5 +21,5 @@ mod writing;
 pub use fault::InodeFault;
 pub use inode::Inode;
 pub use laws::{an_inode_has_room_for_all_entries, inodes_are_read_again};
-pub use layout::{CHILDREN_BYTES, ENTRY_END, INODE_BYTES, INODE_HEADER_BYTES, TEXT_BYTES};
+pub use layout::{CHILDREN_BYTES, INODE_BYTES, INODE_HEADER_BYTES, TEXT_BYTES};
 pub use object_id::VdiSpec;

@@ -11,9 +11,9 @@ ghost use Rattle.inode.specs.Parts.{parts_content};
 
 use crate::fault::InodeFault;
 use crate::inode::{Inode, objects};
-use crate::layout::{ENTRY_END, INODE_HEADER_BYTES, TEXT_BYTES};
+use crate::layout::{INODE_HEADER_BYTES, TEXT_BYTES};
 use object_id::{
-    BLOCK_BYTES, Bytes, NoMemory, Policy, SHIFT_MAX, SHIFT_MIN, VdiSpec, Vid, u32_at, u64_at,
+    BLOCK_BYTES, Bytes, NoMemory, OBJECTS_MAX, Policy, SHIFT_MAX, SHIFT_MIN, VID_MAX, VdiSpec, Vid, u32_at, u64_at,
 };
 use std::alloc::Global;
 
@@ -84,11 +84,11 @@ fn size_at(shift: u8, bytes: &[u8]) -> Result<u64, InodeFault>
     requires long { INODE_HEADER_BYTES ≤ length bytes.now }
     requires shift { shift ≤ SHIFT_MAX }
     ensures value { result ≡ reading.size_at shift bytes.now }
-    ensures limits { IfOk result (λ size. (512 ≤ size) × (size ≤ 2 ^ 20 * 2 ^ shift)) }
-    ensures blocks { IfOk result (λ size. size % 512 ≡ 0) }
+    ensures limits { IfOk result (λ size. (BLOCK_BYTES ≤ size) × (size ≤ OBJECTS_MAX * 2 ^ shift)) }
+    ensures blocks { IfOk result (λ size. size % BLOCK_BYTES ≡ 0) }
 {
     let size = u64_at(bytes, 536);
-    if size != 0 && size % u64::from(BLOCK_BYTES) == 0 && size <= (1 << 20) * (1 << shift) {
+    if size != 0 && size % u64::from(BLOCK_BYTES) == 0 && size <= u64::from(OBJECTS_MAX) * (1 << shift) {
         Ok(size)
     } else {
         Err(InodeFault::BadSize)
@@ -124,13 +124,13 @@ fn vid_at(bytes: &[u8]) -> Result<Vid, InodeFault>
     }
 }
 
-/// Whether so many entries of a table are each below 2^24.
+/// Whether so many entries of a table are each 0 or a disk's id.
 fn are_entries(count: u32, bytes: &[u8]) -> bool
     requires { INODE_HEADER_BYTES + 4 * count ≤ length bytes.now }
     ensures { result ≡ list_all reading.is_entry (numbers_at w32 count INODE_HEADER_BYTES bytes.now) }
 {
     for place in 0..count as usize {
-        if u32_at(bytes, INODE_HEADER_BYTES + 4 * place) >= ENTRY_END {
+        if u32_at(bytes, INODE_HEADER_BYTES + 4 * place) > VID_MAX {
             return false;
         }
     }
