@@ -23,7 +23,7 @@ use Rattle.cluster_script.specs.OneDisk.{IsPrintedName}
 use Rattle.cluster_script.specs.Language.{MaySet, HasCluster, MayAsk, IsPrintedTag, IsByte, MayStand}
 use Rattle.cluster_script.specs.Words.{Word, is_next_word, option_at}
 use Rattle.cluster_script.specs.Numbers.{is_digits, number_of}
-use Rattle.cluster_script.specs.Requests.{has_room, request_within_limits, is_colon, strips_in, copies_in, policy_of_word, policy_option_at, shift_option_at, tag_at, create_request_at, disk_words_at, open_request_at, close_request_at, span_at, read_request_at, pattern_byte_at, named_pattern_at, pattern_at, write_request_at, snapshot_request_at, clone_request_at, delete_request_at, check_request_at, check_within_limits, copy_verb_at, verb_at, vdi_request_at}
+use Rattle.cluster_script.specs.Requests.{has_room, request_within_limits, is_colon, strips_in, copies_in, policy_of_word, policy_option_at, shift_option_at, tag_at, create_request_at, disk_words_at, open_request_at, close_request_at, span_at, read_request_at, pattern_byte_at, named_pattern_at, pattern_at, write_request_at, snapshot_request_at, clone_request_at, delete_request_at, check_request_at, copy_verb_at, verb_at, vdi_request_at}
 use Rattle.cluster_script.specs.ClusterLines.{setting_at, zone_at, there_at, session_line_at, fail_at, join_at, reweight_at, back_at, lose_at, alone_at, followed_at, barrier_at, happening_at}
 use Rattle.cluster_script.specs.Script.{asking_session, session_request_at, statement_behind_cluster, statement_at}
 use Rattle.cluster_script.specs.Spelling.{IsNumber, IsSize, IsPolicyWord, IsOption, IsRequestWords, IsAskedOfDisk, IsPatternWords, IsSpelled}
