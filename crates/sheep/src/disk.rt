@@ -10,6 +10,9 @@ use object_id::{BLOCK_BYTES, Bytes, NoMemory};
 use std::alloc::Global;
 use std::collections::BTreeMap;
 
+/// A block's length, of the width of offsets.
+const BLOCK: u64 = BLOCK_BYTES as u64;
+
 /// What the line of a request that is done says, and that of a piece that ends past the disk.
 const OK: &[u8] = b" ok";
 
@@ -55,8 +58,8 @@ fn fill(
     ensures { OnOk result ((block : ℕ) → stored_block blocks.new block
         ≡ (if covers_block offset length block then block_of pattern offset block else stored_block blocks.old block)) }
 {
-    let first = offset / u64::from(BLOCK_BYTES);
-    for block in first..first + u64::from(length / BLOCK_BYTES) {
+    let first = offset / BLOCK;
+    for block in first..first + u64::from(length) / BLOCK {
         let byte = byte_of(pattern, block - first);
         blocks.insert(block, Bytes::from_slice(alloc, &[byte; BLOCK_BYTES as usize])?)?;
     }
@@ -79,9 +82,9 @@ fn piece(alloc: Global, blocks: &Blocks, offset: u64, length: u32) -> Result<Vec
     requires { offset + length < 2 ^ 64 }
     ensures { IfOk result (λ bytes. bytes.items ≡ flat_map (stored_block blocks.now) (piece_blocks offset length)) }
 {
-    let first = offset / u64::from(BLOCK_BYTES);
+    let first = offset / BLOCK;
     let mut bytes = Vec::new(alloc);
-    for block in first..first + u64::from(length / BLOCK_BYTES) {
+    for block in first..first + u64::from(length) / BLOCK {
         push_block(&mut bytes, blocks, block)?;
     }
     Ok(bytes)
