@@ -1,5 +1,5 @@
 //! Laws of a step, for the proofs of the layers above: each is the contract of a function that does nothing.
-ghost use Rattle.std.specs.Prelude.{◌≡◌, ◌⊎◌, ℕ, Bool, ◌+◌, ◌<◌, true, false, List, [], ◌∷◌, ◌++◌, length, Option, Some, None, IsTrue};
+ghost use Rattle.std.specs.Prelude.{◌≡◌, ◌↔◌, ◌⊎◌, ℕ, Bool, ◌+◌, ◌<◌, true, false, List, [], ◌∷◌, ◌++◌, length, Option, Some, None, IsTrue};
 ghost use Rattle.std.specs.FinMap.{contains_key};
 ghost use Rattle.object_id.specs.declared.cause.Cause.{Cause};
 ghost use Rattle.object_id.specs.declared.node.NodeId.{NodeId};
@@ -32,7 +32,8 @@ ghost use Rattle.sheep_node.specs.Changes.{input_received, Leads};
 ghost use Rattle.sheep_node.specs.AwaitedEntry.{waits_for_entry};
 ghost use Rattle.sheep_node.specs.RequestWorks.{work_begun, course_refused};
 ghost use Rattle.sheep_node.specs.Courses.{disk_after};
-ghost use Rattle.sheep_node.specs.May.{May};
+ghost use Rattle.sheep_node.specs.May.{IsGuestAsk, MayRead, MayComeBack, May};
+ghost use Rattle.sheep_node.specs.MayTests.{is_guest_ask, may_read, may_come_back, may};
 ghost use Rattle.sheep_node.specs.Step.{is_due, recovered_put, node_step};
 ghost use Rattle.sheep_node.specs.StepFacts.{read_after, may_begin_recovery, only_reply, said_on, put_on, Ascend, IsByTheLog};
 
@@ -177,4 +178,13 @@ pub fn a_queue_has_the_disk_requests()
 pub fn requests_come_from_inputs()
     ensures { (input : Input) (node : Node) (req : ℕ) → contains_key (node_step input node).node.requests req ≡ true
         → (contains_key node.requests req ≡ true) ⊎ ((session : ℕ) × (ask : Ask) × (input ≡ inputs.Guest req session ask)) }
+{}
+
+/// Whether a node may step on an input can be tested, and so can the parts of it: what a guest may ask, which entry may be read next,
+/// and with which entries a lost node may come back.
+pub fn conditions_are_tests()
+    ensures may { (input : Input) (node : Node) → IsTrue (may input node) ↔ May input node }
+    ensures guest_ask { (ask : Ask) → IsTrue (is_guest_ask ask) ↔ IsGuestAsk ask }
+    ensures read { (entries : List Entry) (entry : Entry) → IsTrue (may_read entries entry) ↔ MayRead entries entry }
+    ensures come_back { (entries : List Entry) (node : Node) → IsTrue (may_come_back entries node) ↔ MayComeBack entries node }
 {}
