@@ -66,37 +66,41 @@ pub fn outputs_are_as_the_input()
     ensures replies { (input : Input) (node : Node) → Ascend (node_step input node).outputs.replies }
 {}
 
-/// A request of another epoch is answered with the node's own, and changes nothing.
+/// A request of another epoch is answered with the node's own, and changes nothing. As in every step a `Recovered` that is due is put,
+/// and none is due once a step was made (`recovered_is_put_once`).
 pub fn other_epochs_are_refused()
-    ensures older { (request : PeerReq) (node : Node) → IsSoundNode node → request.epoch.0 < node.peer.epoch
-        → node_step (inputs.Request request) node ≡ record {
+    ensures older { (request : PeerReq) (node : Node) → request.epoch.0 < node.peer.epoch
+        → node_step (inputs.Request request) node ≡ recovered_put (record {
           node = node;
           outputs = only_reply (record {
             number = request.number;
             epoch = record { 0 = node.peer.epoch };
             say = Refused (OldEpoch (record { 0 = node.peer.epoch }));
           });
-        } }
-    ensures newer { (request : PeerReq) (node : Node) → IsSoundNode node → node.peer.epoch < request.epoch.0
-        → node_step (inputs.Request request) node ≡ record {
+        }) }
+    ensures newer { (request : PeerReq) (node : Node) → node.peer.epoch < request.epoch.0
+        → node_step (inputs.Request request) node ≡ recovered_put (record {
           node = node;
           outputs = only_reply (record {
             number = request.number;
             epoch = record { 0 = node.peer.epoch };
             say = Refused (NewEpoch (record { 0 = node.peer.epoch }));
           });
-        } }
+        }) }
 {}
 
 /// The entry that was put leaves the outbox, and nothing else changes.
 pub fn what_is_put_leaves_the_outbox()
-    ensures { (node : Node) (entry : Entry) (later : List Entry) → IsSoundNode node → node.outbox ≡ entry ∷ later
+    ensures { (node : Node) (entry : Entry) (later : List Entry) → node.outbox ≡ entry ∷ later → is_due node ≡ false
         → (node_step inputs.Put node).node ≡ record node { outbox = later } }
 {}
 
-/// At the end of a step no `Recovered` is due, and none is put twice: once put it stays so, until a recovery begins.
+/// A node opens with no `Recovered` due, and at the end of each step none is due; so a step begins with none due. What isn't due isn't
+/// put, and none is put twice: once put it stays so, until a recovery begins.
 pub fn recovered_is_put_once()
+    ensures opens { (me : NodeId) (tries : ℕ) → is_due (initial_node me tries) ≡ false }
     ensures due { (input : Input) (node : Node) → is_due (node_step input node).node ≡ false }
+    ensures rests { (so_far : StepState) → is_due so_far.node ≡ false → recovered_put so_far ≡ so_far }
     ensures once { (so_far : StepState) → so_far.node.recovered ≡ true → recovered_put so_far ≡ so_far }
     ensures stays { (input : Input) (node : Node) → may_begin_recovery input ≡ false → node.recovered ≡ true
         → (node_step input node).node.recovered ≡ true }
@@ -135,7 +139,7 @@ pub fn a_refused_work_gives_its_id_back()
 
 /// A guest's command begins with its entry in the outbox: a new disk with its reservation.
 pub fn a_create_begins_with_its_reservation()
-    ensures { (req session : ℕ) (name : List ℕ) (spec : VdiSpec) (node : Node) → IsSoundNode node
+    ensures { (req session : ℕ) (name : List ℕ) (spec : VdiSpec) (node : Node) → is_due node ≡ false
         → (node_step (inputs.Guest req session (Vdi (Create name spec))) node).node.outbox
         ≡ node.outbox ++ entries.Reserve node.me session name (Fresh spec) ∷ [] }
 {}
