@@ -1,6 +1,5 @@
 -- A command on disks: what it waits for, and what it has come to.
 use Rattle.std.specs.Prelude.{◌≡◌, ℕ, Bool, List, Option, Some, None}
-use Rattle.std.specs.Option.{option_map}
 use Rattle.object_id.specs.declared.oid.Vid.{Vid}
 use Rattle.object_id.specs.declared.node.NodeId.{NodeId}
 use Rattle.object_id.specs.declared.entry.Entry.{Entry}
@@ -64,9 +63,9 @@ disk_change_at (Working vid task) = Stays
 disk_change_at (Publishing entry opened) = Stays
 disk_change_at (Answered change) = change
 
--- what a command leaves of what its session has open
-abbrev pub disk_change : Op → DiskChange
-disk_change op = disk_change_at op.stage
+-- what a step of a command leaves of what its session has open
+abbrev pub disk_change : OpStep → DiskChange
+disk_change step = disk_change_at step.op.stage
 
 -- the entry that is waited for
 abbrev pub entry_wanted_at : OpStage → Option Entry
@@ -116,7 +115,3 @@ IsAwaitedAtOpStage act (Answered change) = (reply : GuestRsp) × (act ≡ Reply 
 -- a step's act is what the command then waits for
 abbrev pub IsAwaitedByCommand : OpStep → Type 0
 IsAwaitedByCommand step = IsAwaitedAtOpStage step.act step.op.stage
-
--- what the command of a step, if there is one, leaves of what its session has open
-abbrev pub change_of : Option OpStep → Option DiskChange
-change_of step = option_map (λ (step : OpStep). disk_change step.op) step
