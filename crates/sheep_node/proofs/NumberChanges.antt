@@ -1,10 +1,9 @@
 -- Every change leaves a number with one work or the recovery, and below the count of sends; so a node stays driven.
-use Rattle.std.proofs.Common.{◌≡◌, ◌≢◌, ℕ, ◌+◌, ◌<◌, ◌≤◌, Bool, true, false, List, [], ◌∷◌, ◌++◌, length, map, Option, Some, None, is_some, refl, sym, ap, subst, ◌∙◌, ⊎_elim}
+use Rattle.std.proofs.Common.{◌≡◌, ◌≢◌, ℕ, ◌+◌, ◌<◌, ◌≤◌, Bool, true, false, List, [], ◌∷◌, length, map, Option, Some, None, is_some, refl, sym, ap, subst, ◌∙◌, ⊎_elim}
 use native.Mathlib.Omega.{arith}
 use Rattle.std.specs.Ordering.{nat_cmp}
 use Rattle.std.specs.List.{list_any}
 use Rattle.std.specs.FinMap as tree
-use Rattle.std.specs.FinSet as set
 use Rattle.std.proofs.lemmas.Option.{same_Some}
 use Rattle.std.proofs.lemmas.Bool.{cases_eq, cases_lt}
 use Rattle.proof_tools.proofs.Booleans.{cond_either, has_value}
@@ -14,34 +13,29 @@ use Rattle.object_id.specs.declared.cause.Cause.TheVariants.{Halt}
 use Rattle.object_id.specs.declared.node.Epoch.{Epoch}
 use Rattle.object_id.specs.declared.node.NodeId.{NodeId}
 use Rattle.object_id.specs.declared.entry.Entry.{Entry}
-use Rattle.object_id.specs.declared.entry.Member.{Member}
 use Rattle.vnode_table.specs.Targets.{targets_in}
 use Rattle.peer_proto.specs.Work.{oid_of, policy_of}
-use Rattle.peer_proto.specs.declared.guest.VdiAsk.{VdiAsk}
 use Rattle.peer_proto.specs.declared.guest.GuestRsp.{GuestRsp}
 use Rattle.peer_proto.specs.declared.say.PeerSay.{PeerSay}
 use Rattle.gateway.specs.declared.message.Status.{Status}
 use Rattle.gateway.specs.Work as works
-use Rattle.gateway.specs.Attempt.{Attempt, is_unanswered, is_awaited_message, messages_with_status, messages_of, send_of}
+use Rattle.gateway.specs.Attempt.{Attempt, is_awaited_message, messages_of, send_of}
 use Rattle.gateway.specs.State as gateways
 use Rattle.gateway.specs.State.{WorkStage, Open, Ended, WaitsForMembers, Work, Gateway, open_messages, is_awaited_in}
-use Rattle.gateway.specs.Step.{with_work, without_work, attempt_with_status}
+use Rattle.gateway.specs.Step.{with_work, attempt_with_status}
 use Rattle.recovery.specs.State as recoveries
 use Rattle.recovery.specs.State.{Recovery, Message}
 use Rattle.recovery.specs.Steps as recovery_steps
 use Rattle.recovery.specs.Tick.{state_after_tick}
-use Rattle.vdi_ops.specs.declared.act.OpAct.{OpAct}
-use Rattle.vdi_ops.specs.declared.act.OpAct.TheVariants as op_acts
 use Rattle.vdi_ops.specs.declared.end.OpEnd.{OpEnd}
-use Rattle.vdi_ops.specs.Op.{Op}
 use Rattle.vdi_ops.specs.Steps.{on_refusal}
 use Rattle.sheep_node.specs.declared.input.Input.{Input}
 use Rattle.sheep_node.specs.declared.input.Input.TheVariants as inputs
 use Rattle.sheep_node.specs.State.{Course, Waiting, Driving, Commanding, Node, initial_node}
 use Rattle.sheep_node.specs.RecoveryView.{recovery_state_of}
-use Rattle.sheep_node.specs.StepState.{StepState, at_first, with_optional_entry, with_gateway, request_ended}
-use Rattle.sheep_node.specs.RequestWorks.{command_refused, course_refused, queue_left}
-use Rattle.sheep_node.specs.LogReading.{entry_read, epoch_members, come_back_with, on_back}
+use Rattle.sheep_node.specs.StepState.{StepState, at_first, with_gateway, request_ended}
+use Rattle.sheep_node.specs.RequestWorks.{command_refused, course_refused}
+use Rattle.sheep_node.specs.LogReading.{entry_read, come_back_with, on_back}
 use Rattle.sheep_node.specs.Step.{on_request, recovery_stepped, on_put, on_recover_tick, node_step}
 use Rattle.sheep_node.specs.May.{Meets, May}
 use Rattle.sheep_node.specs.OneWork.{NumbersAreOfOneWork, NumbersAreBelow, HasOneWorkPerRequest}

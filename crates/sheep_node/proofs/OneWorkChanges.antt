@@ -2,23 +2,21 @@
 use Rattle.std.proofs.Common.{◌≡◌, ◌≢◌, ℕ, ◌==◌, ◌+◌, ◌++◌, Bool, true, false, ◌&&◌, List, [], ◌∷◌, Contains, Option, Some, None, is_none, unwrap_or, IfSome, refl, sym, ap, subst, ◌∙◌}
 use Rattle.std.specs.Ordering.{nat_cmp}
 use Rattle.std.specs.FinMap as tree
-use Rattle.std.specs.FinSet as set
 use Rattle.object_id.specs.declared.cause.Cause.{Cause}
 use Rattle.object_id.specs.declared.cause.Cause.TheVariants.{Halt}
 use Rattle.object_id.specs.declared.entry.Entry.{Entry}
 use Rattle.object_id.specs.Same.{is_same_entry}
-use Rattle.peer_proto.specs.declared.guest.VdiAsk.{VdiAsk}
 use Rattle.peer_proto.specs.declared.guest.GuestRsp.{GuestRsp}
 use Rattle.peer_proto.specs.declared.guest.GuestRsp.TheVariants.{Refused}
 use Rattle.peer_proto.specs.declared.work.ObjWork.{ObjWork}
 use Rattle.peer_service.specs.State.{effects_of}
 use Rattle.peer_service.specs.LogReading.{decision_on}
 use Rattle.gateway.specs.declared.message.Status.{Status}
-use Rattle.gateway.specs.Work.{is_making, zones_for}
-use Rattle.gateway.specs.Attempt.{Attempt, may_be_made}
+use Rattle.gateway.specs.Work.{zones_for}
+use Rattle.gateway.specs.Attempt.{Attempt}
 use Rattle.gateway.specs.State as gateways
 use Rattle.gateway.specs.State.{Work, Gateway, Open, Ended, WaitsForMembers}
-use Rattle.gateway.specs.Step.{with_work, without_work, touched_by, attempt_with_status}
+use Rattle.gateway.specs.Step.{with_work, attempt_with_status}
 use Rattle.gateway_queue.specs.Queue.{queue_without}
 use Rattle.guest_driver.specs.declared.disk.Disk.{Disk}
 use Rattle.guest_driver.specs.declared.act.DriverAct.{DriverAct}
@@ -39,8 +37,8 @@ use Rattle.sheep_node.specs.declared.input.Input.{Input}
 use Rattle.sheep_node.specs.declared.input.Input.TheVariants as inputs
 use Rattle.sheep_node.specs.State.{Course, Waiting, Driving, Commanding, Request, Session, Node, new_session}
 use Rattle.sheep_node.specs.RecoveryView.{recovery_state_of}
-use Rattle.sheep_node.specs.StepState.{StepState, at_first, with_optional_entry, with_gateway, session_in, with_inode_queue, with_course, request_ended}
-use Rattle.sheep_node.specs.RequestWorks.{command_refused, course_refused, queue_left}
+use Rattle.sheep_node.specs.StepState.{StepState, at_first, with_optional_entry, with_gateway, session_in, request_ended}
+use Rattle.sheep_node.specs.RequestWorks.{command_refused, course_refused}
 use Rattle.sheep_node.specs.Courses.{after_driver_step, disk_after, inode_open, after_command_step}
 use Rattle.sheep_node.specs.Guests.{queued_as}
 use Rattle.sheep_node.specs.AwaitedEntry.{waits_for_entry}
@@ -54,7 +52,7 @@ use Rattle.proof_tools.proofs.FiniteMaps.{get-insert_same, get-remove_same}
 use Rattle.sheep_node.specs.OneWork.{may_work, may_work_at, may_work_of, waiting_in, AreOfDifferentRequests, HaveOneWorkPerRequest, HasNoWork}
 use Rattle.sheep_node.specs.Changes as changes
 use Rattle.sheep_node.specs.Changes.{HasRequest, LearnsStatus, EndsAttempt, gateway_with_touch, without_ended_work, Outcome, ToWork, ToEntry, ToReply, outcome_of_driver, outcome_of_command, RequestSteps, DiskBegins, DiskGoesOn, CommandBegins, CommandGoesOn, CommandDecided, new_work, WorkIsNext, AtOnce, InTurn, Again, with_open_attempt, with_work_held, without_denied_work, attempt_in, zones_of_members, input_received, Change}
-use Rattle.sheep_node.proofs.OneWorkParts.{Requests, Sessions, driven_session, free_session, may_at, driven_insert, driven_queued, driven_taken, free_taken, driven_removed, driven_course, driven_gone, free_at, free_removed}
+use Rattle.sheep_node.proofs.OneWorkParts.{driven_session, free_session, driven_insert, driven_queued, driven_taken, free_taken, driven_removed, driven_course, driven_gone, free_at, free_removed}
 
 abbrev pub StepHasOneWork : StepState → Type 0
 StepHasOneWork so_far = HaveOneWorkPerRequest so_far.node.gateway.works so_far.node.requests so_far.node.sessions

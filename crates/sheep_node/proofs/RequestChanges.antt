@@ -8,14 +8,11 @@ use Rattle.proof_tools.proofs.FiniteMaps.{get-insert_cases, get-remove_other, ge
 use Rattle.object_id.specs.declared.cause.Cause.{Cause}
 use Rattle.object_id.specs.declared.cause.Cause.TheVariants.{Halt}
 use Rattle.object_id.specs.declared.entry.Entry.{Entry}
-use Rattle.peer_proto.specs.declared.guest.VdiAsk.{VdiAsk}
 use Rattle.gateway.specs.Work.{zones_for}
 use Rattle.gateway.specs.State as gateways
 use Rattle.gateway.specs.State.{Work}
 use Rattle.recovery.specs.Steps as recovery_steps
 use Rattle.guest_driver.specs.Driver as drivers
-use Rattle.vdi_ops.specs.declared.act.OpAct.{OpAct}
-use Rattle.vdi_ops.specs.declared.act.OpAct.TheVariants as op_acts
 use Rattle.vdi_ops.specs.declared.end.OpEnd.{OpEnd}
 use Rattle.vdi_ops.specs.Op as ops
 use Rattle.vdi_ops.specs.Steps.{on_refusal}
@@ -25,7 +22,7 @@ use Rattle.sheep_node.specs.declared.input.Input.{Input}
 use Rattle.sheep_node.specs.declared.input.Input.TheVariants as inputs
 use Rattle.sheep_node.specs.State.{Course, Waiting, Driving, Commanding, Request, Node}
 use Rattle.sheep_node.specs.RecoveryView.{recovery_state_of}
-use Rattle.sheep_node.specs.StepState.{StepState, at_first, with_optional_entry, request_ended}
+use Rattle.sheep_node.specs.StepState.{StepState, at_first, request_ended}
 use Rattle.sheep_node.specs.RequestWorks.{command_refused, course_refused}
 use Rattle.sheep_node.specs.Courses.{after_command_step}
 use Rattle.sheep_node.specs.LogReading.{entry_read, on_back}

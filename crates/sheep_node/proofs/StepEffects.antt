@@ -25,14 +25,13 @@ use Rattle.gateway.specs.Outcomes.{AreNumberedFrom}
 use Rattle.gateway.proofs.SendLaws.{sends-numbers}
 use Rattle.recovery.specs.State.{Recovery, RecoveryState}
 use Rattle.recovery.specs.Steps as recovery_steps
-use Rattle.recovery.specs.Tick.{tick_sends, state_after_tick}
 use Rattle.vdi_ops.specs.declared.end.OpEnd.{OpEnd}
 use Rattle.vdi_ops.specs.Steps.{on_refusal}
 use Rattle.sheep_node.specs.declared.input.Input.{Input}
 use Rattle.sheep_node.specs.declared.input.Input.TheVariants as inputs
 use Rattle.sheep_node.specs.State.{Course, Waiting, Driving, Commanding, Node}
 use Rattle.sheep_node.specs.RecoveryView.{recovery_state_of}
-use Rattle.sheep_node.specs.StepState.{StepState, at_first, with_node, with_sends, replies_in_order, with_guest_reply, with_optional_entry, with_gateway, without_request, request_ended}
+use Rattle.sheep_node.specs.StepState.{StepState, at_first, with_sends, replies_in_order, with_guest_reply, with_optional_entry, with_gateway, without_request, request_ended}
 use Rattle.sheep_node.specs.RequestWorks.{command_refused, course_refused}
 use Rattle.sheep_node.specs.LogReading.{entry_read, on_back}
 use Rattle.sheep_node.specs.Step.{on_request, recovery_stepped, on_put, on_recover_tick, node_step}

@@ -1,12 +1,8 @@
 -- What a step gives, and what it leaves of what its node has read, as the input has it.
-use Rattle.std.proofs.Common.{◌≡◌, ℕ, ◌+◌, ◌&&◌, not, Bool, true, false, cond, List, [], ◌∷◌, length, Option, Some, None, Result, Ok, Err, refl, ap, sym, ◌∙◌}
+use Rattle.std.proofs.Common.{◌≡◌, ℕ, ◌+◌, ◌&&◌, not, Bool, true, false, cond, List, [], ◌∷◌, length, None, refl, ap, ◌∙◌}
 use Rattle.std.proofs.Math.Bool.{and-false}
 use Rattle.proof_tools.proofs.Booleans.{cond_either}
-use Rattle.object_id.specs.declared.node.NodeId.{NodeId}
 use Rattle.object_id.specs.declared.entry.Entry.{Entry}
-use Rattle.vnode_table.specs.Epochs.{EpochMembers}
-use Rattle.peer_proto.specs.declared.ask.PeerReq.{PeerReq}
-use Rattle.peer_proto.specs.declared.say.PeerRsp.{PeerRsp}
 use Rattle.peer_service.specs.State.{Peer}
 use Rattle.gateway.specs.State as gateways
 use Rattle.gateway.specs.Outcomes.{AreNumberedFrom}
@@ -22,9 +18,9 @@ use Rattle.sheep_node.specs.Step.{on_request, recovery_stepped, on_put, on_recov
 use Rattle.sheep_node.specs.StepFacts.{read_after, may_begin_recovery, said_on, first_entry_of, put_on, Ascend}
 use Rattle.sheep_node.specs.OneWork.{HasOneWorkPerRequest}
 use Rattle.sheep_node.specs.Changes.{input_received}
-use Rattle.sheep_node.proofs.PeerLog.{Log, log_of, served_same, entries_reading, entries_back}
+use Rattle.sheep_node.proofs.PeerLog.{Log, served_same, entries_reading, entries_back}
 use Rattle.sheep_node.proofs.StepChain.{ChainNeeds}
-use Rattle.sheep_node.proofs.StepEffects.{Untouched, untouched_in, AreInOrder, step_in_order}
+use Rattle.sheep_node.proofs.StepEffects.{Untouched, step_in_order}
 
 -- ---- once the input was received
 
