@@ -27,8 +27,8 @@ IsSoundNode-initial me tries = record {
 pub IsSoundNode-step : (input : Input) (node : Node) → May input node → IsSoundNode node → IsSoundNode (node_step input node).node
 IsSoundNode-step input node may is = record {
   one_work = one_work_stays input node may is.one_work;
-  own_entries = own_entries_stay input node may is.one_work is.own_entries;
+  own_entries = own_entries_stay input node is.own_entries;
   queues = queues_stay input node may is.one_work is.queues;
-  by_the_log = step_follows input node may is.one_work is.by_the_log;
+  by_the_log = step_follows input node may is.by_the_log;
   none_due = step_not_due input node;
 }

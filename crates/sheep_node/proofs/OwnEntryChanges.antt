@@ -47,17 +47,15 @@ use Rattle.vdi_ops.proofs.StepLemmas.{begin_awaited, done_awaited, decision_awai
 use Rattle.sheep_node.specs.declared.input.Input.{Input}
 use Rattle.sheep_node.specs.declared.input.Input.TheVariants as inputs
 use Rattle.sheep_node.specs.State.{Course, Waiting, Driving, Commanding, Request, Node, initial_node}
-use Rattle.sheep_node.specs.May.{May}
-use Rattle.sheep_node.specs.OneWork.{HasOneWorkPerRequest}
 use Rattle.sheep_node.specs.RecoveryView.{recovery_state_of}
 use Rattle.sheep_node.specs.StepState.{StepState, at_first, with_optional_entry, session_in, request_ended}
-use Rattle.sheep_node.specs.RequestWorks.{command_refused, course_refused}
+use Rattle.sheep_node.specs.RequestWorks.{command_refused, course_refused, request_refused}
 use Rattle.sheep_node.specs.Courses.{inode_open, after_command_step}
 use Rattle.sheep_node.specs.LogReading.{entry_read, on_back}
 use Rattle.sheep_node.specs.Step.{on_request, recovery_stepped, on_put, on_recover_tick, node_step}
 use Rattle.sheep_node.specs.OwnEntries.{IsEntryOf, IsTaskOf, IsStageOf, IsCommandOf, IsCourseOf, AreOwnEntries, HasOnlyOwnEntries}
 use Rattle.sheep_node.specs.Changes as changes
-use Rattle.sheep_node.specs.Changes.{HasRequest, Outcome, ToWork, ToEntry, ToReply, outcome_of_driver, outcome_of_command, without_ended_work, RequestSteps, DiskBegins, DiskGoesOn, CommandBegins, CommandGoesOn, CommandDecided, WorkIsNext, AtOnce, InTurn, Again, input_received, Change}
+use Rattle.sheep_node.specs.Changes.{HasRequest, Outcome, ToWork, ToEntry, ToReply, outcome_of_driver, outcome_of_command, without_ended_work, RequestSteps, DiskBegins, DiskGoesOn, CommandBegins, CommandGoesOn, CommandDecided, WorkIsNext, AtOnce, InTurn, Again, AgainAlone, input_received, Change}
 use Rattle.sheep_node.proofs.OneWorkChanges.{awaited_of}
 use Rattle.sheep_node.proofs.StepChain.{kept_by_chain, step_chain}
 
@@ -258,6 +256,7 @@ module _ (me : NodeId) where
       record { own_so = m.own_so; commands = m.commands; entries = m.entries }
   comes_own so_far session req asked lined (InTurn work later none is) own = record { own_so = own.own_so; commands = own.commands; entries = own.entries }
   comes_own so_far session req asked lined (Again work course from next there request) own = own
+  comes_own so_far session req asked lined (AgainAlone work from next there none) own = own
 
   ended_own : (session req : ℕ) (reply : GuestRsp) (so_far : StepState) → OnlyOwn so_far → OnlyOwn (request_ended session req reply so_far)
   unfolding request_ended
@@ -283,6 +282,12 @@ module _ (me : NodeId) where
           ended_own session req end.reply (with_optional_entry end.unlock so_far)
           (record { own_so = own.own_so; commands = own.commands; entries = more end.unlock of })
 
+  request_refused_own : (req : ℕ) (cause : Cause) (request : Option Request) (so_far : StepState) → tree.get so_far.node.requests req ≡ request → OnlyOwn so_far
+      → OnlyOwn (request_refused req cause request so_far)
+  request_refused_own req cause None so_far there own = own
+  request_refused_own req cause (Some request) so_far there own =
+      refused_own request.session req cause request.course so_far (own.commands req request there) own
+
   pub change_keeps_own_entries : {input : Input} {node : Node} → (so_far next : StepState) → Change input node so_far next → OnlyOwn so_far → OnlyOwn next
   change_keeps_own_entries so_far next (changes.Marks req number work attempt status learns over) own = own
   change_keeps_own_entries so_far next (changes.Fails session req number work attempt status course ends done why) own = own
@@ -291,9 +296,10 @@ module _ (me : NodeId) where
       refused_own session req cause course (without_ended_work session req work status so_far) (own.commands req (record { session = session; course = course }) ends.request) own
   change_keeps_own_entries so_far next (changes.Opens session req asked lined comes short) own = comes_own so_far session req asked lined comes own
   change_keeps_own_entries so_far next (changes.Holds session req asked lined comes short touched) own = comes_own so_far session req asked lined comes own
-  change_keeps_own_entries so_far next (changes.Denies session req asked lined course comes short untouched there) own =
-      let l = comes_own so_far session req asked lined comes own in
-      refused_own session req (Halt (changes.zones_of_members lined.node) (zones_for asked.work)) course (changes.without_denied_work session req asked lined) (l.commands req (record { session = session; course = course }) there) l
+  change_keeps_own_entries so_far next (changes.Denies session req asked lined request comes short untouched there is_own) own =
+      request_refused_own req (Halt (changes.zones_of_members lined.node) (zones_for asked.work)) request (changes.without_denied_work session req asked lined) there
+      (comes_own so_far session req asked lined comes own)
+  change_keeps_own_entries so_far next (changes.Strays req work gateway there none) own = own
   change_keeps_own_entries so_far next (changes.Lines session req work moved steps waits) own = (steps_own so_far session req (ToWork work) moved steps own).0
   change_keeps_own_entries so_far next (changes.Appends session req entry moved steps) own =
       let m = steps_own so_far session req (ToEntry entry) moved steps own in
@@ -338,11 +344,10 @@ module _ (me : NodeId) where
   }
 
 -- a node whose outbox has its own entries keeps it so
-pub own_entries_stay : (input : Input) (node : Node) → May input node → HasOneWorkPerRequest node → HasOnlyOwnEntries node
-    → HasOnlyOwnEntries (node_step input node).node
-own_entries_stay input node may driven own =
+pub own_entries_stay : (input : Input) (node : Node) → HasOnlyOwnEntries node → HasOnlyOwnEntries (node_step input node).node
+own_entries_stay input node own =
     let after : AreOwnEntries node.me (node_step input node).node.me (node_step input node).node.requests (node_step input node).node.outbox
-    = kept_by_chain (OnlyOwn node.me) (change_keeps_own_entries node.me) (step_chain input node may driven)
+    = kept_by_chain (OnlyOwn node.me) (change_keeps_own_entries node.me) (step_chain input node)
     (received_own_entries node.me input node own) in
     subst (λ (me : NodeId). AreOwnEntries me (node_step input node).node.me (node_step input node).node.requests (node_step input node).node.outbox)
     (sym after.own_so) after

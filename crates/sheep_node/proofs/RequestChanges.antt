@@ -23,14 +23,12 @@ use Rattle.sheep_node.specs.declared.input.Input.TheVariants as inputs
 use Rattle.sheep_node.specs.State.{Course, Waiting, Driving, Commanding, Request, Node}
 use Rattle.sheep_node.specs.RecoveryView.{recovery_state_of}
 use Rattle.sheep_node.specs.StepState.{StepState, at_first, request_ended}
-use Rattle.sheep_node.specs.RequestWorks.{command_refused, course_refused}
+use Rattle.sheep_node.specs.RequestWorks.{command_refused, course_refused, request_refused}
 use Rattle.sheep_node.specs.Courses.{after_command_step}
 use Rattle.sheep_node.specs.LogReading.{entry_read, on_back}
 use Rattle.sheep_node.specs.Step.{on_request, recovery_stepped, on_put, on_recover_tick, node_step}
-use Rattle.sheep_node.specs.May.{May}
-use Rattle.sheep_node.specs.OneWork.{HasOneWorkPerRequest}
 use Rattle.sheep_node.specs.Changes as changes
-use Rattle.sheep_node.specs.Changes.{Outcome, ToWork, ToEntry, ToReply, RequestSteps, DiskBegins, DiskGoesOn, CommandBegins, CommandGoesOn, CommandDecided, WorkIsNext, AtOnce, InTurn, Again, input_received, Change}
+use Rattle.sheep_node.specs.Changes.{Outcome, ToWork, ToEntry, ToReply, RequestSteps, DiskBegins, DiskGoesOn, CommandBegins, CommandGoesOn, CommandDecided, WorkIsNext, AtOnce, InTurn, Again, AgainAlone, input_received, Change}
 use Rattle.sheep_node.proofs.OneWorkParts.{Requests}
 use Rattle.sheep_node.proofs.StepChain.{kept_by_chain, step_chain}
 
@@ -68,6 +66,10 @@ module _ (P : ℕ → Type 0) where
       by_end : (end : Option OpEnd) → In (command_refused session req end so_far)
       by_end None = all
       by_end (Some end) = gone_are so_far.node.requests req all
+
+  request_refused_are : (req : ℕ) (cause : Cause) (request : Option Request) (so_far : StepState) → In so_far → In (request_refused req cause request so_far)
+  request_refused_are req cause None so_far all = all
+  request_refused_are req cause (Some request) so_far all = refused_are request.session req cause request.course so_far all
 
   received_requests : (input : Input) (node : Node) → In (at_first node) → In (input_received input (at_first node))
   unfolding entry_read on_request on_recover_tick on_back
@@ -107,6 +109,7 @@ module _ (P : ℕ → Type 0) where
     comes_are so_far session req tried lined (AtOnce work moved steps begins) all = steps_are so_far session req (ToWork work) moved steps all
     comes_are so_far session req tried lined (InTurn work later none is) all = all
     comes_are so_far session req tried lined (Again work course from next there request) all = all
+    comes_are so_far session req tried lined (AgainAlone work from next there none) all = all
 
     change_keeps_requests : (so_far next : StepState) → Change input node so_far next → In so_far → In next
     unfolding request_ended
@@ -117,8 +120,9 @@ module _ (P : ℕ → Type 0) where
         refused_are session req cause course (changes.without_ended_work session req work status so_far) all
     change_keeps_requests so_far next (changes.Opens session req tried lined comes short) all = comes_are so_far session req tried lined comes all
     change_keeps_requests so_far next (changes.Holds session req tried lined comes short touched) all = comes_are so_far session req tried lined comes all
-    change_keeps_requests so_far next (changes.Denies session req tried lined course comes short untouched there) all =
-        refused_are session req (Halt (changes.zones_of_members lined.node) (zones_for tried.work)) course (changes.without_denied_work session req tried lined) (comes_are so_far session req tried lined comes all)
+    change_keeps_requests so_far next (changes.Denies session req tried lined request comes short untouched there own) all =
+        request_refused_are req (Halt (changes.zones_of_members lined.node) (zones_for tried.work)) request (changes.without_denied_work session req tried lined) (comes_are so_far session req tried lined comes all)
+    change_keeps_requests so_far next (changes.Strays req work gateway there none) all = all
     change_keeps_requests so_far next (changes.Lines session req work moved steps waits) all = steps_are so_far session req (ToWork work) moved steps all
     change_keeps_requests so_far next (changes.Appends session req entry moved steps) all = steps_are so_far session req (ToEntry entry) moved steps all
     change_keeps_requests so_far next (changes.Replies session req reply moved steps) all =
@@ -128,14 +132,14 @@ module _ (P : ℕ → Type 0) where
     change_keeps_requests so_far next (changes.Rejects session req ask cause arrival) all = all
     change_keeps_requests so_far next (changes.Recovers due) all = all
 
-    pub requests_stay : May input node → HasOneWorkPerRequest node → AllAre P node.requests → AllAre P (node_step input node).node.requests
-    requests_stay may driven all = kept_by_chain In change_keeps_requests (step_chain input node may driven) (received_requests input node all)
+    pub requests_stay : AllAre P node.requests → AllAre P (node_step input node).node.requests
+    requests_stay all = kept_by_chain In change_keeps_requests (step_chain input node) (received_requests input node all)
 
 -- a request that a node has once it stepped it had, or it is the guest's
-pub requests_from_inputs : (input : Input) (node : Node) (req : ℕ) → May input node → HasOneWorkPerRequest node
+pub requests_from_inputs : (input : Input) (node : Node) (req : ℕ)
     → tree.contains_key (node_step input node).node.requests req ≡ true
     → (tree.contains_key node.requests req ≡ true) ⊎ ((session : ℕ) × (ask : Ask) × (input ≡ inputs.Guest req session ask))
-requests_from_inputs input node req may driven has = by_request (tree.get (node_step input node).node.requests req) refl has
+requests_from_inputs input node req has = by_request (tree.get (node_step input node).node.requests req) refl has
   where
     IsKnown : ℕ → Type 0
     IsKnown q = (tree.contains_key node.requests q ≡ true) ⊎ ((session : ℕ) × (ask : Ask) × (input ≡ inputs.Guest q session ask))
@@ -143,5 +147,5 @@ requests_from_inputs input node req may driven has = by_request (tree.get (node_
     by_request : (o : Option Request) → tree.get (node_step input node).node.requests req ≡ o → is_some o ≡ true → IsKnown req
     by_request None is has = absurd (cc (has))
     by_request (Some request) is has =
-        requests_stay IsKnown input node (λ q session ask from. inr (session, ask, from)) may driven
+        requests_stay IsKnown input node (λ q session ask from. inr (session, ask, from))
         (λ q had got. inl (ap (λ (o : Option Request). is_some o) got)) req request is

@@ -16,10 +16,8 @@ use Rattle.sheep_node.specs.StepState.{StepState, at_first}
 use Rattle.sheep_node.specs.LogReading.{entry_read, on_back}
 use Rattle.sheep_node.specs.Step.{on_request, recovery_stepped, on_put, on_recover_tick, on_input, is_due, with_recovered, recovered_put, node_step}
 use Rattle.sheep_node.specs.StepFacts.{read_after, may_begin_recovery, said_on, put_on, Ascend}
-use Rattle.sheep_node.specs.OneWork.{HasOneWorkPerRequest}
 use Rattle.sheep_node.specs.Changes.{input_received}
 use Rattle.sheep_node.proofs.PeerLog.{Log, served_same, entries_reading, entries_back}
-use Rattle.sheep_node.proofs.StepChain.{ChainNeeds}
 use Rattle.sheep_node.proofs.StepEffects.{Untouched, step_in_order}
 
 -- ---- once the input was received
@@ -150,35 +148,35 @@ epochs_received (inputs.Back entries) node quiet = absurd (cc (quiet))
 
 -- ---- a step
 
-module _ (input : Input) (node : Node) (needs : ChainNeeds input node) (one_work : HasOneWorkPerRequest node) where
+module _ (input : Input) (node : Node) where
   -- the sends are numbered upwards from the node's count
   pub step_numbers : AreNumberedFrom node.sends (node_step input node).outputs.sends
-  step_numbers = (step_in_order input node needs one_work).numbers
+  step_numbers = (step_in_order input node).numbers
 
   -- the count grows by how many they are
   pub step_counts : (node_step input node).node.sends ≡ node.sends + length (node_step input node).outputs.sends
-  step_counts = (step_in_order input node needs one_work).counted
+  step_counts = (step_in_order input node).counted
 
   -- the replies ascend by request
   pub step_replies : Ascend (node_step input node).outputs.replies
-  step_replies = (step_in_order input node needs one_work).ascend
+  step_replies = (step_in_order input node).ascend
 
   -- the node stays itself
   pub step_me : (node_step input node).node.me ≡ node.me
-  step_me = ap (λ (u : Untouched). u.me) (step_in_order input node needs one_work).same ∙ me_received input node
+  step_me = ap (λ (u : Untouched). u.me) (step_in_order input node).same ∙ me_received input node
 
   -- its peer, its epochs and its recovery are as they were when the input was received
   pub step_peer : (node_step input node).node.peer ≡ (input_received input (at_first node)).node.peer
-  step_peer = ap (λ (u : Untouched). u.peer) (step_in_order input node needs one_work).same
+  step_peer = ap (λ (u : Untouched). u.peer) (step_in_order input node).same
 
   pub step_epochs : (node_step input node).node.epochs ≡ (input_received input (at_first node)).node.epochs
-  step_epochs = ap (λ (u : Untouched). u.epochs) (step_in_order input node needs one_work).same
+  step_epochs = ap (λ (u : Untouched). u.epochs) (step_in_order input node).same
 
   pub step_epochs_stay : may_begin_recovery input ≡ false → (node_step input node).node.epochs ≡ node.epochs
   step_epochs_stay quiet = step_epochs ∙ epochs_received input node quiet
 
   pub step_recovery : (node_step input node).node.recovery ≡ (input_received input (at_first node)).node.recovery
-  step_recovery = ap (λ (u : Untouched). u.recovery) (step_in_order input node needs one_work).same
+  step_recovery = ap (λ (u : Untouched). u.recovery) (step_in_order input node).same
 
   -- the entries that it has read
   pub step_reads : (node_step input node).node.peer.entries ≡ read_after input node.peer.entries
@@ -186,16 +184,16 @@ module _ (input : Input) (node : Node) (needs : ChainNeeds input node) (one_work
 
   -- what is said to a peer
   pub step_says : (node_step input node).outputs.say ≡ said_on input node
-  step_says = ap (λ (u : Untouched). u.say) (step_in_order input node needs one_work).same ∙ says_received input node
+  step_says = ap (λ (u : Untouched). u.say) (step_in_order input node).same ∙ says_received input node
 
   -- what goes into the log
   pub step_gives : (node_step input node).outputs.put ≡ put_on input node
-  step_gives = ap (λ (u : Untouched). u.put) (step_in_order input node needs one_work).same ∙ puts_received input node
+  step_gives = ap (λ (u : Untouched). u.put) (step_in_order input node).same ∙ puts_received input node
 
   -- `Recovered`, once put, stays so until a recovery begins
   pub step_stays_recovered : may_begin_recovery input ≡ false → node.recovered ≡ true → (node_step input node).node.recovered ≡ true
   step_stays_recovered quiet done =
-      (step_in_order input node needs one_work).recovered_stays (recovered_received input node quiet ∙ done)
+      (step_in_order input node).recovered_stays (recovered_received input node quiet ∙ done)
 
 -- ---- `Recovered`
 

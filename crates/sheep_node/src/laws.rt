@@ -39,36 +39,30 @@ ghost use Rattle.sheep_node.specs.StepFacts.{read_after, may_begin_recovery, onl
 /// The sends of a step are numbered upwards from the node's count, and the count grows by how many they are. So no two
 /// sends of a node have one number.
 pub fn sends_are_numbered()
-    ensures numbers { (input : Input) (node : Node) → May input node → HasOneWorkPerRequest node
-        → AreNumberedFrom node.sends (node_step input node).outputs.sends }
-    ensures count { (input : Input) (node : Node) → May input node → HasOneWorkPerRequest node
+    ensures numbers { (input : Input) (node : Node) → AreNumberedFrom node.sends (node_step input node).outputs.sends }
+    ensures count { (input : Input) (node : Node)
         → (node_step input node).node.sends ≡ node.sends + length (node_step input node).outputs.sends }
 {}
 
 /// Only an entry of the log, and coming back, change what a node has read; and it stays itself.
 pub fn only_the_log_is_read()
-    ensures read { (input : Input) (node : Node) → May input node → HasOneWorkPerRequest node
-        → (node_step input node).node.peer.entries ≡ read_after input node.peer.entries }
-    ensures own { (input : Input) (node : Node) → May input node → HasOneWorkPerRequest node → (node_step input node).node.me ≡ node.me }
+    ensures read { (input : Input) (node : Node) → (node_step input node).node.peer.entries ≡ read_after input node.peer.entries }
+    ensures own { (input : Input) (node : Node) → (node_step input node).node.me ≡ node.me }
 {}
 
 /// A node's epoch, its settled epoch and the members of its epochs are those of the entries that it has read: so it opens,
 /// and so it stays at each step.
 pub fn a_node_is_where_its_entries_have_it()
     ensures opens { (me : NodeId) (tries : ℕ) → IsByTheLog (initial_node me tries) }
-    ensures stays { (input : Input) (node : Node) → May input node → HasOneWorkPerRequest node → IsByTheLog node
-        → IsByTheLog (node_step input node).node }
+    ensures stays { (input : Input) (node : Node) → May input node → IsByTheLog node → IsByTheLog (node_step input node).node }
 {}
 
 /// Something is said to a peer only on a request, and put into the log only on Put: the outbox's first entry. Guests are
 /// replied to by ascending request.
 pub fn outputs_are_as_the_input()
-    ensures say { (input : Input) (node : Node) → May input node → HasOneWorkPerRequest node
-        → (node_step input node).outputs.say ≡ said_on input node }
-    ensures put { (input : Input) (node : Node) → May input node → HasOneWorkPerRequest node
-        → (node_step input node).outputs.put ≡ put_on input node }
-    ensures replies { (input : Input) (node : Node) → May input node → HasOneWorkPerRequest node
-        → Ascend (node_step input node).outputs.replies }
+    ensures say { (input : Input) (node : Node) → (node_step input node).outputs.say ≡ said_on input node }
+    ensures put { (input : Input) (node : Node) → (node_step input node).outputs.put ≡ put_on input node }
+    ensures replies { (input : Input) (node : Node) → Ascend (node_step input node).outputs.replies }
 {}
 
 /// A request of another epoch is answered with the node's own, and changes nothing.
@@ -103,8 +97,7 @@ pub fn what_is_put_leaves_the_outbox()
 pub fn recovered_is_put_once()
     ensures due { (input : Input) (node : Node) → is_due (node_step input node).node ≡ false }
     ensures once { (so_far : StepState) → so_far.node.recovered ≡ true → recovered_put so_far ≡ so_far }
-    ensures stays { (input : Input) (node : Node) → May input node → HasOneWorkPerRequest node
-        → may_begin_recovery input ≡ false → node.recovered ≡ true
+    ensures stays { (input : Input) (node : Node) → may_begin_recovery input ≡ false → node.recovered ≡ true
         → (node_step input node).node.recovered ≡ true }
 {}
 
@@ -153,10 +146,10 @@ pub fn a_node_stays_one()
     ensures stays { (input : Input) (node : Node) → May input node → IsSoundNode node → IsSoundNode (node_step input node).node }
 {}
 
-/// A node's step is a chain of changes, each with one effect, behind what its input changes by itself.
+/// A node's step is a chain of changes, each with one effect, behind what its input changes by itself: on any input, of any node. More
+/// is known of a change if the node may step on the input, and its requests have one work each.
 pub fn a_step_is_a_chain_of_changes()
-    ensures { (input : Input) (node : Node) → May input node → HasOneWorkPerRequest node
-        → Leads input node (input_received input (at_first node)) (node_step input node) }
+    ensures { (input : Input) (node : Node) → Leads input node (input_received input (at_first node)) (node_step input node) }
 {}
 
 /// A request has one work at most, open or in its session's line, and a number is waited for once: so a node opens, and so
@@ -170,8 +163,7 @@ pub fn a_request_has_one_work()
 /// The entries that a node puts are its own: its commands' and its own `Recovered`.
 pub fn a_node_puts_its_own_entries()
     ensures opens { (me : NodeId) (tries : ℕ) → HasOnlyOwnEntries (initial_node me tries) }
-    ensures stays { (input : Input) (node : Node) → May input node → HasOneWorkPerRequest node → HasOnlyOwnEntries node
-        → HasOnlyOwnEntries (node_step input node).node }
+    ensures stays { (input : Input) (node : Node) → HasOnlyOwnEntries node → HasOnlyOwnEntries (node_step input node).node }
 {}
 
 /// A session's queue is its reads and writes without reply.
@@ -183,7 +175,6 @@ pub fn a_queue_has_the_disk_requests()
 
 /// A node's requests are those that it had, and the guest's request that it steps on.
 pub fn requests_come_from_inputs()
-    ensures { (input : Input) (node : Node) (req : ℕ) → May input node → HasOneWorkPerRequest node
-        → contains_key (node_step input node).node.requests req ≡ true
+    ensures { (input : Input) (node : Node) (req : ℕ) → contains_key (node_step input node).node.requests req ≡ true
         → (contains_key node.requests req ≡ true) ⊎ ((session : ℕ) × (ask : Ask) × (input ≡ inputs.Guest req session ask)) }
 {}

@@ -287,8 +287,8 @@ reads_well entry node driven =
       asks = λ requests.
           asks_after Any node after so_far.node so_far.outputs.sends (read_asks entry node)
           (good_so_far_asks after so_far
-          (subst (λ (n : ℕ). AreNumberedFrom n so_far.outputs.sends) (sym same) (step_numbers (inputs.LogEntry entry) node tt driven))
-          (step_counts (inputs.LogEntry entry) node tt driven ∙ ap (λ (n : ℕ). n + length so_far.outputs.sends) (sym same))
+          (subst (λ (n : ℕ). AreNumberedFrom n so_far.outputs.sends) (sym same) (step_numbers (inputs.LogEntry entry) node))
+          (step_counts (inputs.LogEntry entry) node ∙ ap (λ (n : ℕ). n + length so_far.outputs.sends) (sym same))
           good requests);
       driven = good_driven after so_far (read_driven entry node driven) good;
     }
