@@ -19,7 +19,7 @@ use Rattle.vdi_directory.specs.Effects.{header_of}
 use Rattle.vdi_ops.specs.Entries.{first_entry}
 use Rattle.vdi_directory.specs.Chains.{chain_of}
 use Rattle.vdi_ops.specs.Tables.{table_in, holes, inode_by}
-use Rattle.vdi_ops.specs.TaskWorks.{IsCreated}
+use Rattle.vdi_ops.specs.TaskWorks.{IsInodeCreated}
 use Rattle.vdi_ops.specs.InodeWorks.{read_inode, create_inode, write_back, write_tag}
 use Rattle.vdi_ops.specs.Op.{Task, Opening, WritingBack, Tagging, Copying, Making, OpStage, Asked, Working, Publishing, Answered, Op, op_stage_bytes, op_bytes_wanted, entry_wanted_at, entry_wanted, IsAwaitedByCommand}
 use Rattle.vdi_ops.specs.Steps.{first_step, begin_command, tag_step, copy_step, step_after_grant, step_after_decision, decided_at, on_decision, task_done, done_at, op_on_done, refused_at, on_refusal}
@@ -45,7 +45,7 @@ copied_awaited op vid chain header (Some parent) is =
     (read_inode parent.0 header.spec, refl, record { vid = parent; there = is; work_of = refl })
 
 -- an inode that isn't the session's is created
-made_apart : (inode : Content) → IsCreated None (create_inode inode)
+made_apart : (inode : Content) → IsInodeCreated None (create_inode inode)
 made_apart inode = record { inode = inode; work_of = refl; same = λ content is. absurd (cc (is)) }
 
 granted_awaited : (op : Op) (vid : Vid) (chain : List ℕ) (disk : Option Content) (entry : Entry) (header : Header)

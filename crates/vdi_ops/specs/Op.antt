@@ -10,7 +10,7 @@ use Rattle.vdi_directory.specs.declared.header.Header.{Header}
 use Rattle.vdi_ops.specs.declared.act.OpAct.{OpAct}
 use Rattle.vdi_ops.specs.declared.act.OpAct.TheVariants.{Append, Work, Reply}
 use Rattle.vdi_ops.specs.InodeWorks.{written_bytes, read_inode}
-use Rattle.vdi_ops.specs.TaskWorks.{IsWrittenBack, IsTagged, IsBaseRead, IsCreated}
+use Rattle.vdi_ops.specs.TaskWorks.{IsWrittenBack, IsTagWritten, IsBaseRead, IsInodeCreated}
 
 -- the work that a command waits for, on the way to what it was granted
 pub data Task : Type 0 where
@@ -101,9 +101,9 @@ op_bytes_wanted op = op_stage_bytes op.stage
 abbrev pub IsWorkOfTask : Vid → Task → ObjWork → Type 0
 IsWorkOfTask vid (Opening snapshot ids header) work = work ≡ read_inode vid.0 header.spec
 IsWorkOfTask vid (WritingBack inode) work = IsWrittenBack inode work
-IsWorkOfTask vid (Tagging old inode) work = IsTagged old inode work
+IsWorkOfTask vid (Tagging old inode) work = IsTagWritten old inode work
 IsWorkOfTask vid (Copying ids header) work = IsBaseRead header.parent header work
-IsWorkOfTask vid (Making entry opened) work = IsCreated opened work
+IsWorkOfTask vid (Making entry opened) work = IsInodeCreated opened work
 
 -- the act is what is waited for: that entry was put, that work was begun, or else the reply was given
 abbrev pub IsAwaitedAtOpStage : OpAct → OpStage → Type 0
