@@ -18,3 +18,4 @@ pub mod LogLaws
 mod RefusalLaws
 pub mod NodeLaws
 pub mod OutsideAskLaws
+mod MayTestLaws

@@ -135,8 +135,10 @@ check_writes session req bytes check write so_far comes = by_stage check.stage r
     by_stage (Comparing index later) is comes =
         let step = write_back_step check index later (pieces_in check.spec bytes) in
         let moved = with_sole_request session req (Checking step.check) so_far in
-        let same : record { req = req; check = check; index = index; value = value_of check.spec.policy (pieces_in check.spec bytes) } ≡ write = cc (comes) in
-        (moved, ap (λ (stage : CheckStage). check_went_on session req (check_done_at bytes check stage) so_far) is
-        ∙ ap (λ (write : CheckWrite). work_asked session req (write_value write.check write.index write.value) moved) same)
+        let same : record { req = req; check = check; index = index; value = value_of check.spec.policy (pieces_in check.spec bytes) } ≡ write = cc (comes) in (
+          moved,
+          ap (λ (stage : CheckStage). check_went_on session req (check_done_at bytes check stage) so_far) is
+              ∙ ap (λ (write : CheckWrite). work_asked session req (write_value write.check write.index write.value) moved) same,
+        )
     by_stage (WritingBack later) is comes = absurd (cc (comes))
     by_stage Answered is comes = absurd (cc (comes))

@@ -10,6 +10,7 @@ pub mod LogReading
 pub mod Step
 pub mod OutsideAsks
 pub mod May
+pub mod MayTests
 pub mod StepFacts
 pub mod RecoveryRange
 pub mod OneWork
