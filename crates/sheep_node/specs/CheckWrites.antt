@@ -1,5 +1,5 @@
 -- The write that a check comes to as a reply reaches its node: what the history has to say of it.
-use Rattle.std.specs.Prelude.{ℕ, List, Option, Some, None, if◌then◌else◌}
+use Rattle.std.specs.Prelude.{ℕ, List, Option, Some, None, if◌then◌else◌, nat_lt, Bool, false}
 use Rattle.std.specs.FinMap as tree
 use Rattle.gateway.specs.declared.act.Act.{Act}
 use Rattle.gateway.specs.declared.act.Act.TheVariants as acts
@@ -10,6 +10,7 @@ use Rattle.disk_check.specs.Check.{CheckStage, Comparing, WritingBack, Answered,
 use Rattle.sheep_node.specs.declared.input.Input.{Input}
 use Rattle.sheep_node.specs.declared.input.Input.TheVariants as inputs
 use Rattle.sheep_node.specs.State.{Course, Waiting, Driving, Commanding, Checking, DoingWork, AwaitingDecision, Request, Node}
+use Rattle.std.specs.Option.{option_map_or}
 
 -- a check, of the request of a number, writes a value over its disk's object of an index
 pub record CheckWrite : Type 0 where
@@ -51,3 +52,16 @@ check_write_on (inputs.Reply rsp) node =
     then write_after_act (gateway_steps.gateway_on_reply node.gateway rsp).act node
     else None
 check_write_on _ node = None
+
+-- whether a request has come to a write: a check has, once it has found an own object
+abbrev pub has_course_written : Course → Bool
+has_course_written (Waiting ask) = false
+has_course_written (Driving driver) = false
+has_course_written (Commanding op) = false
+has_course_written (Checking check) = nat_lt 0 check.found.objects
+has_course_written (DoingWork work) = false
+has_course_written (AwaitingDecision entry) = false
+
+-- whether the request of a number is a check that has
+abbrev pub has_check_written : ℕ → Node → Bool
+has_check_written req node = option_map_or (λ (request : Request). has_course_written request.course) (tree.get node.requests req) false

@@ -19,12 +19,13 @@ use Rattle.sheep_world.specs.World.{Packet, Request, Reply, Host, World, host_at
 use Rattle.sheep_world.specs.Conditions.{may_go, has_end_in_wire, may_end_phase}
 use Rattle.sheep_world.specs.Opening.{initial_host, with_phase}
 use Rattle.sheep_world.specs.Messages.{losses_after_loss}
-use Rattle.sheep_world.specs.NodeSteps.{wire_with_request, progress_after_reply, at_rest}
+use Rattle.sheep_world.specs.NodeSteps.{wire_with_request, progress_after_reply, at_rest, ask_after_replies}
 use Rattle.sheep_world.specs.MembershipChanges.{lost_host, without_replies, join_of, last_weight, revived_host}
 use Rattle.sheep_world.specs.HistoryAdditions.{writers_lost}
 use Rattle.sheep_world.specs.Enabled.{loss_of}
 use Rattle.sheep_world.specs.Step.{EventOutcome, only}
 use Rattle.sheep_world.specs.NodeCauses.{NodeCause, event_of_cause, IsCause, with_node, world_after_cause, history_of_cause}
+use Rattle.std.specs.Option.{option_map}
 
 -- what a step of a node makes
 abbrev pub outcome_of_step : List Statement → ℕ → Host → NodeCause → World → EventOutcome
@@ -41,7 +42,7 @@ pub record IsNodeStep (statements : List Statement) (event : Event) (world : Wor
   pub there : host_at n world ≡ Some host
   pub up : is_host_up host ≡ true
   pub caused : IsCause statements world n host cause
-  pub event_so : event_of_cause n cause ≡ event
+  pub event_so : event_of_cause n cause ≡ Some event
   pub made_so : outcome_of_step statements n host cause world ≡ made
 
 -- a message is lost whose sender isn't up, so that no node is told
@@ -137,6 +138,7 @@ world_after_return statements n host world =
       phase = world.phase;
       controls = drop 1 world.controls;
       losses = world.losses;
+      asked = option_map (ask_after_replies so_far.outputs.replies) world.asked;
       input = Some (inputs.Back (log_after_return statements n world));
       outputs = so_far.outputs;
     }

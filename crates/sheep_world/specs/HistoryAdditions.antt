@@ -1,5 +1,5 @@
 -- What each event adds to the history.
-use Rattle.std.specs.Prelude.{◌≡◌, ℕ, ◌+◌, ◌*◌, ◌/◌, ◌==◌, Bool, true, false, ◌&&◌, List, [], ◌∷◌, length, take, drop, map, flat_map, filter, find, Contains, Option, Some, None, is_some}
+use Rattle.std.specs.Prelude.{◌≡◌, ℕ, ◌+◌, ◌*◌, ◌/◌, ◌==◌, Bool, true, false, ◌&&◌, List, [], ◌∷◌, length, take, drop, map, flat_map, filter, find, Contains, Option, Some, None, is_some, ◌^◌, ◌||◌, nat_lt, if◌then◌else◌}
 use Rattle.std.specs.List.{range_with_len}
 use Rattle.std.specs.Option.{option_and_then, option_map_or}
 use Rattle.object_id.specs.declared.limits.TheConstants.{BLOCK_BYTES}
@@ -14,10 +14,14 @@ use Rattle.cluster_script.specs.Sessions.{ScriptSession, session_numbered}
 use Rattle.peer_proto.specs.declared.guest.GuestRsp.{GuestRsp}
 use Rattle.peer_proto.specs.declared.guest.GuestRsp.TheVariants as replies
 use Rattle.guest_driver.specs.declared.disk.Disk.{Disk}
-use Rattle.sheep_world.specs.World.{Host, StartedRequest, World, host_at, progress_at}
+use Rattle.sheep_world.specs.World.{Host, StartedRequest, World, host_at, progress_at, node_at}
 use Rattle.sheep_world.specs.Asking.{session_asking}
 use Rattle.sheep_world.specs.Conditions.{next_request}
 use Rattle.sheep_world.specs.Effects.{open_disk_at}
+use Rattle.sheep_node.specs.declared.input.Input.{Input}
+use Rattle.sheep_node.specs.State.{Node}
+use Rattle.sheep_node.specs.CheckWrites.{CheckWrite, check_write_on, has_check_written}
+use Rattle.sheep_world.specs.declared.name.MessageName.{MessageName}
 
 -- a block's part of bytes, by its place among them
 abbrev pub block_in : List ℕ → ℕ → List ℕ
@@ -88,26 +92,87 @@ blocks_read disk offset (replies.Refused cause) = []
 blocks_read disk offset (replies.Granted vid) = []
 blocks_read disk offset (replies.Checked found) = []
 
--- what a reply adds: of a request that began on an open disk a write's end, or a read's blocks
-abbrev pub reply_adds : ℕ → GuestRsp → ℕ → Statement → List HistEvent
-reply_adds req rsp disk (lines.Read session offset length) = blocks_read disk offset rsp
-reply_adds req rsp disk (lines.Write session offset length pattern) = write_ended req rsp ∷ []
-reply_adds req rsp disk s = []
+-- what a reply adds: of a request that began on an open disk a write's end, or a read's blocks; of a check that has begun a write the
+-- end of that
+abbrev pub reply_adds : Bool → ℕ → GuestRsp → ℕ → Statement → List HistEvent
+reply_adds written req rsp disk (lines.Read session offset length) = blocks_read disk offset rsp
+reply_adds written req rsp disk (lines.Write session offset length pattern) = write_ended req rsp ∷ []
+reply_adds written req rsp disk (lines.Check session) = if written then write_ended req rsp ∷ [] else []
+reply_adds written req rsp disk s = []
 
 -- what a reply adds where its request began on a disk, and is one of the script
-abbrev pub added_by : ℕ → GuestRsp → Option ℕ → Option Statement → List HistEvent
-added_by req rsp None s = []
-added_by req rsp (Some disk) None = []
-added_by req rsp (Some disk) (Some s) = reply_adds req rsp disk s
+abbrev pub added_by : Bool → ℕ → GuestRsp → Option ℕ → Option Statement → List HistEvent
+added_by written req rsp None s = []
+added_by written req rsp (Some disk) None = []
+added_by written req rsp (Some disk) (Some s) = reply_adds written req rsp disk s
 
--- what one reply adds
-abbrev pub reply_grown : List Statement → World → ℕ × GuestRsp → List HistEvent
-reply_grown statements world reply =
-    added_by reply.0 reply.1 (disk_of statements reply.0 world) (request_at statements reply.0)
+-- the node of the gateway of a request
+abbrev pub gateway_of : List Statement → ℕ → World → Option Node
+gateway_of statements req world = option_and_then
+    (λ (session : ScriptSession). node_at session.node world)
+    (option_and_then (session_numbered statements) (session_asking statements req))
+
+-- whether a check is a write's: of this request
+abbrev pub is_write_of : ℕ → CheckWrite → Bool
+is_write_of req write = write.req == req
+
+-- whether a request is a check that had come to a write, or comes to this one
+abbrev pub has_begun_check_write : List Statement → ℕ → World → Option CheckWrite → Bool
+has_begun_check_write statements req world write =
+    option_map_or (has_check_written req) (gateway_of statements req world) false || option_map_or (is_write_of req) write false
+
+-- what one reply adds, in a step in which a check comes to this write, if there is one
+abbrev pub reply_grown : List Statement → World → Option CheckWrite → ℕ × GuestRsp → List HistEvent
+reply_grown statements world write reply =
+    added_by (has_begun_check_write statements reply.0 world write) reply.0 reply.1
+    (disk_of statements reply.0 world) (request_at statements reply.0)
 
 -- what the replies of a step add, by request: their requests had no reply in the world before
-abbrev pub replies_grown : List Statement → World → World → List HistEvent
-replies_grown statements before after = flat_map (reply_grown statements before) after.outputs.replies
+abbrev pub replies_grown : List Statement → World → Option CheckWrite → World → List HistEvent
+replies_grown statements before write after = flat_map (reply_grown statements before write) after.outputs.replies
+
+-- ---- checks
+
+-- the number of a block of the value that a check writes
+abbrev pub block_written : CheckWrite → ℕ → ℕ
+block_written write place = write.index * 2 ^ write.check.spec.shift / BLOCK_BYTES + place
+
+-- whether the disk has it: its last object may reach beyond its end
+abbrev pub is_on_disk : CheckWrite → ℕ → Bool
+is_on_disk write place = nat_lt (block_written write place) (write.check.spec.size / BLOCK_BYTES)
+
+-- a block of a check's value is read, and its write begins
+abbrev pub block_checked : CheckWrite → ℕ → List HistEvent
+block_checked write place =
+    Read write.check.vid (block_written write place) (block_in write.value place)
+    ∷ WriteStart write.req write.check.vid (block_written write place) (is_in_strips write.check.spec.policy Block)
+    (block_in write.value place) ∷ []
+
+-- what a check's write adds as it begins: each block that the disk has, ascending
+abbrev pub check_write_adds : CheckWrite → List HistEvent
+check_write_adds write =
+    flat_map (block_checked write) (filter (is_on_disk write) (range_with_len 0 (length write.value / BLOCK_BYTES)))
+
+-- whether a statement is a check
+abbrev pub is_check : Statement → Bool
+is_check (lines.Check session) = true
+is_check s = false
+
+-- what it adds, if its request is of the script
+abbrev pub check_write_grown : List Statement → CheckWrite → List HistEvent
+check_write_grown statements write =
+    if option_map_or is_check (request_at statements write.req) false then check_write_adds write else []
+
+-- the write that a check of the node that sent a message comes to by the reply
+abbrev pub check_write_by : MessageName → World → World → Option CheckWrite
+check_write_by name before after =
+    option_and_then (λ (input : Input). option_and_then (check_write_on input) (node_at name.sender.0 before)) after.input
+
+-- what a delivery adds: the write that a check comes to, and then what the replies of the step do
+abbrev pub delivery_grown : List Statement → MessageName → World → World → List HistEvent
+delivery_grown statements name before after =
+    option_map_or (check_write_grown statements) (check_write_by name before after) []
+    ++ replies_grown statements before (check_write_by name before after) after
 
 -- whether a statement is a write
 abbrev pub is_write : Statement → Bool
@@ -119,10 +184,15 @@ abbrev pub is_of_incarnation : List Statement → ℕ → ℕ → ℕ → Bool
 is_of_incarnation statements node incarnation session =
     option_map_or (λ (of : ScriptSession). of.node == node && of.incarnation == incarnation) (session_numbered statements session) false
 
--- whether a request is a write that began on an open disk in this incarnation of a node, and has no reply
-abbrev pub is_lost_write : List Statement → World → ℕ → ℕ → ℕ × Statement → Bool
-is_lost_write statements world node incarnation request =
-    is_write request.1 && option_map_or (is_of_incarnation statements node incarnation) (session_of request.1) false
+-- whether a request writes: it is a write, or a check that has come to one
+abbrev pub has_begun_to_write : Node → ℕ × Statement → Bool
+has_begun_to_write node request = is_write request.1 || (is_check request.1 && has_check_written request.0 node)
+
+-- whether a request writes that began on an open disk in this incarnation of a node, and has no reply
+abbrev pub is_lost_write : List Statement → World → ℕ → Host → ℕ × Statement → Bool
+is_lost_write statements world node host request =
+    has_begun_to_write host.node request
+    && option_map_or (is_of_incarnation statements node host.incarnation) (session_of request.1) false
     && is_some (disk_of statements request.0 world)
 
 -- the writers that a node's loss leaves without reply, by request
@@ -130,7 +200,7 @@ abbrev pub writers_lost : List Statement → World → ℕ → Option Host → L
 writers_lost statements world node None = []
 writers_lost statements world node (Some host) =
     map (λ (request : ℕ × Statement). WriterLost request.0)
-    (filter (is_lost_write statements world node host.incarnation) (numbered_requests statements))
+    (filter (is_lost_write statements world node host) (numbered_requests statements))
 
 -- the writers that the loss of the node of this number leaves without reply
 abbrev pub loss_grown : List Statement → ℕ → World → List HistEvent
@@ -141,7 +211,7 @@ pub record IsLostWrite (statements : List Statement) (world : World) (node : ℕ
   pub host : Host
   pub there : host_at node world ≡ Some host
   pub asked : Contains (numbered_requests statements) request
-  pub writes : is_write request.1 ≡ true
+  pub writes : has_begun_to_write host.node request ≡ true
   pub number : ℕ
   pub of : session_of request.1 ≡ Some number
   pub session : ScriptSession

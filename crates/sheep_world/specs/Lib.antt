@@ -2,6 +2,7 @@ pub mod World
 pub mod Opening
 pub mod Conditions
 pub mod Asking
+pub mod ClientAsks
 pub mod NodeSteps
 pub mod Effects
 pub mod Messages
@@ -11,6 +12,8 @@ pub mod Granted
 pub mod Step
 pub mod Run
 pub mod Enabled
+pub mod ClientSteps
+pub mod RunsWithAsks
 pub mod Incarnations
 pub mod WireMatch
 pub mod Ranges

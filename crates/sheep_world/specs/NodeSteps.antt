@@ -1,5 +1,5 @@
 -- One node's step in the world: what it sends enters the wire, and what it replied to is answered.
-use Rattle.std.specs.Prelude.{ℕ, ◌==◌, not, List, fold, filter, Option, Some, None, unwrap_or}
+use Rattle.std.specs.Prelude.{ℕ, ◌==◌, not, List, fold, filter, Option, Some, None, unwrap_or, find}
 use Rattle.std.specs.Ordering.{nat_cmp}
 use Rattle.std.specs.FinMap as tree
 use Rattle.object_id.specs.declared.node.NodeId.{NodeId}
@@ -11,9 +11,10 @@ use Rattle.sheep_node.specs.declared.input.Input.{Input}
 use Rattle.sheep_node.specs.StepState.{StepState}
 use Rattle.sheep_node.specs.Step.{node_step}
 use Rattle.sheep_world.specs.declared.name.MessageName.{MessageName}
-use Rattle.sheep_world.specs.World.{name_cmp, Packet, Request, Host, StartedRequest, SessionProgress, World, host_at, no_progress}
+use Rattle.sheep_world.specs.World.{name_cmp, Packet, Request, Host, StartedRequest, SessionProgress, World, host_at, no_progress, ClientAsk}
 use Rattle.sheep_world.specs.Opening.{no_outputs}
 use Rattle.sheep_world.specs.Asking.{session_asking}
+use Rattle.std.specs.Option.{option_map, option_or}
 
 -- the name of a request
 abbrev pub request_name : PeerReq → MessageName
@@ -39,12 +40,21 @@ progress_after_reply_in req (Some session) guests =
 abbrev pub progress_after_reply : List Statement → tree.FinMap nat_cmp SessionProgress → ℕ × GuestRsp → tree.FinMap nat_cmp SessionProgress
 progress_after_reply statements guests reply = progress_after_reply_in reply.0 (session_asking statements reply.0) guests
 
+-- the reply to the request of a number among some
+abbrev pub reply_among : ℕ → List (ℕ × GuestRsp) → Option GuestRsp
+reply_among req replies = option_map (λ (reply : ℕ × GuestRsp). reply.1) (find (λ (reply : ℕ × GuestRsp). reply.0 == req) replies)
+
+-- a client's ask, once these replies were given
+abbrev pub ask_after_replies : List (ℕ × GuestRsp) → ClientAsk → ClientAsk
+ask_after_replies replies ask = record ask { reply = option_or ask.reply (reply_among ask.req replies) }
+
 -- the world after the step of a node in its host
 abbrev pub world_after_step : List Statement → ℕ → Input → Host → StepState → World → World
 world_after_step statements node input host so_far world = record world {
   hosts = tree.insert world.hosts node (record host { node = so_far.node });
   wire = fold wire_with_request world.wire so_far.outputs.sends;
   guests = fold (progress_after_reply statements) world.guests so_far.outputs.replies;
+  asked = option_map (ask_after_replies so_far.outputs.replies) world.asked;
   input = Some input;
   outputs = so_far.outputs;
 }

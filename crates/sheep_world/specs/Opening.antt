@@ -66,6 +66,7 @@ before_phases statements = record {
   phase = 0;
   controls = [];
   losses = 0;
+  asked = None;
   input = None;
   outputs = no_outputs;
 }

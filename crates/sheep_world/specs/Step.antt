@@ -9,8 +9,9 @@ use Rattle.sheep_world.specs.Conditions.{may_guest, may_deliver, may_lose_reques
 use Rattle.sheep_world.specs.Effects.{guest_begun, guest_effect, log_next_effect, put_effect, recover_tick_effect, retry_tick_effect}
 use Rattle.sheep_world.specs.Messages.{message_delivered, message_lost}
 use Rattle.sheep_world.specs.MembershipChanges.{node_lost, node_left, node_joined, node_reweighted, came_back, phase_ended}
-use Rattle.sheep_world.specs.HistoryAdditions.{writes_grown, replies_grown, loss_grown}
+use Rattle.sheep_world.specs.HistoryAdditions.{writes_grown, replies_grown, loss_grown, delivery_grown}
 use Rattle.sheep_world.specs.Granted.{put_adds}
+use Rattle.sheep_world.specs.declared.name.MessageName.{MessageName}
 
 -- what an event makes: the world after it, and what it adds to the history
 pub record EventOutcome : Type 0 where
@@ -23,13 +24,17 @@ only after = record { world = after; grown = [] }
 
 -- an event that adds what the replies of its step do
 abbrev pub with_replies : List Statement → World → World → EventOutcome
-with_replies statements before after = record { world = after; grown = replies_grown statements before after }
+with_replies statements before after = record { world = after; grown = replies_grown statements before None after }
+
+-- a message is delivered
+abbrev pub delivery_made : List Statement → MessageName → World → World → EventOutcome
+delivery_made statements name before after = record { world = after; grown = delivery_grown statements name before after }
 
 -- a request's writes begin, and its gateway's step may reply
 abbrev pub guest_made : List Statement → ℕ → World → World → EventOutcome
 guest_made statements session before after = record {
   world = after;
-  grown = writes_grown statements session before ++ replies_grown statements (guest_begun statements session before) after;
+  grown = writes_grown statements session before ++ replies_grown statements (guest_begun statements session before) None after;
 }
 
 -- an entry was put
@@ -46,7 +51,8 @@ step statements (events.Guest session) world =
     if may_guest statements session world then Some (guest_made statements session world (guest_effect statements session world)) else None
 step statements (events.Deliver node number) world =
     if may_deliver (record { sender = node; number = number }) world
-    then Some (with_replies statements world (message_delivered statements (record { sender = node; number = number }) world))
+    then Some (delivery_made statements (record { sender = node; number = number }) world
+    (message_delivered statements (record { sender = node; number = number }) world))
     else None
 step statements (events.LoseRequest node number) world =
     if may_lose_request (record { sender = node; number = number }) world

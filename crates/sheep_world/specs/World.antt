@@ -15,6 +15,7 @@ use Rattle.sheep_node.specs.declared.outputs.Outputs.{Outputs}
 use Rattle.sheep_node.specs.State.{Node}
 use Rattle.sheep_node.specs.May.{has_numbers}
 use Rattle.sheep_world.specs.declared.name.MessageName.{MessageName}
+use Rattle.peer_proto.specs.declared.guest.GuestRsp.{GuestRsp}
 
 -- names in their order: by sender, then by number
 abbrev pub name_cmp : MessageName → MessageName → Ordering
@@ -41,8 +42,13 @@ pub record SessionProgress : Type 0 where
   pub begun : ℕ
   pub unanswered : List StartedRequest
 
+-- what a client without a script asked last: the number of its request, and the reply, once there is one
+pub record ClientAsk : Type 0 where
+  pub req : ℕ
+  pub reply : Option GuestRsp
+
 -- the cluster: its nodes by number, the log, the messages in the wire, the sessions by number, the place of the present
--- phase, its controls that aren't taken, how many messages may still be lost; and the input and outputs of the last step
+-- phase, its controls that aren't taken, how many messages may still be lost, and a client's last ask; and the input and outputs of the last step
 pub record World : Type 0 where
   pub hosts : tree.FinMap nat_cmp Host
   pub log : List Entry
@@ -51,6 +57,7 @@ pub record World : Type 0 where
   pub phase : ℕ
   pub controls : List Statement
   pub losses : ℕ
+  pub asked : Option ClientAsk
   pub input : Option Input
   pub outputs : Outputs
 
