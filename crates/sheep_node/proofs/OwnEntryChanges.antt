@@ -299,7 +299,7 @@ module _ (me : NodeId) where
   change_keeps_own_entries so_far next (changes.Denies session req asked lined request comes short untouched there is_own) own =
       request_refused_own req (Halt (changes.zones_of_members lined.node) (zones_for asked.work)) request (changes.without_denied_work session req asked lined) there
       (comes_own so_far session req asked lined comes own)
-  change_keeps_own_entries so_far next (changes.Strays req work gateway there none) own = own
+  change_keeps_own_entries so_far next (changes.Strays req work gateway there none apart) own = own
   change_keeps_own_entries so_far next (changes.Lines session req work moved steps waits) own = (steps_own so_far session req (ToWork work) moved steps own).0
   change_keeps_own_entries so_far next (changes.Appends session req entry moved steps) own =
       let m = steps_own so_far session req (ToEntry entry) moved steps own in

@@ -2,6 +2,7 @@
 use Rattle.std.proofs.Common.{◌≡◌, ℕ, ◌+◌, ◌&&◌, not, Bool, true, false, cond, List, [], ◌∷◌, length, slice_get, None, refl, ap, ◌∙◌}
 use Rattle.std.proofs.Math.Bool.{and-false}
 use Rattle.proof_tools.proofs.Booleans.{cond_either}
+use Rattle.object_id.specs.declared.node.NodeId.{NodeId}
 use Rattle.object_id.specs.declared.entry.Entry.{Entry}
 use Rattle.peer_service.specs.State.{Peer}
 use Rattle.gateway.specs.State as gateways
@@ -10,7 +11,7 @@ use Rattle.recovery.specs.State as recoveries
 use Rattle.recovery.specs.Steps as recovery_steps
 use Rattle.sheep_node.specs.declared.input.Input.{Input}
 use Rattle.sheep_node.specs.declared.input.Input.TheVariants as inputs
-use Rattle.sheep_node.specs.State.{Node}
+use Rattle.sheep_node.specs.State.{Node, initial_node}
 use Rattle.sheep_node.specs.RecoveryView.{recovery_state_of}
 use Rattle.sheep_node.specs.StepState.{StepState, at_first}
 use Rattle.sheep_node.specs.LogReading.{entry_read, on_back}
@@ -196,6 +197,10 @@ module _ (input : Input) (node : Node) where
       (step_in_order input node).recovered_stays (recovered_received input node quiet ∙ done)
 
 -- ---- `Recovered`
+
+-- a node opens with none due
+pub none_due_at_opening : (me : NodeId) (tries : ℕ) → is_due (initial_node me tries) ≡ false
+none_due_at_opening me tries = and-false (recoveries.is_finished (recovery_state_of (initial_node me tries)))
 
 put_at_end : (so_far : StepState) (b : Bool) → is_due so_far.node ≡ b → is_due (cond b (with_recovered so_far) so_far).node ≡ false
 put_at_end so_far true due = and-false (recoveries.is_finished (recovery_state_of so_far.node))
