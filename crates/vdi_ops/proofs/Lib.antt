@@ -1,5 +1,6 @@
 pub mod StepLemmas
 mod TableLemmas
+mod TagLemmas
 mod CourseLemmas
 mod CheckRefusals
 mod DiskChanges

@@ -100,7 +100,7 @@ table_read ids spec bytes read s entries count =
     (numbers-read w32 (2 ^ 32) wide32 bytes read.table INODE_HEADER_BYTES
     (INODE_HEADER_BYTES + length (numbers_bytes w32 read.table)) (entries-fit read.table entries) (table_stands bytes read s))
 
-text_fills : (text : List ℕ) → length text < TEXT_BYTES → length (text_bytes text (zeros (TEXT_BYTES - 1 - length text))) ≡ TEXT_BYTES
+pub text_fills : (text : List ℕ) → length text < TEXT_BYTES → length (text_bytes text (zeros (TEXT_BYTES - 1 - length text))) ≡ TEXT_BYTES
 text_fills text long =
     omega (arith, length-append text (0 ∷ zeros (TEXT_BYTES - 1 - length text)), length-replicate {A = ℕ} (TEXT_BYTES - 1 - length text) 0)
 

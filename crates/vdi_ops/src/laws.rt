@@ -1,5 +1,5 @@
 //! Laws of the definitions, for the proofs of the layers above: each is the contract of a function that does nothing.
-ghost use Rattle.std.specs.Prelude.{◌≡◌, ◌⊎◌, ℕ, ◌+◌, ◌*◌, ◌^◌, ◌<◌, ◌≤◌, ◌==◌, true, false, List, [], ◌∷◌, length, map, All, Option, Some, None, option_map, IfSome, IsTrue, is_some};
+ghost use Rattle.std.specs.Prelude.{◌≡◌, ◌⊎◌, ℕ, ◌+◌, ◌*◌, ◌^◌, ◌<◌, ◌≤◌, ◌==◌, true, false, List, [], ◌∷◌, ◌++◌, length, map, All, Option, Some, None, option_map, IfSome, IsTrue, is_some};
 ghost use Rattle.std.specs.List.{list_any};
 ghost use Rattle.object_id.specs.declared.oid.Vid.{Vid};
 ghost use Rattle.object_id.specs.declared.node.NodeId.{NodeId};
@@ -9,12 +9,15 @@ ghost use Rattle.object_id.specs.declared.entry.VdiSpec.{VdiSpec};
 ghost use Rattle.object_id.specs.declared.entry.Origin.TheVariants.{Fresh, SnapshotOf, CloneOf};
 ghost use Rattle.object_id.specs.declared.entry.Entry.{Entry};
 ghost use Rattle.object_id.specs.declared.entry.Entry.TheVariants as entries;
+ghost use Rattle.object_id.specs.declared.policy.Policy.{Policy};
 ghost use Rattle.object_id.specs.Spec.{IsSpec, objects_of};
+ghost use Rattle.object_id.specs.Piece.{laid_over};
 ghost use Rattle.inode.specs.declared.layout.TheConstants.{INODE_HEADER_BYTES, INODE_BYTES};
-ghost use Rattle.inode.specs.Layout.{Content, IsFieldText, IsEntry, SpellsInode};
+ghost use Rattle.inode.specs.Layout.{Content, inode_bytes, unread_zeros, IsFieldText, IsEntry, SpellsInode};
 ghost use Rattle.peer_proto.specs.declared.guest.VdiAsk.{VdiAsk};
 ghost use Rattle.peer_proto.specs.declared.guest.VdiAsk.TheVariants.{Create, Attach, Close, Snapshot, Clone, Delete, Check};
 ghost use Rattle.peer_proto.specs.declared.guest.GuestRsp.TheVariants.{Done, Refused};
+ghost use Rattle.peer_proto.specs.declared.work.ObjWork.TheVariants as works;
 ghost use Rattle.vdi_directory.specs.declared.header.Header.{Header as TheHeader};
 ghost use Rattle.vdi_directory.specs.declared.decision.Decision.{Decision};
 ghost use Rattle.vdi_directory.specs.declared.decision.Decision.TheVariants as decisions;
@@ -150,6 +153,14 @@ pub fn the_table_alone_is_taken()
 pub fn the_table_is_written_back()
     ensures { (inode read : Content) (bytes : List ℕ) → IsFieldText inode.name → IsFieldText inode.tag → SpellsInode bytes read
         → SpellsInode (written_back inode bytes) (record inode { table = read.table }) }
+{}
+
+/// What a snapshot writes of its tag makes of the inode without a tag, as it was written, the inode with that tag.
+pub fn the_tag_is_written_in_its_field()
+    ensures { (inode : Content) (tag rest : List ℕ) (oid : ℕ) (policy : Policy) (offset : ℕ) (written : List ℕ)
+        → IsFieldText inode.name → IsFieldText tag → write_tag inode tag ≡ works.Write oid policy offset written
+        → laid_over (inode_bytes (record inode { tag = [] }) (unread_zeros (record inode { tag = [] })) ++ rest) offset written
+        ≡ inode_bytes (record inode { tag = tag }) (unread_zeros (record inode { tag = tag })) ++ rest }
 {}
 
 /// What is written of an inode fits into its object.
