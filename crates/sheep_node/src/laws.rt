@@ -27,7 +27,7 @@ ghost use Rattle.sheep_node.specs.StepState.{StepState, at_first};
 ghost use Rattle.sheep_node.specs.NodeInvariant.{IsSoundNode};
 ghost use Rattle.sheep_node.specs.OneWork.{HasOneWorkPerRequest};
 ghost use Rattle.sheep_node.specs.OwnEntries.{HasOnlyOwnEntries};
-ghost use Rattle.sheep_node.specs.SessionQueues.{QueuesAreDiskRequests};
+ghost use Rattle.sheep_node.specs.SessionQueues.{QueuesAreDiskRequests, QueuesAreShort};
 ghost use Rattle.sheep_node.specs.Changes.{input_received, Leads};
 ghost use Rattle.sheep_node.specs.AwaitedEntry.{waits_for_entry};
 ghost use Rattle.sheep_node.specs.RequestWorks.{work_begun, course_refused};
@@ -145,7 +145,8 @@ pub fn a_create_begins_with_its_reservation()
 {}
 
 /// A node opens as one, and each step that it may take leaves it one: its requests have one work each at most, its entries
-/// are its own, its queues are its reads and writes, it is in the epoch of what it has read, and no `Recovered` is due.
+/// are its own, its queues are its reads and writes, no more than there may be at once, it is in the epoch of what it has read, and no
+/// `Recovered` is due.
 pub fn a_node_stays_one()
     ensures opens { (me : NodeId) (tries : ℕ) → IsSoundNode (initial_node me tries) }
     ensures stays { (input : Input) (node : Node) → May input node → IsSoundNode node → IsSoundNode (node_step input node).node }
@@ -176,6 +177,12 @@ pub fn a_queue_has_the_disk_requests()
     ensures opens { (me : NodeId) (tries : ℕ) → QueuesAreDiskRequests (initial_node me tries) }
     ensures stays { (input : Input) (node : Node) → May input node → HasOneWorkPerRequest node → QueuesAreDiskRequests node
         → QueuesAreDiskRequests (node_step input node).node }
+{}
+
+/// A session has no more reads and writes without reply than it may have at once: so a node opens, and so it stays at each step.
+pub fn a_queue_is_short()
+    ensures opens { (me : NodeId) (tries : ℕ) → QueuesAreShort (initial_node me tries) }
+    ensures stays { (input : Input) (node : Node) → May input node → QueuesAreShort node → QueuesAreShort (node_step input node).node }
 {}
 
 /// A node's requests are those that it had, and the guest's request that it steps on.
