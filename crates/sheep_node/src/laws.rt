@@ -33,7 +33,7 @@ ghost use Rattle.sheep_node.specs.AwaitedEntry.{waits_for_entry};
 ghost use Rattle.sheep_node.specs.RequestWorks.{work_begun, course_refused};
 ghost use Rattle.sheep_node.specs.Courses.{disk_after};
 ghost use Rattle.sheep_node.specs.May.{IsGuestAsk, MayRead, MayComeBack, May};
-ghost use Rattle.sheep_node.specs.MayTests.{is_guest_ask, may_read, may_come_back, may};
+ghost use Rattle.sheep_node.specs.MayTests.{is_guest_ask, may_read_entry, may_come_back_with, may};
 ghost use Rattle.sheep_node.specs.Step.{is_due, recovered_put, node_step};
 ghost use Rattle.sheep_node.specs.StepFacts.{read_after, may_begin_recovery, only_reply, said_on, put_on, Ascend, IsByTheLog};
 
@@ -196,6 +196,6 @@ pub fn requests_come_from_inputs()
 pub fn conditions_are_tests()
     ensures may { (input : Input) (node : Node) → IsTrue (may input node) ↔ May input node }
     ensures guest_ask { (ask : Ask) → IsTrue (is_guest_ask ask) ↔ IsGuestAsk ask }
-    ensures read { (entries : List Entry) (entry : Entry) → IsTrue (may_read entries entry) ↔ MayRead entries entry }
-    ensures come_back { (entries : List Entry) (node : Node) → IsTrue (may_come_back entries node) ↔ MayComeBack entries node }
+    ensures read { (entries : List Entry) (entry : Entry) → IsTrue (may_read_entry entries entry) ↔ MayRead entries entry }
+    ensures come_back { (entries : List Entry) (node : Node) → IsTrue (may_come_back_with entries node) ↔ MayComeBack entries node }
 {}
