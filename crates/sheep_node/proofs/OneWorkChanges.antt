@@ -114,7 +114,7 @@ command_moved session req step so_far awaited free good =
     let works = so_far.node.gateway.works in
     let request : Request = record { session = session; course = Commanding step.op } in
     let after = record (session_in session so_far) {
-      disk = disk_after (disk_change step.op) (session_in session so_far).disk;
+      disk = disk_after (disk_change step) (session_in session so_far).disk;
       command = Some req;
     } in
     record {

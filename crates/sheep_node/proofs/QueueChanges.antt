@@ -220,7 +220,7 @@ command_took session req step so_far same queued =
       there = get-insert_same so_far.node.requests req request;
       queued = queued_session (tree.insert so_far.node.requests req request) so_far.node.sessions session
           (record (session_in session so_far) {
-            disk = disk_after (disk_change step.op) (session_in session so_far).disk;
+            disk = disk_after (disk_change step) (session_in session so_far).disk;
             command = Some req;
           }) refl
           (queued_course so_far.node.requests so_far.node.sessions req request same queued);

@@ -1,5 +1,5 @@
 -- What a step gives, and what it leaves of what its node has read, as the input has it.
-use Rattle.std.proofs.Common.{◌≡◌, ℕ, ◌+◌, ◌&&◌, not, Bool, true, false, cond, List, [], ◌∷◌, length, None, refl, ap, ◌∙◌}
+use Rattle.std.proofs.Common.{◌≡◌, ℕ, ◌+◌, ◌&&◌, not, Bool, true, false, cond, List, [], ◌∷◌, length, slice_get, None, refl, ap, ◌∙◌}
 use Rattle.std.proofs.Math.Bool.{and-false}
 use Rattle.proof_tools.proofs.Booleans.{cond_either}
 use Rattle.object_id.specs.declared.node.NodeId.{NodeId}
@@ -16,7 +16,7 @@ use Rattle.sheep_node.specs.RecoveryView.{recovery_state_of}
 use Rattle.sheep_node.specs.StepState.{StepState, at_first}
 use Rattle.sheep_node.specs.LogReading.{entry_read, on_back}
 use Rattle.sheep_node.specs.Step.{on_request, recovery_stepped, on_put, on_recover_tick, on_input, is_due, with_recovered, recovered_put, node_step}
-use Rattle.sheep_node.specs.StepFacts.{read_after, may_begin_recovery, said_on, first_entry_of, put_on, Ascend}
+use Rattle.sheep_node.specs.StepFacts.{read_after, may_begin_recovery, said_on, put_on, Ascend}
 use Rattle.sheep_node.specs.Changes.{input_received}
 use Rattle.sheep_node.proofs.PeerLog.{Log, served_same, entries_reading, entries_back}
 use Rattle.sheep_node.proofs.StepEffects.{Untouched, step_in_order}
@@ -97,7 +97,7 @@ puts_received (inputs.Lost number) node =
 puts_received (inputs.LogEntry entry) node = refl
 puts_received inputs.Put node = by_outbox node.outbox
   where
-    by_outbox : (outbox : List Entry) → (on_put outbox (at_first node)).outputs.put ≡ first_entry_of outbox
+    by_outbox : (outbox : List Entry) → (on_put outbox (at_first node)).outputs.put ≡ slice_get outbox 0
     by_outbox [] = refl
     by_outbox (entry ∷ later) = refl
 puts_received inputs.RecoverTick node = refl

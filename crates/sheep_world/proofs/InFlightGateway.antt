@@ -45,7 +45,7 @@ use Rattle.sheep_node.specs.OneWork.{HasOneWorkPerRequest}
 use Rattle.sheep_world.proofs.InFlightSends.{Asking}
 use Rattle.sheep_world.proofs.InFlightRecoveryAnswer.{Other, left_now, lost_asks, replied_asks}
 use Rattle.sheep_world.proofs.OneWorkLaws.{IsGood, IsFree, IsFreeIn, driver_stepped_good, let_begin_good, left_good, left_free, work_refused_good}
-use Rattle.sheep_world.proofs.InFlightRetryTick.{found_got, good_first, good_at_end, good_so_far_asks, good_driven, asks_after}
+use Rattle.sheep_world.proofs.InFlightRetryTick.{found_got, DoesWell, good_first, good_at_end, good_so_far_asks, good_driven, asks_after}
 use Rattle.sheep_world.proofs.InFlightGuest.{command_went_on_good}
 use Rattle.sheep_world.proofs.MarkedMessages.{Marks, marks_open, marks_ended, marks_removed, marked_asks, marked_driven}
 

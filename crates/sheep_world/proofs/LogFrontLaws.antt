@@ -92,7 +92,7 @@ reads_kept statements = record {
   stays = λ event world made h i n host front.
       front_of_front host.node.peer.entries world.log made.world.log front (log_grows statements event world made h);
   steps = λ world n host cause i there up caused front.
-      subst (λ (read : List Entry). IsFront read (log_after_cause cause world.log)) 
+      subst (λ (read : List Entry). IsFront read (log_after_cause cause world.log))
       (sym (step_reads (input_of_cause cause) host.node))
       (front_of_front (read_after (input_of_cause cause) host.node.peer.entries) world.log (log_after_cause cause world.log)
       (reads_by statements world n host cause caused front) (by_step cause world.log));
