@@ -20,7 +20,7 @@ use Rattle.object_id.specs.declared.policy.Policy.TheVariants.{Copies, Coded}
 use Rattle.object_id.specs.declared.limits.TheConstants.{BLOCK_BYTES, SHIFT_MIN, SHIFT_MAX, OBJECTS_MAX, NAME_BYTES_MAX}
 use Rattle.object_id.specs.declared.limits.TheConstants.{COPIES_MAX, PARITY_MAX, NODES_MAX, VNODES_MAX, EPOCH_MAX}
 use Rattle.object_id.specs.Policy.{is_width, IsPolicy}
-use Rattle.object_id.specs.Spec.{IsSpec, IsName, IsOrigin}
+use Rattle.object_id.specs.Spec.{IsSpec, IsName, IsTag, IsOrigin}
 use Rattle.object_id.specs.Node.{IsNode, IsWeight}
 use Rattle.object_id.specs.Same.{is_same_entry}
 use Rattle.object_id.proofs.SameLemmas.{entries_decided}
@@ -35,7 +35,7 @@ use Rattle.object_store.specs.Store.{SeenRow, open_row}
 use Rattle.peer_service.specs.State.{Peer}
 use Rattle.peer_service.specs.Serve.{EndsInside, MayServe, ends_inside, may_serve}
 use Rattle.guest_driver.specs.Pieces.{is_ask}
-use Rattle.vdi_ops.specs.Entries.{IsOptionalTag, IsVdiAsk}
+use Rattle.vdi_ops.specs.Entries.{IsVdiAsk}
 use Rattle.sheep_node.specs.declared.ask.Ask.{Ask}
 use Rattle.sheep_node.specs.declared.ask.Ask.TheVariants as asks
 use Rattle.sheep_node.specs.declared.input.Input.{Input}
@@ -99,7 +99,7 @@ name_tested name =
     all_three (at_most 1 (length name)) (at_most (length name) NAME_BYTES_MAX)
     (each (λ (byte : ℕ). byte ≢ 0) (λ (byte : ℕ). not (byte == 0)) (λ byte. Decides-not (byte == 0) (Decides-eqb byte 0)) name)
 
-tag_tested : (tag : Option (List ℕ)) → Decides (tests.is_optional_tag tag) (IsOptionalTag tag)
+tag_tested : (tag : Option (List ℕ)) → Decides (tests.is_tag tag) (IsTag tag)
 tag_tested None = always
 tag_tested (Some tag) = name_tested tag
 

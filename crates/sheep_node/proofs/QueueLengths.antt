@@ -112,7 +112,7 @@ driven_short session req disk step so_far all =
 command_short : (session req : ℕ) (step : OpStep) (so_far : StepState) → QueuesAreShortIn so_far → QueuesAreShortIn (after_command_step session req step so_far)
 command_short session req step so_far all =
     same_short session
-    (record (session_in session so_far) { disk = disk_after (disk_change step.op) (session_in session so_far).disk; command = Some req }) so_far refl all
+    (record (session_in session so_far) { disk = disk_after (disk_change step) (session_in session so_far).disk; command = Some req }) so_far refl all
 
 module _ {input : Input} {node : Node} where
   steps_short : (so_far : StepState) (session req : ℕ) (next : Outcome) (moved : StepState) → RequestSteps input node so_far session req next moved

@@ -36,8 +36,8 @@ use Rattle.sheep_node.specs.May.{has_numbers, has_entry_to_put, may_tick, has_wo
 abbrev pub is_name_or_tag : List ℕ → Bool
 is_name_or_tag name = nat_le 1 (length name) && (nat_le (length name) NAME_BYTES_MAX && list_all (λ (byte : ℕ). not (byte == 0)) name)
 
-abbrev pub is_optional_tag : Option (List ℕ) → Bool
-is_optional_tag tag = option_map_or is_name_or_tag tag true
+abbrev pub is_tag : Option (List ℕ) → Bool
+is_tag tag = option_map_or is_name_or_tag tag true
 
 abbrev pub is_policy : Policy → Bool
 is_policy (Copies copies) = nat_le 1 copies && nat_le copies COPIES_MAX
@@ -58,11 +58,11 @@ is_origin (CloneOf base tag) = is_name_or_tag base && is_name_or_tag tag
 
 abbrev pub is_vdi_ask : VdiAsk → Bool
 is_vdi_ask (Create name spec) = is_name_or_tag name && is_spec spec
-is_vdi_ask (Attach name tag) = is_name_or_tag name && is_optional_tag tag
+is_vdi_ask (Attach name tag) = is_name_or_tag name && is_tag tag
 is_vdi_ask Close = true
 is_vdi_ask (Snapshot tag) = is_name_or_tag tag
 is_vdi_ask (Clone base tag name) = is_name_or_tag base && (is_name_or_tag tag && is_name_or_tag name)
-is_vdi_ask (Delete name tag) = is_name_or_tag name && is_optional_tag tag
+is_vdi_ask (Delete name tag) = is_name_or_tag name && is_tag tag
 is_vdi_ask Check = true
 
 abbrev pub is_guest_ask : Ask → Bool
