@@ -22,8 +22,8 @@ abbrev pub is_answered : World → Bool
 is_answered world = option_map_or (λ (ask : ClientAsk). is_some ask.reply) world.asked true
 
 -- an ask is taken where the node is up, and a member by what it has read, and the last ask has its reply
-abbrev pub may_take_ask : ℕ → World → Bool
-may_take_ask node world = is_up_with is_epoch_member node world && is_answered world
+abbrev pub may_client_ask : ℕ → World → Bool
+may_client_ask node world = is_up_with is_epoch_member node world && is_answered world
 
 -- whether what is asked is as it may be of the node
 abbrev pub may_be_asked : Ask → ℕ → World → Bool

@@ -8,7 +8,7 @@ use Rattle.peer_proto.specs.declared.work.ObjWork.TheVariants as works
 use Rattle.sheep_node.specs.declared.ask.Ask.{Ask}
 use Rattle.sheep_node.specs.declared.ask.Ask.TheVariants as asks
 use Rattle.sheep_node.specs.declared.event.Event.{Event}
-use Rattle.sheep_world.specs.ClientAsks.{may_take_ask, may_be_asked}
+use Rattle.sheep_world.specs.ClientAsks.{may_client_ask, may_be_asked}
 use Rattle.sheep_world.specs.ClientSteps.{ask_effect}
 use Rattle.sheep_world.specs.Run.{Moment, initial_moment, next}
 
@@ -33,7 +33,7 @@ is_read_ask (asks.Entry entry) = false
 -- whether a client may read so now
 abbrev pub may_read_object : NodeId → Ask → Moment → Bool
 may_read_object node ask moment =
-    may_take_ask node.0 moment.world && may_be_asked ask node.0 moment.world && is_read_ask ask
+    may_client_ask node.0 moment.world && may_be_asked ask node.0 moment.world && is_read_ask ask
 
 -- one move; an ask adds nothing to the history
 abbrev pub next_move : List Statement → Move → Moment → Option Moment
