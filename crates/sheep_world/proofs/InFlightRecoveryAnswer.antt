@@ -40,7 +40,8 @@ use Rattle.peer_proto.specs.declared.fault.PeerFault.{PeerFault}
 use Rattle.sheep_world.specs.World.{name_cmp, Packet}
 use Rattle.sheep_world.specs.WireMatch.{unanswered_in, asked_by_gateway, asked_by_recovery}
 use Rattle.sheep_world.proofs.NameTools.{name_cmp_total}
-use Rattle.sheep_world.proofs.InFlightSends.{Sends, Wire, name_apart, name_itself}
+use Rattle.sheep_node.proofs.MessageNumbers.{Sends}
+use Rattle.sheep_world.proofs.InFlightSends.{Wire, name_apart, name_itself}
 use Rattle.sheep_world.proofs.InFlightRecoverTick.{AsksFrom, asks_at_end}
 
 -- every number but one
@@ -235,30 +236,6 @@ module _ (node : Node) (number : ℕ) (said : Option PeerSay) (none : gateways.g
             ∙ fitted))
             (or_cases (gateways.fits_gateway rsp node.gateway) (recovery_fits.fits_recovery rsp (recovery_state_of node)) fit);
       }
-
--- the step of a node on the loss of a message that no work waits for
-pub lost_asks : (node : Node) (number : ℕ) → gateways.gateway_awaits number node.gateway ≡ false
-    → AsksFrom (Other number) node (node_step (inputs.Lost number) node)
-unfolding node_step on_input steps.on_loss recovery_steps.recovery_on_loss
-lost_asks node number none =
-    asks_at_end (Other number) node (steps.on_loss number (at_first node))
-    (subst (AsksFrom (Other number) node)
-    (sym (cond-false (gateways.gateway_awaits number node.gateway)
-    (after_gateway_step (gateway_steps.gateway_on_loss node.gateway number) (at_first node))
-    (recovery_stepped (recovery_steps.recovery_on_loss number (recovery_state_of node)) (at_first node)) none))
-    (end_asks node number None none))
-
--- the same on a reply
-pub replied_asks : (node : Node) (rsp : PeerRsp) → gateways.gateway_awaits rsp.number node.gateway ≡ false
-    → AsksFrom (Other rsp.number) node (node_step (inputs.Reply rsp) node)
-unfolding node_step on_input steps.on_reply recovery_steps.recovery_on_reply
-replied_asks node rsp none =
-    asks_at_end (Other rsp.number) node (steps.on_reply rsp (at_first node))
-    (subst (AsksFrom (Other rsp.number) node)
-    (sym (cond-false (gateways.gateway_awaits rsp.number node.gateway)
-    (after_gateway_step (gateway_steps.gateway_on_reply node.gateway rsp) (at_first node))
-    (recovery_stepped (recovery_steps.recovery_on_reply rsp (recovery_state_of node)) (at_first node)) none))
-    (end_asks node rsp.number (Some rsp.say) none))
 
 -- ---- a message leaves the wire
 
