@@ -30,9 +30,9 @@ use Rattle.sheep_node.specs.declared.ask.Ask.TheVariants as asks
 use Rattle.sheep_node.specs.declared.input.Input.{Input}
 use Rattle.sheep_node.specs.declared.input.Input.TheVariants as inputs
 use Rattle.sheep_node.specs.declared.limits.TheConstants.{REQUESTS_AT_ONCE}
-use Rattle.sheep_node.specs.State.{Course, Waiting, Driving, Commanding, Request, Session, Node, new_session, session_at, initial_node}
+use Rattle.sheep_node.specs.State.{Course, Waiting, Driving, Commanding, Request, Session, Node, new_session, session_at, initial_node, Checking, DoingWork, AwaitingDecision}
 use Rattle.sheep_node.specs.RecoveryView.{recovery_state_of}
-use Rattle.sheep_node.specs.StepState.{StepState, at_first, with_optional_entry, session_in, request_ended}
+use Rattle.sheep_node.specs.StepState.{StepState, at_first, with_optional_entry, session_in, request_ended, with_sole_request}
 use Rattle.sheep_node.specs.RequestWorks.{command_refused, course_refused, request_refused}
 use Rattle.sheep_node.specs.Courses.{after_driver_step, disk_after, after_command_step}
 use Rattle.sheep_node.specs.Guests.{queued_as}
@@ -41,9 +41,10 @@ use Rattle.sheep_node.specs.Step.{on_request, recovery_stepped, on_put, on_recov
 use Rattle.sheep_node.specs.May.{May}
 use Rattle.sheep_node.specs.SessionQueues.{HaveShortQueues, QueuesAreShort}
 use Rattle.sheep_node.specs.Changes as changes
-use Rattle.sheep_node.specs.Changes.{Outcome, ToWork, ToEntry, ToReply, Arrival, RequestSteps, DiskBegins, DiskGoesOn, CommandBegins, CommandGoesOn, CommandDecided, WorkIsNext, AtOnce, InTurn, Again, AgainAlone, input_received, Change}
+use Rattle.sheep_node.specs.Changes.{Outcome, ToWork, ToEntry, ToReply, Arrival, RequestSteps, DiskBegins, DiskGoesOn, CommandBegins, CommandGoesOn, CommandDecided, WorkIsNext, AtOnce, InTurn, Again, AgainAlone, input_received, Change, CheckBegins, CheckGoesOn, ObjectBegins, ObjectIsDone, EntryBegins, EntryDecided}
 use Rattle.sheep_node.proofs.OneWorkParts.{Sessions}
 use Rattle.sheep_node.proofs.StepChain.{kept_by_chain, step_chain}
+use Rattle.disk_check.specs.Check.{begin_check}
 
 abbrev pub QueuesAreShortIn : StepState → Type 0
 QueuesAreShortIn so_far = HaveShortQueues so_far.node.sessions
@@ -87,6 +88,9 @@ refused_short session req cause (Commanding op) so_far all = by_end (on_refusal 
     by_end : (end : Option OpEnd) → QueuesAreShortIn (command_refused session req end so_far)
     by_end None = all
     by_end (Some end) = ended_short session req end.reply (with_optional_entry end.unlock so_far) all
+refused_short session req cause (Checking check) so_far all = ended_short session req (Refused cause) so_far all
+refused_short session req cause (DoingWork work) so_far all = ended_short session req (Refused cause) so_far all
+refused_short session req cause (AwaitingDecision entry) so_far all = all
 
 request_refused_short : (req : ℕ) (cause : Cause) (request : Option Request) (so_far : StepState) → QueuesAreShortIn so_far
     → QueuesAreShortIn (request_refused req cause request so_far)
@@ -114,6 +118,11 @@ command_short session req step so_far all =
     same_short session
     (record (session_in session so_far) { disk = disk_after (disk_change step) (session_in session so_far).disk; command = Some req }) so_far refl all
 
+sole_short : (session req : ℕ) (course : Course) (so_far : StepState) → QueuesAreShortIn so_far
+    → QueuesAreShortIn (with_sole_request session req course so_far)
+sole_short session req course so_far all =
+    same_short session (record (session_in session so_far) { command = Some req }) so_far refl all
+
 module _ {input : Input} {node : Node} where
   steps_short : (so_far : StepState) (session req : ℕ) (next : Outcome) (moved : StepState) → RequestSteps input node so_far session req next moved
       → QueuesAreShortIn so_far → QueuesAreShortIn moved
@@ -124,6 +133,16 @@ module _ {input : Input} {node : Node} where
   steps_short so_far session req next moved (CommandGoesOn number work attempt status bytes op step ends is) all =
       command_short session req step (changes.without_ended_work session req work status so_far) (freed_short session req work status so_far all)
   steps_short so_far session req next moved (CommandDecided entry op step from read there waits is) all = command_short session req step so_far all
+  steps_short so_far session req next moved (CheckBegins inode arrival on) all =
+      sole_short session req (Checking (begin_check inode).check) so_far all
+  steps_short so_far session req next moved (CheckGoesOn number work attempt status bytes check step ends is) all =
+      sole_short session req (Checking step.check) (changes.without_ended_work session req work status so_far)
+      (freed_short session req work status so_far all)
+  steps_short so_far session req next moved (ObjectBegins asked arrival) all = sole_short session req (DoingWork asked) so_far all
+  steps_short so_far session req next moved (ObjectIsDone number work attempt status bytes asked ends) all =
+      freed_short session req work status so_far all
+  steps_short so_far session req next moved (EntryBegins entry arrival) all = sole_short session req (AwaitingDecision entry) so_far all
+  steps_short so_far session req next moved (EntryDecided entry wanted from read there waits) all = all
 
   comes_short : (so_far : StepState) (session req : ℕ) (asked : Work) (lined : StepState) → WorkIsNext input node so_far session req asked lined
       → QueuesAreShortIn so_far → QueuesAreShortIn lined

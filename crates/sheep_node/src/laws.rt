@@ -33,7 +33,7 @@ ghost use Rattle.sheep_node.specs.AwaitedEntry.{waits_for_entry};
 ghost use Rattle.sheep_node.specs.RequestWorks.{work_begun, course_refused, work_asked};
 ghost use Rattle.sheep_node.specs.Courses.{disk_after, check_stepped, decision_reply, course_went_on, course_decided};
 ghost use Rattle.sheep_node.specs.May.{May, IsGuestAsk, MayRead, MayComeBack};
-ghost use Rattle.sheep_node.specs.MayTests.{is_guest_ask, may_read, may_come_back, may, may_read_entry, may_come_back_with};
+ghost use Rattle.sheep_node.specs.MayTests.{is_guest_ask, may, may_read_entry, may_come_back_with};
 ghost use Rattle.sheep_node.specs.Step.{is_due, recovered_put, node_step};
 ghost use Rattle.sheep_node.specs.StepFacts.{read_after, may_begin_recovery, only_reply, said_on, put_on, Ascend, IsByTheLog};
 ghost use Rattle.sheep_node.specs.Guests.{request_refusal, on_guest};
