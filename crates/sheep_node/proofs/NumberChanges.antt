@@ -40,7 +40,7 @@ use Rattle.sheep_node.specs.Step.{on_request, recovery_stepped, on_put, on_recov
 use Rattle.sheep_node.specs.May.{Meets, May}
 use Rattle.sheep_node.specs.OneWork.{NumbersAreOfOneWork, NumbersAreBelow, HasOneWorkPerRequest}
 use Rattle.sheep_node.specs.Changes as changes
-use Rattle.sheep_node.specs.Changes.{IsSoundStep, LearnsStatus, gateway_with_touch, without_ended_work, Outcome, ToWork, ToEntry, ToReply, RequestSteps, DiskBegins, DiskGoesOn, CommandBegins, CommandGoesOn, CommandDecided, WorkIsNext, AtOnce, InTurn, Again, AgainAlone, attempt_in, input_received, Change}
+use Rattle.sheep_node.specs.Changes.{MeetsNumbers, IsSoundStep, LearnsStatus, gateway_with_touch, without_ended_work, Outcome, ToWork, ToEntry, ToReply, RequestSteps, DiskBegins, DiskGoesOn, CommandBegins, CommandGoesOn, CommandDecided, WorkIsNext, AtOnce, InTurn, Again, AgainAlone, attempt_in, input_received, Change}
 use Rattle.sheep_node.proofs.AwaitedWorks.{Works, found_by, found_got, got_found}
 use Rattle.sheep_node.proofs.MessageNumbers.{all_before, fresh_apart, fresh_below, left_before, ticked_within, unanswered_in_epoch, unanswered_reading}
 use Rattle.sheep_node.proofs.OneWorkChanges.{StepHasOneWork, none_good, never_alone, change_keeps_one_work, received_one_work}
@@ -271,7 +271,7 @@ heard_numbered number said node numbered =
 none_got : {P : Type 0} (req : ℕ) (work : Work) → tree.get (tree.empty {X = Work} {R = nat_cmp}) req ≡ Some work → P
 none_got req work got = let none = tree.get-empty {X = Work} nat_cmp req in absurd (cc (got, none))
 
-pub received_numbers : (input : Input) (node : Node) → Meets input node → StepHasOneNumber (at_first node)
+pub received_numbers : (input : Input) (node : Node) → MeetsNumbers input node → StepHasOneNumber (at_first node)
     → StepHasOneNumber (input_received input (at_first node))
 unfolding entry_read on_request on_recover_tick on_back recovery_steps.recovery_on_reply recovery_steps.recovery_on_loss
 received_numbers (inputs.Guest req session ask) node may numbered = numbered
@@ -362,13 +362,29 @@ one_work_after so_far both = record {
   recovering = both.1.recovering;
 }
 
+-- a node that may step meets that by its numbers
+pub meets_numbers : (input : Input) (node : Node) → Meets input node → MeetsNumbers input node
+meets_numbers (inputs.Guest req session ask) node meets = meets.number
+meets_numbers (inputs.Request request) node meets = tt
+meets_numbers (inputs.Reply rsp) node meets = meets
+meets_numbers (inputs.Lost number) node meets = tt
+meets_numbers (inputs.LogEntry entry) node meets = tt
+meets_numbers inputs.Put node meets = tt
+meets_numbers inputs.RecoverTick node meets = meets
+meets_numbers inputs.RetryTick node meets = tt
+meets_numbers (inputs.Back entries) node meets = tt
+
+-- works go with their requests, and numbers with their works, through a sound step
+pub both_after_step : (input : Input) (node : Node) → IsSoundStep input node → HasOneWorkAndNumber (node_step input node)
+both_after_step input node sound =
+    let both = both_at_first node sound.1 in
+    kept_by_chain HasOneWorkAndNumber (λ so_far next change. change_keeps_both so_far next change sound) (step_chain input node)
+    (received_one_work input node both.0, received_numbers input node sound.0 both.1)
+
 -- a driven node that steps on what it may is driven
 pub one_work_stays : (input : Input) (node : Node) → May input node → HasOneWorkPerRequest node → HasOneWorkPerRequest (node_step input node).node
 one_work_stays input node may driven =
-    let both = both_at_first node driven in
-    one_work_after (node_step input node)
-    (kept_by_chain HasOneWorkAndNumber (λ so_far next change. change_keeps_both so_far next change (may, driven)) (step_chain input node)
-    (received_one_work input node both.0, received_numbers input node may.condition both.1))
+    one_work_after (node_step input node) (both_after_step input node (meets_numbers input node may.condition, driven))
 
 -- so it opens
 pub one_work_at_opening : (me : NodeId) (tries : ℕ) → HasOneWorkPerRequest (initial_node me tries)

@@ -45,6 +45,7 @@ use Rattle.sheep_node.specs.SessionQueues.{is_disk_request_of, session_among, qu
 use Rattle.sheep_node.specs.Changes as changes
 use Rattle.sheep_node.specs.Changes.{HasRequest, IsSoundStep, Outcome, ToWork, ToEntry, ToReply, without_ended_work, RequestSteps, DiskBegins, DiskGoesOn, CommandBegins, CommandGoesOn, CommandDecided, WorkIsNext, AtOnce, InTurn, Again, AgainAlone, input_received, Change}
 use Rattle.sheep_node.proofs.OneWorkParts.{Requests, Sessions}
+use Rattle.sheep_node.proofs.NumberChanges.{meets_numbers}
 use Rattle.sheep_node.proofs.StepChain.{kept_by_chain, step_chain}
 
 -- ---- a session among others
@@ -388,4 +389,4 @@ received_queues (inputs.Back entries) node queued = none_queued
 pub queues_stay : (input : Input) (node : Node) → May input node → HasOneWorkPerRequest node → QueuesAreDiskRequests node
     → QueuesAreDiskRequests (node_step input node).node
 queues_stay input node may driven queued =
-    kept_by_chain QueuesAre (λ so_far next change. change_keeps_queues so_far next change (may, driven)) (step_chain input node) (received_queues input node queued)
+    kept_by_chain QueuesAre (λ so_far next change. change_keeps_queues so_far next change (meets_numbers input node may.condition, driven)) (step_chain input node) (received_queues input node queued)

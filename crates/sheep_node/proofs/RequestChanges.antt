@@ -135,6 +135,13 @@ module _ (P : ℕ → Type 0) where
     pub requests_stay : AllAre P node.requests → AllAre P (node_step input node).node.requests
     requests_stay all = kept_by_chain In change_keeps_requests (step_chain input node) (received_requests input node all)
 
+  -- a node that comes back has no request that it had
+  pub requests_back : (entries : List Entry) (node : Node) → AllAre P (node_step (inputs.Back entries) node).node.requests
+  unfolding on_back
+  requests_back entries node =
+      kept_by_chain In (change_keeps_requests (inputs.Back entries) node (λ req session ask from. absurd (cc (from)))) (step_chain (inputs.Back entries) node)
+      (λ req request got. let none = tree.get-empty {X = Request} nat_cmp req in absurd (cc (none, got)))
+
 -- a request that a node has once it stepped it had, or it is the guest's
 pub requests_from_inputs : (input : Input) (node : Node) (req : ℕ)
     → tree.contains_key (node_step input node).node.requests req ≡ true

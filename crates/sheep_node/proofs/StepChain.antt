@@ -507,7 +507,7 @@ settled_by work (says.Row row) fit = absurd (cc (fit))
 settled_by work says.NoRow fit = absurd (cc (fit))
 settled_by work (says.Refused request_refusal) fit = refl
 
-fits_settled : (node : Node) (rsp : PeerRsp) → recoveries.recovery_awaits rsp.number node.recovery ≡ false → fits_node rsp node ≡ true
+pub fits_settled : (node : Node) (rsp : PeerRsp) → recoveries.recovery_awaits rsp.number node.recovery ≡ false → fits_node rsp node ≡ true
     → is_unanswered (status_by rsp.say) ≡ false
 fits_settled node rsp apart fit = ⊎_elim
     (λ (works : gateways.fits_gateway rsp node.gateway ≡ true). by_asker (asker rsp.number node.gateway) works)
@@ -543,7 +543,7 @@ pub input_chain : (input : Input) (node : Node) → IsReached input node (input_
 unfolding entry_read on_input steps.on_reply steps.on_loss on_log_entry recovery_steps.recovery_on_reply recovery_steps.recovery_on_loss
 input_chain (inputs.Guest req session ask) node =
     guest_walk (inputs.Guest req session ask) node (at_first node) (at_first node) (begins (inputs.Guest req session ask) node) session req ask refl refl
-    (λ sound. untaken node req sound.0.condition.number)
+    (λ sound. untaken node req sound.0)
 input_chain (inputs.Request request) node = begins (inputs.Request request) node
 input_chain (inputs.Reply rsp) node = by_waits (gateways.gateway_awaits rsp.number node.gateway) refl
   where
@@ -553,7 +553,7 @@ input_chain (inputs.Reply rsp) node = by_waits (gateways.gateway_awaits rsp.numb
         (recovery_stepped (recovery_steps.message_end rsp.number (Some rsp.say) (recovery_state_of node)) (at_first node)))
     by_waits true waits =
         answered_walk (inputs.Reply rsp) node (at_first node) (at_first node) (still (at_first node) (λ good. good)) rsp.number (status_by rsp.say)
-        (λ sound. fits_settled node rsp (sound.1.recovers rsp.number waits) sound.0.condition) (refl, refl)
+        (λ sound. fits_settled node rsp (sound.1.recovers rsp.number waits) sound.0) (refl, refl)
     by_waits false none =
         still (recovery_stepped (recovery_steps.message_end rsp.number (Some rsp.say) (recovery_state_of node)) (at_first node)) (λ good. good)
 input_chain (inputs.Lost number) node = by_waits (gateways.gateway_awaits number node.gateway) refl

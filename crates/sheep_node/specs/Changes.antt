@@ -1,6 +1,6 @@
 -- A node's step by elementary changes: each is one effect on the node and the outputs, with what is known where it happens. Every
 -- step is a chain of these, so what each of them keeps every step keeps.
-use Rattle.std.specs.Prelude.{◌≡◌, ◌≢◌, ℕ, ◌+◌, nat_lt, Bool, true, false, ◌++◌, List, [], ◌∷◌, map, Option, Some, None, if◌then◌else◌}
+use Rattle.std.specs.Prelude.{◌≡◌, ◌≢◌, ℕ, ◌+◌, nat_lt, Bool, true, false, not, IsTrue, ◌++◌, List, [], ◌∷◌, map, Option, Some, None, if◌then◌else◌}
 use Rattle.std.specs.FinMap as tree
 use Rattle.object_id.specs.declared.cause.Cause.{Cause}
 use Rattle.object_id.specs.declared.cause.Cause.TheVariants.{Halt}
@@ -51,7 +51,7 @@ use Rattle.sheep_node.specs.Guests.{request_refusal, queued_as}
 use Rattle.sheep_node.specs.AwaitedEntry.{waits_for_entry}
 use Rattle.sheep_node.specs.LogReading.{entry_read, on_back}
 use Rattle.sheep_node.specs.Step.{on_request, recovery_stepped, on_put, on_recover_tick, is_due, with_recovered}
-use Rattle.sheep_node.specs.May.{May}
+use Rattle.sheep_node.specs.May.{fits_node, may_tick}
 use Rattle.sheep_node.specs.OneWork.{HasOneWorkPerRequest}
 
 -- a request of a session is there, and has come so far
@@ -159,9 +159,21 @@ abbrev pub IsOfSession : ℕ → Option Request → Type 0
 IsOfSession session None = ⊥
 IsOfSession session (Some request) = request.session ≡ session
 
--- a node may step on the input, and its requests have one work each. Every step is a chain of changes; of a sound one more is known
+-- what an input must meet by its numbers: a guest's request has one that is free, a reply fits what was asked, and a tick may be made
+abbrev pub MeetsNumbers : Input → Node → Type 0
+MeetsNumbers (inputs.Guest req session ask) node = IsTrue (not (tree.contains_key node.requests req))
+MeetsNumbers (inputs.Request request) node = Unit {0}
+MeetsNumbers (inputs.Reply rsp) node = IsTrue (fits_node rsp node)
+MeetsNumbers (inputs.Lost number) node = Unit {0}
+MeetsNumbers (inputs.LogEntry entry) node = Unit {0}
+MeetsNumbers inputs.Put node = Unit {0}
+MeetsNumbers inputs.RecoverTick node = IsTrue (may_tick node)
+MeetsNumbers inputs.RetryTick node = Unit {0}
+MeetsNumbers (inputs.Back entries) node = Unit {0}
+
+-- the input meets that, and the node's requests have one work each. Every step is a chain of changes; of a sound one more is known
 abbrev pub IsSoundStep : Input → Node → Type 0
-IsSoundStep input node = May input node × HasOneWorkPerRequest node
+IsSoundStep input node = MeetsNumbers input node × HasOneWorkPerRequest node
 
 -- a gateway is as it was, but for the work of one request and for what was touched
 pub record IsApart (req : ℕ) (old new : Gateway) : Type 0 where

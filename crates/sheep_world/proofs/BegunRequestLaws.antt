@@ -12,6 +12,7 @@ use Rattle.cluster_script.specs.Settings.{tries_of}
 use Rattle.cluster_script.specs.Statements.{requests_of}
 use Rattle.peer_proto.specs.declared.guest.GuestRsp.{GuestRsp}
 use Rattle.sheep_node.specs.declared.event.Event.{Event}
+use Rattle.sheep_node.specs.declared.ask.Ask.{Ask}
 use Rattle.sheep_node.specs.declared.input.Input.TheVariants as inputs
 use Rattle.sheep_node.specs.State as nodes
 use Rattle.sheep_node.specs.State.{Request}
@@ -25,7 +26,7 @@ use Rattle.sheep_world.specs.Step.{EventOutcome}
 use Rattle.sheep_world.specs.OneWork.{IsNewRequest}
 use Rattle.sheep_world.specs.BegunRequests.{begun_count, IsBegun, HasOnlyBegun, RequestsWereBegun}
 use Rattle.sheep_world.proofs.SessionNumbers.{once}
-use Rattle.sheep_world.proofs.RequestsAfterSteps.{IsOfInput, stepped_are, none_are, back_are}
+use Rattle.sheep_node.proofs.RequestChanges.{AllAre, requests_stay, requests_back}
 use Rattle.sheep_world.specs.NodeCauses.{NodeCause, GuestAsks, RequestComes, ReplyComes, LossIsTold, EntryIsRead, EntryIsPut, RecoveryTicks, WorkIsRetried, input_of_cause, IsCause, progress_at_cause, world_after_cause}
 use Rattle.sheep_world.specs.EventKinds.{log_after_return, world_after_return, EventKind, NodeStep, UntoldLoss, UnreadDelivery, NodeLoss, NodeLeave, NodeReweight, NodeJoin, NodeReturn, PhaseEnd}
 use Rattle.sheep_world.specs.HostChanges.{HostsKeep}
@@ -117,45 +118,53 @@ module _ (statements : List Statement) (guests later : tree.FinMap nat_cmp Sessi
     };
   }
 
--- what a cause brings was begun
+-- the request that a cause brings was begun
 of_cause : (statements : List Statement) (world : World) (n : ℕ) (host : Host) (cause : NodeCause) → IsCause statements world n host cause
-    → IsOfInput (IsBegun statements (progress_at_cause cause world) n host.incarnation) (input_of_cause cause)
-of_cause statements world n host (GuestAsks session req ask) asked =
-    let started = progress_with_started (record { req = req; disk = disk_open session world }) (progress_at session.number world) in
+    → (req number : ℕ) (ask : Ask) → input_of_cause cause ≡ inputs.Guest req number ask
+    → IsBegun statements (progress_at_cause cause world) n host.incarnation req
+of_cause statements world n host (GuestAsks session begins ask) asked req number other from =
+    let started = progress_with_started (record { req = begins; disk = disk_open session world }) (progress_at session.number world) in
     let is : begun_count session.number (tree.insert world.guests session.number started) ≡ (progress_at session.number world).begun + 1
     = ap (λ (o : Option SessionProgress). (unwrap_or o no_progress).begun) (get-insert_same world.guests session.number started) in
-    record {
+    let same : begins ≡ req = cc (from) in
+    subst (IsBegun statements (progress_at_cause (GuestAsks session begins ask) world) n host.incarnation) same
+    (record {
       session = session;
       declared = asked.declared;
       gateway = asked.gateway;
       lived = asked.lived;
       begun = record { place = (progress_at session.number world).begun; before = omega (arith, is); there = asked.next };
-    }
-of_cause statements world n host (RequestComes name to request) so = tt
-of_cause statements world n host (ReplyComes name from rsp) so = tt
-of_cause statements world n host (LossIsTold name packet) so = tt
-of_cause statements world n host (EntryIsRead entry) so = tt
-of_cause statements world n host (EntryIsPut entry) so = tt
-of_cause statements world n host RecoveryTicks so = tt
-of_cause statements world n host WorkIsRetried so = tt
+    })
+of_cause statements world n host (RequestComes name to request) so req number ask from = absurd (cc (from))
+of_cause statements world n host (ReplyComes name to rsp) so req number ask from = absurd (cc (from))
+of_cause statements world n host (LossIsTold name packet) so req number ask from = absurd (cc (from))
+of_cause statements world n host (EntryIsRead entry) so req number ask from = absurd (cc (from))
+of_cause statements world n host (EntryIsPut entry) so req number ask from = absurd (cc (from))
+of_cause statements world n host RecoveryTicks so req number ask from = absurd (cc (from))
+of_cause statements world n host WorkIsRetried so req number ask from = absurd (cc (from))
+
+-- a new node has no requests
+none_are : (P : ℕ → Type 0) → AllAre P (tree.empty {X = Request} {R = nat_cmp})
+none_are P req request got = let none = tree.get-empty {X = Request} nat_cmp req in absurd (cc (none, got))
 
 begun_kept : (statements : List Statement)
     → HostsKeep statements (λ (world : World). Unit {0}) (λ (world : World) (n : ℕ) (host : Host). HasOnlyBegun statements world.guests n host)
 unfolding initial_world
 begun_kept statements = record {
   opens = λ member.
-      stepped_are (IsBegun statements (tree.empty {X = SessionProgress}) member.node.0 1) (inputs.LogEntry (format_entry statements))
-      (nodes.initial_node member.node (tries_of statements)) tt (none_are (IsBegun statements (tree.empty {X = SessionProgress}) member.node.0 1));
+      requests_stay (IsBegun statements (tree.empty {X = SessionProgress}) member.node.0 1) (inputs.LogEntry (format_entry statements))
+      (nodes.initial_node member.node (tries_of statements)) (λ req session ask from. absurd (cc (from)))
+      (none_are (IsBegun statements (tree.empty {X = SessionProgress}) member.node.0 1));
   stays = λ event world made h i n host so req request got.
       still statements world.guests made.world.guests n host.incarnation (guests_grow statements event world made h) req (so req request got);
   steps = λ world n host cause i there up caused so req request got.
       let found = progress_at_cause cause world in
       still statements found (world_after_cause statements n host cause world).guests n host.incarnation
       (progress_grows statements (node_step (input_of_cause cause) host.node).outputs.replies found) req
-      (stepped_are (IsBegun statements found n host.incarnation) (input_of_cause cause) host.node (of_cause statements world n host cause caused)
+      (requests_stay (IsBegun statements found n host.incarnation) (input_of_cause cause) host.node (of_cause statements world n host cause caused)
       (λ req request got. still statements world.guests found n host.incarnation (grown_found cause world) req (so req request got)) req request got);
   fails = λ world n host i so. so;
-  returns = λ world n host i there so. back_are (IsBegun statements (world_after_return statements n host world).guests n (host.incarnation + 1)) (log_after_return statements n world) host.node;
+  returns = λ world n host i there so. requests_back (IsBegun statements (world_after_return statements n host world).guests n (host.incarnation + 1)) (log_after_return statements n world) host.node;
   joins = λ world n i control. none_are (IsBegun statements world.guests n 1);
 }
 

@@ -1,28 +1,19 @@
 -- A node that reads an entry of the log leaves nodes and wire together.
-use Rattle.std.proofs.Common.{◌≡◌, inl, ℕ, ◌+◌, ◌==◌, ◌<◌, nat_lt, Bool, true, false, ◌||◌, cond, List, [], ◌∷◌, ◌++◌, length, map, Contains, Option, Some, None, is_some, is_none, refl, sym, ap, subst, ◌∙◌, ⊎_elim}
+use Rattle.std.proofs.Common.{◌≡◌, inl, ℕ, ◌+◌, ◌==◌, Bool, true, false, ◌||◌, cond, List, [], ◌∷◌, ◌++◌, map, Contains, Option, Some, None, is_some, refl, sym, ap, subst, ◌∙◌, ⊎_elim}
 use native.Mathlib.Omega.{arith}
-use Rattle.std.specs.Option.{option_map, option_map_or}
-use Rattle.std.specs.FinMap as tree
+use Rattle.std.specs.Option.{option_map}
 use Rattle.std.proofs.lemmas.Bool.{eqb-true, or_cases, or_left, or_right}
 use Rattle.std.proofs.lemmas.Option.{same_Some}
 use Rattle.proof_tools.proofs.Booleans.{cond_either}
-use Rattle.proof_tools.proofs.Lists.{Contains-nil, find-contains}
-use Rattle.proof_tools.proofs.FiniteMaps.{get-entry}
+use Rattle.proof_tools.proofs.Lists.{Contains-nil}
 use Rattle.object_id.specs.declared.entry.Entry.{Entry}
-use Rattle.object_id.specs.Same.{is_same_entry}
-use Rattle.object_id.specs.declared.entry.Member.{Member}
 use Rattle.object_id.specs.declared.entry.VdiSpec.{VdiSpec}
-use Rattle.object_id.specs.declared.node.NodeId.{NodeId}
 use Rattle.object_id.specs.Oid.{vid_of, kind_of}
 use Rattle.object_store.specs.declared.row.RowCopy.{RowCopy}
-use Rattle.epoch_log.specs.Epochs.{begins_epoch, epoch_of, settled_of}
-use Rattle.epoch_log.specs.Appending.{is_format}
-use Rattle.vnode_table.specs.Targets.{targets_in}
 use Rattle.vdi_directory.specs.declared.header.Header.{Header}
 use Rattle.vdi_directory.specs.declared.effect.Effect.{Effect}
 use Rattle.vdi_directory.specs.declared.effect.Grant.{Grant}
 use Rattle.vdi_directory.specs.declared.effect.Effect.TheVariants as effects
-use Rattle.vdi_directory.specs.declared.decision.Decision.{Decision}
 use Rattle.vdi_directory.specs.Effects.{is_used, header_after, header_of}
 use Rattle.vdi_directory.specs.Decisions.{outcome, log_effects}
 use Rattle.vdi_directory.proofs.StateLemmas.{log_effects-push, header_of-push}
@@ -32,47 +23,24 @@ use Rattle.peer_proto.specs.declared.ask.PeerAsk.{PeerAsk}
 use Rattle.peer_proto.specs.declared.ask.PeerAsk.TheVariants as asks
 use Rattle.peer_proto.specs.declared.say.PeerSay.{PeerSay}
 use Rattle.peer_proto.specs.declared.say.PeerSay.TheVariants as says
-use Rattle.peer_service.specs.State.{Peer, effects_of, length_of_rows, row_size}
-use Rattle.peer_service.specs.Epochs as peers
-use Rattle.peer_service.specs.Epochs.{peer_settled_to}
-use Rattle.peer_service.specs.LogReading.{read_entry, decision_on}
-use Rattle.gateway.specs.Outcomes.{AreNumberedFrom}
+use Rattle.peer_service.specs.State.{Peer, length_of_rows, row_size}
 use Rattle.gateway.specs.State as gateways
 use Rattle.gateway.specs.State.{Gateway}
-use Rattle.recovery.specs.Shown.{NodeView, is_asked_row, shown_with_pending}
+use Rattle.recovery.specs.Shown.{NodeView, is_asked_row}
 use Rattle.recovery.specs.State as recoveries
 use Rattle.recovery.specs.State.{Message}
 use Rattle.recovery.specs.Fits as recovery_fits
-use Rattle.recovery.specs.Steps.{at_start, recovery_from_epoch, to_recover}
-use Rattle.vdi_ops.specs.Op.{entry_wanted}
-use Rattle.vdi_ops.specs.Steps.{on_decision}
-use Rattle.vdi_ops.proofs.StepLemmas.{decision_awaited}
-use Rattle.sheep_node.specs.declared.input.Input.TheVariants as inputs
-use Rattle.sheep_node.specs.State.{Course, Waiting, Driving, Commanding, Request, Node}
+use Rattle.sheep_node.specs.State.{Node}
 use Rattle.sheep_node.specs.RecoveryView.{recovery_state_of}
 use Rattle.sheep_node.specs.May.{fits_node}
-use Rattle.sheep_node.specs.AwaitedEntry.{waits_for_entry}
-use Rattle.sheep_node.specs.StepState.{StepState, at_first}
-use Rattle.sheep_node.specs.Courses.{inode_open, course_decided}
 use Rattle.sheep_node.specs.LogReading as nodes
 use Rattle.sheep_node.specs.LogReading.{asker_of, decision_told, on_log_entry}
-use Rattle.sheep_node.specs.Step.{on_input, node_step}
 use Rattle.sheep_node.proofs.MessageNumbers.{unanswered_reading}
 use Rattle.sheep_node.proofs.PeerLog.{entries_reading}
-use Rattle.sheep_node.proofs.StepResults.{step_numbers, step_counts}
-use Rattle.sheep_world.specs.World.{Host, World, host_at, node_at, is_host_up}
-use Rattle.sheep_world.specs.Conditions.{may_log_next}
-use Rattle.sheep_world.specs.NodeSteps.{node_stepped, node_stepped_if, at_rest}
-use Rattle.sheep_world.specs.Effects.{next_entry, log_next_effect}
-use Rattle.sheep_world.specs.Step.{EventOutcome, step, with_replies}
-use Rattle.sheep_world.specs.WireMatch.{asked_by_gateway, WireMatchesNodes}
-use Rattle.sheep_node.specs.OneWork.{may_work, HaveOneWorkPerRequest, NumbersAreOfOneWork, NumbersAreBelow, HasOneWorkPerRequest}
-use Rattle.sheep_world.specs.OneWork.{NodesHaveOneWorkPerRequest, IsSentInRange}
-use Rattle.sheep_world.proofs.InFlightSends.{Sends, Asking}
+use Rattle.sheep_world.specs.WireMatch.{asked_by_gateway}
+use Rattle.sheep_node.proofs.MessageNumbers.{Sends}
+use Rattle.sheep_world.proofs.InFlightSends.{Asking}
 use Rattle.sheep_world.proofs.InFlightRecoverTick.{Any}
-use Rattle.sheep_world.proofs.OneWorkLaws.{Requests, Sessions, IsGood, IsFreeIn, free_of, let_begin_good}
-use Rattle.sheep_world.proofs.InFlightRetryTick.{good_first, good_at_end, good_so_far_asks, good_driven, DoesWell, asks_after}
-use Rattle.sheep_world.proofs.InFlightGuest.{command_went_on_good}
 
 -- ---- the length of an object's rows stays known
 
@@ -208,87 +176,8 @@ kept_asks old new kept grows =
           (or_cases (gateways.fits_gateway rsp old.gateway) (recovery_fits.fits_recovery rsp (recovery_state_of old)) fit);
     }
 
-pub kept_driven : (old new : Node) → Keeps old new → HasOneWorkPerRequest old → HasOneWorkPerRequest new
-kept_driven old new kept driven = record {
-  own = ap (λ (gateway : Gateway). gateway.me) kept.gateway_so ∙ driven.own ∙ sym kept.me_so;
-  driven = subst (λ (gateway : Gateway). HaveOneWorkPerRequest gateway.works new.requests new.sessions) (sym kept.gateway_so)
-      (subst (λ (requests : Requests). HaveOneWorkPerRequest old.gateway.works requests new.sessions) (sym kept.requests_so)
-      (subst (λ (sessions : Sessions). HaveOneWorkPerRequest old.gateway.works old.requests sessions) (sym kept.sessions_so) driven.driven));
-  once = subst (λ (gateway : Gateway). NumbersAreOfOneWork gateway.works) (sym kept.gateway_so) driven.once;
-  given = subst (λ (gateway : Gateway). NumbersAreBelow new.sends gateway.works) (sym kept.gateway_so)
-      (subst (λ (count : ℕ). NumbersAreBelow count old.gateway.works) (sym kept.sends_so) driven.given);
-  recovers = λ number waits.
-      ap (λ (messages : List Message). is_some (recoveries.message_of number messages)) kept.messages_so
-      ∙ driven.recovers number (sym (ap (λ (gateway : Gateway). gateways.gateway_awaits number gateway) kept.gateway_so) ∙ waits);
-  recovering = λ number waits.
-      subst (λ (count : ℕ). number < count) (sym kept.sends_so)
-      (driven.recovering number (sym (ap (λ (messages : List Message). is_some (recoveries.message_of number messages)) kept.messages_so) ∙ waits));
-}
-
 -- a node that has read an entry keeps them
-read_asks : (entry : Entry) (node : Node) → Asking Any node (nodes.entry_read entry node) []
+pub read_asks : (entry : Entry) (node : Node) → Asking Any node (nodes.entry_read entry node) []
 read_asks entry node =
     let after = nodes.entry_read entry node in
     kept_asks node after (read_keeps entry node) (λ oid size known. size_stays node.peer after.peer entry oid size (entries_reading entry node) known)
-
-read_driven : (entry : Entry) (node : Node) → HasOneWorkPerRequest node → HasOneWorkPerRequest (nodes.entry_read entry node)
-read_driven entry node driven = kept_driven node (nodes.entry_read entry node) (read_keeps entry node) driven
-
--- ---- the decision goes to the command that waits for it
-
-wanted_never : (entry : Entry) (course : Course) → waits_for_entry entry course ≡ true → may_work course ≡ false
-wanted_never entry (Waiting ask) waits = absurd (cc (waits))
-wanted_never entry (Driving driver) waits = absurd (cc (waits))
-wanted_never entry (Commanding op) waits = by_entry (entry_wanted op) waits
-  where
-    by_entry : (o : Option Entry) → option_map_or (λ (wanted : Entry). is_same_entry wanted entry) o false ≡ true → is_none o ≡ false
-    by_entry None waits = absurd (cc (waits))
-    by_entry (Some wanted) waits = refl
-
-decided_good : (old : Node) (number req : ℕ) (decision : Decision) (course : Course) (so_far : StepState) → IsFreeIn req so_far → IsGood old so_far
-    → IsGood old (course_decided number req decision course so_far)
-unfolding course_decided
-decided_good old number req decision (Waiting ask) so_far free good = good
-decided_good old number req decision (Driving driver) so_far free good = good
-decided_good old number req decision (Commanding op) so_far free good =
-    command_went_on_good old number req (on_decision (effects_of so_far.node.peer) (inode_open (session_in number so_far).disk) decision op) so_far
-    (decision_awaited (effects_of so_far.node.peer) (inode_open (session_in number so_far).disk) decision op) free good
-
-told_good : (entry : Entry) (decision : Decision) (node : Node) (so_far : StepState) (found : Option (ℕ × Request)) → asker_of entry node ≡ found
-    → so_far.node.requests ≡ node.requests → (old : Node) → IsGood old so_far → IsGood old (decision_told decision found so_far)
-told_good entry decision node so_far None is same old good = good
-told_good entry decision node so_far (Some found) is same old good =
-    let there : tree.get so_far.node.requests found.0 ≡ Some found.1
-    = ap (λ (requests : Requests). tree.get requests found.0) same
-    ∙ get-entry node.requests found
-    (find-contains (λ (found : ℕ × Request). waits_for_entry entry found.1.course) (tree.entries node.requests) found is).0 in
-    let never = wanted_never entry found.1.course
-    (find-contains (λ (found : ℕ × Request). waits_for_entry entry found.1.course) (tree.entries node.requests) found is).1 in
-    let_begin_good old found.1.session (course_decided found.1.session found.0 decision found.1.course so_far)
-    (decided_good old found.1.session found.0 decision found.1.course so_far (free_of old found.0 found.1 so_far there never good) good)
-
-log_read_good : (entry : Entry) (node : Node) → HasOneWorkPerRequest node → IsGood (nodes.entry_read entry node) (on_log_entry entry (at_first node))
-unfolding on_log_entry
-log_read_good entry node driven =
-    let after = nodes.entry_read entry node in
-    told_good entry (decision_on entry node.peer) node (at_first after) (asker_of entry node) refl (read_keeps entry node).requests_so after
-    (good_first after (read_driven entry node driven))
-
--- ---- and in the world
-
-pub reads_well : (entry : Entry) (node : Node) → HasOneWorkPerRequest node → DoesWell Any (inputs.LogEntry entry) node
-unfolding node_step on_input
-reads_well entry node driven =
-    let after = nodes.entry_read entry node in
-    let so_far = node_step (inputs.LogEntry entry) node in
-    let good : IsGood after so_far = good_at_end after (on_log_entry entry (at_first node)) (log_read_good entry node driven) in
-    let same : after.sends ≡ node.sends = (read_keeps entry node).sends_so in
-    record {
-      asks = λ requests.
-          asks_after Any node after so_far.node so_far.outputs.sends (read_asks entry node)
-          (good_so_far_asks after so_far
-          (subst (λ (n : ℕ). AreNumberedFrom n so_far.outputs.sends) (sym same) (step_numbers (inputs.LogEntry entry) node))
-          (step_counts (inputs.LogEntry entry) node ∙ ap (λ (n : ℕ). n + length so_far.outputs.sends) (sym same))
-          good requests);
-      driven = good_driven after so_far (read_driven entry node driven) good;
-    }

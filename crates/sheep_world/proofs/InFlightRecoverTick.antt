@@ -28,16 +28,12 @@ use Rattle.sheep_node.specs.StepState.{StepState, at_first}
 use Rattle.sheep_node.specs.Step as steps
 use Rattle.sheep_node.specs.Step.{is_due, with_recovered, recovered_put, on_input, node_step}
 use Rattle.sheep_node.proofs.Numbers.{tick_numbers}
-use Rattle.sheep_world.specs.World.{name_cmp, Packet, Host, World, host_at, is_host_up}
-use Rattle.sheep_world.specs.Conditions.{may_recover}
-use Rattle.sheep_world.specs.NodeSteps.{host_stepped, node_stepped, at_rest}
-use Rattle.sheep_world.specs.Effects.{recover_tick_effect}
-use Rattle.sheep_world.specs.Step.{EventOutcome, step, with_replies}
-use Rattle.sheep_world.specs.WireMatch.{asked_by_gateway, asked_by_recovery, WireMatchesNodes}
+use Rattle.sheep_world.specs.WireMatch.{asked_by_gateway, asked_by_recovery}
 use Rattle.sheep_node.specs.RecoveryRange.{RecoversInRange}
-use Rattle.sheep_world.specs.Ranges.{AllRecoverInRange, RecoveriesAreInRange}
 use Rattle.sheep_world.proofs.InFlightEvents.{none_there}
-use Rattle.sheep_world.proofs.InFlightSends.{Sends, Asking}
+use Rattle.sheep_world.proofs.RecoveryRangeEvents.{stepped_range}
+use Rattle.sheep_node.proofs.MessageNumbers.{Sends}
+use Rattle.sheep_world.proofs.InFlightSends.{Asking}
 
 -- all numbers
 abbrev pub Any : ℕ → Type 0
@@ -63,12 +59,6 @@ asks_at_end Stays old so_far asking =
       fits_on = asking.fits_on;
     })
     asking
-
-pub range_at_end : (so_far : StepState) → RecoversInRange so_far.node → RecoversInRange (recovered_put so_far).node
-unfolding recovered_put
-range_at_end so_far range =
-    cond_either (λ (so_far : StepState). RecoversInRange so_far.node) (is_due so_far.node) (with_recovered so_far) so_far
-    (record { own = range.own; range = range.range }) range
 
 none_both : {X : Type 0} (xs ys : List X) → xs ++ ys ≡ [] → (xs ≡ []) × (ys ≡ [])
 none_both [] ys is = (refl, is)
@@ -196,5 +186,4 @@ module _ (node : Node) (may : may_tick node ≡ true) where
   recovered_asks numbers range = asks_at_end Any node (steps.on_recover_tick (at_first node)) (tick_asks numbers range)
 
   pub recovered_range : has_numbers node ≡ true → RecoversInRange node → RecoversInRange (node_step inputs.RecoverTick node).node
-  unfolding node_step on_input
-  recovered_range numbers range = range_at_end (steps.on_recover_tick (at_first node)) (tick_range numbers range)
+  recovered_range numbers range = stepped_range inputs.RecoverTick node (tick_range numbers range)

@@ -4,7 +4,7 @@ use native.Mathlib.Omega.{arith}
 use Rattle.std.specs.Ordering.{eq_by_cmp}
 use Rattle.std.specs.List.{list_any}
 use Rattle.std.specs.FinMap as tree
-use Rattle.std.proofs.lemmas.Bool.{eq-eqb, eqb-true, eqb-false, cond-false, or_cases, or_left, or_right}
+use Rattle.std.proofs.lemmas.Bool.{eq-eqb, eqb-true, eqb-false, or_cases, or_left, or_right}
 use Rattle.std.proofs.lemmas.List.Elements.{Contains-append_left, Contains-append_right, Contains-append_cases, filter-append}
 use Rattle.proof_tools.proofs.Lists.{Contains-first, Contains-cons, Contains-cons_cases, Contains-nil}
 use Rattle.object_id.specs.declared.node.Epoch.{Epoch}
@@ -18,30 +18,26 @@ use Rattle.peer_proto.specs.declared.say.PeerSay.TheVariants as says
 use Rattle.peer_proto.specs.declared.say.PeerRsp.{PeerRsp}
 use Rattle.gateway.specs.declared.message.Message.{Message as Sent}
 use Rattle.gateway.specs.Attempt.{is_unanswered, is_awaited_message, send_of}
-use Rattle.gateway.specs.Step as gateway_steps
 use Rattle.gateway.specs.State as gateways
 use Rattle.gateway.specs.State.{Work, WorkStage, Open, Ended, WaitsForMembers, open_messages, is_awaited_in}
 use Rattle.recovery.specs.Shown.{NodeView, is_asked_row}
 use Rattle.recovery.specs.State as recoveries
 use Rattle.recovery.specs.State.{Message}
 use Rattle.recovery.specs.Fits as recovery_fits
-use Rattle.recovery.specs.Steps as recovery_steps
 use Rattle.recovery.specs.Steps.{messages_without, message_end}
 use Rattle.recovery.proofs.StepLemmas.{frame_of_end}
-use Rattle.sheep_node.specs.declared.input.Input.TheVariants as inputs
 use Rattle.sheep_node.specs.State.{Node}
 use Rattle.sheep_node.specs.RecoveryView.{recovery_state_of}
 use Rattle.sheep_node.specs.StepState.{at_first}
-use Rattle.sheep_node.specs.Waiting.{after_gateway_step}
-use Rattle.sheep_node.specs.Step as steps
-use Rattle.sheep_node.specs.Step.{recovery_stepped, on_input, node_step}
+use Rattle.sheep_node.specs.Step.{recovery_stepped}
 use Rattle.sheep_world.specs.declared.name.MessageName.{MessageName}
 use Rattle.peer_proto.specs.declared.fault.PeerFault.{PeerFault}
 use Rattle.sheep_world.specs.World.{name_cmp, Packet}
 use Rattle.sheep_world.specs.WireMatch.{unanswered_in, asked_by_gateway, asked_by_recovery}
 use Rattle.sheep_world.proofs.NameTools.{name_cmp_total}
-use Rattle.sheep_world.proofs.InFlightSends.{Sends, Wire, name_apart, name_itself}
-use Rattle.sheep_world.proofs.InFlightRecoverTick.{AsksFrom, asks_at_end}
+use Rattle.sheep_node.proofs.MessageNumbers.{Sends}
+use Rattle.sheep_world.proofs.InFlightSends.{Wire, name_apart, name_itself}
+use Rattle.sheep_world.proofs.InFlightRecoverTick.{AsksFrom}
 
 -- every number but one
 abbrev pub Other : ℕ → ℕ → Type 0
@@ -235,30 +231,6 @@ module _ (node : Node) (number : ℕ) (said : Option PeerSay) (none : gateways.g
             ∙ fitted))
             (or_cases (gateways.fits_gateway rsp node.gateway) (recovery_fits.fits_recovery rsp (recovery_state_of node)) fit);
       }
-
--- the step of a node on the loss of a message that no work waits for
-pub lost_asks : (node : Node) (number : ℕ) → gateways.gateway_awaits number node.gateway ≡ false
-    → AsksFrom (Other number) node (node_step (inputs.Lost number) node)
-unfolding node_step on_input steps.on_loss recovery_steps.recovery_on_loss
-lost_asks node number none =
-    asks_at_end (Other number) node (steps.on_loss number (at_first node))
-    (subst (AsksFrom (Other number) node)
-    (sym (cond-false (gateways.gateway_awaits number node.gateway)
-    (after_gateway_step (gateway_steps.gateway_on_loss node.gateway number) (at_first node))
-    (recovery_stepped (recovery_steps.recovery_on_loss number (recovery_state_of node)) (at_first node)) none))
-    (end_asks node number None none))
-
--- the same on a reply
-pub replied_asks : (node : Node) (rsp : PeerRsp) → gateways.gateway_awaits rsp.number node.gateway ≡ false
-    → AsksFrom (Other rsp.number) node (node_step (inputs.Reply rsp) node)
-unfolding node_step on_input steps.on_reply recovery_steps.recovery_on_reply
-replied_asks node rsp none =
-    asks_at_end (Other rsp.number) node (steps.on_reply rsp (at_first node))
-    (subst (AsksFrom (Other rsp.number) node)
-    (sym (cond-false (gateways.gateway_awaits rsp.number node.gateway)
-    (after_gateway_step (gateway_steps.gateway_on_reply node.gateway rsp) (at_first node))
-    (recovery_stepped (recovery_steps.recovery_on_reply rsp (recovery_state_of node)) (at_first node)) none))
-    (end_asks node rsp.number (Some rsp.say) none))
 
 -- ---- a message leaves the wire
 

@@ -1,5 +1,5 @@
 -- A node that sends stays together with the wire: what it sends stands there under new numbers, and what it waited for stays.
-use Rattle.std.proofs.Common.{◌≡◌, ◌≢◌, ◌⊎◌, inl, inr, ℕ, ◌+◌, ◌<◌, ◌≤◌, Bool, true, false, cond, List, [], ◌∷◌, length, fold, Contains, Some, Ordering, Less, Equal, Greater, Ok, refl, sym, ap, subst, ◌∙◌, ⊎_elim}
+use Rattle.std.proofs.Common.{◌≡◌, ◌≢◌, ◌⊎◌, inl, inr, ℕ, ◌+◌, ◌<◌, Bool, true, false, cond, List, [], ◌∷◌, length, fold, All, Contains, Some, Ordering, Less, Equal, Greater, Ok, refl, sym, ap, subst, ◌∙◌, ⊎_elim}
 use native.Mathlib.Omega.{arith}
 use Rattle.std.specs.Ordering.{is_eq, eq_by_cmp}
 use Rattle.std.specs.Cmp.{Equal-is}
@@ -10,9 +10,12 @@ use Rattle.proof_tools.proofs.Lists.{Contains-first, Contains-cons, Contains-con
 use Rattle.object_id.specs.declared.node.NodeId.{NodeId}
 use Rattle.peer_proto.specs.declared.ask.PeerReq.{PeerReq}
 use Rattle.peer_proto.specs.declared.say.PeerRsp.{PeerRsp}
-use Rattle.peer_proto.specs.Ask.{ask_bytes, ask_in}
+use Rattle.peer_proto.specs.Ask.{IsPeerReq, ask_bytes, ask_in}
 use Rattle.gateway.specs.Outcomes.{AreNumberedFrom}
+use Rattle.sheep_node.specs.declared.input.Input.{Input}
 use Rattle.sheep_node.specs.State.{Node}
+use Rattle.sheep_node.specs.Step.{node_step}
+use Rattle.sheep_node.proofs.MessageNumbers.{Sends, numbers_within}
 use Rattle.sheep_node.specs.May.{node_awaits, fits_node}
 use Rattle.sheep_world.specs.declared.name.MessageName.{MessageName}
 use Rattle.sheep_world.specs.World.{name_cmp, Packet, Request}
@@ -20,13 +23,10 @@ use Rattle.sheep_world.specs.NodeSteps.{request_name, wire_with_request}
 use Rattle.sheep_world.specs.WireMatch.{asked_by}
 use Rattle.sheep_world.proofs.NameTools.{name_cmp_total, same_name}
 
-abbrev pub Sends : Type 0
-Sends = List (NodeId × PeerReq)
-
 abbrev pub Wire : Type 0
 Wire = tree.FinMap name_cmp Packet
 
--- ---- numbers of sends
+-- ---- the wire after sends
 
 first_number : List ℕ → ℕ
 first_number [] = 0
@@ -35,22 +35,6 @@ first_number (n ∷ ns) = n
 later_numbers : List ℕ → List ℕ
 later_numbers [] = []
 later_numbers (n ∷ ns) = ns
-
--- sends that are numbered from a number on have numbers from it on, and below what comes behind them
-pub numbers_within : (first : ℕ) (sends : Sends) (send : NodeId × PeerReq) → AreNumberedFrom first sends → Contains sends send
-    → (first ≤ send.1.number) × (send.1.number < first + length sends)
-unfolding first_number later_numbers
-numbers_within first [] send numbers there = absurd (Contains-nil send there)
-numbers_within first (one ∷ rest) send numbers there = ⊎_elim
-    (λ (same : one ≡ send).
-    let own : send.1.number ≡ first = ap (λ (s : NodeId × PeerReq). s.1.number) (sym same) ∙ ap first_number numbers in
-    (omega (arith, own), omega (arith, own)))
-    (λ (later : Contains rest send).
-    let (low, high) = numbers_within (first + 1) rest send (ap later_numbers numbers) later in
-    (omega (arith, low), omega (arith, high)))
-    (Contains-cons_cases one rest send there)
-
--- ---- the wire after sends
 
 unequal_by : (q key : MessageName) (o : Ordering) → name_cmp q key ≡ o → q ≢ key → is_eq o ≡ false
 unequal_by q key Less tie apart = refl
@@ -148,3 +132,8 @@ pub record Asking (Stays : ℕ → Type 0) (old new : Node) (sends : Sends) : Ty
   pub waits_on : (number : ℕ) → node_awaits number old ≡ true → Stays number → node_awaits number new ≡ true
   pub waits_too : (send : NodeId × PeerReq) → Contains sends send → node_awaits send.1.number new ≡ true
   pub fits_on : (rsp : PeerRsp) → rsp.number < old.sends → Stays rsp.number → fits_node rsp old ≡ true → fits_node rsp new ≡ true
+
+-- what a step makes of what its node waits for, where what it sends can be spelled
+abbrev pub DoesAsk : (ℕ → Type 0) → Input → Node → Type 0
+DoesAsk Stays input node = All (λ (send : NodeId × PeerReq). IsPeerReq send.1) (node_step input node).outputs.sends
+    → Asking Stays node (node_step input node).node (node_step input node).outputs.sends

@@ -26,20 +26,18 @@ use Rattle.cluster_script.specs.declared.statement.Statement.{Statement}
 use Rattle.cluster_script.specs.declared.statement.Statement.TheVariants.{Cluster}
 use Rattle.cluster_script.specs.Language.{MayStand, EachMayStand, IsScript}
 use Rattle.cluster_script.specs.Settings.{nodes_set, setting_of, nodes_of, tries_of, new_member, opening_members}
-use Rattle.peer_service.specs.LogReading.{rows_but, kills_object, without_objects, read_entry, decision_on}
+use Rattle.peer_service.specs.LogReading.{rows_but, kills_object, without_objects, read_entry}
 use Rattle.sheep_node.specs.declared.input.Input.TheVariants as inputs
 use Rattle.sheep_node.specs.State as nodes
-use Rattle.sheep_node.specs.StepState.{at_first, with_node}
-use Rattle.sheep_node.specs.LogReading.{asker_of, decision_told, entered_in, entry_read, on_log_entry}
-use Rattle.sheep_node.specs.Step.{on_input, node_step}
+use Rattle.sheep_node.specs.LogReading.{entered_in, entry_read}
 use Rattle.sheep_world.specs.World.{Host}
 use Rattle.sheep_world.specs.Opening as worlds
-use Rattle.sheep_world.specs.Opening.{initial_member_node, initial_host, initial_member_host, before_phases}
+use Rattle.sheep_world.specs.Opening.{format_entry, initial_member_node, initial_host, initial_member_host, before_phases}
 use Rattle.sheep_node.specs.RecoveryRange.{RecoversInRange}
 use Rattle.sheep_world.specs.Ranges.{RecoveriesAreInRange}
 use Rattle.sheep_world.proofs.InFlightEvents.{none_there}
-use Rattle.sheep_world.proofs.InFlightOpening.{nobody_asks, opening_found}
-use Rattle.sheep_world.proofs.InFlightRecoverTick.{range_at_end}
+use Rattle.sheep_world.proofs.InFlightOpening.{opening_found}
+use Rattle.sheep_world.proofs.RecoveryRangeEvents.{stepped_range}
 
 -- a script opens with no more members than there may be nodes
 opens_with : (before : List Statement) (s : Statement) (rest : ℕ) → MayStand before s → rest ≤ 64 → unwrap_or (nodes_set s) rest ≤ 64
@@ -104,17 +102,6 @@ read_range me tries members below =
       };
     }
 
-stepped_range : (me : NodeId) (tries : ℕ) (members : List Member) → me.0 < 64
-    → RecoversInRange (node_step (inputs.LogEntry (Format members)) (nodes.initial_node me tries)).node
-unfolding node_step on_input on_log_entry
-stepped_range me tries members below =
-    let node = nodes.initial_node me tries in
-    let so_far = with_node (entry_read (Format members) node) (at_first node) in
-    range_at_end
-    (decision_told (decision_on (Format members) node.peer) (asker_of (Format members) node) so_far)
-    (subst (λ (o : Option (ℕ × nodes.Request)). RecoversInRange (decision_told (decision_on (Format members) node.peer) o so_far).node)
-    (sym (nobody_asks (Format members) me tries)) (read_range me tries members below))
-
 pub range-opening : (statements : List Statement) → IsScript statements → RecoveriesAreInRange (worlds.initial_world statements)
 unfolding worlds.initial_world
 range-opening statements script q host got =
@@ -123,4 +110,5 @@ range-opening statements script q host got =
     = found_below statements q host 0 (nodes_of statements) (omega (arith, nodes_within [] statements script))
     (sym (tree.get-from_entries nat_cmp_total (map (initial_member_host statements) (opening_members statements)) q) ∙ got) in
     subst (λ (host : Host). RecoversInRange host.node) is
-    (stepped_range member.node (tries_of statements) (opening_members statements) (subst (λ (n : ℕ). n < 64) own below))
+    (stepped_range (inputs.LogEntry (format_entry statements)) (nodes.initial_node member.node (tries_of statements))
+    (read_range member.node (tries_of statements) (opening_members statements) (subst (λ (n : ℕ). n < 64) own below)))

@@ -1,5 +1,5 @@
 -- What the step of a node makes of what the node waits for, and of its works, for each cause.
-use Rattle.std.proofs.Common.{◌≡◌, arith, ℕ, suc, ◌==◌, List, [], ◌∷◌, length, Option, Some, None, is_some, true, not, refl, sym, ap, subst, ◌∙◌}
+use Rattle.std.proofs.Common.{◌≡◌, ◌<◌, arith, ℕ, suc, ◌==◌, List, [], ◌∷◌, length, Option, Some, None, is_some, true, not, refl, sym, ap, subst, ◌∙◌}
 use Rattle.proof_tools.proofs.Booleans.{cond_either}
 use Rattle.std.specs.FinMap as tree
 use Rattle.std.proofs.lemmas.Bool.{and_parts, ne_eqb}
@@ -33,14 +33,19 @@ use Rattle.sheep_world.specs.BegunRequests.{RequestsWereBegun}
 use Rattle.sheep_world.specs.NodeCauses.{NodeCause, GuestAsks, RequestComes, ReplyComes, LossIsTold, EntryIsRead, EntryIsPut, RecoveryTicks, WorkIsRetried, GuestMayAsk, ReplyIsHere, input_of_cause, IsCause}
 use Rattle.sheep_world.proofs.BegunRequestLaws.{new-begun}
 use Rattle.sheep_world.proofs.InFlightRecoveryAnswer.{Other}
-use Rattle.sheep_world.proofs.InFlightGuest.{guest_good}
-use Rattle.sheep_world.proofs.OneWorkEvents.{driven_at_end, recover_driven}
 use Rattle.sheep_world.proofs.NodeConditions.{reply_fits, reply_numbered}
-use Rattle.sheep_world.proofs.InFlightLogNext.{Keeps, kept_asks, kept_driven, reads_well}
+use Rattle.sheep_world.proofs.InFlightLogNext.{Keeps, kept_asks, read_asks}
 use Rattle.sheep_world.proofs.InFlightRecoverTick.{Any, AsksFrom, asks_at_end, recovered_asks}
-use Rattle.sheep_world.proofs.InFlightRetryTick.{DoesWell, good_well, retry_good}
 use Rattle.sheep_world.proofs.SenderMatch.{MatchesHost, packets_of}
-use Rattle.sheep_world.proofs.InFlightGateway.{fits_settled, lost_well, replied_well}
+use Rattle.sheep_world.proofs.InFlightSends.{Asking, DoesAsk}
+use Rattle.sheep_world.proofs.AskedByStep.{asking_by, told_asking}
+use Rattle.sheep_node.specs.Changes.{IsSoundStep}
+use Rattle.sheep_node.proofs.StepChain.{fits_settled}
+use Rattle.gateway.specs.Attempt.{status_by}
+use Rattle.gateway.specs.declared.message.Status.TheVariants.{Lost}
+use Rattle.recovery.specs.Steps as recovery_steps
+use Rattle.sheep_node.specs.LogReading as reading
+use Rattle.sheep_world.specs.World.{Reply}
 
 -- a request is served: the node waits for the same, and has the same works
 module _ (request : PeerReq) (node : Node) where
@@ -70,13 +75,6 @@ module _ (request : PeerReq) (node : Node) where
   unfolding node_step on_input recovered_put steps.on_request
   served_silent = cond_either (λ (so_far : StepState). so_far.outputs.sends ≡ []) (is_due after_request.node) (with_recovered after_request) after_request refl refl
 
-  served_well : HasOneWorkPerRequest node → DoesWell Any (inputs.Request request) node
-  unfolding node_step on_input
-  served_well driven = record {
-    asks = λ requests. asks_at_end Any node after_request served_asks;
-    driven = driven_at_end after_request (kept_driven node after_request.node served_keeps driven);
-  }
-
 -- an entry is put: so too
 module _ (node : Node) where
   put_keeps : (outbox : List Entry) → Keeps node (on_put outbox (at_first node)).node
@@ -86,13 +84,6 @@ module _ (node : Node) where
   put_asks : (outbox : List Entry) → AsksFrom Any node (on_put outbox (at_first node))
   put_asks [] = kept_asks node node (put_keeps []) (λ oid size known. known)
   put_asks (entry ∷ later) = kept_asks node (record node { outbox = later }) (put_keeps (entry ∷ later)) (λ oid size known. known)
-
-  put_well : HasOneWorkPerRequest node → DoesWell Any inputs.Put node
-  unfolding node_step on_input
-  put_well driven = record {
-    asks = λ requests. asks_at_end Any node (on_put node.outbox (at_first node)) (put_asks node.outbox);
-    driven = driven_at_end (on_put node.outbox (at_first node)) (kept_driven node (on_put node.outbox (at_first node)).node (put_keeps node.outbox) driven);
-  }
 
 -- which of the numbers that a node waits for it waits for still
 abbrev pub StaysAt : NodeCause → ℕ → Type 0
@@ -130,26 +121,62 @@ reply_fits_here statements world n host name from rsp here ready = reply_fits
     n name.number host (packets_of world.wire n) from here.bytes rsp ready.matches ready.up
     (ap (λ (k : ℕ). packets_of world.wire k name.number) (sym here.here) ∙ here.there) here.read
 
-pub does_well : (statements : List Statement) (world : World) (n : ℕ) (host : Host) (cause : NodeCause) → IsCause statements world n host cause
-    → IsReady statements world n host → DoesWell (StaysAt cause) (input_of_cause cause) host.node
-does_well statements world n host (GuestAsks session req ask) asked ready =
-    let new = asked_new statements world n host session req ask asked ready in
-    good_well (inputs.Guest req session.number ask) host.node ready.driven (guest_good host.node req session.number ask ready.driven new)
-does_well statements world n host (RequestComes name to request) here ready = served_well request host.node ready.driven
-does_well statements world n host (ReplyComes name from rsp) here ready =
+-- a step is sound
+pub sound_step : (statements : List Statement) (world : World) (n : ℕ) (host : Host) (cause : NodeCause) → IsCause statements world n host cause
+    → IsReady statements world n host → IsSoundStep (input_of_cause cause) host.node
+sound_step statements world n host (GuestAsks session req ask) asked ready =
+    (ap (λ (o : Option nodes.Request). not (is_some o)) (asked_new statements world n host session req ask asked ready), ready.driven)
+sound_step statements world n host (RequestComes name to request) here ready = (tt, ready.driven)
+sound_step statements world n host (ReplyComes name from rsp) here ready = (reply_fits_here statements world n host name from rsp here ready, ready.driven)
+sound_step statements world n host (LossIsTold name packet) here ready = (tt, ready.driven)
+sound_step statements world n host (EntryIsRead entry) next ready = (tt, ready.driven)
+sound_step statements world n host (EntryIsPut entry) first ready = (tt, ready.driven)
+sound_step statements world n host RecoveryTicks may ready = (may, ready.driven)
+sound_step statements world n host WorkIsRetried may ready = (tt, ready.driven)
+
+-- a node waits for what it waited for
+same_asks : (node : Node) → Asking Any node node []
+same_asks node = kept_asks
+    node node (record { me_so = refl; gateway_so = refl; requests_so = refl; sessions_so = refl; sends_so = refl; messages_so = refl }) (λ oid size known. known)
+
+-- what a reply or a loss that comes leaves
+replied_asks : (node : Node) (rsp : PeerRsp) → IsSoundStep (inputs.Reply rsp) node → rsp.number < node.sends → DoesAsk (Other rsp.number) (inputs.Reply rsp) node
+unfolding node_step on_input steps.on_reply recovery_steps.recovery_on_reply
+replied_asks node rsp sound given requests = told_asking
+    (inputs.Reply rsp) node sound rsp.number (status_by rsp.say) (Some rsp.say)
+    (λ waits. fits_settled node rsp (sound.1.recovers rsp.number waits) sound.0) given
+    (λ number status told. subst (λ (k : ℕ). k < node.sends) told.0 given) (λ q other. other) (λ q stays. stays) refl refl requests
+
+lost_asks : (node : Node) (number : ℕ) → IsSoundStep (inputs.Lost number) node → number < node.sends → DoesAsk (Other number) (inputs.Lost number) node
+unfolding node_step on_input steps.on_loss recovery_steps.recovery_on_loss
+lost_asks node number sound given requests = told_asking
+    (inputs.Lost number) node sound number Lost None (λ waits. refl) given
+    (λ q status told. subst (λ (k : ℕ). k < node.sends) told.0 given) (λ q other. other) (λ q stays. stays) refl refl requests
+
+-- what a step makes of what its node waits for
+pub step_asks : (statements : List Statement) (world : World) (n : ℕ) (host : Host) (cause : NodeCause) → IsCause statements world n host cause
+    → IsReady statements world n host → DoesAsk (StaysAt cause) (input_of_cause cause) host.node
+unfolding node_step on_input reading.entry_read
+step_asks statements world n host (GuestAsks session req ask) asked ready requests = asking_by
+    (inputs.Guest req session.number ask) host.node (sound_step statements world n host (GuestAsks session req ask) asked ready)
+    (same_asks host.node) refl (λ number status told. absurd told) requests
+step_asks statements world n host (RequestComes name to request) here ready requests = asks_at_end Any host.node (after_request request host.node) (served_asks request host.node)
+step_asks statements world n host (ReplyComes name from rsp) here ready requests =
     let got = ap (λ (k : ℕ). packets_of world.wire k name.number) (sym here.here) ∙ here.there in
     let numbered = reply_numbered n name.number host (packets_of world.wire n) from here.bytes rsp ready.matches got here.read in
-    subst (λ (k : ℕ). DoesWell (Other k) (inputs.Reply rsp) host.node) numbered
-    (replied_well host.node rsp ready.driven (reply_fits_here statements world n host name from rsp here ready))
-does_well statements world n host (LossIsTold name packet) here ready = lost_well host.node name.number ready.driven
-does_well statements world n host (EntryIsRead entry) next ready = reads_well entry host.node ready.driven
-does_well statements world n host (EntryIsPut entry) first ready = put_well host.node ready.driven
-does_well statements world n host RecoveryTicks may ready = record {
-  asks = λ requests. recovered_asks host.node may (numbers_left host ready.up) ready.range;
-  driven = recover_driven host.node may ready.driven;
-}
-does_well statements world n host WorkIsRetried may ready =
-    good_well inputs.RetryTick host.node ready.driven (retry_good host.node ready.driven)
+    let given = subst (λ (k : ℕ). k < host.node.sends) (sym numbered) (ready.matches.given name.number (Reply from here.bytes) got) in
+    subst (λ (k : ℕ). DoesAsk (Other k) (inputs.Reply rsp) host.node) numbered
+    (replied_asks host.node rsp (sound_step statements world n host (ReplyComes name from rsp) here ready) given) requests
+step_asks statements world n host (LossIsTold name packet) here ready requests =
+    let got = ap (λ (k : ℕ). packets_of world.wire k name.number) (sym here.here) ∙ here.there in
+    lost_asks host.node name.number (sound_step statements world n host (LossIsTold name packet) here ready) (ready.matches.given name.number packet got) requests
+step_asks statements world n host (EntryIsRead entry) next ready requests = asking_by
+    (inputs.LogEntry entry) host.node (sound_step statements world n host (EntryIsRead entry) next ready)
+    (read_asks entry host.node) refl (λ number status told. absurd told) requests
+step_asks statements world n host (EntryIsPut entry) first ready requests = asks_at_end Any host.node (on_put host.node.outbox (at_first host.node)) (put_asks host.node host.node.outbox)
+step_asks statements world n host RecoveryTicks may ready requests = recovered_asks host.node may (numbers_left host ready.up) ready.range
+step_asks statements world n host WorkIsRetried may ready requests = asking_by
+    inputs.RetryTick host.node (sound_step statements world n host WorkIsRetried may ready) (same_asks host.node) refl (λ number status told. absurd told) requests
 
 -- a node steps on what it may
 pub steps_on_may : (statements : List Statement) (world : World) (n : ℕ) (host : Host) (cause : NodeCause) → IsCause statements world n host cause

@@ -4,7 +4,14 @@ use Rattle.cluster_script.specs.declared.statement.Statement.{Statement}
 use Rattle.cluster_script.specs.Language.{IsScript}
 use Rattle.cluster_script.specs.Settings.{tries_of}
 use Rattle.sheep_node.specs.declared.event.Event.{Event}
+use Rattle.sheep_node.specs.declared.input.Input.{Input}
+use Rattle.sheep_node.specs.declared.input.Input.TheVariants as inputs
 use Rattle.sheep_node.specs.State as nodes
+use Rattle.sheep_node.specs.State.{Node}
+use Rattle.sheep_node.specs.Step.{node_step}
+use Rattle.sheep_node.specs.Changes.{IsSoundStep}
+use Rattle.sheep_node.proofs.NumberChanges.{one_work_after, both_after_step, one_work_at_opening}
+use Rattle.sheep_world.specs.NodeCauses.{input_of_cause}
 use Rattle.sheep_world.specs.World.{Host, World}
 use Rattle.sheep_world.specs.Opening as worlds
 use Rattle.sheep_world.specs.Opening.{format_entry}
@@ -20,25 +27,29 @@ use Rattle.sheep_world.proofs.BegunRequestLaws.{were_begun}
 use Rattle.sheep_world.proofs.BegunWorlds.{goes_on, by_induction}
 use Rattle.sheep_world.proofs.EventInversion.{happens}
 use Rattle.sheep_world.proofs.HostChangeLaws.{each_kept, each_opens}
-use Rattle.sheep_world.proofs.OneWorkEvents.{opening_driven, came_driven}
 use Rattle.sheep_world.proofs.InFlightOpening.{opening-wired}
-use Rattle.sheep_world.proofs.InFlightLogNext.{reads_well}
 use Rattle.sheep_world.proofs.ScriptControls.{controls-fit}
-use Rattle.sheep_world.proofs.StepsByCause.{does_well}
+use Rattle.sheep_world.proofs.StepsByCause.{sound_step}
 use Rattle.sheep_world.proofs.WireAtEvents.{is_ready, wired_after}
 
 -- a node whose works go with its requests
 abbrev Drives : World → ℕ → Host → Type 0
 Drives world n host = HasOneWorkPerRequest host.node
 
+sound_stays : (input : Input) (node : Node) → IsSoundStep input node → HasOneWorkPerRequest (node_step input node).node
+sound_stays input node sound = one_work_after (node_step input node) (both_after_step input node sound)
+
 driven_kept : (statements : List Statement) → HostsKeep statements (HoldsTogether statements) Drives
 driven_kept statements = record {
-  opens = λ member. (reads_well (format_entry statements) (nodes.initial_node member.node (tries_of statements)) (opening_driven member.node (tries_of statements))).driven;
+  opens = λ member.
+      sound_stays (inputs.LogEntry (format_entry statements)) (nodes.initial_node member.node (tries_of statements))
+      (tt, one_work_at_opening member.node (tries_of statements));
   stays = λ event world made h i n host so. so;
-  steps = λ world n host cause i there up caused so. (does_well statements world n host cause caused (is_ready statements world i n host there up)).driven;
+  steps = λ world n host cause i there up caused so.
+      sound_stays (input_of_cause cause) host.node (sound_step statements world n host cause caused (is_ready statements world i n host there up));
   fails = λ world n host i so. so;
-  returns = λ world n host i there so. came_driven (log_after_return statements n world) host.node;
-  joins = λ world n i control. opening_driven (record { 0 = n }) (tries_of statements);
+  returns = λ world n host i there so. sound_stays (inputs.Back (log_after_return statements n world)) host.node (tt, so);
+  joins = λ world n i control. one_work_at_opening (record { 0 = n }) (tries_of statements);
 }
 
 abbrev pub GoTogether : World → Type 0

@@ -35,9 +35,10 @@ use Rattle.sheep_world.proofs.InFlightBack.{no_sender, asked_by-renewed, stepped
 use Rattle.sheep_world.proofs.ControlLaws.{next_fits}
 use Rattle.sheep_world.proofs.InFlightRecoveryAnswer.{Other, same_asked, without_got, without_apart}
 use Rattle.sheep_world.proofs.InFlightRecoverTick.{Any}
-use Rattle.sheep_world.proofs.InFlightSends.{Sends, Wire, Asking, numbers_within, inserted_own, inserted_apart, sends_apart, sends_there, packet_of, IsSent, got_sent}
+use Rattle.sheep_node.proofs.MessageNumbers.{Sends, numbers_within}
+use Rattle.sheep_world.proofs.InFlightSends.{Wire, Asking, inserted_own, inserted_apart, sends_apart, sends_there, packet_of, IsSent, got_sent}
 use Rattle.sheep_world.proofs.SenderMatch.{packets_of, MatchesHost, Matches, EachMatches, each_match, all_wired, packets_change, host_changes, idle_matches, fewer_match, Moves, sends_match, reply_matches}
-use Rattle.sheep_world.proofs.StepsByCause.{StaysAt, IsReady, does_well, served_silent}
+use Rattle.sheep_world.proofs.StepsByCause.{StaysAt, IsReady, step_asks, served_silent}
 use Rattle.sheep_world.proofs.InFlightEvents.{asked_by-opening, same_without, got_before}
 
 -- ---- what leaves the wire before a node sends
@@ -163,7 +164,7 @@ module _ (statements : List Statement) (world : World) (n : ℕ) (host : Host) (
       → EachMatches (tree.insert world.hosts n (host_after_step cause host)) (sent_by cause)
   sent_each cause caused requests =
       let so_far = node_step (input_of_cause cause) host.node in
-      let asking = (does_well statements world n host cause caused ready).asks requests in
+      let asking = step_asks statements world n host cause caused ready requests in
       let leaves = leaves_at statements world n host cause caused in
       host_changes world.hosts world.wire (sent_by cause) n each
       (others_stay (StaysAt cause) n host so_far.node so_far.outputs.sends world.wire (wire_at_cause cause world.wire) ready.matches asking leaves)
@@ -202,7 +203,7 @@ module _ (statements : List Statement) (world : World) (n : ℕ) (host : Host) (
         (λ (own : name.sender.0 ≡ n).
         let got = ap (λ (k : ℕ). packets_of world.wire k name.number) (sym own) ∙ here.there in
         let below = subst (λ (k : ℕ). k < host.node.sends) (sym numbered) (ready.matches.given name.number (Request to here.bytes) got) in
-        let asking = (does_well statements world n host cause here ready).asks requests in
+        let asking = step_asks statements world n host cause here ready requests in
         let is = same_Some (host_after_step cause host) sender (sym (ap (tree.get after) own ∙ get-insert_same world.hosts n (host_after_step cause host)) ∙ at) in
         subst (λ (host : Host). fits_node rsp host.node ≡ true) is
         (asking.fits_on rsp below tt (replies.fitting name to request host host for_host (ap (tree.get world.hosts) own ∙ ready.there) ready.up)))

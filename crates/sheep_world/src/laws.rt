@@ -130,7 +130,6 @@ pub fn recoveries_stay_in_range()
     ensures opening { (statements : List Statement) → IsScript statements → RecoveriesAreInRange (initial_world statements) }
     ensures kept { (statements : List Statement) (event : Event) (world : World) (made : EventOutcome)
         → step statements event world ≡ Some made → tells_recovery event ≡ false
-        → NodesHaveOneWorkPerRequest world → RequestsWereBegun statements world
         → ControlsFit statements world → RecoveriesAreInRange world → RecoveriesAreInRange made.world }
 {}
 

@@ -6,6 +6,5 @@ use Rattle.sheep_world.proofs.laws.recoveries_stay_in_range.Goals as goal
 pub returns : goal.returns
 returns c = record {
   opening = range-opening;
-  kept = λ statements event world made is none driven begun fit range.
-      range_kept statements event world made none driven begun fit range (happens statements event world made is);
+  kept = λ statements event world made is none fit range. range_kept statements event world made none fit range (happens statements event world made is);
 }

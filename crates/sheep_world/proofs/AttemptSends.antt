@@ -1,21 +1,73 @@
--- A message of a work that is lost or answered leaves the wire, and its gateway waits for it no more: they stay together.
-use Rattle.std.proofs.Common.{◌≡◌, ◌≢◌, ℕ, ◌==◌, Bool, true, false, not, ◌||◌, cond, List, [], ◌∷◌, map, flat_map, Contains, Some, refl, sym, ap, subst, ◌∙◌, ⊎_elim}
-use Rattle.std.specs.List.{list_any}
+-- What an attempt asks: each of its messages as it begins, and those whose status isn't known by now.
+use Rattle.std.proofs.Common.{◌≡◌, ◌≢◌, ℕ, ◌+◌, ◌==◌, Bool, true, false, not, ◌||◌, cond, List, [], ◌∷◌, map, flat_map, filter, Contains, Some, refl, sym, ap, subst, ◌∙◌, ⊎_elim}
+use Rattle.std.specs.List.{list_any, enumerate_from}
 use Rattle.std.specs.FinMap as tree
-use Rattle.std.proofs.lemmas.Bool.{eqb-true, eqb-false, or_left, or_right, or_cases}
+use Rattle.std.proofs.lemmas.Bool.{eqb-true, eqb-false, eq-eqb, or_left, or_right, or_cases}
 use Rattle.std.proofs.lemmas.List.Elements.{Contains-append_cases}
 use Rattle.proof_tools.proofs.Lists.{Contains-first, Contains-cons, Contains-cons_cases, Contains-nil, Contains-flat_map}
 use Rattle.proof_tools.proofs.FiniteMaps.{entries-contain, get-entry}
 use Rattle.object_id.specs.declared.node.Epoch.{Epoch}
 use Rattle.object_id.specs.declared.node.NodeId.{NodeId}
 use Rattle.peer_proto.specs.declared.ask.PeerReq.{PeerReq}
+use Rattle.peer_proto.specs.declared.work.ObjWork.{ObjWork}
 use Rattle.gateway.specs.declared.message.Message.{Message}
 use Rattle.gateway.specs.declared.message.Status.{Status}
-use Rattle.gateway.specs.Attempt.{is_unanswered, is_awaited_message, is_over, messages_with_status, send_of}
+use Rattle.gateway.specs.Attempt.{is_unanswered, is_awaited_message, is_over, message_for, messages_with_status, send_of}
 use Rattle.gateway.specs.State.{Work}
+use Rattle.sheep_node.proofs.AwaitedWorks.{Works}
+use Rattle.sheep_node.proofs.MessageNumbers.{Sends}
 use Rattle.sheep_world.specs.WireMatch.{unanswered_in}
 use Rattle.sheep_world.proofs.InFlightRecoveryAnswer.{open_of}
-use Rattle.sheep_world.proofs.GatewaySteps.{Works, asked_in}
+
+-- what the works of a node ask
+abbrev pub asked_in : NodeId → Works → Sends
+asked_in me works = flat_map (λ (entry : ℕ × Work). unanswered_in me entry.1 entry.1.stage) (tree.entries works)
+
+-- ---- an attempt that begins
+
+module _ (me : NodeId) (epoch : Epoch) (work : ObjWork) where
+  pub fresh_awaited : (first : ℕ) (targets : List (ℕ × NodeId)) (send : NodeId × PeerReq)
+      → Contains (map (send_of me epoch work) (map (message_for work) (enumerate_from first targets))) send
+      → list_any (is_awaited_message send.1.number) (map (message_for work) (enumerate_from first targets)) ≡ true
+  fresh_awaited first [] send there = absurd (Contains-nil send there)
+  fresh_awaited first (target ∷ targets) send there = ⊎_elim
+      (λ (same : send_of me epoch work (message_for work (first, target)) ≡ send).
+      or_left (is_awaited_message send.1.number (message_for work (first, target)))
+      (list_any (is_awaited_message send.1.number) (map (message_for work) (enumerate_from (first + 1) targets)))
+      (ap (λ (b : Bool). cond b true false) (eq-eqb first send.1.number (ap (λ (s : NodeId × PeerReq). s.1.number) same))))
+      (λ (later : Contains (map (send_of me epoch work) (map (message_for work) (enumerate_from (first + 1) targets))) send).
+      or_right (is_awaited_message send.1.number (message_for work (first, target)))
+      (list_any (is_awaited_message send.1.number) (map (message_for work) (enumerate_from (first + 1) targets)))
+      (fresh_awaited (first + 1) targets send later))
+      (Contains-cons_cases (send_of me epoch work (message_for work (first, target))) (map (send_of me epoch work) (map (message_for work) (enumerate_from (first + 1) targets))) send there)
+
+  pub fresh_own : (messages : List Message) (send : NodeId × PeerReq) → Contains (map (send_of me epoch work) messages) send → send.1.from ≡ me
+  fresh_own [] send there = absurd (Contains-nil send there)
+  fresh_own (message ∷ messages) send there = ⊎_elim
+      (λ (same : send_of me epoch work message ≡ send). ap (λ (s : NodeId × PeerReq). s.1.from) (sym same))
+      (λ (later : Contains (map (send_of me epoch work) messages) send). fresh_own messages send later)
+      (Contains-cons_cases (send_of me epoch work message) (map (send_of me epoch work) messages) send there)
+
+  -- the unanswered ones are some of all
+  pub unanswered_all : (messages : List Message) (send : NodeId × PeerReq)
+      → Contains (map (send_of me epoch work) (filter (λ (message : Message). is_unanswered message.status) messages)) send
+      → Contains (map (send_of me epoch work) messages) send
+  unanswered_all [] send there = there
+  unanswered_all (message ∷ messages) send there = by_status (is_unanswered message.status) (unanswered_all messages send) there
+    where
+      by_status : (b : Bool)
+          → (Contains (map (send_of me epoch work) (filter (λ (message : Message). is_unanswered message.status) messages)) send
+          → Contains (map (send_of me epoch work) messages) send)
+          → Contains (map (send_of me epoch work) (cond b (message ∷ filter (λ (message : Message). is_unanswered message.status) messages)
+          (filter (λ (message : Message). is_unanswered message.status) messages))) send
+          → Contains (map (send_of me epoch work) (message ∷ messages)) send
+      by_status true rest there = ⊎_elim
+          (λ (same : send_of me epoch work message ≡ send).
+          Contains-first (send_of me epoch work message) send (map (send_of me epoch work) messages) same)
+          (λ (later : Contains (map (send_of me epoch work) (filter (λ (message : Message). is_unanswered message.status) messages)) send).
+          Contains-cons (send_of me epoch work message) (map (send_of me epoch work) messages) send (rest later))
+          (Contains-cons_cases (send_of me epoch work message) (map (send_of me epoch work) (filter (λ (message : Message). is_unanswered message.status) messages)) send there)
+      by_status false rest there = Contains-cons (send_of me epoch work message) (map (send_of me epoch work) messages) send (rest there)
 
 -- ---- the messages of an attempt, of which one is marked
 
@@ -23,18 +75,6 @@ module _ (number : ℕ) (status : Status) (settled : is_unanswered status ≡ fa
   -- a message that is marked
   abbrev mark : Message → Message
   mark message = cond (message.number == number) (record message { status = status }) message
-
-  none_awaited : (b : Bool) → cond b (is_unanswered status) false ≡ true → ⊥
-  none_awaited true is = absurd (cc (is, settled))
-  none_awaited false is = absurd (cc (is))
-
-  -- what is awaited of a marked message was awaited of it before
-  awaited_before : (q : ℕ) (message : Message) → is_awaited_message q (mark message) ≡ true → is_awaited_message q message ≡ true
-  awaited_before q message is = by_tie (message.number == number) is
-    where
-      by_tie : (b : Bool) → is_awaited_message q (cond b (record message { status = status }) message) ≡ true → is_awaited_message q message ≡ true
-      by_tie true is = absurd (none_awaited (message.number == q) is)
-      by_tie false is = is
 
   -- and what is awaited of another number is awaited still
   awaited_still : (q : ℕ) (message : Message) → q ≢ number → is_awaited_message q message ≡ true → is_awaited_message q (mark message) ≡ true
@@ -49,15 +89,6 @@ module _ (number : ℕ) (status : Status) (settled : is_unanswered status ≡ fa
           → is_awaited_message q (cond b (record message { status = status }) message) ≡ true
       by_tie true tie is = other (message.number == q) refl (eqb-true message.number number tie) is
       by_tie false tie is = is
-
-  pub all_before : (q : ℕ) (messages : List Message) → list_any (is_awaited_message q) (messages_with_status number status messages) ≡ true → list_any (is_awaited_message q) messages ≡ true
-  all_before q [] is = is
-  all_before q (message ∷ messages) is = ⊎_elim
-      (λ (here : is_awaited_message q (mark message) ≡ true).
-      or_left (is_awaited_message q message) (list_any (is_awaited_message q) messages) (awaited_before q message here))
-      (λ (later : list_any (is_awaited_message q) (messages_with_status number status messages) ≡ true).
-      or_right (is_awaited_message q message) (list_any (is_awaited_message q) messages) (all_before q messages later))
-      (or_cases (is_awaited_message q (mark message)) (list_any (is_awaited_message q) (messages_with_status number status messages)) is)
 
   pub all_still : (q : ℕ) (messages : List Message) → q ≢ number → list_any (is_awaited_message q) messages ≡ true
       → list_any (is_awaited_message q) (messages_with_status number status messages) ≡ true
