@@ -1,5 +1,5 @@
 -- A step leaves what its node waits for, but for what the input tells of, and waits for what it sends: by the chain of its changes.
-use Rattle.std.proofs.Common.{◌≡◌, ◌≢◌, ◌⊎◌, inl, inr, ℕ, ◌+◌, ◌<◌, Bool, true, false, ◌||◌, cond, List, [], length, All, Contains, Option, Some, None, is_some, refl, sym, ap, subst, ◌∙◌, ⊎_elim}
+use Rattle.std.proofs.Common.{◌≡◌, inl, inr, ℕ, ◌+◌, ◌<◌, Bool, true, false, ◌||◌, cond, [], length, All, Contains, Option, Some, None, refl, sym, ap, subst, ◌∙◌, ⊎_elim}
 use native.Mathlib.Omega.{arith}
 use Rattle.std.specs.FinMap as tree
 use Rattle.std.proofs.lemmas.Bool.{or_cases, or_left, or_right}
@@ -27,7 +27,7 @@ use Rattle.recovery.specs.Steps.{message_end}
 use Rattle.sheep_node.specs.declared.input.Input.{Input}
 use Rattle.sheep_node.specs.State.{Node}
 use Rattle.sheep_node.specs.RecoveryView.{recovery_state_of}
-use Rattle.sheep_node.specs.May.{node_awaits, fits_node}
+use Rattle.sheep_node.specs.May.{node_awaits}
 use Rattle.sheep_node.specs.StepState.{StepState, at_first}
 use Rattle.sheep_node.specs.Waiting.{after_gateway_step}
 use Rattle.sheep_node.specs.Step.{recovery_stepped, recovered_put, node_step}
@@ -104,8 +104,7 @@ module _ (input : Input) (node : Node) (sound : IsSoundStep input node) where
           change_keeps_both so_far next change sound so.0,
           change_keeps_asks input start.node node sound below so_far next change so.0 so.1,
         ))
-        (step_chain input node)
-        (
+        (step_chain input node) (
           both_start,
           subst (AsksOn input start.node start.node.me start.node.gateway.works start.node.sends) (sym silent) (asks_at_first input start.node),
         )).1

@@ -1,12 +1,12 @@
 -- What each change of a step leaves of what the works of a node wait for and ask.
-use Rattle.std.proofs.Common.{◌≡◌, ◌≢◌, ◌⊎◌, inl, inr, ℕ, ◌+◌, ◌<◌, ◌≤◌, Bool, true, false, List, [], ◌∷◌, ◌++◌, length, map, Contains, Option, Some, None, refl, sym, ap, subst, ◌∙◌, ⊎_elim, append-nil}
+use Rattle.std.proofs.Common.{◌≡◌, ◌≢◌, ◌⊎◌, inl, inr, ℕ, ◌+◌, ◌<◌, ◌≤◌, true, false, List, [], ◌++◌, length, map, Contains, Option, Some, None, refl, sym, ap, subst, ◌∙◌, ⊎_elim, append-nil}
 use native.Mathlib.Omega.{arith}
 use Rattle.std.specs.List.{list_any}
 use Rattle.std.specs.FinMap as tree
 use Rattle.std.proofs.lemmas.Bool.{cases_eq}
 use Rattle.std.proofs.lemmas.Option.{same_Some}
 use Rattle.std.proofs.lemmas.List.Elements.{Contains-append_left, Contains-append_right, Contains-append_cases}
-use Rattle.proof_tools.proofs.FiniteMaps.{get-insert_same, get-insert_other, get-remove_same, get-remove_other, get-entry}
+use Rattle.proof_tools.proofs.FiniteMaps.{get-insert_same, get-insert_other, get-remove_same, get-remove_other}
 use Rattle.proof_tools.proofs.Lists.{Contains-first, Contains-nil, find-contains}
 use Rattle.object_id.specs.declared.cause.Cause.{Cause}
 use Rattle.object_id.specs.declared.cause.Cause.TheVariants.{Halt}
@@ -420,7 +420,7 @@ module _ (input : Input) (old : Node) where
         (gone_asks below lined.node.me lined.node.gateway.works lined.node.sends lined.outputs.sends req (tree.get lined.node.gateway.works req) refl
         (comes_asks so_far session req asked lined comes asks)
         (turns_denied (tree.get lined.node.gateway.works req) (comes_idle so_far session req asked lined comes both.0)))
-    change_keeps_asks so_far next (changes.Strays req work gateway there none) both asks = absurd (never_alone req work so_far there none both.0)
+    change_keeps_asks so_far next (changes.Strays req work gateway there none apart) both asks = absurd (never_alone req work so_far there none both.0)
     change_keeps_asks so_far next (changes.Lines session req work moved steps waits) both asks = steps_asks so_far session req (ToWork work) moved steps asks
     change_keeps_asks so_far next (changes.Appends session req entry moved steps) both asks = steps_asks so_far session req (ToEntry entry) moved steps asks
     change_keeps_asks so_far next (changes.Replies session req reply moved steps) both asks =

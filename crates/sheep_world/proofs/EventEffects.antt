@@ -16,7 +16,6 @@ use Rattle.guest_driver.specs.declared.disk.Disk.{Disk}
 use Rattle.object_id.specs.declared.oid.Kind.TheVariants.{Block}
 use Rattle.strip_coding.specs.Part.{is_in_strips}
 use Rattle.proof_tools.proofs.Lists.{Contains-nil, Contains-head, Contains-cons, Contains-cons_cases, filter-contains}
-use Rattle.sheep_node.specs.declared.event.Event.{Event}
 use Rattle.sheep_node.specs.declared.event.Event.TheVariants as events
 use Rattle.sheep_world.specs.declared.name.MessageName.{MessageName}
 use Rattle.sheep_world.specs.World.{Packet, Host, World, host_at, message_at}

@@ -20,7 +20,7 @@ use Rattle.gateway.specs.declared.message.Message.{Message}
 use Rattle.gateway.specs.declared.message.Status.{Status}
 use Rattle.gateway.specs.Work as works
 use Rattle.gateway.specs.Work.{zones_for}
-use Rattle.gateway.specs.Attempt.{Attempt, is_unanswered, is_awaited_message, messages_with_status, messages_of, send_of, is_over, is_done, bytes_given}
+use Rattle.gateway.specs.Attempt.{is_unanswered, is_awaited_message, messages_with_status, messages_of, send_of, is_over, is_done, bytes_given}
 use Rattle.gateway.specs.State as gateways
 use Rattle.gateway.specs.State.{WorkStage, Open, Ended, WaitsForMembers, Work, Gateway, asker, is_touched, is_awaited_in, open_messages}
 use Rattle.gateway.specs.Step as gateway_steps
@@ -109,10 +109,11 @@ module _ (number : ℕ) where
       (waiting_step (with_work req (record asked { stage = WaitsForMembers epoch }) gateway)) (refusal_step gateway req work (Halt zones (zones_for work)))
       (low, put_none gateway.works req (record asked { stage = WaitsForMembers epoch }) refl (λ q w other got. heard.1 q w got))
       (refused_heard req (Halt zones (zones_for work)) (tree.get node.requests req) (queue_left session work (with_gateway (without_work req gateway) so_far))
-      (low, gone_none gateway.works req (λ q w other got. heard.1 q w got))))
-      (let higher : number < node.sends + more = omega (arith, low) in higher,
-      put_none gateway.works req (record asked { stage = Open (next_attempt asked node.sends epoch targets) })
-      (fresh_apart gateway.me epoch work node.sends (works.targets_asked work 0 targets) number low) (λ q w other got. heard.1 q w got))
+      (low, gone_none gateway.works req (λ q w other got. heard.1 q w got)))) (
+        let higher : number < node.sends + more = omega (arith, low) in higher,
+        put_none gateway.works req (record asked { stage = Open (next_attempt asked node.sends epoch targets) })
+            (fresh_apart gateway.me epoch work node.sends (works.targets_asked work 0 targets) number low) (λ q w other got. heard.1 q w got),
+      )
 
   asked_heard : (session req : ℕ) (work : ObjWork) (so_far : StepState) → IsHeard so_far → IsHeard (work_asked session req work so_far)
   unfolding work_asked

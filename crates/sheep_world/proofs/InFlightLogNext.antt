@@ -1,28 +1,19 @@
 -- A node that reads an entry of the log leaves nodes and wire together.
-use Rattle.std.proofs.Common.{◌≡◌, inl, ℕ, ◌+◌, ◌==◌, ◌<◌, nat_lt, Bool, true, false, ◌||◌, cond, List, [], ◌∷◌, ◌++◌, length, map, Contains, Option, Some, None, is_some, is_none, refl, sym, ap, subst, ◌∙◌, ⊎_elim}
+use Rattle.std.proofs.Common.{◌≡◌, inl, ℕ, ◌+◌, ◌==◌, Bool, true, false, ◌||◌, cond, List, [], ◌∷◌, ◌++◌, map, Contains, Option, Some, None, is_some, refl, sym, ap, subst, ◌∙◌, ⊎_elim}
 use native.Mathlib.Omega.{arith}
-use Rattle.std.specs.Option.{option_map, option_map_or}
-use Rattle.std.specs.FinMap as tree
+use Rattle.std.specs.Option.{option_map}
 use Rattle.std.proofs.lemmas.Bool.{eqb-true, or_cases, or_left, or_right}
 use Rattle.std.proofs.lemmas.Option.{same_Some}
 use Rattle.proof_tools.proofs.Booleans.{cond_either}
-use Rattle.proof_tools.proofs.Lists.{Contains-nil, find-contains}
-use Rattle.proof_tools.proofs.FiniteMaps.{get-entry}
+use Rattle.proof_tools.proofs.Lists.{Contains-nil}
 use Rattle.object_id.specs.declared.entry.Entry.{Entry}
-use Rattle.object_id.specs.Same.{is_same_entry}
-use Rattle.object_id.specs.declared.entry.Member.{Member}
 use Rattle.object_id.specs.declared.entry.VdiSpec.{VdiSpec}
-use Rattle.object_id.specs.declared.node.NodeId.{NodeId}
 use Rattle.object_id.specs.Oid.{vid_of, kind_of}
 use Rattle.object_store.specs.declared.row.RowCopy.{RowCopy}
-use Rattle.epoch_log.specs.Epochs.{begins_epoch, epoch_of, settled_of}
-use Rattle.epoch_log.specs.Appending.{is_format}
-use Rattle.vnode_table.specs.Targets.{targets_in}
 use Rattle.vdi_directory.specs.declared.header.Header.{Header}
 use Rattle.vdi_directory.specs.declared.effect.Effect.{Effect}
 use Rattle.vdi_directory.specs.declared.effect.Grant.{Grant}
 use Rattle.vdi_directory.specs.declared.effect.Effect.TheVariants as effects
-use Rattle.vdi_directory.specs.declared.decision.Decision.{Decision}
 use Rattle.vdi_directory.specs.Effects.{is_used, header_after, header_of}
 use Rattle.vdi_directory.specs.Decisions.{outcome, log_effects}
 use Rattle.vdi_directory.proofs.StateLemmas.{log_effects-push, header_of-push}
@@ -32,42 +23,21 @@ use Rattle.peer_proto.specs.declared.ask.PeerAsk.{PeerAsk}
 use Rattle.peer_proto.specs.declared.ask.PeerAsk.TheVariants as asks
 use Rattle.peer_proto.specs.declared.say.PeerSay.{PeerSay}
 use Rattle.peer_proto.specs.declared.say.PeerSay.TheVariants as says
-use Rattle.peer_service.specs.State.{Peer, effects_of, length_of_rows, row_size}
-use Rattle.peer_service.specs.Epochs as peers
-use Rattle.peer_service.specs.Epochs.{peer_settled_to}
-use Rattle.peer_service.specs.LogReading.{read_entry, decision_on}
-use Rattle.gateway.specs.Outcomes.{AreNumberedFrom}
+use Rattle.peer_service.specs.State.{Peer, length_of_rows, row_size}
 use Rattle.gateway.specs.State as gateways
 use Rattle.gateway.specs.State.{Gateway}
-use Rattle.recovery.specs.Shown.{NodeView, is_asked_row, shown_with_pending}
+use Rattle.recovery.specs.Shown.{NodeView, is_asked_row}
 use Rattle.recovery.specs.State as recoveries
 use Rattle.recovery.specs.State.{Message}
 use Rattle.recovery.specs.Fits as recovery_fits
-use Rattle.recovery.specs.Steps.{at_start, recovery_from_epoch, to_recover}
-use Rattle.vdi_ops.specs.Op.{entry_wanted}
-use Rattle.vdi_ops.specs.Steps.{on_decision}
-use Rattle.vdi_ops.proofs.StepLemmas.{decision_awaited}
-use Rattle.sheep_node.specs.declared.input.Input.TheVariants as inputs
-use Rattle.sheep_node.specs.State.{Course, Waiting, Driving, Commanding, Request, Node}
+use Rattle.sheep_node.specs.State.{Node}
 use Rattle.sheep_node.specs.RecoveryView.{recovery_state_of}
 use Rattle.sheep_node.specs.May.{fits_node}
-use Rattle.sheep_node.specs.AwaitedEntry.{waits_for_entry}
-use Rattle.sheep_node.specs.StepState.{StepState, at_first}
-use Rattle.sheep_node.specs.Courses.{inode_open, course_decided}
 use Rattle.sheep_node.specs.LogReading as nodes
 use Rattle.sheep_node.specs.LogReading.{asker_of, decision_told, on_log_entry}
-use Rattle.sheep_node.specs.Step.{on_input, node_step}
 use Rattle.sheep_node.proofs.MessageNumbers.{unanswered_reading}
 use Rattle.sheep_node.proofs.PeerLog.{entries_reading}
-use Rattle.sheep_node.proofs.StepResults.{step_numbers, step_counts}
-use Rattle.sheep_world.specs.World.{Host, World, host_at, node_at, is_host_up}
-use Rattle.sheep_world.specs.Conditions.{may_log_next}
-use Rattle.sheep_world.specs.NodeSteps.{node_stepped, node_stepped_if, at_rest}
-use Rattle.sheep_world.specs.Effects.{next_entry, log_next_effect}
-use Rattle.sheep_world.specs.Step.{EventOutcome, step, with_replies}
-use Rattle.sheep_world.specs.WireMatch.{asked_by_gateway, WireMatchesNodes}
-use Rattle.sheep_node.specs.OneWork.{may_work, HaveOneWorkPerRequest, NumbersAreOfOneWork, NumbersAreBelow, HasOneWorkPerRequest}
-use Rattle.sheep_world.specs.OneWork.{NodesHaveOneWorkPerRequest, IsSentInRange}
+use Rattle.sheep_world.specs.WireMatch.{asked_by_gateway}
 use Rattle.sheep_node.proofs.MessageNumbers.{Sends}
 use Rattle.sheep_world.proofs.InFlightSends.{Asking}
 use Rattle.sheep_world.proofs.InFlightRecoverTick.{Any}

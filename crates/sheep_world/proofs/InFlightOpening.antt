@@ -1,5 +1,5 @@
 -- In the opening world nodes and wire go together: the wire is empty, and the nodes wait for nothing.
-use Rattle.std.proofs.Common.{◌≡◌, ℕ, cond, nat_lt, List, [], ◌∷◌, ◌++◌, map, All, Option, Some, None, Ordering, Less, Equal, Greater, find, refl, sym, ap, subst, ◌∙◌}
+use Rattle.std.proofs.Common.{◌≡◌, ℕ, cond, List, [], ◌∷◌, ◌++◌, map, All, Option, Some, None, Ordering, Less, Equal, Greater, find, refl, sym, ap, subst, ◌∙◌}
 use Rattle.std.specs.Ordering.{is_eq, nat_cmp}
 use Rattle.std.specs.Cmp.{nat_cmp_total}
 use Rattle.std.specs.FinMap as tree

@@ -28,14 +28,8 @@ use Rattle.sheep_node.specs.StepState.{StepState, at_first}
 use Rattle.sheep_node.specs.Step as steps
 use Rattle.sheep_node.specs.Step.{is_due, with_recovered, recovered_put, on_input, node_step}
 use Rattle.sheep_node.proofs.Numbers.{tick_numbers}
-use Rattle.sheep_world.specs.World.{name_cmp, Packet, Host, World, host_at, is_host_up}
-use Rattle.sheep_world.specs.Conditions.{may_recover}
-use Rattle.sheep_world.specs.NodeSteps.{host_stepped, node_stepped, at_rest}
-use Rattle.sheep_world.specs.Effects.{recover_tick_effect}
-use Rattle.sheep_world.specs.Step.{EventOutcome, step, with_replies}
-use Rattle.sheep_world.specs.WireMatch.{asked_by_gateway, asked_by_recovery, WireMatchesNodes}
+use Rattle.sheep_world.specs.WireMatch.{asked_by_gateway, asked_by_recovery}
 use Rattle.sheep_node.specs.RecoveryRange.{RecoversInRange}
-use Rattle.sheep_world.specs.Ranges.{AllRecoverInRange, RecoveriesAreInRange}
 use Rattle.sheep_world.proofs.InFlightEvents.{none_there}
 use Rattle.sheep_world.proofs.RecoveryRangeEvents.{stepped_range}
 use Rattle.sheep_node.proofs.MessageNumbers.{Sends}

@@ -4,7 +4,7 @@ use native.Mathlib.Omega.{arith}
 use Rattle.std.specs.Ordering.{eq_by_cmp}
 use Rattle.std.specs.List.{list_any}
 use Rattle.std.specs.FinMap as tree
-use Rattle.std.proofs.lemmas.Bool.{eq-eqb, eqb-true, eqb-false, cond-false, or_cases, or_left, or_right}
+use Rattle.std.proofs.lemmas.Bool.{eq-eqb, eqb-true, eqb-false, or_cases, or_left, or_right}
 use Rattle.std.proofs.lemmas.List.Elements.{Contains-append_left, Contains-append_right, Contains-append_cases, filter-append}
 use Rattle.proof_tools.proofs.Lists.{Contains-first, Contains-cons, Contains-cons_cases, Contains-nil}
 use Rattle.object_id.specs.declared.node.Epoch.{Epoch}
@@ -18,23 +18,18 @@ use Rattle.peer_proto.specs.declared.say.PeerSay.TheVariants as says
 use Rattle.peer_proto.specs.declared.say.PeerRsp.{PeerRsp}
 use Rattle.gateway.specs.declared.message.Message.{Message as Sent}
 use Rattle.gateway.specs.Attempt.{is_unanswered, is_awaited_message, send_of}
-use Rattle.gateway.specs.Step as gateway_steps
 use Rattle.gateway.specs.State as gateways
 use Rattle.gateway.specs.State.{Work, WorkStage, Open, Ended, WaitsForMembers, open_messages, is_awaited_in}
 use Rattle.recovery.specs.Shown.{NodeView, is_asked_row}
 use Rattle.recovery.specs.State as recoveries
 use Rattle.recovery.specs.State.{Message}
 use Rattle.recovery.specs.Fits as recovery_fits
-use Rattle.recovery.specs.Steps as recovery_steps
 use Rattle.recovery.specs.Steps.{messages_without, message_end}
 use Rattle.recovery.proofs.StepLemmas.{frame_of_end}
-use Rattle.sheep_node.specs.declared.input.Input.TheVariants as inputs
 use Rattle.sheep_node.specs.State.{Node}
 use Rattle.sheep_node.specs.RecoveryView.{recovery_state_of}
 use Rattle.sheep_node.specs.StepState.{at_first}
-use Rattle.sheep_node.specs.Waiting.{after_gateway_step}
-use Rattle.sheep_node.specs.Step as steps
-use Rattle.sheep_node.specs.Step.{recovery_stepped, on_input, node_step}
+use Rattle.sheep_node.specs.Step.{recovery_stepped}
 use Rattle.sheep_world.specs.declared.name.MessageName.{MessageName}
 use Rattle.peer_proto.specs.declared.fault.PeerFault.{PeerFault}
 use Rattle.sheep_world.specs.World.{name_cmp, Packet}
@@ -42,7 +37,7 @@ use Rattle.sheep_world.specs.WireMatch.{unanswered_in, asked_by_gateway, asked_b
 use Rattle.sheep_world.proofs.NameTools.{name_cmp_total}
 use Rattle.sheep_node.proofs.MessageNumbers.{Sends}
 use Rattle.sheep_world.proofs.InFlightSends.{Wire, name_apart, name_itself}
-use Rattle.sheep_world.proofs.InFlightRecoverTick.{AsksFrom, asks_at_end}
+use Rattle.sheep_world.proofs.InFlightRecoverTick.{AsksFrom}
 
 -- every number but one
 abbrev pub Other : ℕ → ℕ → Type 0

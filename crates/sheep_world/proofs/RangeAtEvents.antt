@@ -1,5 +1,5 @@
 -- Which events leave the recoveries in range.
-use Rattle.std.proofs.Common.{◌≡◌, ◌≢◌, ⊎_elim, ℕ, true, false, List, Some, refl, ap, subst, ◌∙◌}
+use Rattle.std.proofs.Common.{◌≡◌, ◌≢◌, ⊎_elim, ℕ, true, false, List, Some, ap, subst, ◌∙◌}
 use Rattle.proof_tools.proofs.FiniteMaps.{get-insert_cases}
 use Rattle.std.specs.Ordering.{nat_cmp}
 use Rattle.std.specs.FinMap as tree

@@ -26,12 +26,10 @@ use Rattle.cluster_script.specs.declared.statement.Statement.{Statement}
 use Rattle.cluster_script.specs.declared.statement.Statement.TheVariants.{Cluster}
 use Rattle.cluster_script.specs.Language.{MayStand, EachMayStand, IsScript}
 use Rattle.cluster_script.specs.Settings.{nodes_set, setting_of, nodes_of, tries_of, new_member, opening_members}
-use Rattle.peer_service.specs.LogReading.{rows_but, kills_object, without_objects, read_entry, decision_on}
+use Rattle.peer_service.specs.LogReading.{rows_but, kills_object, without_objects, read_entry}
 use Rattle.sheep_node.specs.declared.input.Input.TheVariants as inputs
 use Rattle.sheep_node.specs.State as nodes
-use Rattle.sheep_node.specs.StepState.{at_first, with_node}
-use Rattle.sheep_node.specs.LogReading.{asker_of, decision_told, entered_in, entry_read, on_log_entry}
-use Rattle.sheep_node.specs.Step.{on_input, node_step}
+use Rattle.sheep_node.specs.LogReading.{entered_in, entry_read}
 use Rattle.sheep_world.specs.World.{Host}
 use Rattle.sheep_world.specs.Opening as worlds
 use Rattle.sheep_world.specs.Opening.{format_entry, initial_member_node, initial_host, initial_member_host, before_phases}
