@@ -27,6 +27,7 @@ pub mod LogFrontLaws
 pub mod ControlLaws
 pub mod ScriptControls
 pub mod MembersOfLog
+pub mod PuttableEntries
 pub mod LogAtEvents
 pub mod LogAtOpening
 pub mod NextEntries
