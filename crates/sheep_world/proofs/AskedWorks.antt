@@ -39,7 +39,7 @@ use Rattle.sheep_node.proofs.NumberChanges.{HasOneWorkAndNumber, comes_numbered}
 use Rattle.sheep_node.proofs.OneWorkChanges.{StepHasOneWork, steps_free, never_alone}
 use Rattle.sheep_world.specs.WireMatch.{unanswered_in}
 use Rattle.sheep_world.proofs.AttemptSends.{fresh_awaited, fresh_own, unanswered_all, all_still, marked_sends, over_none}
-use Rattle.sheep_world.proofs.InFlightRecoveryAnswer.{Other}
+use Rattle.sheep_world.proofs.RecoveryMessages.{Other}
 
 -- which numbers a node waits for as before: all but the one of which it is told
 abbrev pub StaysOn : Input → ℕ → Type 0

@@ -26,7 +26,7 @@ use Rattle.sheep_world.specs.HistoryAdditions.{begun_block, block_in, writes_beg
 use Rattle.sheep_world.specs.NodeSteps.{at_rest}
 use Rattle.sheep_world.specs.Step.{EventOutcome, only, loss_made, step}
 use Rattle.sheep_world.proofs.EnabledLaws.{looked_up}
-use Rattle.sheep_world.proofs.InFlightEvents.{retained}
+use Rattle.sheep_world.proofs.LostReplies.{retained}
 
 -- what is among mapped elements is of one of them
 map-contains : {X Y : Type 0} (f : X → Y) (xs : List X) (y : Y) → Contains (map f xs) y → (x : X) × Contains xs x × (f x ≡ y)
