@@ -1,8 +1,7 @@
 -- A tick leaves what a node waits for, but that its recovery waits for what the tick asks; and it leaves the recovery in range.
-use Rattle.std.proofs.Common.{◌≡◌, inl, inr, ℕ, ◌==◌, ◌≤◌, ◌^◌, ◌-◌, Bool, true, false, not, ◌||◌, cond, List, [], ◌∷◌, ◌++◌, length, map, Contains, Some, is_some, refl, ap, subst, ◌∙◌, ⊎_elim}
+use Rattle.std.proofs.Common.{◌≡◌, inl, inr, ℕ, ◌==◌, ◌≤◌, ◌^◌, ◌-◌, Bool, true, false, not, ◌||◌, cond, List, [], ◌∷◌, length, map, Contains, Some, is_some, refl, ap, subst, ◌∙◌, ⊎_elim}
 use native.Mathlib.Omega.{arith}
 use Rattle.std.proofs.lemmas.Bool.{eq-eqb, eqb-true, leb-true, and_parts, or_left, or_right}
-use Rattle.std.proofs.lemmas.List.{append-nil}
 use Rattle.std.proofs.lemmas.List.Elements.{All-contains, Contains-append_left, Contains-append_cases}
 use Rattle.proof_tools.proofs.Booleans.{cond_either}
 use Rattle.proof_tools.proofs.Lists.{Contains-cons_cases, Contains-nil}

@@ -37,8 +37,8 @@ use Rattle.sheep_world.specs.World as worlds
 use Rattle.sheep_world.specs.World.{Packet, Request, Reply, Host, World, host_at, node_at, is_host_up, is_up, is_up_with, is_lost, message_at, receiver_of, are_ends_up, progress_at, next_control}
 use Rattle.sheep_world.specs.Conditions.{serves, has_gateway, next_request, may_begin_request, may_ask, may_guest, may_deliver, may_go, is_request_packet, may_lose_request, may_lose_reply, may_log_next, may_put, may_recover, may_retry, fails, joins, reweights, is_next_control, may_lose_node, may_leave, may_join, may_reweight, has_end_in_wire, may_come_back, may_end_phase}
 use Rattle.sheep_world.specs.Asking.{ask_of_statement, input_by, input_of}
-use Rattle.sheep_world.specs.NodeSteps.{host_stepped, world_after_step, node_stepped, node_stepped_if, at_rest}
-use Rattle.sheep_world.specs.Effects.{request_started, requests_started, next_input, gateway_node_stepped, guest_effect, next_entry, log_next_effect, put_done, put_effect, recover_tick_effect, retry_tick_effect}
+use Rattle.sheep_world.specs.NodeSteps.{host_stepped, world_after_step, node_stepped, at_rest}
+use Rattle.sheep_world.specs.Effects.{request_started, next_input, guest_effect, next_entry, log_next_effect, put_done, put_effect, recover_tick_effect, retry_tick_effect}
 use Rattle.sheep_world.specs.Messages.{without_message, wire_with_reply, losses_after_loss, reply_sent, request_got, request_delivered, reply_got, reply_delivered, delivered_as, message_delivered, loss_used, loss_told, message_lost}
 use Rattle.sheep_world.specs.MembershipChanges.{lost_host, control_taken, host_changed, without_replies, node_lost, node_left, node_joined, weight_in, node_reweighted, revived_host, log_handed, came_back, phase_ended}
 use Rattle.sheep_world.specs.Granted.{put_adds}
@@ -110,7 +110,11 @@ module _ (statements : List Statement) (number : ℕ) (world : World) (session :
       let next_is : next_input statements number world ≡ Some input
       = ap (λ (k : ℕ). next_input statements k world) (sym same)
       ∙ ap (λ (o : Option ℕ). option_and_then (input_of statements) o) next ∙ asked in
-      (λ i. gateway_node_stepped statements (found i) (next_is i) (requests_started statements (found i) (at_rest world)))
+      let begun : Option ScriptSession → World
+      = λ o. option_map_or (λ (s : ScriptSession). request_started s (next_request statements s.number (at_rest world)) (at_rest world)) o (at_rest world) in
+      (λ i. option_map_or
+      (λ (s : ScriptSession). option_map_or (λ (input : Input). node_stepped statements s.node input (begun (found i))) (next_is i) (begun (found i)))
+      (found i) (begun (found i)))
       ∙ ap (λ (o : Option ℕ). node_stepped statements session.node input (request_started session o (at_rest world))) next
       ∙ steps_at statements session.node input host (request_started session (Some req) (at_rest world)) there
 
@@ -120,7 +124,8 @@ module _ (statements : List Statement) (number : ℕ) (world : World) (session :
   guest_grown req after next =
       let next_is : next_request statements number world ≡ Some req = ap (λ (k : ℕ). next_request statements k world) (sym same) ∙ next in
       (λ i. option_map_or (λ (session : ScriptSession). request_grown statements world session (next_is i)) (found i) []
-      ++ replies_grown statements (requests_started statements (found i) world) after)
+      ++ replies_grown statements
+      (option_map_or (λ (s : ScriptSession). request_started s (next_request statements s.number world) world) (found i) world) after)
       ∙ ap
       (λ (o : Option ℕ). request_grown statements world session (Some req) ++ replies_grown statements (request_started session o world) after)
       next
@@ -334,9 +339,8 @@ module _ (statements : List Statement) (world : World) (made : EventOutcome) (no
       let at = up_there (λ (node : Node). nat_lt (length node.peer.entries) (length world.log)) node.0 world may in
       let (entry, found) = slice_there world.log (length at.host.node.peer.entries)
       (ltb-true (length at.host.node.peer.entries) (length world.log) at.passed) in
-      let input_so : option_map (λ entry. inputs.LogEntry entry) (next_entry world.log (node_at node.0 world)) ≡ Some (inputs.LogEntry entry)
-      = ap (λ (o : Option Host). option_map (λ entry. inputs.LogEntry entry) (next_entry world.log (option_map (λ (host : Host). host.node) o))) at.there
-      ∙ ap (λ (o : Option Entry). option_map (λ entry. inputs.LogEntry entry) o) found in
+      let entry_so : next_entry world.log (node_at node.0 world) ≡ Some entry
+      = ap (λ (o : Option Host). next_entry world.log (option_map (λ (host : Host). host.node) o)) at.there ∙ found in
       NodeStep (record {
         n = node.0;
         host = at.host;
@@ -346,7 +350,8 @@ module _ (statements : List Statement) (world : World) (made : EventOutcome) (no
         caused = found;
         event_so = refl;
         made_so =
-            sym (ap (λ (o : Option Input). with_replies statements world (node_stepped_if statements node.0 o (at_rest world))) input_so
+            sym (ap (λ (o : Option Entry). with_replies statements world
+            (option_map_or (λ (entry : Entry). node_stepped statements node.0 (inputs.LogEntry entry) (at_rest world)) o (at_rest world))) entry_so
             ∙ ap (with_replies statements world) (steps_at statements node.0 (inputs.LogEntry entry) at.host (at_rest world) at.there)) ∙ is;
       })
 

@@ -8,6 +8,7 @@ pub mod AskedByTick
 pub mod RecoveryMessages
 pub mod AttemptSends
 pub mod AskedWorks
+pub mod AskedAtChanges
 pub mod HeardMessages
 pub mod AskedByStep
 pub mod EntryReading
