@@ -3,7 +3,7 @@ use Rattle.std.proofs.Common.{◌≡◌, ◌==◌, ℕ, ◌+◌, ◌<◌, ◌≤
 use native.Mathlib.Omega.{arith}
 use Rattle.std.specs.List.{list_any, enumerate_from}
 use Rattle.std.proofs.lemmas.Bool.{eqb-true, ne_eqb, or_left, or_right, or_cases, and_parts}
-use Rattle.std.proofs.lemmas.List.{append-nil}
+use Rattle.std.proofs.lemmas.List.{append-nil, nil_from_length}
 use Rattle.std.proofs.lemmas.List.Elements.{filter-append}
 use Rattle.proof_tools.proofs.Booleans.{cond_either}
 use Rattle.proof_tools.proofs.Lists.{Contains-cons, Contains-cons_cases, Contains-first, Contains-nil}
@@ -110,11 +110,11 @@ found_before number q (message ∷ messages) is = by_tie (message.request.number
     by_tie true rest is = later (message.request.number == q) (rest is)
     by_tie false rest is = kept (message.request.number == q) rest is
 
-first_number : List ℕ → ℕ
+unfoldable pub first_number : List ℕ → ℕ
 first_number [] = 0
 first_number (n ∷ ns) = n
 
-later_numbers : List ℕ → List ℕ
+unfoldable pub later_numbers : List ℕ → List ℕ
 later_numbers [] = []
 later_numbers (n ∷ ns) = ns
 
@@ -156,10 +156,6 @@ none_both : {X : Type 0} (xs ys : List X) → xs ++ ys ≡ [] → (xs ≡ []) ×
 none_both [] ys is = (refl, is)
 none_both (x ∷ xs) ys is = absurd (cc (is))
 
-none_there : {A : Type 0} (xs : List A) → length xs ≡ 0 → xs ≡ []
-none_there [] is = refl
-none_there (x ∷ xs) is = absurd (omega (arith, is))
-
 -- what a recovery waits for once a message is unanswered no more
 pub left_before : (number q : ℕ) (said : Option PeerSay) (state : RecoveryState) → recoveries.recovery_awaits q (message_end number said state).recovery ≡ true
     → recoveries.recovery_awaits q state.recovery ≡ true
@@ -188,9 +184,9 @@ unanswered_reading entry node =
 
 -- and once it had a tick
 module _ (state : RecoveryState) (first : ℕ) (may : can_tick state ≡ true) where
-  asked_now : recoveries.all_unanswered (state_after_tick first state).recovery ≡ tick_messages first state
+  pub asked_now : recoveries.all_unanswered (state_after_tick first state).recovery ≡ tick_messages first state
   asked_now =
-      let empty = none_there (recoveries.all_unanswered state.recovery)
+      let empty = nil_from_length (recoveries.all_unanswered state.recovery)
       (eqb-true (length (recoveries.all_unanswered state.recovery)) 0
       (and_parts (not (recoveries.is_finished state)) (length (recoveries.all_unanswered state.recovery) == 0) may).1) in
       let none = none_both state.recovery.unanswered state.recovery.older empty in

@@ -40,11 +40,12 @@ use Rattle.sheep_node.proofs.StepChain.{kept_by_chain, step_chain}
 use Rattle.sheep_node.proofs.StepResults.{step_numbers, step_counts, step_peer, step_recovery}
 use Rattle.sheep_world.specs.WireMatch.{unanswered_in, asked_by_recovery, asked_by}
 use Rattle.sheep_world.proofs.AttemptSends.{asked_in, asked_at, asked_of}
-use Rattle.sheep_world.proofs.AskedWorks.{StaysOn, ToldIsBelow, AskedBefore, AsksOn, StepAsksOn, asks_at_first, change_keeps_asks}
+use Rattle.sheep_world.proofs.AskedWorks.{StaysOn, ToldIsBelow, AskedBefore, AsksOn, StepAsksOn, asks_at_first}
+use Rattle.sheep_world.proofs.AskedAtChanges.{change_keeps_asks}
 use Rattle.sheep_world.proofs.HeardMessages.{IsHeard, told_heard, heard_at_end, heard_waits_not}
-use Rattle.sheep_world.proofs.InFlightSends.{Asking}
-use Rattle.sheep_world.proofs.InFlightRecoverTick.{numbered_there}
-use Rattle.sheep_world.proofs.InFlightRecoveryAnswer.{Other, same_fit, waits_for_asked, end_asks}
+use Rattle.sheep_world.proofs.WireAfterSends.{Asking}
+use Rattle.sheep_world.proofs.AskedByTick.{numbered_there}
+use Rattle.sheep_world.proofs.RecoveryMessages.{Other, same_fit, waits_for_asked, end_asks}
 
 -- what is asked on one way, and then on another
 asks_after : (Stays : ℕ → Type 0) (one two three : Node) (sends : Sends) → Asking Stays one two [] → Asking Stays two three sends → Asking Stays one three sends

@@ -1,5 +1,5 @@
--- What each change of a step leaves of what the works of a node wait for and ask.
-use Rattle.std.proofs.Common.{◌≡◌, ◌≢◌, ◌⊎◌, inl, inr, ℕ, ◌+◌, ◌<◌, ◌≤◌, true, false, List, [], ◌++◌, length, map, Contains, Option, Some, None, refl, sym, ap, subst, ◌∙◌, ⊎_elim, append-nil}
+-- What the works of a step in the making wait for and ask, against the works before it, as one work comes in the place of another.
+use Rattle.std.proofs.Common.{◌≡◌, ◌≢◌, ◌⊎◌, inl, inr, ℕ, ◌<◌, ◌≤◌, true, false, List, [], ◌++◌, map, Contains, Option, Some, None, refl, sym, ap, subst, ◌∙◌, ⊎_elim, append-nil}
 use native.Mathlib.Omega.{arith}
 use Rattle.std.specs.List.{list_any}
 use Rattle.std.specs.FinMap as tree
@@ -7,39 +7,26 @@ use Rattle.std.proofs.lemmas.Bool.{cases_eq}
 use Rattle.std.proofs.lemmas.Option.{same_Some}
 use Rattle.std.proofs.lemmas.List.Elements.{Contains-append_left, Contains-append_right, Contains-append_cases}
 use Rattle.proof_tools.proofs.FiniteMaps.{get-insert_same, get-insert_other, get-remove_same, get-remove_other}
-use Rattle.proof_tools.proofs.Lists.{Contains-first, Contains-nil, find-contains}
-use Rattle.object_id.specs.declared.cause.Cause.{Cause}
-use Rattle.object_id.specs.declared.cause.Cause.TheVariants.{Halt}
+use Rattle.proof_tools.proofs.Lists.{Contains-nil}
 use Rattle.object_id.specs.declared.node.Epoch.{Epoch}
 use Rattle.object_id.specs.declared.node.NodeId.{NodeId}
-use Rattle.vnode_table.specs.Targets.{targets_in}
-use Rattle.peer_proto.specs.Work.{oid_of, policy_of}
 use Rattle.peer_proto.specs.declared.ask.PeerReq.{PeerReq}
-use Rattle.peer_proto.specs.declared.guest.GuestRsp.{GuestRsp}
 use Rattle.gateway.specs.declared.message.Status.{Status}
 use Rattle.gateway.specs.declared.message.Status.TheVariants.{Lost}
 use Rattle.gateway.specs.Work as works_
 use Rattle.gateway.specs.Attempt.{Attempt, is_unanswered, is_awaited_message, status_by, messages_with_status, messages_of, send_of, is_over}
-use Rattle.gateway.specs.State.{WorkStage, Open, Ended, WaitsForMembers, Work, open_messages, is_awaited_in, may_try}
+use Rattle.gateway.specs.State.{WorkStage, Open, Ended, WaitsForMembers, Work, open_messages, is_awaited_in}
 use Rattle.gateway.specs.Step.{next_attempt, attempt_with_status}
-use Rattle.gateway.proofs.SendLaws.{sends-numbers}
-use Rattle.guest_driver.specs.InodeQueue as lines
-use Rattle.vdi_ops.specs.declared.end.OpEnd.{OpEnd}
-use Rattle.vdi_ops.specs.Steps.{on_refusal}
 use Rattle.sheep_node.specs.declared.input.Input.{Input}
 use Rattle.sheep_node.specs.declared.input.Input.TheVariants as inputs
-use Rattle.sheep_node.specs.State.{Course, Waiting, Driving, Commanding, Request, Node}
-use Rattle.sheep_node.specs.StepState.{StepState, request_ended}
-use Rattle.sheep_node.specs.RequestWorks.{command_refused, course_refused, request_refused}
-use Rattle.sheep_node.specs.Changes as changes
-use Rattle.sheep_node.specs.Changes.{IsTold, IsSoundStep, LearnsStatus, without_ended_work, Outcome, ToWork, ToEntry, ToReply, RequestSteps, DiskBegins, DiskGoesOn, CommandBegins, CommandGoesOn, CommandDecided, WorkIsNext, AtOnce, InTurn, Again, AgainAlone, attempt_in, Change}
+use Rattle.sheep_node.specs.State.{Node}
+use Rattle.sheep_node.specs.StepState.{StepState}
+use Rattle.sheep_node.specs.Changes.{IsTold}
 use Rattle.sheep_node.proofs.AwaitedWorks.{Works}
-use Rattle.sheep_node.proofs.MessageNumbers.{Sends, all_before, fresh_apart, numbers_within}
-use Rattle.sheep_node.proofs.NumberChanges.{HasOneWorkAndNumber, comes_numbered}
-use Rattle.sheep_node.proofs.OneWorkChanges.{StepHasOneWork, steps_free, never_alone}
+use Rattle.sheep_node.proofs.MessageNumbers.{Sends, all_before, fresh_apart}
 use Rattle.sheep_world.specs.WireMatch.{unanswered_in}
-use Rattle.sheep_world.proofs.AttemptSends.{fresh_awaited, fresh_own, unanswered_all, all_still, marked_sends, over_none}
-use Rattle.sheep_world.proofs.InFlightRecoveryAnswer.{Other}
+use Rattle.sheep_world.proofs.AttemptSends.{fresh_awaited, unanswered_all, all_still, marked_sends, over_none}
+use Rattle.sheep_world.proofs.RecoveryMessages.{Other}
 
 -- which numbers a node waits for as before: all but the one of which it is told
 abbrev pub StaysOn : Input → ℕ → Type 0
@@ -116,14 +103,14 @@ module _ (input : Input) (old : Node) where
 
   -- ---- one work in the place of another
 
-  record Turns (before now : Option Work) (more : Sends) : Type 0 where
-    was : (q : ℕ) (w : Work) → now ≡ Some w → q < old.sends → is_awaited_in q w ≡ true
+  pub record Turns (before now : Option Work) (more : Sends) : Type 0 where
+    pub was : (q : ℕ) (w : Work) → now ≡ Some w → q < old.sends → is_awaited_in q w ≡ true
         → (work : Work) × (before ≡ Some work) × (w.work ≡ work.work) × (is_awaited_in q work ≡ true)
-    still : (q : ℕ) (work : Work) → before ≡ Some work → StaysOn input q → is_awaited_in q work ≡ true
+    pub still : (q : ℕ) (work : Work) → before ≡ Some work → StaysOn input q → is_awaited_in q work ≡ true
         → (w : Work) × (now ≡ Some w) × (is_awaited_in q w ≡ true)
-    asked : (w : Work) (send : NodeId × PeerReq) → now ≡ Some w → Contains (unanswered_in old.me w w.stage) send
+    pub asked : (w : Work) (send : NodeId × PeerReq) → now ≡ Some w → Contains (unanswered_in old.me w w.stage) send
         → ((work : Work) × (before ≡ Some work) × Contains (unanswered_in old.me work work.stage) send) ⊎ Contains more send
-    new : (send : NodeId × PeerReq) → Contains more send → (w : Work) × (now ≡ Some w) × (is_awaited_in send.1.number w ≡ true)
+    pub new : (send : NodeId × PeerReq) → Contains more send → (w : Work) × (now ≡ Some w) × (is_awaited_in send.1.number w ≡ true)
 
   module _ (below : ToldIsBelow input old.sends) (me : NodeId) (works after : Works) (count last : ℕ) (sends more : Sends) (req : ℕ) (before now : Option Work)
       (here : tree.get works req ≡ before) (there : tree.get after req ≡ now) (apart : (q : ℕ) → q ≢ req → tree.get after q ≡ tree.get works q)
@@ -137,7 +124,7 @@ module _ (input : Input) (old : Node) where
         (λ (other : r ≢ req). (work, apart r other ∙ got, awaits))
         (cases_eq r req)
 
-    turned : AsksOn me after last (sends ++ more)
+    pub turned : AsksOn me after last (sends ++ more)
     turned =
         let first = asks.low in
         record {
@@ -184,7 +171,7 @@ module _ (input : Input) (old : Node) where
     open_awaits q w same awaits =
         ap (λ (stage : WorkStage). list_any (is_awaited_message q) (open_messages stage)) (sym open_so) ∙ ap (is_awaited_in q) same ∙ awaits
 
-    turns_open : Turns (Some work) (Some (record work { stage = Open (attempt_with_status number status attempt) })) []
+    pub turns_open : Turns (Some work) (Some (record work { stage = Open (attempt_with_status number status attempt) })) []
     turns_open =
         let now : Work = record work { stage = Open (attempt_with_status number status attempt) } in
         record {
@@ -219,7 +206,7 @@ module _ (input : Input) (old : Node) where
           let none = over_none q (messages_with_status number status attempt.messages) over in
           absurd (cc (still, none))
 
-      turns_ended : (ended : ℕ) → Turns (Some work) (Some (record work { ended = ended; stage = Ended })) []
+      pub turns_ended : (ended : ℕ) → Turns (Some work) (Some (record work { ended = ended; stage = Ended })) []
       turns_ended ended =
           let now : Work = record work { ended = ended; stage = Ended } in
           record {
@@ -229,7 +216,7 @@ module _ (input : Input) (old : Node) where
             new = λ send none. absurd (Contains-nil send none);
           }
 
-      turns_gone : Turns (Some work) None []
+      pub turns_gone : Turns (Some work) None []
       turns_gone = record {
         was = λ q w is less awaits. absurd (cc (is));
         still = λ q w is stays awaits. none_left q w (same_Some work w is) stays awaits;
@@ -242,7 +229,7 @@ module _ (input : Input) (old : Node) where
     never : {P : Type 0} (q : ℕ) (w : Work) → before ≡ Some w → is_awaited_in q w ≡ true → P
     never q w is awaits = let none = idle q w is in absurd (cc (none, awaits))
 
-    turns_begun : (me : NodeId) (same : me ≡ old.me) (asked : Work) (count : ℕ) (low : old.sends ≤ count) (epoch : Epoch) (targets : List NodeId)
+    pub turns_begun : (me : NodeId) (same : me ≡ old.me) (asked : Work) (count : ℕ) (low : old.sends ≤ count) (epoch : Epoch) (targets : List NodeId)
         → Turns before (Some (record asked { stage = Open (next_attempt asked count epoch targets) }))
         (map (send_of me epoch asked.work) (messages_of asked.work asked.ended count targets))
     turns_begun me same asked count low epoch targets =
@@ -262,7 +249,7 @@ module _ (input : Input) (old : Node) where
           new = λ send there. (now, refl, fresh_awaited me epoch asked.work count places send there);
         }
 
-    turns_held : (asked : Work) (epoch : Epoch) → Turns before (Some (record asked { stage = WaitsForMembers epoch })) []
+    pub turns_held : (asked : Work) (epoch : Epoch) → Turns before (Some (record asked { stage = WaitsForMembers epoch })) []
     turns_held asked epoch =
         let now : Work = record asked { stage = WaitsForMembers epoch } in
         record {
@@ -272,7 +259,7 @@ module _ (input : Input) (old : Node) where
           new = λ send none. absurd (Contains-nil send none);
         }
 
-    turns_denied : Turns before None []
+    pub turns_denied : Turns before None []
     turns_denied = record {
       was = λ q w is less awaits. absurd (cc (is));
       still = λ q w is stays awaits. never q w is awaits;
@@ -288,143 +275,9 @@ module _ (input : Input) (old : Node) where
         subst (AsksOn me after count) (append-nil sends)
         (turned below me works after count count sends [] req before now here there apart (omega arith) (λ send none. absurd (Contains-nil send none)) turns asks)
 
-    put_asks : (now : Work) → Turns before (Some now) [] → AsksOn me (tree.insert works req now) count sends
+    pub put_asks : (now : Work) → Turns before (Some now) [] → AsksOn me (tree.insert works req now) count sends
     put_asks now turns =
         silent (tree.insert works req now) (Some now) (get-insert_same works req now) (λ q other. get-insert_other works req now q other) turns
 
-    gone_asks : Turns before None [] → AsksOn me (tree.remove works req) count sends
+    pub gone_asks : Turns before None [] → AsksOn me (tree.remove works req) count sends
     gone_asks turns = silent (tree.remove works req) None (get-remove_same works req) (λ q other. get-remove_other works req q other) turns
-
-  -- ---- the changes
-
-  module _ (node : Node) (sound : IsSoundStep input node) (below : ToldIsBelow input old.sends) where
-    freed_asks : (so_far : StepState) (session req number : ℕ) (work : Work) (attempt : Attempt) (status : Status) → LearnsStatus input node so_far req number work attempt status
-        → is_over (messages_with_status number status attempt.messages) ≡ true → StepAsksOn so_far
-        → StepAsksOn (without_ended_work session req work status so_far)
-    freed_asks so_far session req number work attempt status learns over asks =
-        gone_asks below so_far.node.me so_far.node.gateway.works so_far.node.sends so_far.outputs.sends req (Some work) learns.there asks
-        (turns_gone number status (learns.settled sound) learns.told work attempt learns.open_so over)
-
-    steps_asks : (so_far : StepState) (session req : ℕ) (next : Outcome) (moved : StepState) → RequestSteps input node so_far session req next moved
-        → StepAsksOn so_far → StepAsksOn moved
-    steps_asks so_far session req next moved (DiskBegins ask disk there on may) asks = asks
-    steps_asks so_far session req next moved (DiskGoesOn number work attempt status bytes driver disk step ends on is) asks =
-        freed_asks so_far session req number work attempt status ends.ends.learns ends.ends.over asks
-    steps_asks so_far session req next moved (CommandBegins ask step arrival is) asks = asks
-    steps_asks so_far session req next moved (CommandGoesOn number work attempt status bytes op step ends is) asks =
-        freed_asks so_far session req number work attempt status ends.ends.learns ends.ends.over asks
-    steps_asks so_far session req next moved (CommandDecided entry op step from read there waits is) asks = asks
-
-    comes_asks : (so_far : StepState) (session req : ℕ) (asked : Work) (lined : StepState) → WorkIsNext input node so_far session req asked lined
-        → StepAsksOn so_far → StepAsksOn lined
-    comes_asks so_far session req asked lined (AtOnce work moved steps begins) asks = steps_asks so_far session req (ToWork work) moved steps asks
-    comes_asks so_far session req asked lined (InTurn work later none is) asks = asks
-    comes_asks so_far session req asked lined (Again work course from next there request) asks = asks
-    comes_asks so_far session req asked lined (AgainAlone work from next there none) asks = asks
-
-    -- a work whose turn has come waits for no message
-    comes_idle : (so_far : StepState) (session req : ℕ) (asked : Work) (lined : StepState) → WorkIsNext input node so_far session req asked lined
-        → StepHasOneWork so_far → (q : ℕ) (w : Work) → tree.get lined.node.gateway.works req ≡ Some w → is_awaited_in q w ≡ false
-    comes_idle so_far session req asked lined (AtOnce work moved steps begins) good q w got =
-        let none = (steps_free so_far session req (ToWork work) moved steps sound good).free.idle in
-        absurd (cc (none, got))
-    comes_idle so_far session req asked lined (InTurn work later none is) good q w got =
-        let first : lines.Waiting = record { req = req; work = work } in
-        let free = good.waiting_free session first (subst (λ (list : List lines.Waiting). Contains list first) (sym is) (Contains-first first first later refl)) in
-        absurd (cc (free, got))
-    comes_idle so_far session req asked lined (Again work course from next there request) good q w got =
-        let may = (find-contains (λ (entry : ℕ × Work). may_try (record { 0 = so_far.node.peer.epoch }) entry.1.stage)
-        (tree.entries so_far.node.gateway.works) (req, asked) next).1 in
-        ap (is_awaited_in q) (sym (same_Some asked w (sym there ∙ got))) ∙ by_stage asked.stage may
-      where
-        by_stage : (stage : WorkStage) → may_try (record { 0 = so_far.node.peer.epoch }) stage ≡ true → list_any (is_awaited_message q) (open_messages stage) ≡ false
-        by_stage (Open attempt) may = absurd (cc (may))
-        by_stage Ended may = refl
-        by_stage (WaitsForMembers since) may = refl
-    comes_idle so_far session req asked lined (AgainAlone work from next there none) good q w got = absurd (never_alone req asked so_far there none good)
-
-    ended_asks : (session req : ℕ) (reply : GuestRsp) (so_far : StepState) → StepAsksOn so_far → StepAsksOn (request_ended session req reply so_far)
-    unfolding request_ended
-    ended_asks session req reply so_far asks = asks
-
-    refused_asks : (session req : ℕ) (cause : Cause) (course : Course) (so_far : StepState) → StepAsksOn so_far
-        → StepAsksOn (course_refused session req cause course so_far)
-    unfolding request_ended
-    refused_asks session req cause (Waiting ask) so_far asks = asks
-    refused_asks session req cause (Driving driver) so_far asks = asks
-    refused_asks session req cause (Commanding op) so_far asks = by_end (on_refusal cause op)
-      where
-        by_end : (end : Option OpEnd) → StepAsksOn (command_refused session req end so_far)
-        by_end None = asks
-        by_end (Some end) = asks
-
-    request_refused_asks : (req : ℕ) (cause : Cause) (request : Option Request) (so_far : StepState) → StepAsksOn so_far
-        → StepAsksOn (request_refused req cause request so_far)
-    request_refused_asks req cause None so_far asks = asks
-    request_refused_asks req cause (Some request) so_far asks = refused_asks request.session req cause request.course so_far asks
-
-    begun_asks : (req : ℕ) (asked : Work) (lined : StepState) → ((q : ℕ) (w : Work) → tree.get lined.node.gateway.works req ≡ Some w → is_awaited_in q w ≡ false)
-        → lined.node.gateway.me ≡ lined.node.me → StepAsksOn lined → StepAsksOn (changes.with_open_attempt req asked lined)
-    begun_asks req asked lined idle own asks =
-        let at = lined.node in
-        let epoch : Epoch = record { 0 = at.peer.epoch } in
-        let targets = targets_in at.epochs at.peer.epoch (oid_of asked.work) (policy_of asked.work) in
-        let messages = messages_of asked.work asked.ended at.sends targets in
-        let more = map (send_of at.gateway.me epoch asked.work) messages in
-        let low = asks.low in
-        turned below at.me at.gateway.works (tree.insert at.gateway.works req (record asked { stage = Open (attempt_in asked at) }))
-        at.sends (at.sends + length more) lined.outputs.sends more req
-        (tree.get at.gateway.works req) (Some (record asked { stage = Open (attempt_in asked at) })) refl
-        (get-insert_same at.gateway.works req (record asked { stage = Open (attempt_in asked at) }))
-        (λ q other. get-insert_other at.gateway.works req (record asked { stage = Open (attempt_in asked at) }) q other)
-        (omega arith)
-        (λ send there.
-        let above : at.sends ≤ send.1.number = fresh_above lined asked send there in
-        (omega (arith, above, low), fresh_own at.gateway.me epoch asked.work messages send there ∙ own ∙ asks.me_so))
-        (turns_begun (tree.get at.gateway.works req) idle at.gateway.me (own ∙ asks.me_so) asked at.sends asks.low epoch targets) asks
-      where
-        fresh_above : (lined : StepState) (asked : Work) (send : NodeId × PeerReq)
-            → Contains (map (send_of lined.node.gateway.me (record { 0 = lined.node.peer.epoch }) asked.work) (attempt_in asked lined.node).messages) send
-            → lined.node.sends ≤ send.1.number
-        fresh_above lined asked send there =
-            let at = lined.node in
-            let targets = targets_in at.epochs at.peer.epoch (oid_of asked.work) (policy_of asked.work) in
-            let sends = map (send_of at.gateway.me (record { 0 = at.peer.epoch }) asked.work) (attempt_in asked at).messages in
-            (numbers_within at.sends sends send
-            (sends-numbers at.gateway.me (record { 0 = at.peer.epoch }) asked.work asked.ended at.sends targets) there).0
-
-    pub change_keeps_asks : (so_far next : StepState) → Change input node so_far next → HasOneWorkAndNumber so_far → StepAsksOn so_far → StepAsksOn next
-    change_keeps_asks so_far next (changes.Marks req number work attempt status learns over) both asks =
-        put_asks below so_far.node.me so_far.node.gateway.works so_far.node.sends so_far.outputs.sends req (Some work) learns.there asks
-        (record work { stage = Open (attempt_with_status number status attempt) })
-        (turns_open number status (learns.settled sound) learns.told work attempt learns.open_so)
-    change_keeps_asks so_far next (changes.Fails session req number work attempt status course ends done why) both asks =
-        let learns = ends.learns in
-        put_asks below so_far.node.me so_far.node.gateway.works so_far.node.sends so_far.outputs.sends req (Some work) learns.there asks
-        (record work { ended = work.ended + 1; stage = Ended })
-        (turns_ended number status (learns.settled sound) learns.told work attempt learns.open_so ends.over (work.ended + 1))
-    change_keeps_asks so_far next (changes.Stops session req number work attempt status course bytes ends over) both asks =
-        freed_asks so_far session req number work attempt status ends.ends.learns ends.ends.over asks
-    change_keeps_asks so_far next (changes.Refuses session req number work attempt status course cause ends done why) both asks =
-        refused_asks session req cause course (without_ended_work session req work status so_far)
-        (freed_asks so_far session req number work attempt status ends.learns ends.over asks)
-    change_keeps_asks so_far next (changes.Opens session req asked lined comes enough) both asks =
-        begun_asks req asked lined (comes_idle so_far session req asked lined comes both.0)
-        (comes_numbered so_far session req asked lined comes both.1).own_so (comes_asks so_far session req asked lined comes asks)
-    change_keeps_asks so_far next (changes.Holds session req asked lined comes short touched) both asks =
-        put_asks below lined.node.me lined.node.gateway.works lined.node.sends lined.outputs.sends req (tree.get lined.node.gateway.works req) refl
-        (comes_asks so_far session req asked lined comes asks) (record asked { stage = WaitsForMembers (record { 0 = lined.node.peer.epoch }) })
-        (turns_held (tree.get lined.node.gateway.works req) (comes_idle so_far session req asked lined comes both.0) asked (record { 0 = lined.node.peer.epoch }))
-    change_keeps_asks so_far next (changes.Denies session req asked lined request comes short untouched there own) both asks =
-        request_refused_asks req (Halt (changes.zones_of_members lined.node) (works_.zones_for asked.work)) request (changes.without_denied_work session req asked lined)
-        (gone_asks below lined.node.me lined.node.gateway.works lined.node.sends lined.outputs.sends req (tree.get lined.node.gateway.works req) refl
-        (comes_asks so_far session req asked lined comes asks)
-        (turns_denied (tree.get lined.node.gateway.works req) (comes_idle so_far session req asked lined comes both.0)))
-    change_keeps_asks so_far next (changes.Strays req work gateway there none apart) both asks = absurd (never_alone req work so_far there none both.0)
-    change_keeps_asks so_far next (changes.Lines session req work moved steps waits) both asks = steps_asks so_far session req (ToWork work) moved steps asks
-    change_keeps_asks so_far next (changes.Appends session req entry moved steps) both asks = steps_asks so_far session req (ToEntry entry) moved steps asks
-    change_keeps_asks so_far next (changes.Replies session req reply moved steps) both asks =
-        ended_asks session req reply moved (steps_asks so_far session req (ToReply reply) moved steps asks)
-    change_keeps_asks so_far next (changes.Arrives session req ask disk arrival on) both asks = asks
-    change_keeps_asks so_far next (changes.Rejects session req ask cause arrival) both asks = asks
-    change_keeps_asks so_far next (changes.Recovers due) both asks = asks

@@ -17,7 +17,7 @@ use Rattle.gateway.specs.State.{Work}
 use Rattle.sheep_node.proofs.AwaitedWorks.{Works}
 use Rattle.sheep_node.proofs.MessageNumbers.{Sends}
 use Rattle.sheep_world.specs.WireMatch.{unanswered_in}
-use Rattle.sheep_world.proofs.InFlightRecoveryAnswer.{open_of}
+use Rattle.sheep_world.proofs.RecoveryMessages.{open_of}
 
 -- what the works of a node ask
 abbrev pub asked_in : NodeId → Works → Sends

@@ -37,14 +37,14 @@ use Rattle.sheep_world.specs.World as worlds
 use Rattle.sheep_world.specs.World.{Packet, Request, Reply, Host, World, host_at, node_at, is_host_up, is_up, is_up_with, is_lost, message_at, receiver_of, are_ends_up, progress_at, next_control}
 use Rattle.sheep_world.specs.Conditions.{serves, has_gateway, next_request, may_begin_request, may_ask, may_guest, may_deliver, may_go, is_request_packet, may_lose_request, may_lose_reply, may_log_next, may_put, may_recover, may_retry, fails, joins, reweights, is_next_control, may_lose_node, may_leave, may_join, may_reweight, has_end_in_wire, may_come_back, may_end_phase}
 use Rattle.sheep_world.specs.Asking.{ask_of_statement, input_by, input_of}
-use Rattle.sheep_world.specs.NodeSteps.{host_stepped, world_after_step, node_stepped, node_stepped_if, at_rest}
-use Rattle.sheep_world.specs.Effects.{request_started, requests_started, next_input, gateway_node_stepped, guest_effect, next_entry, log_next_effect, put_done, put_effect, recover_tick_effect, retry_tick_effect}
+use Rattle.sheep_world.specs.NodeSteps.{host_stepped, world_after_step, node_stepped, at_rest}
+use Rattle.sheep_world.specs.Effects.{request_started, next_input, guest_effect, next_entry, log_next_effect, put_done, put_effect, recover_tick_effect, retry_tick_effect}
 use Rattle.sheep_world.specs.Messages.{without_message, wire_with_reply, losses_after_loss, reply_sent, request_got, request_delivered, reply_got, reply_delivered, delivered_as, message_delivered, loss_used, loss_told, message_lost}
 use Rattle.sheep_world.specs.MembershipChanges.{lost_host, control_taken, host_changed, without_replies, node_lost, node_left, node_joined, weight_in, node_reweighted, revived_host, log_handed, came_back, phase_ended}
 use Rattle.sheep_world.specs.Granted.{put_adds}
 use Rattle.sheep_world.specs.HistoryAdditions.{request_grown, replies_grown, writers_lost}
 use Rattle.sheep_world.specs.Enabled.{loss_of}
-use Rattle.sheep_world.specs.Step.{EventOutcome, step, only, with_replies, guest_made, put_made, loss_made}
+use Rattle.sheep_world.specs.Step.{EventOutcome, step, only, with_replies, guest_made, put_made, loss_made, delivery_made}
 use Rattle.sheep_world.proofs.EnabledLaws.{looked_up}
 use Rattle.sheep_world.specs.NodeCauses as causes
 use Rattle.sheep_world.specs.NodeCauses.{NodeCause, GuestAsks, RequestComes, ReplyComes, LossIsTold, EntryIsRead, EntryIsPut, RecoveryTicks, WorkIsRetried, IsCause, world_after_cause, history_of_cause}
@@ -110,19 +110,24 @@ module _ (statements : List Statement) (number : ℕ) (world : World) (session :
       let next_is : next_input statements number world ≡ Some input
       = ap (λ (k : ℕ). next_input statements k world) (sym same)
       ∙ ap (λ (o : Option ℕ). option_and_then (input_of statements) o) next ∙ asked in
-      (λ i. gateway_node_stepped statements (found i) (next_is i) (requests_started statements (found i) (at_rest world)))
+      let begun : Option ScriptSession → World
+      = λ o. option_map_or (λ (s : ScriptSession). request_started s (next_request statements s.number (at_rest world)) (at_rest world)) o (at_rest world) in
+      (λ i. option_map_or
+      (λ (s : ScriptSession). option_map_or (λ (input : Input). node_stepped statements s.node input (begun (found i))) (next_is i) (begun (found i)))
+      (found i) (begun (found i)))
       ∙ ap (λ (o : Option ℕ). node_stepped statements session.node input (request_started session o (at_rest world))) next
       ∙ steps_at statements session.node input host (request_started session (Some req) (at_rest world)) there
 
   guest_grown : (req : ℕ) (after : World) → next_request statements session.number world ≡ Some req
       → (guest_made statements number world after).grown
-      ≡ request_grown statements world session (Some req) ++ replies_grown statements (request_started session (Some req) world) after
+      ≡ request_grown statements world session (Some req) ++ replies_grown statements (request_started session (Some req) world) None after
   guest_grown req after next =
       let next_is : next_request statements number world ≡ Some req = ap (λ (k : ℕ). next_request statements k world) (sym same) ∙ next in
       (λ i. option_map_or (λ (session : ScriptSession). request_grown statements world session (next_is i)) (found i) []
-      ++ replies_grown statements (requests_started statements (found i) world) after)
+      ++ replies_grown statements
+      (option_map_or (λ (s : ScriptSession). request_started s (next_request statements s.number world) world) (found i) world) None after)
       ∙ ap
-      (λ (o : Option ℕ). request_grown statements world session (Some req) ++ replies_grown statements (request_started session o world) after)
+      (λ (o : Option ℕ). request_grown statements world session (Some req) ++ replies_grown statements (request_started session o world) None after)
       next
 
 happens_guest : (statements : List Statement) (world : World) (made : EventOutcome) (number : ℕ)
@@ -180,7 +185,7 @@ module _ (statements : List Statement) (name : MessageName) (world : World) (mad
 
   happens_request : (to : NodeId) (bytes : List ℕ) (read : Result PeerReq PeerFault) → ask_in bytes ≡ read
       → message_at name world ≡ Some (Request to bytes) → is_up to.0 world ≡ true
-      → with_replies statements world (request_got statements name to read (at_rest world)) ≡ made → OfDelivery
+      → delivery_made statements name world (request_got statements name to read (at_rest world)) ≡ made → OfDelivery
   happens_request to bytes (Ok request) so there may is =
       let (host, at, up) = looked_up is_host_up (host_at to.0 world) may in
       NodeStep (record {
@@ -191,14 +196,14 @@ module _ (statements : List Statement) (name : MessageName) (world : World) (mad
         up = up;
         caused = record { here = refl; bytes = bytes; there = there; read = so };
         event_so = refl;
-        made_so = sym (ap (with_replies statements world) (request_world to request host at)) ∙ is;
+        made_so = sym (ap (delivery_made statements name world) (request_world to request host at)) ∙ is;
       })
   happens_request to bytes (Err fault) so there may is =
       UnreadDelivery (record { name = name; packet = Request to bytes; there = there; unread = (fault, so); event_so = refl; made_so = is })
 
   happens_reply : (from : NodeId) (bytes : List ℕ) (read : Result PeerRsp PeerFault) → say_in bytes ≡ read
       → message_at name world ≡ Some (Reply from bytes) → is_up name.sender.0 world ≡ true
-      → with_replies statements world (reply_got statements name read (at_rest world)) ≡ made → OfDelivery
+      → delivery_made statements name world (reply_got statements name read (at_rest world)) ≡ made → OfDelivery
   happens_reply from bytes (Ok rsp) so there may is =
       let (host, at, up) = looked_up is_host_up (host_at name.sender.0 world) may in
       NodeStep (record {
@@ -210,23 +215,23 @@ module _ (statements : List Statement) (name : MessageName) (world : World) (mad
         caused = record { here = refl; bytes = bytes; there = there; read = so };
         event_so = refl;
         made_so =
-            sym (ap (with_replies statements world)
+            sym (ap (delivery_made statements name world)
             (steps_at statements name.sender.0 (inputs.Reply rsp) host (without_message name (at_rest world)) at)) ∙ is;
       })
   happens_reply from bytes (Err fault) so there may is =
       UnreadDelivery (record { name = name; packet = Reply from bytes; there = there; unread = (fault, so); event_so = refl; made_so = is })
 
   happens_packet : (packet : Packet) → message_at name world ≡ Some packet → is_up (receiver_of name packet).0 world ≡ true
-      → with_replies statements world (delivered_as statements name (Some packet) world) ≡ made → OfDelivery
+      → delivery_made statements name world (delivered_as statements name (Some packet) world) ≡ made → OfDelivery
   unfolding request_delivered reply_delivered
   happens_packet (Request to bytes) there may is = happens_request to bytes (ask_in bytes) refl there may is
   happens_packet (Reply from bytes) there may is = happens_reply from bytes (say_in bytes) refl there may is
 
-  happens_deliver : Made_by (may_deliver name world) (with_replies statements world (message_delivered statements name world)) made → OfDelivery
+  happens_deliver : Made_by (may_deliver name world) (delivery_made statements name world (message_delivered statements name world)) made → OfDelivery
   happens_deliver (may, is) =
       let (packet, there, up) = looked_up (λ packet. is_up (receiver_of name packet).0 world) (message_at name world) may in
       happens_packet packet there up
-      (sym (ap (λ (o : Option Packet). with_replies statements world (delivered_as statements name o world)) there) ∙ is)
+      (sym (ap (λ (o : Option Packet). delivery_made statements name world (delivered_as statements name o world)) there) ∙ is)
 
   -- a loss
   abbrev gone : Packet → World
@@ -334,9 +339,8 @@ module _ (statements : List Statement) (world : World) (made : EventOutcome) (no
       let at = up_there (λ (node : Node). nat_lt (length node.peer.entries) (length world.log)) node.0 world may in
       let (entry, found) = slice_there world.log (length at.host.node.peer.entries)
       (ltb-true (length at.host.node.peer.entries) (length world.log) at.passed) in
-      let input_so : option_map (λ entry. inputs.LogEntry entry) (next_entry world.log (node_at node.0 world)) ≡ Some (inputs.LogEntry entry)
-      = ap (λ (o : Option Host). option_map (λ entry. inputs.LogEntry entry) (next_entry world.log (option_map (λ (host : Host). host.node) o))) at.there
-      ∙ ap (λ (o : Option Entry). option_map (λ entry. inputs.LogEntry entry) o) found in
+      let entry_so : next_entry world.log (node_at node.0 world) ≡ Some entry
+      = ap (λ (o : Option Host). next_entry world.log (option_map (λ (host : Host). host.node) o)) at.there ∙ found in
       NodeStep (record {
         n = node.0;
         host = at.host;
@@ -346,7 +350,8 @@ module _ (statements : List Statement) (world : World) (made : EventOutcome) (no
         caused = found;
         event_so = refl;
         made_so =
-            sym (ap (λ (o : Option Input). with_replies statements world (node_stepped_if statements node.0 o (at_rest world))) input_so
+            sym (ap (λ (o : Option Entry). with_replies statements world
+            (option_map_or (λ (entry : Entry). node_stepped statements node.0 (inputs.LogEntry entry) (at_rest world)) o (at_rest world))) entry_so
             ∙ ap (with_replies statements world) (steps_at statements node.0 (inputs.LogEntry entry) at.host (at_rest world) at.there)) ∙ is;
       })
 
@@ -519,7 +524,7 @@ happens statements (events.Guest number) world made is =
     happens_guest statements world made number (cond_some (may_guest statements number world) (guest_made statements number world (guest_effect statements number world)) made is)
 happens statements (events.Deliver node number) world made is =
     let name : MessageName = record { sender = node; number = number } in
-    happens_deliver statements name world made (cond_some (may_deliver name world) (with_replies statements world (message_delivered statements name world)) made is)
+    happens_deliver statements name world made (cond_some (may_deliver name world) (delivery_made statements name world (message_delivered statements name world)) made is)
 happens statements (events.LoseRequest node number) world made is =
     let name : MessageName = record { sender = node; number = number } in
     happens_lose_request statements name world made

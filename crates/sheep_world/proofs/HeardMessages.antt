@@ -38,15 +38,19 @@ use Rattle.vdi_ops.specs.declared.act.OpAct.TheVariants as op_acts
 use Rattle.vdi_ops.specs.declared.end.OpEnd.{OpEnd}
 use Rattle.vdi_ops.specs.Op as ops
 use Rattle.vdi_ops.specs.Steps.{on_refusal, op_on_done}
-use Rattle.sheep_node.specs.State.{Course, Waiting, Driving, Commanding, Request}
-use Rattle.sheep_node.specs.StepState.{StepState, with_gateway, session_in, with_inode_queue, request_ended}
+use Rattle.sheep_node.specs.State.{Course, Waiting, Driving, Commanding, Request, Checking, DoingWork, AwaitingDecision}
+use Rattle.sheep_node.specs.StepState.{StepState, with_gateway, session_in, with_inode_queue, request_ended, with_sole_request}
 use Rattle.sheep_node.specs.RequestWorks.{command_refused, course_refused, request_refused, queue_left, after_start, work_begun, work_asked}
-use Rattle.sheep_node.specs.Courses.{after_driver_step, driver_acted, driver_stepped, driver_went_on, disk_went_on, disk_begun, after_command_step, command_acted, command_stepped, command_went_on, course_went_on}
+use Rattle.sheep_node.specs.Courses.{after_driver_step, driver_acted, driver_stepped, driver_went_on, disk_went_on, disk_begun, after_command_step, command_acted, command_stepped, command_went_on, course_went_on, check_acted, check_stepped, check_went_on}
 use Rattle.sheep_node.specs.Waiting.{next_begun, course_begun, found_request_begun, begun_if_may, passed_over, queued_requests, let_begin, work_done, work_refused, after_act, after_gateway_step}
 use Rattle.sheep_node.specs.Step.{is_due, with_recovered, recovered_put}
 use Rattle.sheep_node.specs.OneWork.{NumbersAreOfOneWork}
 use Rattle.sheep_node.proofs.AwaitedWorks.{Works, found_got}
 use Rattle.sheep_node.proofs.MessageNumbers.{fresh_apart}
+use Rattle.disk_check.specs.declared.act.CheckAct.{CheckAct}
+use Rattle.disk_check.specs.declared.act.CheckAct.TheVariants as check_acts
+use Rattle.disk_check.specs.Check as checks
+use Rattle.disk_check.specs.Check.{check_on_done}
 
 module _ (number : ℕ) where
   -- no work waits for the number
@@ -90,6 +94,9 @@ module _ (number : ℕ) where
       by_course (Waiting ask) = heard
       by_course (Driving driver) = heard
       by_course (Commanding op) = ended_heard request.session req (on_refusal cause op) so_far heard
+      by_course (Checking check) = heard
+      by_course (DoingWork work) = heard
+      by_course (AwaitingDecision entry) = heard
 
   begun_heard : (session req : ℕ) (work : ObjWork) (so_far : StepState) → IsHeard so_far → IsHeard (work_begun session req work so_far)
   unfolding work_begun start_step attempt_step
@@ -152,11 +159,25 @@ module _ (number : ℕ) where
   command_on_heard session req None so_far heard = heard
   command_on_heard session req (Some step) so_far heard = command_heard session req step.act (after_command_step session req step so_far) heard
 
+  check_heard : (session req : ℕ) (act : CheckAct) (so_far : StepState) → IsHeard so_far → IsHeard (check_acted session req act so_far)
+  unfolding request_ended
+  check_heard session req (check_acts.Work work) so_far heard = asked_heard session req work so_far heard
+  check_heard session req (check_acts.Reply found) so_far heard = heard
+
+  check_on_heard : (session req : ℕ) (step : Option checks.CheckStep) (so_far : StepState) → IsHeard so_far → IsHeard (check_went_on session req step so_far)
+  unfolding check_stepped
+  check_on_heard session req None so_far heard = heard
+  check_on_heard session req (Some step) so_far heard =
+      check_heard session req step.act (with_sole_request session req (Checking step.check) so_far) heard
+
   course_heard : (session req : ℕ) (bytes : List ℕ) (course : Course) (so_far : StepState) → IsHeard so_far → IsHeard (course_went_on session req bytes course so_far)
-  unfolding course_went_on
+  unfolding course_went_on request_ended
   course_heard session req bytes (Waiting ask) so_far heard = heard
   course_heard session req bytes (Driving driver) so_far heard = disk_heard session req bytes driver (session_in session so_far).disk so_far heard
   course_heard session req bytes (Commanding op) so_far heard = command_on_heard session req (op_on_done bytes op) so_far heard
+  course_heard session req bytes (Checking check) so_far heard = check_on_heard session req (check_on_done bytes check) so_far heard
+  course_heard session req bytes (DoingWork work) so_far heard = heard
+  course_heard session req bytes (AwaitingDecision entry) so_far heard = heard
 
   -- ---- what waited begins
 
@@ -172,6 +193,9 @@ module _ (number : ℕ) where
       (disk_begun_heard session req ask (session_in session so_far).disk so_far heard) heard
   course_begun_heard session req (Driving driver) so_far heard = heard
   course_begun_heard session req (Commanding op) so_far heard = heard
+  course_begun_heard session req (Checking check) so_far heard = heard
+  course_begun_heard session req (DoingWork work) so_far heard = heard
+  course_begun_heard session req (AwaitingDecision entry) so_far heard = heard
 
   all_begun_heard : (reqs : List ℕ) (so_far : StepState) → IsHeard so_far → IsHeard (fold begun_if_may so_far reqs)
   all_begun_heard [] so_far heard = heard

@@ -10,7 +10,7 @@ use Rattle.sheep_world.specs.World.{Host, World}
 use Rattle.sheep_world.specs.Opening.{initial_host, initial_member_node, initial_world}
 use Rattle.sheep_world.specs.MembershipChanges.{lost_host}
 use Rattle.sheep_world.specs.Step.{EventOutcome, step}
-use Rattle.sheep_world.proofs.InFlightOpening.{opening_found}
+use Rattle.sheep_world.proofs.WireAtOpening.{opening_found}
 use Rattle.sheep_world.specs.NodeCauses.{world_after_cause}
 use Rattle.sheep_world.specs.EventKinds.{log_after_return, world_after_return, EventKind, NodeStep, UntoldLoss, UnreadDelivery, NodeLoss, NodeLeave, NodeReweight, NodeJoin, NodeReturn, PhaseEnd}
 use Rattle.sheep_world.specs.HostChanges.{host_after_step, host_after_return, joined_host, HostChange, Stays, Steps, IsLost, ComesBack, Joins, EachHost, HostsKeep, NodesKeep}

@@ -1,5 +1,5 @@
 -- Each event leaves the log a log, whose members are the nodes that are there.
-use Rattle.std.proofs.Common.{◌≡◌, ◌≢◌, ◌⊎◌, inl, inr, ⊎_elim, ℕ, ◌<◌, ◌≤◌, ◌==◌, Bool, true, false, ◌||◌, cond, List, [], ◌∷◌, ◌++◌, length, Option, Some, None, is_some, refl, sym, ap, subst, ◌∙◌}
+use Rattle.std.proofs.Common.{◌≡◌, ◌≢◌, ◌⊎◌, inl, inr, ⊎_elim, ℕ, ◌-◌, ◌^◌, ◌<◌, ◌≤◌, ◌==◌, Bool, true, false, ◌||◌, cond, List, [], ◌∷◌, ◌++◌, length, Option, Some, None, is_some, refl, sym, ap, subst, ◌∙◌}
 use Rattle.std.specs.Option.{option_map_or}
 use Rattle.std.specs.FinMap as tree
 use Rattle.std.proofs.lemmas.Bool.{eq-eqb, or_cases}
@@ -23,7 +23,8 @@ use Rattle.sheep_world.specs.NodeCauses.{NodeCause, GuestAsks, RequestComes, Rep
 use Rattle.sheep_world.specs.EventKinds.{log_after_return, EventKind, NodeStep, UntoldLoss, UnreadDelivery, NodeLoss, NodeLeave, NodeReweight, NodeJoin, NodeReturn, PhaseEnd}
 use Rattle.sheep_world.specs.HostChanges.{host_after_step, host_after_return, joined_host, HostChange, Stays, Steps, IsLost, ComesBack, Joins}
 use Rattle.sheep_world.specs.ControlsToCome.{has_host, ControlsFit}
-use Rattle.sheep_world.specs.LogHolds.{is_member_now, IsPuttable, MayGrow, IsWell, LogHolds}
+use Rattle.sheep_world.proofs.PuttableEntries.{IsPuttable, EachPuts}
+use Rattle.sheep_world.specs.LogHolds.{is_member_now, IsWell, LogHolds}
 use Rattle.sheep_world.proofs.HostChangeLaws.{became}
 use Rattle.sheep_world.proofs.ControlLaws.{next_fits, seated_now}
 use Rattle.sheep_world.proofs.MembersOfLog.{member-members_with, member-members_reweighted, member-members_without, member-before, now-plain, now-begun, weight-more, weight-plain, fits-plain}
@@ -99,7 +100,7 @@ module _ (log : List Entry) (some : 1 ≤ length log) (q : ℕ) (lost : Bool) wh
 -- ---- each event
 
 module _ (statements : List Statement) (weighs : IsWeight (vnodes_of statements)) (event : Event) (world : World) (made : EventOutcome)
-    (grows : MayGrow world) (fit : ControlsFit statements world) (holds : LogHolds world) where
+    (puts : EachPuts world) (room : epoch_of world.log < 2 ^ 32 - 1) (fit : ControlsFit statements world) (holds : LogHolds world) where
   some : 1 ≤ length world.log
   some = IsLog-some world.log holds.log
 
@@ -130,12 +131,12 @@ module _ (statements : List Statement) (weighs : IsWeight (vnodes_of statements)
   put_log n host (LossIsTold name packet) there so = holds.log
   put_log n host (EntryIsRead entry) there so = holds.log
   put_log n host (EntryIsPut entry) there (later, first) =
-      let puttable = grows.puts n host entry later there first in
+      let puttable = puts n host entry later there first in
       IsLog-push world.log entry holds.log (record {
         later = puttable.later;
         reservable = puttable.reservable;
         fits = fits-plain (members_in world.log (epoch_of world.log)) entry puttable.plain;
-        room = grows.room;
+        room = room;
       })
   put_log n host RecoveryTicks there so = holds.log
   put_log n host WorkIsRetried there so = holds.log
@@ -148,23 +149,23 @@ module _ (statements : List Statement) (weighs : IsWeight (vnodes_of statements)
   log_after (NodeLeave h) =
       subst (λ (m : EventOutcome). IsLog m.world.log) h.made_so
       (IsLog-push world.log (entries.Leave (record { 0 = h.n })) holds.log
-      (record { later = refl; reservable = tt; fits = h.member; room = grows.room }))
+      (record { later = refl; reservable = tt; fits = h.member; room = room }))
   log_after (NodeReweight h) =
       let fits = next_fits statements world (lines.Reweight h.n h.vnodes) h.control fit in
       let (host, there, up) = standing h.n fits.0 fits.1 in
       subst (λ (m : EventOutcome). IsLog m.world.log) h.made_so
       (IsLog-push world.log (entries.Reweight (record { 0 = h.n }) h.vnodes) holds.log
-      (record { later = refl; reservable = tt; fits = (fits.2, (holds.well h.n host there).stands up); room = grows.room }))
+      (record { later = refl; reservable = tt; fits = (fits.2, (holds.well h.n host there).stands up); room = room }))
   log_after (NodeJoin h) =
       let fits = next_fits statements world (lines.Join h.n) h.control fit in
       subst (λ (m : EventOutcome). IsLog m.world.log) h.made_so
       (IsLog-push world.log (join_of statements h.n (vnodes_of statements)) holds.log
-      (record { later = refl; reservable = tt; fits = (fits.0, weighs, no_member h.n fits.1); room = grows.room }))
+      (record { later = refl; reservable = tt; fits = (fits.0, weighs, no_member h.n fits.1); room = room }))
   log_after (NodeReturn h) =
       let well = holds.well h.n h.host h.there in
       subst (λ (m : EventOutcome). IsLog m.world.log) h.made_so
       (IsLog-push world.log (join_of statements h.n (last_weight world.log h.n)) holds.log
-      (record { later = refl; reservable = tt; fits = (well.below, well.weight, h.no_member); room = grows.room }))
+      (record { later = refl; reservable = tt; fits = (well.below, well.weight, h.no_member); room = room }))
   log_after (PhaseEnd h) = subst (λ (m : EventOutcome). IsLog m.world.log) h.made_so holds.log
 
   module _ (q : ℕ) (host : Host) (there : tree.get world.hosts q ≡ Some host) where
@@ -181,7 +182,7 @@ module _ (statements : List Statement) (weighs : IsWeight (vnodes_of statements)
     by_cause n by (ReplyComes name from rsp) at so = well
     by_cause n by (LossIsTold name packet) at so = well
     by_cause n by (EntryIsRead entry) at so = well
-    by_cause n by (EntryIsPut entry) at (later, first) = well_plain world.log some q host.is_lost entry (grows.puts n by entry later at first) well
+    by_cause n by (EntryIsPut entry) at (later, first) = well_plain world.log some q host.is_lost entry (puts n by entry later at first) well
     by_cause n by RecoveryTicks at so = well
     by_cause n by WorkIsRetried at so = well
 
@@ -247,7 +248,7 @@ module _ (statements : List Statement) (weighs : IsWeight (vnodes_of statements)
     was_member n by (LossIsTold name packet) at so is = is
     was_member n by (EntryIsRead entry) at so is = is
     was_member n by (EntryIsPut entry) at (later, first) is =
-        sym (now-plain world.log entry q some (grows.puts n by entry later at first).plain) ∙ is
+        sym (now-plain world.log entry q some (puts n by entry later at first).plain) ∙ is
     was_member n by RecoveryTicks at so is = is
     was_member n by WorkIsRetried at so is = is
 

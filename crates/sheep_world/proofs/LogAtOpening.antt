@@ -22,6 +22,7 @@ use Rattle.sheep_world.specs.LogHolds.{MayGrow, LogHolds}
 use Rattle.sheep_world.proofs.EventInversion.{happens}
 use Rattle.sheep_world.proofs.BegunWorlds.{by_induction}
 use Rattle.sheep_world.proofs.ScriptControls.{seated_at_first, controls-fit}
+use Rattle.sheep_world.proofs.PuttableEntries.{each_puts}
 use Rattle.sheep_world.proofs.LogAtEvents.{keeps_log}
 
 -- the settings of a script are in their limits
@@ -158,11 +159,11 @@ module _ (statements : List Statement) (script : IsScript statements) where
             seated_at_first statements q ∙ lt_so q count (omega (arith, below));
       }
 
-  -- the log of each world that a run reaches is one, as long as outboxes have what may be put, and there is room
+  -- the log of each world that a run reaches is one, as long as outboxes name what may be named, and there is room
   pub log-holds : ((world : World) → Began statements world → MayGrow world) → (world : World) → Began statements world → LogHolds world
   log-holds grows world = by_induction statements LogHolds (record {
     opens = opens_log;
     keeps = λ event world made began is holds.
-        keeps_log statements weight_at_first event world made (grows world began) (controls-fit statements world script began) holds
+        keeps_log statements weight_at_first event world made (each_puts statements world began (grows world began)) (grows world began).room (controls-fit statements world script began) holds
         (happens statements event world made is);
   }) world

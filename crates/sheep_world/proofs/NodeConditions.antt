@@ -20,7 +20,7 @@ use Rattle.sheep_node.specs.May as nodes
 use Rattle.sheep_node.specs.May.{has_numbers, fits_node, May}
 use Rattle.sheep_world.specs.World.{Reply, Host, is_host_up}
 use Rattle.sheep_world.specs.WireMatch.{unanswered_in, asked_by_gateway, asked_by_recovery, asked_by, IsInFlight}
-use Rattle.sheep_world.proofs.InFlightRecoveryAnswer.{same_said}
+use Rattle.sheep_world.proofs.RecoveryMessages.{same_said}
 use Rattle.sheep_world.proofs.SenderMatch.{Packets, MatchesHost}
 
 -- an element that passes a test

@@ -20,7 +20,7 @@ use Rattle.sheep_world.specs.EventKinds.{EventKind, NodeStep, UntoldLoss, Unread
 use Rattle.sheep_world.specs.HostChanges.{host_after_step, joined_host}
 use Rattle.sheep_world.proofs.ControlLaws.{next_fits}
 use Rattle.sheep_world.proofs.RecoveryRangeEvents.{stepped_range, put_range, told_range, opening_range}
-use Rattle.sheep_world.proofs.InFlightRecoverTick.{recovered_range}
+use Rattle.sheep_world.proofs.AskedByTick.{recovered_range}
 use Rattle.sheep_world.proofs.StepsByCause.{numbers_left}
 
 module _ (statements : List Statement) (world : World) (n : ℕ) (host : Host) (up : is_host_up host ≡ true) (range : RecoversInRange host.node) where

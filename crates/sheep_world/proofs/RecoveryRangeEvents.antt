@@ -16,7 +16,7 @@ use Rattle.vnode_table.specs.Epochs.{members_at}
 use Rattle.vdi_directory.specs.Effects.{header_of}
 use Rattle.vdi_directory.specs.Decisions.{log_effects}
 use Rattle.sheep_node.specs.State as nodes
-use Rattle.sheep_world.proofs.InFlightEvents.{none_there}
+use Rattle.std.proofs.lemmas.List.{nil_from_length}
 use Rattle.object_id.specs.declared.entry.Entry.{Entry}
 use Rattle.object_id.specs.declared.node.NodeId.{NodeId}
 use Rattle.vnode_table.specs.Epochs.{EpochMembers}
@@ -112,7 +112,7 @@ told_range node number range = stepped_range
 none_kept : All IsOid (tree.keys (tree.empty {X = List SeenRow} {R = nat_cmp}))
 none_kept =
     subst (λ (es : List (ℕ × List SeenRow)). All IsOid (map (λ (e : ℕ × List SeenRow). e.0) es))
-    (sym (none_there (tree.entries {R = nat_cmp} (tree.empty {X = List SeenRow})) (sym (tree.len-entries tree.empty) ∙ tree.len-empty nat_cmp (List SeenRow))))
+    (sym (nil_from_length (tree.entries {R = nat_cmp} (tree.empty {X = List SeenRow})) (sym (tree.len-entries tree.empty) ∙ tree.len-empty nat_cmp (List SeenRow))))
     (All-nil IsOid)
 
 pub opening_range : (me : NodeId) (tries : ℕ) → me.0 < 64 → RecoversInRange (nodes.initial_node me tries)

@@ -35,8 +35,8 @@ use Rattle.sheep_world.specs.Opening as worlds
 use Rattle.sheep_world.specs.Opening.{format_entry, initial_member_node, initial_host, initial_member_host, before_phases}
 use Rattle.sheep_node.specs.RecoveryRange.{RecoversInRange}
 use Rattle.sheep_world.specs.Ranges.{RecoveriesAreInRange}
-use Rattle.sheep_world.proofs.InFlightEvents.{none_there}
-use Rattle.sheep_world.proofs.InFlightOpening.{opening_found}
+use Rattle.std.proofs.lemmas.List.{nil_from_length}
+use Rattle.sheep_world.proofs.WireAtOpening.{opening_found}
 use Rattle.sheep_world.proofs.RecoveryRangeEvents.{stepped_range}
 
 -- a script opens with no more members than there may be nodes
@@ -72,7 +72,7 @@ none_changed : (change : ℕ → List SeenRow → List SeenRow) → All IsOid (t
 unfolding each
 none_changed change =
     let none : tree.entries {R = nat_cmp} (tree.empty {X = List SeenRow}) ≡ []
-    = none_there (tree.entries {R = nat_cmp} (tree.empty {X = List SeenRow}))
+    = nil_from_length (tree.entries {R = nat_cmp} (tree.empty {X = List SeenRow}))
     (sym (tree.len-entries tree.empty) ∙ tree.len-empty nat_cmp (List SeenRow)) in
     subst (λ (es : List (ℕ × List SeenRow)). All IsOid (tree.keys (tree.from_entries {R = nat_cmp} (each_entry change es)))) (sym none)
     (subst (λ (es : List (ℕ × List SeenRow)). All IsOid (map (λ (e : ℕ × List SeenRow). e.0) es)) (sym none) (All-nil IsOid))

@@ -18,7 +18,7 @@ use Rattle.cluster_script.specs.Statements.{is_setting, is_cluster, has, is_requ
 use Rattle.sheep_world.specs.World.{Host, World, host_at, is_lost}
 use Rattle.sheep_world.specs.Opening.{initial_member_node, initial_host, initial_member_host, before_phases, initial_world}
 use Rattle.sheep_world.specs.Conditions.{joins}
-use Rattle.sheep_world.proofs.InFlightOpening.{opening_found}
+use Rattle.sheep_world.proofs.WireAtOpening.{opening_found}
 use Rattle.sheep_world.specs.ControlsToCome.{controls_to_come, used_after, failed_after, EachFits, has_host, ControlsFit}
 use Rattle.sheep_world.specs.Began.{Began}
 use Rattle.sheep_world.proofs.EventInversion.{happens}

@@ -17,7 +17,7 @@ use Rattle.sheep_world.specs.World.{Packet, Request, Reply, Host, is_host_up}
 use Rattle.sheep_world.specs.WireMatch.{asked_by, own_name, IsReadablePacket, IsNumberGiven, IsInFlight, WireMatchesHosts}
 use Rattle.sheep_world.specs.NodeCauses.{with_node}
 use Rattle.sheep_node.proofs.MessageNumbers.{Sends, numbers_within}
-use Rattle.sheep_world.proofs.InFlightSends.{Wire, Asking, packet_of}
+use Rattle.sheep_world.proofs.WireAfterSends.{Wire, Asking, packet_of}
 
 -- the packets of a number in the wire, by their numbers
 abbrev pub Packets : Type 0

@@ -25,8 +25,8 @@ use Rattle.sheep_world.specs.Opening.{format_entry, initial_member_node, initial
 use Rattle.sheep_world.specs.Conditions.{serves, may_begin_request}
 use Rattle.sheep_world.specs.Enabled.{is_enabled, message_events, node_events, looked_at, enabled_events}
 use Rattle.sheep_world.specs.Example.{member, small_script}
-use Rattle.sheep_world.proofs.InFlightEvents.{none_there}
-use Rattle.sheep_world.proofs.InFlightOpening.{nobody_asks}
+use Rattle.std.proofs.lemmas.List.{nil_from_length}
+use Rattle.sheep_world.proofs.WireAtOpening.{nobody_asks}
 
 -- the first node once it has read the log's first entry
 abbrev new_node : Node
@@ -64,7 +64,7 @@ unfolding read_node recovered_put entry_read read_entry without_objects
 has_read = refl
 
 no_works : tree.entries {R = nat_cmp} (tree.empty {X = Work}) ≡ []
-no_works = none_there (tree.entries {R = nat_cmp} (tree.empty {X = Work})) (sym (tree.len-entries tree.empty) ∙ tree.len-empty nat_cmp Work)
+no_works = nil_from_length (tree.entries {R = nat_cmp} (tree.empty {X = Work})) (sym (tree.len-entries tree.empty) ∙ tree.len-empty nat_cmp Work)
 
 no_retry : may.has_work_to_retry read_node ≡ false
 unfolding read_node recovered_put entry_read read_entry without_objects
@@ -83,7 +83,7 @@ seated =
     ∙ ap (λ (node : Node). Some (initial_host node)) opened
 
 no_hosts : tree.entries {R = nat_cmp} (tree.empty {X = Host}) ≡ []
-no_hosts = none_there (tree.entries {R = nat_cmp} (tree.empty {X = Host})) (sym (tree.len-entries tree.empty) ∙ tree.len-empty nat_cmp Host)
+no_hosts = nil_from_length (tree.entries {R = nat_cmp} (tree.empty {X = Host})) (sym (tree.len-entries tree.empty) ∙ tree.len-empty nat_cmp Host)
 
 one_key : tree.keys world.hosts ≡ 0 ∷ []
 one_key =
@@ -91,7 +91,7 @@ one_key =
     ∙ ap (λ (entries : List (ℕ × Host)). map (λ (entry : ℕ × Host). entry.0) (tree.put nat_cmp 0 host entries)) no_hosts
 
 no_packets : tree.entries world.wire ≡ []
-no_packets = none_there (tree.entries world.wire) (sym (tree.len-entries tree.empty) ∙ tree.len-empty name_cmp Packet)
+no_packets = nil_from_length (tree.entries world.wire) (sym (tree.len-entries tree.empty) ∙ tree.len-empty name_cmp Packet)
 
 asked_nothing : progress_at 1 world ≡ no_progress
 asked_nothing = ap (λ (o : Option SessionProgress). unwrap_or o no_progress) (tree.get-empty nat_cmp 1)

@@ -32,12 +32,12 @@ use Rattle.sheep_node.specs.OneWork.{HasOneWorkPerRequest}
 use Rattle.sheep_world.specs.BegunRequests.{RequestsWereBegun}
 use Rattle.sheep_world.specs.NodeCauses.{NodeCause, GuestAsks, RequestComes, ReplyComes, LossIsTold, EntryIsRead, EntryIsPut, RecoveryTicks, WorkIsRetried, GuestMayAsk, ReplyIsHere, input_of_cause, IsCause}
 use Rattle.sheep_world.proofs.BegunRequestLaws.{new-begun}
-use Rattle.sheep_world.proofs.InFlightRecoveryAnswer.{Other}
+use Rattle.sheep_world.proofs.RecoveryMessages.{Other}
 use Rattle.sheep_world.proofs.NodeConditions.{reply_fits, reply_numbered}
-use Rattle.sheep_world.proofs.InFlightLogNext.{Keeps, kept_asks, read_asks}
-use Rattle.sheep_world.proofs.InFlightRecoverTick.{Any, AsksFrom, asks_at_end, recovered_asks}
+use Rattle.sheep_world.proofs.EntryReading.{Keeps, kept_asks, read_asks}
+use Rattle.sheep_world.proofs.AskedByTick.{Any, AsksFrom, asks_at_end, recovered_asks}
 use Rattle.sheep_world.proofs.SenderMatch.{MatchesHost, packets_of}
-use Rattle.sheep_world.proofs.InFlightSends.{Asking, DoesAsk}
+use Rattle.sheep_world.proofs.WireAfterSends.{Asking, DoesAsk}
 use Rattle.sheep_world.proofs.AskedByStep.{asking_by, told_asking}
 use Rattle.sheep_node.specs.Changes.{IsSoundStep}
 use Rattle.sheep_node.proofs.StepChain.{fits_settled}

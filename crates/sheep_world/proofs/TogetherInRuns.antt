@@ -27,7 +27,7 @@ use Rattle.sheep_world.proofs.BegunRequestLaws.{were_begun}
 use Rattle.sheep_world.proofs.BegunWorlds.{goes_on, by_induction}
 use Rattle.sheep_world.proofs.EventInversion.{happens}
 use Rattle.sheep_world.proofs.HostChangeLaws.{each_kept, each_opens}
-use Rattle.sheep_world.proofs.InFlightOpening.{opening-wired}
+use Rattle.sheep_world.proofs.WireAtOpening.{opening-wired}
 use Rattle.sheep_world.proofs.ScriptControls.{controls-fit}
 use Rattle.sheep_world.proofs.StepsByCause.{sound_step}
 use Rattle.sheep_world.proofs.WireAtEvents.{is_ready, wired_after}

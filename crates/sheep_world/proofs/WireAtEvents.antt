@@ -31,15 +31,15 @@ use Rattle.sheep_world.specs.HoldsTogether.{IsForHost, RepliesFit, HoldsTogether
 use Rattle.sheep_world.specs.NodeCauses.{NodeCause, GuestAsks, RequestComes, ReplyComes, LossIsTold, EntryIsRead, EntryIsPut, RecoveryTicks, WorkIsRetried, input_of_cause, IsCause, RequestIsHere, wire_at_cause, is_up_among, wire_after_cause, with_node}
 use Rattle.sheep_world.specs.EventKinds.{log_after_return, EventKind, NodeStep, UntoldLoss, UnreadDelivery, NodeLoss, NodeLeave, NodeReweight, NodeJoin, NodeReturn, PhaseEnd}
 use Rattle.sheep_world.specs.HostChanges.{host_after_step, host_after_return, joined_host}
-use Rattle.sheep_world.proofs.InFlightBack.{no_sender, asked_by-renewed, stepped_renewed}
+use Rattle.sheep_world.proofs.ReturningNodes.{no_sender, asked_by-renewed, stepped_renewed}
 use Rattle.sheep_world.proofs.ControlLaws.{next_fits}
-use Rattle.sheep_world.proofs.InFlightRecoveryAnswer.{Other, same_asked, without_got, without_apart}
-use Rattle.sheep_world.proofs.InFlightRecoverTick.{Any}
+use Rattle.sheep_world.proofs.RecoveryMessages.{Other, same_asked, without_got, without_apart}
+use Rattle.sheep_world.proofs.AskedByTick.{Any}
 use Rattle.sheep_node.proofs.MessageNumbers.{Sends, numbers_within}
-use Rattle.sheep_world.proofs.InFlightSends.{Wire, Asking, inserted_own, inserted_apart, sends_apart, sends_there, packet_of, IsSent, got_sent}
+use Rattle.sheep_world.proofs.WireAfterSends.{Wire, Asking, inserted_own, inserted_apart, sends_apart, sends_there, packet_of, IsSent, got_sent}
 use Rattle.sheep_world.proofs.SenderMatch.{packets_of, MatchesHost, Matches, EachMatches, each_match, all_wired, packets_change, host_changes, idle_matches, fewer_match, Moves, sends_match, reply_matches}
 use Rattle.sheep_world.proofs.StepsByCause.{StaysAt, IsReady, step_asks, served_silent}
-use Rattle.sheep_world.proofs.InFlightEvents.{asked_by-opening, same_without, got_before}
+use Rattle.sheep_world.proofs.LostReplies.{asked_by-opening, same_without, got_before}
 
 -- ---- what leaves the wire before a node sends
 

@@ -57,8 +57,8 @@ world_driven statements zero world = world
 world_driven statements (suc turns) world =
     if is_some (answer_of world) then world
     else option_map_or
-        (λ (event : Event). world_driven statements turns (world_after statements event world))
-        (next_driven statements world) world
+    (λ (event : Event). world_driven statements turns (world_after statements event world))
+    (next_driven statements world) world
 
 -- whether there is an answer then
 abbrev pub is_driven_to_answer : List Statement → ℕ → World → Bool

@@ -1,6 +1,6 @@
 -- What a guest's request, and the steps of nodes that no message brings, make of the world.
 use Rattle.std.specs.Prelude.{ℕ, ◌+◌, List, [], ◌∷◌, ◌++◌, length, Option, Some, None, slice_get}
-use Rattle.std.specs.Option.{option_map, option_and_then, option_to_list}
+use Rattle.std.specs.Option.{option_map, option_map_or, option_and_then, option_to_list}
 use Rattle.std.specs.FinMap as tree
 use Rattle.object_id.specs.declared.entry.Entry.{Entry}
 use Rattle.cluster_script.specs.declared.statement.Statement.{Statement}
@@ -12,7 +12,7 @@ use Rattle.sheep_node.specs.State.{Node, session_at}
 use Rattle.sheep_world.specs.World.{StartedRequest, SessionProgress, World, node_at, progress_at}
 use Rattle.sheep_world.specs.Conditions.{next_request}
 use Rattle.sheep_world.specs.Asking.{input_of}
-use Rattle.sheep_world.specs.NodeSteps.{node_stepped, node_stepped_if, at_rest}
+use Rattle.sheep_world.specs.NodeSteps.{node_stepped, at_rest}
 
 -- the disk that a session has open at its gateway
 abbrev pub open_disk_at : ScriptSession → World → Option Disk
@@ -34,41 +34,34 @@ request_started session (Some req) world = record world {
       (progress_with_started (record { req = req; disk = disk_open session world }) (progress_at session.number world));
 }
 
--- the next request of a session is started
-abbrev pub requests_started : List Statement → Option ScriptSession → World → World
-requests_started statements None world = world
-requests_started statements (Some session) world = request_started session (next_request statements session.number world) world
-
 -- the next request of the session of this number is started
 abbrev pub guest_begun : List Statement → ℕ → World → World
-guest_begun statements number world = requests_started statements (session_numbered statements number) world
+guest_begun statements number world = option_map_or
+    (λ (session : ScriptSession). request_started session (next_request statements session.number world) world)
+    (session_numbered statements number) world
 
 -- the input of a session's next request
 abbrev pub next_input : List Statement → ℕ → World → Option Input
 next_input statements number world = option_and_then (input_of statements) (next_request statements number world)
 
--- the gateway of a session steps on an input
-abbrev pub gateway_node_stepped : List Statement → Option ScriptSession → Option Input → World → World
-gateway_node_stepped statements None input world = world
-gateway_node_stepped statements (Some session) input world = node_stepped_if statements session.node input world
-
 -- Guest: the session's next request is started, and its gateway steps on it
 unfoldable pub guest_effect : List Statement → ℕ → World → World
 guest_effect statements number world =
-    gateway_node_stepped statements (session_numbered statements number) (next_input statements number world)
-    (guest_begun statements number (at_rest world))
+    let begun = guest_begun statements number (at_rest world) in
+    option_map_or
+    (λ (session : ScriptSession).
+    option_map_or (λ (input : Input). node_stepped statements session.node input begun) (next_input statements number world) begun)
+    (session_numbered statements number) begun
 
 -- the entry that a node reads next
 abbrev pub next_entry : List Entry → Option Node → Option Entry
-next_entry log None = None
-next_entry log (Some node) = slice_get log (length node.peer.entries)
+next_entry log node = option_and_then (λ (node : Node). slice_get log (length node.peer.entries)) node
 
 -- LogNext: a node reads the next entry of the log
 unfoldable pub log_next_effect : List Statement → ℕ → World → World
-log_next_effect statements node world = node_stepped_if
-    statements node
-    (option_map (λ entry. inputs.LogEntry entry) (next_entry world.log (node_at node world)))
-    (at_rest world)
+log_next_effect statements node world = option_map_or
+    (λ (entry : Entry). node_stepped statements node (inputs.LogEntry entry) (at_rest world))
+    (next_entry world.log (node_at node world)) (at_rest world)
 
 -- entries stand at the log's end
 abbrev pub with_entries : List Entry → World → World

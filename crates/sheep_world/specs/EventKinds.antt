@@ -42,7 +42,7 @@ pub record IsNodeStep (statements : List Statement) (event : Event) (world : Wor
   pub there : host_at n world ≡ Some host
   pub up : is_host_up host ≡ true
   pub caused : IsCause statements world n host cause
-  pub event_so : event_of_cause n cause ≡ Some event
+  pub event_so : event_of_cause n cause ≡ event
   pub made_so : outcome_of_step statements n host cause world ≡ made
 
 -- a message is lost whose sender isn't up, so that no node is told

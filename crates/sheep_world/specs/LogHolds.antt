@@ -4,8 +4,8 @@ use Rattle.std.specs.FinMap as tree
 use Rattle.object_id.specs.declared.entry.Entry.{Entry}
 use Rattle.epoch_log.specs.Members as members
 use Rattle.object_id.specs.Node.{IsWeight}
-use Rattle.epoch_log.specs.Epochs.{begins_epoch, epoch_of, members_in}
-use Rattle.epoch_log.specs.Appending.{is_format, IsReservable, IsLog}
+use Rattle.epoch_log.specs.Epochs.{epoch_of, members_in}
+use Rattle.epoch_log.specs.Appending.{IsReservable, IsLog}
 use Rattle.sheep_world.specs.World.{Host, World}
 use Rattle.sheep_world.specs.MembershipChanges.{last_weight}
 use Rattle.sheep_world.specs.ControlsToCome.{has_host}
@@ -14,16 +14,10 @@ use Rattle.sheep_world.specs.ControlsToCome.{has_host}
 abbrev pub is_member_now : List Entry → ℕ → Bool
 is_member_now log node = members.is_member node (members_in log (epoch_of log))
 
--- an entry that a node may put: it opens no log, begins no epoch, and what it names are names
-pub record IsPuttable (entry : Entry) : Type 0 where
-  pub later : is_format entry ≡ false
-  pub plain : begins_epoch entry ≡ false
-  pub reservable : IsReservable entry
-
--- what is asked of a world beside: the outboxes have such entries, and there is room for one epoch more
+-- what is asked of a world beside: what heads an outbox names what may be named, and there is room for one epoch more
 pub record MayGrow (world : World) : Type 0 where
-  pub puts : (n : ℕ) (host : Host) (entry : Entry) (later : List Entry) → tree.get world.hosts n ≡ Some host
-      → host.node.outbox ≡ entry ∷ later → IsPuttable entry
+  pub reservable : (n : ℕ) (host : Host) (entry : Entry) (later : List Entry) → tree.get world.hosts n ≡ Some host
+      → host.node.outbox ≡ entry ∷ later → IsReservable entry
   pub room : epoch_of world.log < 2 ^ 32 - 1
 
 -- a number that has a host is below 64, and has a weight by the log; where the node isn't lost it is a member

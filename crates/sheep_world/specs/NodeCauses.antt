@@ -32,8 +32,6 @@ use Rattle.sheep_world.specs.NodeSteps.{wire_with_request, progress_after_reply,
 use Rattle.sheep_world.specs.Effects.{disk_open, progress_with_started, request_started}
 use Rattle.sheep_world.specs.HistoryAdditions.{request_grown, replies_grown, delivery_grown}
 use Rattle.sheep_world.specs.Granted.{entry_adds}
-use Rattle.sheep_world.specs.ClientAsks.{is_answered, next_ask_number}
-use Rattle.sheep_node.specs.MayTests.{is_guest_ask}
 
 -- why a node that is up steps
 pub data NodeCause : Type 0 where
@@ -53,8 +51,6 @@ pub data NodeCause : Type 0 where
   RecoveryTicks : NodeCause
   -- a work is tried again
   WorkIsRetried : NodeCause
-  -- a client without a script asks this, under this number
-  ClientAsks : ℕ → Ask → NodeCause
 
 -- the input that the node steps on
 abbrev pub input_of_cause : NodeCause → Input
@@ -66,20 +62,18 @@ input_of_cause (EntryIsRead entry) = inputs.LogEntry entry
 input_of_cause (EntryIsPut entry) = inputs.Put
 input_of_cause RecoveryTicks = inputs.RecoverTick
 input_of_cause WorkIsRetried = inputs.RetryTick
-input_of_cause (ClientAsks req ask) = inputs.Guest req 0 ask
 
--- the event by which it does; a client's ask is no event
-abbrev pub event_of_cause : ℕ → NodeCause → Option Event
-event_of_cause n (GuestAsks session req ask) = Some (events.Guest session.number)
-event_of_cause n (RequestComes name to request) = Some (events.Deliver name.sender name.number)
-event_of_cause n (ReplyComes name from rsp) = Some (events.Deliver name.sender name.number)
-event_of_cause n (LossIsTold name (Request to bytes)) = Some (events.LoseRequest name.sender name.number)
-event_of_cause n (LossIsTold name (Reply from bytes)) = Some (events.LoseReply name.sender name.number)
-event_of_cause n (EntryIsRead entry) = Some (events.LogNext (record { 0 = n }))
-event_of_cause n (EntryIsPut entry) = Some (events.Put (record { 0 = n }))
-event_of_cause n RecoveryTicks = Some (events.RecoverTick (record { 0 = n }))
-event_of_cause n WorkIsRetried = Some (events.RetryTick (record { 0 = n }))
-event_of_cause n (ClientAsks req ask) = None
+-- the event by which it does
+abbrev pub event_of_cause : ℕ → NodeCause → Event
+event_of_cause n (GuestAsks session req ask) = events.Guest session.number
+event_of_cause n (RequestComes name to request) = events.Deliver name.sender name.number
+event_of_cause n (ReplyComes name from rsp) = events.Deliver name.sender name.number
+event_of_cause n (LossIsTold name (Request to bytes)) = events.LoseRequest name.sender name.number
+event_of_cause n (LossIsTold name (Reply from bytes)) = events.LoseReply name.sender name.number
+event_of_cause n (EntryIsRead entry) = events.LogNext (record { 0 = n })
+event_of_cause n (EntryIsPut entry) = events.Put (record { 0 = n })
+event_of_cause n RecoveryTicks = events.RecoverTick (record { 0 = n })
+event_of_cause n WorkIsRetried = events.RetryTick (record { 0 = n })
 
 -- a session's next request may begin at its gateway
 pub record GuestMayAsk (statements : List Statement) (world : World) (n : ℕ) (host : Host) (session : ScriptSession)
@@ -115,13 +109,6 @@ pub record MessageMayGo (world : World) (n : ℕ) (name : MessageName) (packet :
   pub there : message_at name world ≡ Some packet
   pub may : may_go name packet world ≡ true
 
--- a client may ask this of the node, which is a member, and of which its last ask has its reply
-pub record ClientMayAsk (world : World) (host : Host) (req : ℕ) (ask : Ask) : Type 0 where
-  pub member : is_epoch_member host.node ≡ true
-  pub answered : is_answered world ≡ true
-  pub next : next_ask_number world ≡ req
-  pub may : is_guest_ask host.node ask ≡ true
-
 -- what holds where a node steps for this
 abbrev pub IsCause : List Statement → World → ℕ → Host → NodeCause → Type 0
 IsCause statements world n host (GuestAsks session req ask) = GuestMayAsk statements world n host session req ask
@@ -132,7 +119,6 @@ IsCause statements world n host (EntryIsRead entry) = slice_get world.log (lengt
 IsCause statements world n host (EntryIsPut entry) = (later : List Entry) × (host.node.outbox ≡ entry ∷ later)
 IsCause statements world n host RecoveryTicks = may_tick host.node ≡ true
 IsCause statements world n host WorkIsRetried = has_work_to_retry host.node ≡ true
-IsCause statements world n host (ClientAsks req ask) = ClientMayAsk world host req ask
 
 -- the sessions, as the step finds them: a request that begins is counted
 abbrev pub progress_at_cause : NodeCause → World → tree.FinMap nat_cmp SessionProgress
@@ -146,7 +132,6 @@ progress_at_cause (EntryIsRead entry) world = world.guests
 progress_at_cause (EntryIsPut entry) world = world.guests
 progress_at_cause RecoveryTicks world = world.guests
 progress_at_cause WorkIsRetried world = world.guests
-progress_at_cause (ClientAsks req ask) world = world.guests
 
 -- the wire, as the step finds it: what the node gets or is told of is gone
 abbrev pub wire_at_cause : NodeCause → tree.FinMap name_cmp Packet → tree.FinMap name_cmp Packet
@@ -158,7 +143,6 @@ wire_at_cause (EntryIsRead entry) wire = wire
 wire_at_cause (EntryIsPut entry) wire = wire
 wire_at_cause RecoveryTicks wire = wire
 wire_at_cause WorkIsRetried wire = wire
-wire_at_cause (ClientAsks req ask) wire = wire
 
 -- the losses that the step leaves
 abbrev pub losses_after_cause : NodeCause → World → ℕ
@@ -170,7 +154,6 @@ losses_after_cause (EntryIsRead entry) world = world.losses
 losses_after_cause (EntryIsPut entry) world = world.losses
 losses_after_cause RecoveryTicks world = world.losses
 losses_after_cause WorkIsRetried world = world.losses
-losses_after_cause (ClientAsks req ask) world = world.losses
 
 -- the log that the step leaves
 abbrev pub log_after_cause : NodeCause → List Entry → List Entry
@@ -182,7 +165,6 @@ log_after_cause (EntryIsRead entry) log = log
 log_after_cause (EntryIsPut entry) log = log ++ entry ∷ []
 log_after_cause RecoveryTicks log = log
 log_after_cause WorkIsRetried log = log
-log_after_cause (ClientAsks req ask) log = log
 
 -- whether a node among these is up
 abbrev pub is_up_among : tree.FinMap nat_cmp Host → ℕ → Bool
@@ -199,19 +181,6 @@ wire_after_cause (EntryIsRead entry) hosts node wire = wire
 wire_after_cause (EntryIsPut entry) hosts node wire = wire
 wire_after_cause RecoveryTicks hosts node wire = wire
 wire_after_cause WorkIsRetried hosts node wire = wire
-wire_after_cause (ClientAsks req ask) hosts node wire = wire
-
--- a client's last ask, as the step finds it: one that begins has no reply yet
-abbrev pub ask_at_cause : NodeCause → World → Option ClientAsk
-ask_at_cause (GuestAsks session req ask) world = world.asked
-ask_at_cause (RequestComes name to request) world = world.asked
-ask_at_cause (ReplyComes name from rsp) world = world.asked
-ask_at_cause (LossIsTold name packet) world = world.asked
-ask_at_cause (EntryIsRead entry) world = world.asked
-ask_at_cause (EntryIsPut entry) world = world.asked
-ask_at_cause RecoveryTicks world = world.asked
-ask_at_cause WorkIsRetried world = world.asked
-ask_at_cause (ClientAsks req ask) world = Some (record { req = req; reply = None })
 
 -- a host with the node as it is then
 abbrev pub with_node : Host → Node → Host
@@ -230,12 +199,12 @@ world_after_cause statements n host cause world =
       phase = world.phase;
       controls = world.controls;
       losses = losses_after_cause cause world;
-      asked = option_map (ask_after_replies so_far.outputs.replies) (ask_at_cause cause world);
+      asked = option_map (ask_after_replies so_far.outputs.replies) world.asked;
       input = Some (input_of_cause cause);
       outputs = so_far.outputs;
     }
 
--- what the step adds to the history; a client's ask adds nothing
+-- what the step adds to the history
 abbrev pub history_of_cause : List Statement → NodeCause → World → World → List HistEvent
 history_of_cause statements (GuestAsks session req ask) before after =
     request_grown statements before session (Some req) ++ replies_grown statements (request_started session (Some req) before) None after
@@ -246,4 +215,3 @@ history_of_cause statements (EntryIsRead entry) before after = replies_grown sta
 history_of_cause statements (EntryIsPut entry) before after = entry_adds before.log entry
 history_of_cause statements RecoveryTicks before after = replies_grown statements before None after
 history_of_cause statements WorkIsRetried before after = replies_grown statements before None after
-history_of_cause statements (ClientAsks req ask) before after = []

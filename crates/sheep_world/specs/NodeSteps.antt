@@ -68,11 +68,6 @@ host_stepped statements node input (Some host) world = world_after_step statemen
 unfoldable pub node_stepped : List Statement → ℕ → Input → World → World
 node_stepped statements node input world = host_stepped statements node input (host_at node world) world
 
--- a node steps on an input, if there is one
-abbrev pub node_stepped_if : List Statement → ℕ → Option Input → World → World
-node_stepped_if statements node None world = world
-node_stepped_if statements node (Some input) world = node_stepped statements node input world
-
 -- no node steps
 abbrev pub at_rest : World → World
 at_rest world = record world { input = None; outputs = no_outputs }

@@ -125,7 +125,8 @@ pub fn nodes_and_wire_stay_together()
         → (world : World) → Began statements world → HoldsTogether statements world }
 {}
 
-/// What the recoveries know of is in range when a script opens, and stays so at the events that tell them nothing new.
+/// What the recoveries know of is in range when a script opens, and stays so at the events that tell them nothing new, if the controls
+/// to come fit.
 pub fn recoveries_stay_in_range()
     ensures opening { (statements : List Statement) → IsScript statements → RecoveriesAreInRange (initial_world statements) }
     ensures kept { (statements : List Statement) (event : Event) (world : World) (made : EventOutcome)
@@ -160,7 +161,7 @@ pub fn the_controls_to_come_fit()
     ensures { (statements : List Statement) (world : World) → IsScript statements → Began statements world → ControlsFit statements world }
 {}
 
-/// As long as the outboxes have entries that may be put, and there is room for an epoch, the log of each world is a log, whose members
+/// As long as what is put names what may be named, and there is room for an epoch, the log of each world is a log, whose members
 /// are the nodes that are there; so, as long as messages are in range too, a node may read the entry that is its next.
 pub fn the_log_holds()
     ensures log { (statements : List Statement) → IsScript statements → ((world : World) → Began statements world → MayGrow world)

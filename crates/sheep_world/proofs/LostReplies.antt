@@ -1,9 +1,9 @@
--- What maps have after an insertion, or after keys went; and a node that has read nothing.
-use Rattle.std.proofs.Common.{◌≡◌, ◌≢◌, ℕ, Bool, true, false, not, cond, List, [], ◌∷◌, ◌++◌, length, flat_map, Option, Some, None, refl, sym, ap, ◌∙◌}
-use native.Mathlib.Omega.{arith}
+-- The wire without the replies to a node, and a node that has read nothing.
+use Rattle.std.proofs.Common.{◌≡◌, ◌≢◌, ℕ, Bool, true, false, not, cond, List, [], ◌++◌, flat_map, Option, Some, None, refl, sym, ap, ◌∙◌}
 use Rattle.std.specs.Ordering.{nat_cmp}
 use Rattle.std.specs.FinMap as tree
 use Rattle.std.proofs.lemmas.Bool.{ne_eqb}
+use Rattle.std.proofs.lemmas.List.{nil_from_length}
 use Rattle.object_id.specs.declared.node.NodeId.{NodeId}
 use Rattle.gateway.specs.State.{Work}
 use Rattle.sheep_node.specs.State as nodes
@@ -28,15 +28,11 @@ got_retain m stays q x is = by_test (stays q) (sym (retained m stays q) ∙ is)
     by_test true got = got
     by_test false got = absurd (cc (got))
 
-pub none_there : {A : Type 0} (xs : List A) → length xs ≡ 0 → xs ≡ []
-none_there [] is = refl
-none_there (x ∷ xs) is = absurd (omega (arith, is))
-
 -- a node that has read nothing waits for nothing
 pub asked_by-opening : (me : NodeId) (tries : ℕ) → asked_by (nodes.initial_node me tries) ≡ []
 asked_by-opening me tries = ap
     (λ (works : List (ℕ × Work)). flat_map (λ (entry : ℕ × Work). unanswered_in me entry.1 entry.1.stage) works ++ [])
-    (none_there (tree.entries {R = nat_cmp} (tree.empty {X = Work})) (sym (tree.len-entries tree.empty) ∙ tree.len-empty nat_cmp Work))
+    (nil_from_length (tree.entries {R = nat_cmp} (tree.empty {X = Work})) (sym (tree.len-entries tree.empty) ∙ tree.len-empty nat_cmp Work))
 
 -- a reply to another node stays
 other_stays : (node : ℕ) (name : MessageName) (o : Option Packet) → name.sender.0 ≢ node → not (is_reply_to node name o) ≡ true

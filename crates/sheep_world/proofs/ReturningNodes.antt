@@ -1,4 +1,4 @@
--- A node that comes back has nothing in the wire and waits for nothing.
+-- A node that comes back waits for nothing, and had nothing in the wire.
 use Rattle.std.proofs.Common.{◌≡◌, ◌≢◌, ℕ, ◌==◌, true, false, not, List, [], ◌∷◌, ◌++◌, map, Some, refl, ◌∙◌}
 use Rattle.std.specs.FinMap as tree
 use Rattle.std.proofs.lemmas.Bool.{eqb-false, not-true}
@@ -23,7 +23,7 @@ use Rattle.sheep_world.specs.World.{Packet, World, asked_node, has_end}
 use Rattle.sheep_world.specs.Conditions.{has_end_in_wire}
 use Rattle.sheep_world.specs.WireMatch.{asked_by, asked_by_gateway}
 use Rattle.sheep_world.proofs.NameTools.{same_name}
-use Rattle.sheep_world.proofs.InFlightEvents.{asked_by-opening}
+use Rattle.sheep_world.proofs.LostReplies.{asked_by-opening}
 
 -- no message in the wire is a request of a node that is no end there, or the reply to one
 pub no_sender : (world : World) (n : ℕ) → not (has_end_in_wire n world) ≡ true → (name : MessageName) (packet : Packet)

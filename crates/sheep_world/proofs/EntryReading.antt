@@ -1,4 +1,4 @@
--- A node that reads an entry of the log leaves nodes and wire together.
+-- A node that reads an entry waits for what it waited for, and knows the lengths of rows that it knew.
 use Rattle.std.proofs.Common.{◌≡◌, inl, ℕ, ◌+◌, ◌==◌, Bool, true, false, ◌||◌, cond, List, [], ◌∷◌, ◌++◌, map, Contains, Option, Some, None, is_some, refl, sym, ap, subst, ◌∙◌, ⊎_elim}
 use native.Mathlib.Omega.{arith}
 use Rattle.std.specs.Option.{option_map}
@@ -39,8 +39,8 @@ use Rattle.sheep_node.proofs.MessageNumbers.{unanswered_reading}
 use Rattle.sheep_node.proofs.PeerLog.{entries_reading}
 use Rattle.sheep_world.specs.WireMatch.{asked_by_gateway}
 use Rattle.sheep_node.proofs.MessageNumbers.{Sends}
-use Rattle.sheep_world.proofs.InFlightSends.{Asking}
-use Rattle.sheep_world.proofs.InFlightRecoverTick.{Any}
+use Rattle.sheep_world.proofs.WireAfterSends.{Asking}
+use Rattle.sheep_world.proofs.AskedByTick.{Any}
 
 -- ---- the length of an object's rows stays known
 

@@ -29,7 +29,8 @@ use Rattle.sheep_world.specs.World.{name_cmp, Packet, Host}
 use Rattle.sheep_world.specs.Opening as worlds
 use Rattle.sheep_world.specs.Opening.{format_entry, initial_member_node, initial_host, initial_member_host, before_phases, with_phase}
 use Rattle.sheep_world.specs.WireMatch.{asked_by, asked_by_gateway, asked_by_recovery, own_name, IsInFlight, AllAwaitedIsInFlight, WireMatchesNodes}
-use Rattle.sheep_world.proofs.InFlightEvents.{none_there, asked_by-opening}
+use Rattle.sheep_world.proofs.LostReplies.{asked_by-opening}
+use Rattle.std.proofs.lemmas.List.{nil_from_length}
 
 -- what a node waits with
 record Idle (me : NodeId) (tries : ℕ) (node : Node) : Type 0 where
@@ -56,7 +57,7 @@ put_idle me tries so_far idle =
 pub nobody_asks : (entry : Entry) (me : NodeId) (tries : ℕ) → asker_of entry (nodes.initial_node me tries) ≡ None
 nobody_asks entry me tries = ap
     (λ (found : List (ℕ × Request)). find (λ (one : ℕ × Request). waits_for_entry entry one.1.course) found)
-    (none_there (tree.entries {R = nat_cmp} (tree.empty {X = Request})) (sym (tree.len-entries tree.empty) ∙ tree.len-empty nat_cmp Request))
+    (nil_from_length (tree.entries {R = nat_cmp} (tree.empty {X = Request})) (sym (tree.len-entries tree.empty) ∙ tree.len-empty nat_cmp Request))
 
 stepped_idle : (me : NodeId) (tries : ℕ) (members : List Member)
     → Idle me tries (node_step (inputs.LogEntry (Format members)) (nodes.initial_node me tries)).node

@@ -1,8 +1,7 @@
--- A tick of a recovery leaves nodes and wire together, and each recovery in range.
-use Rattle.std.proofs.Common.{◌≡◌, inl, inr, ℕ, ◌==◌, ◌≤◌, ◌^◌, ◌-◌, Bool, true, false, not, ◌||◌, cond, List, [], ◌∷◌, ◌++◌, length, map, Contains, Some, is_some, refl, ap, subst, ◌∙◌, ⊎_elim}
+-- A tick leaves what a node waits for, but that its recovery waits for what the tick asks; and it leaves the recovery in range.
+use Rattle.std.proofs.Common.{◌≡◌, inl, inr, ℕ, ◌==◌, ◌≤◌, ◌^◌, ◌-◌, Bool, true, false, not, ◌||◌, cond, List, [], ◌∷◌, length, map, Contains, Some, is_some, refl, ap, subst, ◌∙◌, ⊎_elim}
 use native.Mathlib.Omega.{arith}
 use Rattle.std.proofs.lemmas.Bool.{eq-eqb, eqb-true, leb-true, and_parts, or_left, or_right}
-use Rattle.std.proofs.lemmas.List.{append-nil}
 use Rattle.std.proofs.lemmas.List.Elements.{All-contains, Contains-append_left, Contains-append_cases}
 use Rattle.proof_tools.proofs.Booleans.{cond_either}
 use Rattle.proof_tools.proofs.Lists.{Contains-cons_cases, Contains-nil}
@@ -30,10 +29,10 @@ use Rattle.sheep_node.specs.Step.{is_due, with_recovered, recovered_put, on_inpu
 use Rattle.sheep_node.proofs.Numbers.{tick_numbers}
 use Rattle.sheep_world.specs.WireMatch.{asked_by_gateway, asked_by_recovery}
 use Rattle.sheep_node.specs.RecoveryRange.{RecoversInRange}
-use Rattle.sheep_world.proofs.InFlightEvents.{none_there}
+use Rattle.std.proofs.lemmas.List.{nil_from_length}
 use Rattle.sheep_world.proofs.RecoveryRangeEvents.{stepped_range}
-use Rattle.sheep_node.proofs.MessageNumbers.{Sends}
-use Rattle.sheep_world.proofs.InFlightSends.{Asking}
+use Rattle.sheep_node.proofs.MessageNumbers.{Sends, asked_now}
+use Rattle.sheep_world.proofs.WireAfterSends.{Asking}
 
 -- all numbers
 abbrev pub Any : ℕ → Type 0
@@ -59,10 +58,6 @@ asks_at_end Stays old so_far asking =
       fits_on = asking.fits_on;
     })
     asking
-
-none_both : {X : Type 0} (xs ys : List X) → xs ++ ys ≡ [] → (xs ≡ []) × (ys ≡ [])
-none_both [] ys is = (refl, is)
-none_both (x ∷ xs) ys is = absurd (cc (is))
 
 or_first : (a b : Bool) → b ≡ false → (a || b) ≡ true → a ≡ true
 or_first true b none is = refl
@@ -94,28 +89,19 @@ numbered_there (message ∷ messages) send there = ⊎_elim
 module _ (node : Node) (may : may_tick node ≡ true) where
   none_asked : recoveries.all_unanswered node.recovery ≡ []
   none_asked =
-      none_there (recoveries.all_unanswered node.recovery)
+      nil_from_length (recoveries.all_unanswered node.recovery)
       (eqb-true (length (recoveries.all_unanswered node.recovery)) 0
       (and_parts (not (recoveries.is_finished (recovery_state_of node))) (length (recoveries.all_unanswered node.recovery) == 0) may).1)
 
-  pub asked_now : recoveries.all_unanswered (state_after_tick node.sends (recovery_state_of node)).recovery ≡ tick_messages node.sends (recovery_state_of node)
-  asked_now =
-      let none = none_both node.recovery.unanswered node.recovery.older none_asked in
-      let frame = frame_of_tick node.sends (recovery_state_of node) in
-      let messages = tick_messages node.sends (recovery_state_of node) in
-      (λ i. (frame i).unanswered ++ (frame i).older)
-      ∙ (λ i. (none.0 i ++ messages) ++ none.1 i)
-      ∙ append-nil messages
-
   sends_now : asked_by_recovery (state_after_tick node.sends (recovery_state_of node)).recovery ≡ tick_sends node.sends (recovery_state_of node)
   unfolding tick_sends
-  sends_now = ap (map (λ (message : Message). (message.to, message.request))) asked_now
+  sends_now = ap (map (λ (message : Message). (message.to, message.request))) (asked_now (recovery_state_of node) node.sends may)
 
   waited_now : (send : NodeId × PeerReq) → Contains (tick_sends node.sends (recovery_state_of node)) send
       → recoveries.recovery_awaits send.1.number (state_after_tick node.sends (recovery_state_of node)).recovery ≡ true
   unfolding tick_sends
   waited_now send there =
-      ap (λ (messages : List Message). is_some (recoveries.message_of send.1.number messages)) asked_now
+      ap (λ (messages : List Message). is_some (recoveries.message_of send.1.number messages)) (asked_now (recovery_state_of node) node.sends may)
       ∙ numbered_there (tick_messages node.sends (recovery_state_of node)) send there
 
   waited_never : (number : ℕ) → recoveries.recovery_awaits number node.recovery ≡ false

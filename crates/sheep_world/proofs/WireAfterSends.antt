@@ -1,5 +1,5 @@
--- A node that sends stays together with the wire: what it sends stands there under new numbers, and what it waited for stays.
-use Rattle.std.proofs.Common.{◌≡◌, ◌≢◌, ◌⊎◌, inl, inr, ℕ, ◌+◌, ◌<◌, Bool, true, false, cond, List, [], ◌∷◌, length, fold, All, Contains, Some, Ordering, Less, Equal, Greater, Ok, refl, sym, ap, subst, ◌∙◌, ⊎_elim}
+-- The wire once a node has sent, and what a step makes of what the node waits for.
+use Rattle.std.proofs.Common.{◌≡◌, ◌≢◌, ◌⊎◌, inl, inr, ℕ, ◌+◌, ◌<◌, Bool, true, false, cond, [], ◌∷◌, length, fold, All, Contains, Some, Ordering, Less, Equal, Greater, Ok, refl, sym, ap, subst, ◌∙◌, ⊎_elim}
 use native.Mathlib.Omega.{arith}
 use Rattle.std.specs.Ordering.{is_eq, eq_by_cmp}
 use Rattle.std.specs.Cmp.{Equal-is}
@@ -15,7 +15,7 @@ use Rattle.gateway.specs.Outcomes.{AreNumberedFrom}
 use Rattle.sheep_node.specs.declared.input.Input.{Input}
 use Rattle.sheep_node.specs.State.{Node}
 use Rattle.sheep_node.specs.Step.{node_step}
-use Rattle.sheep_node.proofs.MessageNumbers.{Sends, numbers_within}
+use Rattle.sheep_node.proofs.MessageNumbers.{Sends, first_number, later_numbers, numbers_within}
 use Rattle.sheep_node.specs.May.{node_awaits, fits_node}
 use Rattle.sheep_world.specs.declared.name.MessageName.{MessageName}
 use Rattle.sheep_world.specs.World.{name_cmp, Packet, Request}
@@ -27,14 +27,6 @@ abbrev pub Wire : Type 0
 Wire = tree.FinMap name_cmp Packet
 
 -- ---- the wire after sends
-
-first_number : List ℕ → ℕ
-first_number [] = 0
-first_number (n ∷ ns) = n
-
-later_numbers : List ℕ → List ℕ
-later_numbers [] = []
-later_numbers (n ∷ ns) = ns
 
 unequal_by : (q key : MessageName) (o : Ordering) → name_cmp q key ≡ o → q ≢ key → is_eq o ≡ false
 unequal_by q key Less tie apart = refl

@@ -1,4 +1,4 @@
--- A message of a recovery that is lost or answered leaves the wire, and its node waits for it no more: they stay together.
+-- A recovery that hears of a message waits for the others as before; and a message that leaves the wire.
 use Rattle.std.proofs.Common.{◌≡◌, ◌≢◌, inl, ℕ, ◌+◌, ◌==◌, Bool, true, false, not, ◌||◌, cond, List, [], ◌∷◌, ◌++◌, map, filter, flat_map, find, Contains, Option, Some, None, is_some, Result, Ok, Err, refl, sym, ap, subst, ◌∙◌, ⊎_elim}
 use native.Mathlib.Omega.{arith}
 use Rattle.std.specs.Ordering.{eq_by_cmp}
@@ -36,8 +36,8 @@ use Rattle.sheep_world.specs.World.{name_cmp, Packet}
 use Rattle.sheep_world.specs.WireMatch.{unanswered_in, asked_by_gateway, asked_by_recovery}
 use Rattle.sheep_world.proofs.NameTools.{name_cmp_total}
 use Rattle.sheep_node.proofs.MessageNumbers.{Sends}
-use Rattle.sheep_world.proofs.InFlightSends.{Wire, name_apart, name_itself}
-use Rattle.sheep_world.proofs.InFlightRecoverTick.{AsksFrom}
+use Rattle.sheep_world.proofs.WireAfterSends.{Wire, name_apart, name_itself}
+use Rattle.sheep_world.proofs.AskedByTick.{AsksFrom}
 
 -- every number but one
 abbrev pub Other : ℕ → ℕ → Type 0
