@@ -18,7 +18,7 @@ use Rattle.strip_coding.proofs.ChosenLaws.{chosen_points, chosen_within}
 
 -- a strip at a place of the indexes lies within the strips
 
-within_strips : (place count width long : ℕ) → place < count → long ≡ count * width → (place + 1) * width ≤ long
+pub within_strips : (place count width long : ℕ) → place < count → long ≡ count * width → (place + 1) * width ≤ long
 within_strips place count width long h e =
     let fits : place * width + width ≤ count * width = row_fits place width count width h (le_refl width) in
     let product : (place + 1) * width ≡ place * width + width =

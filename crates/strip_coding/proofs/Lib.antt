@@ -7,3 +7,4 @@ pub mod InterpolateLaws
 pub mod ChosenLaws
 pub mod DecodeLaws
 pub mod PartLaws
+pub mod BlockByBlock

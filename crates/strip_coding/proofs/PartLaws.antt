@@ -97,10 +97,10 @@ blocks_through-strips d (suc blocks) bytes points splits distinct count are e =
 
 -- whole blocks
 
-blocks_of : (n : ℕ) → n % 512 ≡ 0 → n ≡ n / 512 * 512
+pub blocks_of : (n : ℕ) → n % 512 ≡ 0 → n ≡ n / 512 * 512
 blocks_of n e = omega arith
 
-part_of_blocks : (d n : ℕ) → Divides d → n % 512 ≡ 0 → n / d ≡ n / 512 * (512 / d)
+pub part_of_blocks : (d n : ℕ) → Divides d → n % 512 ≡ 0 → n / d ≡ n / 512 * (512 / d)
 part_of_blocks d n splits e =
     let q : ℕ = n / 512 in
     let w : ℕ = 512 / d in

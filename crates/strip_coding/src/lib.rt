@@ -13,8 +13,10 @@ mod coding;
 mod combine;
 mod interpolate;
 mod laws;
+mod parts;
 mod rows;
 
 pub use coding::{decode_block, encode_block};
 pub use gf256::TooFewStrips;
 pub use laws::{choice_laws, enough_parts, part_laws};
+pub use parts::{bytes_of_parts, part, part_size};
