@@ -12,7 +12,7 @@ ghost use Rattle.object_id.specs.Fields.{AreBytes};
 ghost use Rattle.gf256.specs.Polynomial.{ArePoints};
 ghost use Rattle.gf256.specs.Strip.{strip};
 ghost use Rattle.strip_coding.specs.Choice.{distinct_places, HasStrips};
-ghost use Rattle.strip_coding.specs.Part.{IsAligned, part_size, part, bytes_of_parts};
+ghost use Rattle.strip_coding.specs.Part.{IsAligned, part_size, part, parts_in, bytes_of_parts};
 
 use object_id::BLOCK_BYTES;
 
@@ -47,6 +47,9 @@ pub fn part_laws()
         (part policy kind index piece) }
     ensures block { (d p index : ℕ) (block : List ℕ) → length block ≡ BLOCK_BYTES
         → part (Coded d p) Block index block ≡ strip d block index }
+    // parts of one length that are laid one after another are those parts
+    ensures laid { (size : ℕ) (parts : List (List ℕ)) → All (λ part. length part ≡ size) parts
+        → parts_in size (length parts) (flat_map (λ part. part) parts) ≡ parts }
 {}
 
 /// As many parts of an object as a read needs, at different indexes, determine its bytes.
