@@ -13,9 +13,8 @@ use Rattle.guest_driver.specs.declared.disk.Disk.{Disk}
 use Rattle.guest_driver.specs.Driver.{Driver}
 use Rattle.guest_driver.specs.Course as drivers
 use Rattle.guest_driver.specs.InodeQueue as lines
-use Rattle.peer_proto.specs.declared.guest.VdiAsk.{VdiAsk}
-use Rattle.vdi_ops.specs.Tables.{table_in}
-use Rattle.vdi_ops.specs.InodeWorks.{read_inode, create_inode, write_back, write_tag}
+use Rattle.vdi_ops.specs.InodeWorks.{read_inode, create_inode, write_tag}
+use Rattle.vdi_ops.specs.TaskWorks.{IsWrittenBack, IsBaseRead}
 use Rattle.vdi_ops.specs.Op.{Task, Opening, WritingBack, Tagging, Copying, Making, OpStage, Asked, Working, Publishing, Answered, Op}
 use Rattle.sheep_node.specs.State.{Node, Session, Request, Course, Waiting, Driving, Commanding}
 use Rattle.overlap_law.specs.Attempts.{AttemptRecord}
@@ -25,13 +24,6 @@ use Rattle.overlap_law.specs.Writers.{MayWrite}
 use Rattle.vdi_directory.specs.declared.effect.Effect.{Effect}
 use Rattle.overlap_law.specs.Drafts.{IsDrawn}
 
--- what was read of an inode is written back, and is what the table is by
-pub record IsWrittenBack (inode : Content) (work : ObjWork) : Type 0 where
-  pub bytes : List ℕ
-  pub ids : List ℕ
-  pub work_of : work ≡ write_back inode bytes
-  pub table : inode.table ≡ table_in ids inode.spec bytes
-
 -- the open disk's inode gets a tag; the one that is to take its place has its table
 pub record IsTagged (open_disk : Option Disk) (old : Vid) (draft : Content) (work : ObjWork) : Type 0 where
   pub disk : Disk
@@ -40,12 +32,6 @@ pub record IsTagged (open_disk : Option Disk) (old : Vid) (draft : Content) (wor
   pub same : disk.inode.vid ≡ old.0
   pub table : draft.table ≡ disk.inode.table
   pub work_of : work ≡ write_tag disk.inode tag
-
--- the inode of a clone's base is read
-pub record IsRead (parent : Option Vid) (header : Header) (work : ObjWork) : Type 0 where
-  pub vid : Vid
-  pub there : parent ≡ Some vid
-  pub work_of : work ≡ read_inode vid.0 header.spec
 
 -- an inode is created: that of the granted id, which is the one that the session then has open, if it has one by that; its
 -- table is drawn from what the id is reserved for, where that was available
@@ -63,15 +49,15 @@ abbrev pub IsOfTask : List Effect → (ℕ → Bool) → List AttemptRecord → 
 IsOfTask effects good_id attempts disk vid (Opening snapshot ids header) work = work ≡ read_inode vid.0 header.spec
 IsOfTask effects good_id attempts disk vid (WritingBack inode) work = IsWrittenBack inode work
 IsOfTask effects good_id attempts disk vid (Tagging old inode) work = IsTagged disk old inode work
-IsOfTask effects good_id attempts disk vid (Copying ids header) work = IsRead header.parent header work
+IsOfTask effects good_id attempts disk vid (Copying ids header) work = IsBaseRead header.parent header work
 IsOfTask effects good_id attempts disk vid (Making entry opened) work = IsCreatedNow effects good_id attempts vid opened work
 
 -- a work that a command waits for is of its task
 abbrev pub IsOfStage : List Effect → (ℕ → Bool) → List AttemptRecord → Option Disk → OpStage → ObjWork → Type 0
-IsOfStage effects good_id attempts disk (Asked entry ask old) work = ⊥
+IsOfStage effects good_id attempts disk (Asked entry) work = ⊥
 IsOfStage effects good_id attempts disk (Working vid task) work = IsOfTask effects good_id attempts disk vid task work
 IsOfStage effects good_id attempts disk (Publishing entry opened) work = ⊥
-IsOfStage effects good_id attempts disk (Answered opened) work = ⊥
+IsOfStage effects good_id attempts disk (Answered change) work = ⊥
 
 -- a work is that of a read or write on the open disk
 pub record IsOfDriver (open_disk : Option Disk) (driver : Driver) (work : ObjWork) : Type 0 where
@@ -83,7 +69,7 @@ pub record IsOfDriver (open_disk : Option Disk) (driver : Driver) (work : ObjWor
 abbrev pub WaitsFor : List Effect → (ℕ → Bool) → List AttemptRecord → Option Disk → Course → ObjWork → Type 0
 WaitsFor effects good_id attempts disk (Waiting ask) work = ⊥
 WaitsFor effects good_id attempts disk (Driving driver) work = IsOfDriver disk driver work
-WaitsFor effects good_id attempts disk (Commanding ask op) work = IsOfStage effects good_id attempts disk op.stage work
+WaitsFor effects good_id attempts disk (Commanding op) work = IsOfStage effects good_id attempts disk op.stage work
 
 -- a node's request, with its session, waits for a work
 pub record IsWaitedFor (effects : List Effect) (good_id : ℕ
@@ -113,13 +99,13 @@ granted_by vid (Making entry opened) = Some vid
 
 -- the id that was granted to a command, by what it waits for
 abbrev pub granted_at : OpStage → Option Vid
-granted_at (Asked entry ask disk) = None
+granted_at (Asked entry) = None
 granted_at (Working vid task) = granted_by vid task
 granted_at (Publishing entry opened) = None
-granted_at (Answered opened) = None
+granted_at (Answered change) = None
 
 -- a command that works for an id may write it
 pub record CommandsKeepTheirGrants (log : List Entry) (hosts : Hosts) : Type 0 where
-  pub each : EachUp hosts (λ n node. (req : ℕ) (request : Request) (ask : VdiAsk) (op : Op) (vid : Vid) → tree.get node.requests req
+  pub each : EachUp hosts (λ n node. (req : ℕ) (request : Request) (op : Op) (vid : Vid) → tree.get node.requests req
       ≡ Some request
-      → request.course ≡ Commanding ask op → granted_at op.stage ≡ Some vid → MayWrite log n request.session vid.0 node)
+      → request.course ≡ Commanding op → granted_at op.stage ≡ Some vid → MayWrite log n request.session vid.0 node)

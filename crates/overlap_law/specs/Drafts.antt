@@ -8,7 +8,6 @@ use Rattle.object_id.specs.declared.entry.Entry.TheVariants.{Format, Join, Leave
 use Rattle.object_id.specs.Oid.{inode_number}
 use Rattle.object_id.specs.Spec.{objects_of}
 use Rattle.inode.specs.Layout.{Content}
-use Rattle.peer_proto.specs.declared.guest.VdiAsk.{VdiAsk}
 use Rattle.vdi_ops.specs.Op.{Publishing, Op}
 use Rattle.sheep_node.specs.State.{Request, Commanding}
 use Rattle.overlap_law.specs.Attempts.{AttemptRecord}
@@ -61,7 +60,7 @@ published_by (Unlock by session vid) = None
 pub record WhatIsPublishedIsCreated (good_id : ℕ → Bool) (hosts : Hosts) (attempts : List AttemptRecord) : Type 0 where
   pub created : EachUp hosts (λ n node. (place : ℕ) (entry : Entry) (vid : Vid) → slice_get node.outbox place ≡ Some entry
       → published_by entry ≡ Some vid → IsCreated attempts (inode_number vid.0) node.peer.epoch)
-  pub table : EachUp hosts (λ n node. (req index : ℕ) (request : Request) (ask : VdiAsk) (op : Op) (entry : Entry) (inode : Content)
-      → tree.get node.requests req ≡ Some request → request.course ≡ Commanding ask op → op.stage ≡ Publishing entry (Some inode)
+  pub table : EachUp hosts (λ n node. (req index : ℕ) (request : Request) (op : Op) (entry : Entry) (inode : Content)
+      → tree.get node.requests req ≡ Some request → request.course ≡ Commanding op → op.stage ≡ Publishing entry (Some inode)
       → good_id inode.vid ≡ true → index < objects_of inode.spec
       → AreAmong (slice_index inode.table index ∷ []) (candidates attempts inode.vid index))

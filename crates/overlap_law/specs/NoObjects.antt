@@ -63,7 +63,7 @@ NoObjects script = IsScript script → (events : List Event) (before : MomentWit
 abbrev pub disk_for : Option Disk → ℕ → Course → Option ℕ
 disk_for opened oid (Waiting ask) = None
 disk_for opened oid (Driving driver) = option_map (λ (disk : Disk). disk.inode.vid) opened
-disk_for opened oid (Commanding ask op) = Some (vid_of oid)
+disk_for opened oid (Commanding op) = Some (vid_of oid)
 
 -- a message of an open attempt, whose work is for a disk
 pub record IsMessageFor (node : Node) (vid : ℕ) (message : Message) : Type 0 where

@@ -56,13 +56,13 @@ driver_payload Answered = []
 abbrev pub left_to_write : ℕ → Course → List Piece
 left_to_write shift (Waiting ask) = left_of_ask shift ask
 left_to_write shift (Driving driver) = left_of_driver driver
-left_to_write shift (Commanding ask op) = []
+left_to_write shift (Commanding op) = []
 
 -- the bytes that a request writes, by where it is
 abbrev pub payload_at : Course → List ℕ
 payload_at (Waiting ask) = payload_in ask
 payload_at (Driving driver) = driver_payload driver
-payload_at (Commanding ask op) = []
+payload_at (Commanding op) = []
 
 -- a request of a node, on the disk that its session has open, which is there by the history
 pub record IsOn (ledger : Ledger) (node : Node) (req : ℕ) (request : Request) (opened : Disk) (disk : histories.Disk) : Type 0 where

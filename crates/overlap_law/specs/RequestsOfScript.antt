@@ -1,17 +1,24 @@
 -- The run against the script: each request at a gateway is the one of its number, of a session of this incarnation,
 -- with the disk on which it
 -- began; each attempt is for such a one; and who is to join is new.
-use Rattle.std.specs.Prelude.{◌≡◌, ℕ, true, false, List, length, ◌∷◌, ◌++◌, slice_get, Option, Some, None}
+use Rattle.std.specs.Prelude.{◌≡◌, ℕ, true, false, List, length, ◌∷◌, ◌++◌, slice_get, Option, Some, None, is_some}
 use Rattle.std.specs.FinMap as tree
 use Rattle.cluster_script.specs.declared.statement.Statement.{Statement}
 use Rattle.cluster_script.specs.declared.statement.Statement.TheVariants as lines
 use Rattle.cluster_script.specs.NumberedRequests.{session_of, request_at}
 use Rattle.cluster_script.specs.Sessions.{ScriptSession, session_numbered}
+use Rattle.object_id.specs.declared.node.NodeId.{NodeId}
+use Rattle.inode.specs.Layout.{Content}
+use Rattle.peer_proto.specs.declared.guest.VdiAsk.{VdiAsk}
+use Rattle.peer_proto.specs.declared.guest.VdiAsk.TheVariants.{Create, Attach, Snapshot, Clone}
 use Rattle.peer_proto.specs.declared.guest.DiskAsk.{DiskAsk}
 use Rattle.peer_proto.specs.declared.guest.DiskAsk.TheVariants.{Read, Write}
 use Rattle.guest_driver.specs.declared.disk.Disk.{Disk}
 use Rattle.guest_driver.specs.Pieces.{Piece, pieces}
 use Rattle.guest_driver.specs.Driver.{Driver, Reads, Writes, Answered}
+use Rattle.vdi_ops.specs.Entries.{first_entry}
+use Rattle.vdi_ops.specs.Op as commands
+use Rattle.vdi_ops.specs.Op.{Task, Opening, WritingBack, Tagging, Copying, Making, OpStage, Asked, Working, Publishing, Op}
 use Rattle.sheep_node.specs.declared.ask.Ask.{Ask}
 use Rattle.sheep_node.specs.declared.ask.Ask.TheVariants as asks
 use Rattle.sheep_node.specs.State.{Request, Course, Waiting, Driving, Commanding, session_at}
@@ -47,11 +54,42 @@ pub record IsDriverOfAsk (asked : Option Ask) (opened : Option Disk) (began : Op
   pub of : asked ≡ Some (asks.Disk ask)
   pub is : IsDriverOf on.disk ask driver
 
+-- a command's work is one that its ask leads to
+abbrev pub IsTaskOfAsk : VdiAsk → Task → Type 0
+IsTaskOfAsk (Create name spec) (Making entry opened) = Unit {0}
+IsTaskOfAsk (Attach name tag) (Opening snapshot ids header) = snapshot ≡ is_some tag
+IsTaskOfAsk (Attach name tag) (WritingBack inode) = tag ≡ None
+IsTaskOfAsk (Snapshot tag) (Tagging old inode) = Unit {0}
+IsTaskOfAsk (Snapshot tag) (Making entry opened) = Unit {0}
+IsTaskOfAsk (Clone base tag name) (Copying ids header) = Unit {0}
+IsTaskOfAsk (Clone base tag name) (Making entry opened) = Unit {0}
+IsTaskOfAsk _ _ = ⊥
+
+-- a command's last entry is one that its ask leads to
+abbrev pub Publishes : VdiAsk → Type 0
+Publishes (Create name spec) = Unit {0}
+Publishes (Snapshot tag) = Unit {0}
+Publishes (Clone base tag name) = Unit {0}
+Publishes _ = ⊥
+
+-- what a command waits for is what its ask leads to: its first entry is that of the ask
+abbrev pub IsStageOfAsk : NodeId → ℕ → VdiAsk → OpStage → Type 0
+IsStageOfAsk by session ask (Asked entry) = (disk : Option Content) × (first_entry by session disk ask ≡ Some entry)
+IsStageOfAsk by session ask (Working vid task) = IsTaskOfAsk ask task
+IsStageOfAsk by session ask (Publishing entry opened) = Publishes ask
+IsStageOfAsk by session ask (commands.Answered change) = ⊥
+
+-- a command is the one that was asked
+pub record IsCommandOfAsk (asked : Option Ask) (op : Op) : Type 0 where
+  pub ask : VdiAsk
+  pub of : asked ≡ Some (asks.Vdi ask)
+  pub is : IsStageOfAsk op.by op.session ask op.stage
+
 -- where a request is, by what was asked, what its session has open, and on which disk it began
 abbrev pub IsCourseOfAsk : Option Ask → Option Disk → Option ℕ → Course → Type 0
 IsCourseOfAsk asked opened began (Waiting ask) = (asked ≡ Some (asks.Disk ask)) × IsOnDisk opened began
 IsCourseOfAsk asked opened began (Driving driver) = IsDriverOfAsk asked opened began driver
-IsCourseOfAsk asked opened began (Commanding ask op) = asked ≡ Some (asks.Vdi ask)
+IsCourseOfAsk asked opened began (Commanding op) = IsCommandOfAsk asked op
 
 -- a request of a node is the script's of its number
 pub record IsRequestOfScript (script : List Statement) (world : World) (n : ℕ) (host : Host) (req : ℕ) (request : Request) : Type 0 where

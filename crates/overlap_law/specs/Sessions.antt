@@ -17,7 +17,6 @@ use Rattle.gateway_queue.specs.Queue.{AreApart}
 use Rattle.guest_driver.specs.declared.disk.Disk.{Disk}
 use Rattle.guest_driver.specs.Driver.{Driver}
 use Rattle.guest_driver.specs.InodeQueue.{is_on_inode}
-use Rattle.peer_proto.specs.declared.guest.VdiAsk.{VdiAsk}
 use Rattle.vdi_ops.specs.Op.{Op, entry_wanted}
 use Rattle.sheep_node.specs.State.{Node, Session, Request, Driving, Commanding}
 use Rattle.overlap_law.specs.Attempts.{AttemptRecord, object_of}
@@ -78,12 +77,11 @@ pub record HoldsDisk (log : List Entry) (n session vid : ℕ) (node : Node) : Ty
 pub record IsLettingGo (node : Node) (session : ℕ) : Type 0 where
   pub req : ℕ
   pub request : Request
-  pub ask : VdiAsk
   pub op : Op
   pub entry : Entry
   pub there : tree.get node.requests req ≡ Some request
   pub own : request.session ≡ session
-  pub command : request.course ≡ Commanding ask op
+  pub command : request.course ≡ Commanding op
   pub wanted : entry_wanted op ≡ Some entry
   pub lets : lets_go entry ≡ true
   pub put : list_any (is_same_entry entry) node.outbox ≡ false

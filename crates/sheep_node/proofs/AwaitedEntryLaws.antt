@@ -4,20 +4,19 @@ use Rattle.std.specs.Option.{option_map_or}
 use Rattle.object_id.specs.declared.entry.Entry.{Entry}
 use Rattle.object_id.specs.Same.{is_same_entry}
 use Rattle.object_id.proofs.SameLemmas.{entries_decided}
-use Rattle.peer_proto.specs.declared.guest.VdiAsk.{VdiAsk}
 use Rattle.vdi_ops.specs.Op.{Op, entry_wanted}
 use Rattle.sheep_node.specs.State.{Commanding}
 use Rattle.sheep_node.specs.AwaitedEntry.{waits_for_entry}
 
-pub waits_only : (entry : Entry) (ask : VdiAsk) (op : Op) → waits_for_entry entry (Commanding ask op) ≡ true → entry_wanted op ≡ Some entry
-waits_only entry ask op waits = by_wanted (entry_wanted op) refl waits
+pub waits_only : (entry : Entry) (op : Op) → waits_for_entry entry (Commanding op) ≡ true → entry_wanted op ≡ Some entry
+waits_only entry op waits = by_wanted (entry_wanted op) refl waits
   where
     by_wanted : (o : Option Entry) → entry_wanted op ≡ o → option_map_or (λ (wanted : Entry). is_same_entry wanted entry) o false ≡ true
         → entry_wanted op ≡ Some entry
     by_wanted None is waits = absurd (cc (waits))
     by_wanted (Some wanted) is waits = is ∙ ap (λ (e : Entry). Some e) ((entries_decided wanted entry).0 waits)
 
-pub waits_each : (entry : Entry) (ask : VdiAsk) (op : Op) → entry_wanted op ≡ Some entry → waits_for_entry entry (Commanding ask op) ≡ true
-waits_each entry ask op wanted =
+pub waits_each : (entry : Entry) (op : Op) → entry_wanted op ≡ Some entry → waits_for_entry entry (Commanding op) ≡ true
+waits_each entry op wanted =
     ap (λ (o : Option Entry). option_map_or (λ (wanted : Entry). is_same_entry wanted entry) o false) wanted
     ∙ (entries_decided entry entry).1 refl

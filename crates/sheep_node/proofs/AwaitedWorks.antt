@@ -1,5 +1,5 @@
 -- The works that await a message, by its number.
-use Rattle.std.proofs.Common.{◌≡◌, ℕ, Bool, true, false, cond, List, [], ◌∷◌, find, Contains, Option, Some, None, is_some, refl, sym, ap, ◌∙◌, ⊎_elim}
+use Rattle.std.proofs.Common.{◌≡◌, ℕ, Bool, true, false, cond, List, [], ◌∷◌, find, Contains, Option, Some, is_some, refl, ap, ◌∙◌, ⊎_elim}
 use Rattle.std.specs.Ordering.{nat_cmp}
 use Rattle.std.specs.FinMap as tree
 use Rattle.proof_tools.proofs.Lists.{Contains-nil, Contains-cons_cases, find-contains}

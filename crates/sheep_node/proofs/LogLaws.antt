@@ -27,10 +27,8 @@ use Rattle.sheep_node.specs.StepState.{StepState, at_first}
 use Rattle.sheep_node.specs.Step.{on_request, recovery_stepped, on_put, on_recover_tick, node_step}
 use Rattle.sheep_node.specs.May.{MayRead, Meets, May}
 use Rattle.sheep_node.specs.StepFacts.{epochs_of, FollowsLog, IsByTheLog}
-use Rattle.sheep_node.specs.OneWork.{HasOneWorkPerRequest}
 use Rattle.sheep_node.specs.Changes.{input_received}
 use Rattle.sheep_node.proofs.PeerLog.{Log, served_same}
-use Rattle.sheep_node.proofs.StepChain.{needs_by_may}
 use Rattle.sheep_node.proofs.StepResults.{step_peer, step_epochs}
 
 -- the epochs of entries, with one more
@@ -267,15 +265,13 @@ received_follows inputs.RetryTick node may h = h
 received_follows (inputs.Back entries) node may h = back_follows entries node may.above_1
 
 -- a node stays where the entries that it has read have it
-pub step_follows : (input : Input) (node : Node) → May input node → HasOneWorkPerRequest node → IsByTheLog node
-    → IsByTheLog (node_step input node).node
-step_follows input node may one_work h =
+pub step_follows : (input : Input) (node : Node) → May input node → IsByTheLog node → IsByTheLog (node_step input node).node
+step_follows input node may h =
     let start = (input_received input (at_first node)).node in
-    let needs = needs_by_may input node may one_work in
     subst (λ (peer : Peer). FollowsLog peer.epoch peer.settled (node_step input node).node.epochs peer.entries)
-    (sym (step_peer input node needs one_work))
+    (sym (step_peer input node))
     (subst (λ (epochs : List EpochMembers). FollowsLog start.peer.epoch start.peer.settled epochs start.peer.entries)
-    (sym (step_epochs input node needs one_work)) (received_follows input node may.condition h))
+    (sym (step_epochs input node)) (received_follows input node may.condition h))
 
 -- so it opens
 pub opening_follows : (me : NodeId) (tries : ℕ) → IsByTheLog (initial_node me tries)

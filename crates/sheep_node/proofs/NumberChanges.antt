@@ -1,10 +1,9 @@
 -- Every change leaves a number with one work or the recovery, and below the count of sends; so a node stays driven.
-use Rattle.std.proofs.Common.{◌≡◌, ◌≢◌, ℕ, ◌+◌, ◌<◌, ◌≤◌, Bool, true, false, List, [], ◌∷◌, ◌++◌, length, map, Option, Some, None, is_some, refl, sym, ap, subst, ◌∙◌, ⊎_elim}
+use Rattle.std.proofs.Common.{◌≡◌, ◌≢◌, ℕ, ◌+◌, ◌<◌, ◌≤◌, Bool, true, false, List, [], ◌∷◌, length, map, Option, Some, None, is_some, refl, sym, ap, subst, ◌∙◌, ⊎_elim}
 use native.Mathlib.Omega.{arith}
 use Rattle.std.specs.Ordering.{nat_cmp}
 use Rattle.std.specs.List.{list_any}
 use Rattle.std.specs.FinMap as tree
-use Rattle.std.specs.FinSet as set
 use Rattle.std.proofs.lemmas.Option.{same_Some}
 use Rattle.std.proofs.lemmas.Bool.{cases_eq, cases_lt}
 use Rattle.proof_tools.proofs.Booleans.{cond_either, has_value}
@@ -14,42 +13,37 @@ use Rattle.object_id.specs.declared.cause.Cause.TheVariants.{Halt}
 use Rattle.object_id.specs.declared.node.Epoch.{Epoch}
 use Rattle.object_id.specs.declared.node.NodeId.{NodeId}
 use Rattle.object_id.specs.declared.entry.Entry.{Entry}
-use Rattle.object_id.specs.declared.entry.Member.{Member}
 use Rattle.vnode_table.specs.Targets.{targets_in}
 use Rattle.peer_proto.specs.Work.{oid_of, policy_of}
-use Rattle.peer_proto.specs.declared.guest.VdiAsk.{VdiAsk}
 use Rattle.peer_proto.specs.declared.guest.GuestRsp.{GuestRsp}
 use Rattle.peer_proto.specs.declared.say.PeerSay.{PeerSay}
 use Rattle.gateway.specs.declared.message.Status.{Status}
 use Rattle.gateway.specs.Work as works
-use Rattle.gateway.specs.Attempt.{Attempt, is_unanswered, is_awaited_message, messages_with_status, messages_of, send_of}
+use Rattle.gateway.specs.Attempt.{Attempt, is_awaited_message, messages_of, send_of}
 use Rattle.gateway.specs.State as gateways
 use Rattle.gateway.specs.State.{WorkStage, Open, Ended, WaitsForMembers, Work, Gateway, open_messages, is_awaited_in}
-use Rattle.gateway.specs.Step.{with_work, without_work, attempt_with_status}
+use Rattle.gateway.specs.Step.{with_work, attempt_with_status}
 use Rattle.recovery.specs.State as recoveries
 use Rattle.recovery.specs.State.{Recovery, Message}
 use Rattle.recovery.specs.Steps as recovery_steps
 use Rattle.recovery.specs.Tick.{state_after_tick}
-use Rattle.vdi_ops.specs.declared.act.OpAct.{OpAct}
-use Rattle.vdi_ops.specs.declared.act.OpAct.TheVariants as op_acts
 use Rattle.vdi_ops.specs.declared.end.OpEnd.{OpEnd}
-use Rattle.vdi_ops.specs.Op.{Op}
 use Rattle.vdi_ops.specs.Steps.{on_refusal}
 use Rattle.sheep_node.specs.declared.input.Input.{Input}
 use Rattle.sheep_node.specs.declared.input.Input.TheVariants as inputs
-use Rattle.sheep_node.specs.State.{Course, Waiting, Driving, Commanding, Node, initial_node}
+use Rattle.sheep_node.specs.State.{Course, Waiting, Driving, Commanding, Request, Node, initial_node}
 use Rattle.sheep_node.specs.RecoveryView.{recovery_state_of}
-use Rattle.sheep_node.specs.StepState.{StepState, at_first, with_optional_entry, with_gateway, request_ended}
-use Rattle.sheep_node.specs.RequestWorks.{command_refused, course_refused, queue_left}
-use Rattle.sheep_node.specs.LogReading.{entry_read, epoch_members, come_back_with, on_back}
+use Rattle.sheep_node.specs.StepState.{StepState, at_first, with_gateway, request_ended}
+use Rattle.sheep_node.specs.RequestWorks.{command_refused, course_refused, request_refused}
+use Rattle.sheep_node.specs.LogReading.{entry_read, come_back_with, on_back}
 use Rattle.sheep_node.specs.Step.{on_request, recovery_stepped, on_put, on_recover_tick, node_step}
 use Rattle.sheep_node.specs.May.{Meets, May}
 use Rattle.sheep_node.specs.OneWork.{NumbersAreOfOneWork, NumbersAreBelow, HasOneWorkPerRequest}
 use Rattle.sheep_node.specs.Changes as changes
-use Rattle.sheep_node.specs.Changes.{LearnsStatus, gateway_with_touch, without_ended_work, Outcome, ToWork, ToEntry, ToReply, RequestSteps, DiskBegins, DiskGoesOn, CommandBegins, CommandGoesOn, CommandDecided, WorkIsNext, AtOnce, InTurn, Again, attempt_in, input_received, Change}
+use Rattle.sheep_node.specs.Changes.{IsSoundStep, LearnsStatus, gateway_with_touch, without_ended_work, Outcome, ToWork, ToEntry, ToReply, RequestSteps, DiskBegins, DiskGoesOn, CommandBegins, CommandGoesOn, CommandDecided, WorkIsNext, AtOnce, InTurn, Again, AgainAlone, attempt_in, input_received, Change}
 use Rattle.sheep_node.proofs.AwaitedWorks.{Works, found_by, found_got, got_found}
 use Rattle.sheep_node.proofs.MessageNumbers.{all_before, fresh_apart, fresh_below, left_before, ticked_within, unanswered_in_epoch, unanswered_reading}
-use Rattle.sheep_node.proofs.OneWorkChanges.{StepHasOneWork, none_good, change_keeps_one_work, received_one_work}
+use Rattle.sheep_node.proofs.OneWorkChanges.{StepHasOneWork, none_good, never_alone, change_keeps_one_work, received_one_work}
 use Rattle.sheep_node.proofs.StepChain.{kept_by_chain, step_chain}
 
 -- a number is of one work or of the recovery, and was given; the gateway asks in the node's name
@@ -116,15 +110,16 @@ steps_numbered so_far session req next moved (DiskGoesOn number work attempt sta
     freed_numbered session req number work attempt status so_far ends.ends.learns numbered
 steps_numbered so_far session req next moved (CommandBegins ask step arrival is) numbered =
     numbered
-steps_numbered so_far session req next moved (CommandGoesOn number work attempt status bytes ask op step ends is) numbered =
+steps_numbered so_far session req next moved (CommandGoesOn number work attempt status bytes op step ends is) numbered =
     freed_numbered session req number work attempt status so_far ends.ends.learns numbered
-steps_numbered so_far session req next moved (CommandDecided entry ask op step from read there waits is) numbered =
+steps_numbered so_far session req next moved (CommandDecided entry op step from read there waits is) numbered =
     numbered
 
 pub comes_numbered : {input : Input} {node : Node} → (so_far : StepState) (session req : ℕ) (asked : Work) (lined : StepState) → WorkIsNext input node so_far session req asked lined → StepHasOneNumber so_far → StepHasOneNumber lined
 comes_numbered so_far session req asked lined (AtOnce work moved steps begins) numbered = steps_numbered so_far session req (ToWork work) moved steps numbered
 comes_numbered so_far session req asked lined (InTurn work later none is) numbered = numbered
 comes_numbered so_far session req asked lined (Again work course from next there request) numbered = numbered
+comes_numbered so_far session req asked lined (AgainAlone work from next there none) numbered = numbered
 
 ended_numbered : (session req : ℕ) (reply : GuestRsp) (so_far : StepState) → StepHasOneNumber so_far → StepHasOneNumber (request_ended session req reply so_far)
 unfolding request_ended
@@ -134,11 +129,15 @@ refused_numbered : (session req : ℕ) (cause : Cause) (course : Course) (so_far
 unfolding request_ended
 refused_numbered session req cause (Waiting ask) so_far numbered = numbered
 refused_numbered session req cause (Driving driver) so_far numbered = numbered
-refused_numbered session req cause (Commanding ask op) so_far numbered = by_end (on_refusal cause op)
+refused_numbered session req cause (Commanding op) so_far numbered = by_end (on_refusal cause op)
   where
     by_end : (end : Option OpEnd) → StepHasOneNumber (command_refused session req end so_far)
     by_end None = numbered
     by_end (Some end) = numbered
+
+request_refused_numbered : (req : ℕ) (cause : Cause) (request : Option Request) (so_far : StepState) → StepHasOneNumber so_far → StepHasOneNumber (request_refused req cause request so_far)
+request_refused_numbered req cause None so_far numbered = numbered
+request_refused_numbered req cause (Some request) so_far numbered = refused_numbered request.session req cause request.course so_far numbered
 
 -- ---- an attempt begins
 
@@ -216,37 +215,38 @@ learned_numbered req work now status so_far there less numbered =
     fewer so_far.node.me so_far.node.gateway.me so_far.node.gateway.works (tree.insert so_far.node.gateway.works req now) so_far.node.sends so_far.node.recovery
     (put_fewer so_far.node.gateway.works req now (λ number awaits. (work, there, less number awaits))) numbered
 
-pub change_keeps_numbers : {input : Input} {node : Node} → (so_far next : StepState) → Change input node so_far next → StepHasOneNumber so_far → StepHasOneNumber next
-change_keeps_numbers so_far next (changes.Marks req number work attempt status learns over) numbered =
+pub change_keeps_numbers : {input : Input} {node : Node} → (so_far next : StepState) → Change input node so_far next → IsSoundStep input node → StepHasOneWork so_far → StepHasOneNumber so_far → StepHasOneNumber next
+change_keeps_numbers so_far next (changes.Marks req number work attempt status learns over) sound good numbered =
     learned_numbered req work (record work { stage = Open (attempt_with_status number status attempt) }) status so_far learns.there
     (λ q awaits.
     ap (λ (stage : WorkStage). list_any (is_awaited_message q) (open_messages stage)) learns.open_so
-    ∙ all_before number status learns.settled q attempt.messages awaits) numbered
-change_keeps_numbers so_far next (changes.Fails session req number work attempt status course ends done why) numbered =
+    ∙ all_before number status (learns.settled sound) q attempt.messages awaits) numbered
+change_keeps_numbers so_far next (changes.Fails session req number work attempt status course ends done why) sound good numbered =
     learned_numbered req work (record work { ended = work.ended + 1; stage = Ended }) status so_far ends.learns.there (λ q awaits. absurd (cc (awaits))) numbered
-change_keeps_numbers so_far next (changes.Stops session req number work attempt status course bytes ends over) numbered =
+change_keeps_numbers so_far next (changes.Stops session req number work attempt status course bytes ends over) sound good numbered =
     freed_numbered session req number work attempt status so_far ends.ends.learns numbered
-change_keeps_numbers so_far next (changes.Refuses session req number work attempt status course cause ends done why) numbered =
+change_keeps_numbers so_far next (changes.Refuses session req number work attempt status course cause ends done why) sound good numbered =
     refused_numbered session req cause course (without_ended_work session req work status so_far)
     (freed_numbered session req number work attempt status so_far ends.learns numbered)
-change_keeps_numbers so_far next (changes.Opens session req asked lined comes short) numbered =
+change_keeps_numbers so_far next (changes.Opens session req asked lined comes short) sound good numbered =
     opened_numbered req asked lined (comes_numbered so_far session req asked lined comes numbered)
-change_keeps_numbers so_far next (changes.Holds session req asked lined comes short touched) numbered =
+change_keeps_numbers so_far next (changes.Holds session req asked lined comes short touched) sound good numbered =
     let now : Work = record asked { stage = WaitsForMembers (record { 0 = lined.node.peer.epoch }) } in
     fewer lined.node.me lined.node.gateway.me lined.node.gateway.works (tree.insert lined.node.gateway.works req now) lined.node.sends lined.node.recovery
     (put_fewer lined.node.gateway.works req now (λ number awaits. absurd (cc (awaits))))
     (comes_numbered so_far session req asked lined comes numbered)
-change_keeps_numbers so_far next (changes.Denies session req asked lined course comes short untouched there) numbered =
-    refused_numbered session req (Halt (changes.zones_of_members lined.node) (works.zones_for asked.work)) course (changes.without_denied_work session req asked lined)
+change_keeps_numbers so_far next (changes.Denies session req asked lined request comes short untouched there own) sound good numbered =
+    request_refused_numbered req (Halt (changes.zones_of_members lined.node) (works.zones_for asked.work)) request (changes.without_denied_work session req asked lined)
     (fewer lined.node.me lined.node.gateway.me lined.node.gateway.works (tree.remove lined.node.gateway.works req) lined.node.sends lined.node.recovery
     (gone_fewer lined.node.gateway.works req) (comes_numbered so_far session req asked lined comes numbered))
-change_keeps_numbers so_far next (changes.Lines session req work moved steps waits) numbered = steps_numbered so_far session req (ToWork work) moved steps numbered
-change_keeps_numbers so_far next (changes.Appends session req entry moved steps) numbered = steps_numbered so_far session req (ToEntry entry) moved steps numbered
-change_keeps_numbers so_far next (changes.Replies session req reply moved steps) numbered =
+change_keeps_numbers so_far next (changes.Strays req work gateway there none apart) sound good numbered = absurd (never_alone req work so_far there none good)
+change_keeps_numbers so_far next (changes.Lines session req work moved steps waits) sound good numbered = steps_numbered so_far session req (ToWork work) moved steps numbered
+change_keeps_numbers so_far next (changes.Appends session req entry moved steps) sound good numbered = steps_numbered so_far session req (ToEntry entry) moved steps numbered
+change_keeps_numbers so_far next (changes.Replies session req reply moved steps) sound good numbered =
     ended_numbered session req reply moved (steps_numbered so_far session req (ToReply reply) moved steps numbered)
-change_keeps_numbers so_far next (changes.Arrives session req ask disk arrival on) numbered = numbered
-change_keeps_numbers so_far next (changes.Rejects session req ask cause arrival) numbered = numbered
-change_keeps_numbers so_far next (changes.Recovers due) numbered = numbered
+change_keeps_numbers so_far next (changes.Arrives session req ask disk arrival on) sound good numbered = numbered
+change_keeps_numbers so_far next (changes.Rejects session req ask cause arrival) sound good numbered = numbered
+change_keeps_numbers so_far next (changes.Recovers due) sound good numbered = numbered
 
 -- ---- the beginning of a step
 
@@ -334,8 +334,8 @@ received_numbers (inputs.Back entries) node may numbered =
 abbrev pub HasOneWorkAndNumber : StepState → Type 0
 HasOneWorkAndNumber so_far = StepHasOneWork so_far × StepHasOneNumber so_far
 
-pub change_keeps_both : {input : Input} {node : Node} → (so_far next : StepState) → Change input node so_far next → HasOneWorkAndNumber so_far → HasOneWorkAndNumber next
-change_keeps_both so_far next change both = (change_keeps_one_work so_far next change both.0, change_keeps_numbers so_far next change both.1)
+pub change_keeps_both : {input : Input} {node : Node} → (so_far next : StepState) → Change input node so_far next → IsSoundStep input node → HasOneWorkAndNumber so_far → HasOneWorkAndNumber next
+change_keeps_both so_far next change sound both = (change_keeps_one_work so_far next change sound both.0, change_keeps_numbers so_far next change sound both.0 both.1)
 
 pub both_at_first : (node : Node) → HasOneWorkPerRequest node → HasOneWorkAndNumber (at_first node)
 both_at_first node driven = (
@@ -367,7 +367,7 @@ pub one_work_stays : (input : Input) (node : Node) → May input node → HasOne
 one_work_stays input node may driven =
     let both = both_at_first node driven in
     one_work_after (node_step input node)
-    (kept_by_chain HasOneWorkAndNumber change_keeps_both (step_chain input node may driven)
+    (kept_by_chain HasOneWorkAndNumber (λ so_far next change. change_keeps_both so_far next change (may, driven)) (step_chain input node)
     (received_one_work input node both.0, received_numbers input node may.condition both.1))
 
 -- so it opens

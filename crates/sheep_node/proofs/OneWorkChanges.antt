@@ -2,23 +2,21 @@
 use Rattle.std.proofs.Common.{◌≡◌, ◌≢◌, ℕ, ◌==◌, ◌+◌, ◌++◌, Bool, true, false, ◌&&◌, List, [], ◌∷◌, Contains, Option, Some, None, is_none, unwrap_or, IfSome, refl, sym, ap, subst, ◌∙◌}
 use Rattle.std.specs.Ordering.{nat_cmp}
 use Rattle.std.specs.FinMap as tree
-use Rattle.std.specs.FinSet as set
 use Rattle.object_id.specs.declared.cause.Cause.{Cause}
 use Rattle.object_id.specs.declared.cause.Cause.TheVariants.{Halt}
 use Rattle.object_id.specs.declared.entry.Entry.{Entry}
 use Rattle.object_id.specs.Same.{is_same_entry}
-use Rattle.peer_proto.specs.declared.guest.VdiAsk.{VdiAsk}
 use Rattle.peer_proto.specs.declared.guest.GuestRsp.{GuestRsp}
 use Rattle.peer_proto.specs.declared.guest.GuestRsp.TheVariants.{Refused}
 use Rattle.peer_proto.specs.declared.work.ObjWork.{ObjWork}
 use Rattle.peer_service.specs.State.{effects_of}
 use Rattle.peer_service.specs.LogReading.{decision_on}
 use Rattle.gateway.specs.declared.message.Status.{Status}
-use Rattle.gateway.specs.Work.{is_making, zones_for}
-use Rattle.gateway.specs.Attempt.{Attempt, may_be_made}
+use Rattle.gateway.specs.Work.{zones_for}
+use Rattle.gateway.specs.Attempt.{Attempt}
 use Rattle.gateway.specs.State as gateways
 use Rattle.gateway.specs.State.{Work, Gateway, Open, Ended, WaitsForMembers}
-use Rattle.gateway.specs.Step.{with_work, without_work, touched_by, attempt_with_status}
+use Rattle.gateway.specs.Step.{with_work, attempt_with_status}
 use Rattle.gateway_queue.specs.Queue.{queue_without}
 use Rattle.guest_driver.specs.declared.disk.Disk.{Disk}
 use Rattle.guest_driver.specs.declared.act.DriverAct.{DriverAct}
@@ -31,7 +29,7 @@ use Rattle.vdi_ops.specs.declared.act.OpAct.{OpAct}
 use Rattle.vdi_ops.specs.declared.act.OpAct.TheVariants as op_acts
 use Rattle.vdi_ops.specs.declared.end.OpEnd.{OpEnd}
 use Rattle.vdi_ops.specs.Op as ops
-use Rattle.vdi_ops.specs.Op.{Op, OpStage, Asked, Working, Publishing, Answered, opened_inode, entry_wanted_at, entry_wanted, IsAwaitedAtOpStage, IsAwaitedByCommand}
+use Rattle.vdi_ops.specs.Op.{Op, OpStage, Asked, Working, Publishing, Answered, disk_change, entry_wanted_at, entry_wanted, IsAwaitedAtOpStage, IsAwaitedByCommand}
 use Rattle.vdi_ops.specs.Steps.{begin_command, op_on_done, on_decision, on_refusal}
 use Rattle.vdi_ops.proofs.StepLemmas.{begin_awaited, done_awaited, decision_awaited}
 use Rattle.recovery.specs.Steps as recovery_steps
@@ -39,10 +37,10 @@ use Rattle.sheep_node.specs.declared.input.Input.{Input}
 use Rattle.sheep_node.specs.declared.input.Input.TheVariants as inputs
 use Rattle.sheep_node.specs.State.{Course, Waiting, Driving, Commanding, Request, Session, Node, new_session}
 use Rattle.sheep_node.specs.RecoveryView.{recovery_state_of}
-use Rattle.sheep_node.specs.StepState.{StepState, at_first, with_optional_entry, with_gateway, session_in, with_inode_queue, with_course, request_ended}
-use Rattle.sheep_node.specs.RequestWorks.{command_refused, course_refused, queue_left}
-use Rattle.sheep_node.specs.Courses.{after_driver_step, disk_with_act, after_command_step}
-use Rattle.sheep_node.specs.Guests.{inode_open, queued_as}
+use Rattle.sheep_node.specs.StepState.{StepState, at_first, with_optional_entry, with_gateway, session_in, request_ended}
+use Rattle.sheep_node.specs.RequestWorks.{command_refused, course_refused, request_refused}
+use Rattle.sheep_node.specs.Courses.{after_driver_step, disk_after, inode_open, after_command_step}
+use Rattle.sheep_node.specs.Guests.{queued_as}
 use Rattle.sheep_node.specs.AwaitedEntry.{waits_for_entry}
 use Rattle.sheep_node.specs.LogReading.{entry_read, on_back}
 use Rattle.sheep_node.specs.Step.{on_request, recovery_stepped, on_put, on_recover_tick}
@@ -53,8 +51,8 @@ use Rattle.proof_tools.proofs.Lists.{Contains-first, Contains-nil}
 use Rattle.proof_tools.proofs.FiniteMaps.{get-insert_same, get-remove_same}
 use Rattle.sheep_node.specs.OneWork.{may_work, may_work_at, may_work_of, waiting_in, AreOfDifferentRequests, HaveOneWorkPerRequest, HasNoWork}
 use Rattle.sheep_node.specs.Changes as changes
-use Rattle.sheep_node.specs.Changes.{HasRequest, LearnsStatus, EndsAttempt, gateway_with_touch, without_ended_work, Outcome, ToWork, ToEntry, ToReply, outcome_of_driver, outcome_of_command, RequestSteps, DiskBegins, DiskGoesOn, CommandBegins, CommandGoesOn, CommandDecided, new_work, WorkIsNext, AtOnce, InTurn, Again, with_open_attempt, with_work_held, without_denied_work, attempt_in, zones_of_members, input_received, Change}
-use Rattle.sheep_node.proofs.OneWorkParts.{Requests, Sessions, driven_session, free_session, may_at, driven_insert, driven_queued, driven_taken, free_taken, driven_removed, driven_course, driven_gone, free_at, free_removed}
+use Rattle.sheep_node.specs.Changes.{HasRequest, IsSoundStep, LearnsStatus, EndsAttempt, gateway_with_touch, without_ended_work, Outcome, ToWork, ToEntry, ToReply, outcome_of_driver, outcome_of_command, RequestSteps, DiskBegins, DiskGoesOn, CommandBegins, CommandGoesOn, CommandDecided, new_work, WorkIsNext, AtOnce, InTurn, Again, AgainAlone, with_open_attempt, with_work_held, without_denied_work, attempt_in, zones_of_members, input_received, Change}
+use Rattle.sheep_node.proofs.OneWorkParts.{driven_session, free_session, driven_insert, driven_queued, driven_taken, free_taken, driven_removed, driven_course, driven_gone, free_at, free_removed}
 
 abbrev pub StepHasOneWork : StepState → Type 0
 StepHasOneWork so_far = HaveOneWorkPerRequest so_far.node.gateway.works so_far.node.requests so_far.node.sessions
@@ -100,32 +98,32 @@ driven_moved session req disk step so_far free good =
 
 -- a command whose act is a work waits for no entry
 no_entry : (work : ObjWork) (stage : OpStage) → IsAwaitedAtOpStage (op_acts.Work work) stage → is_none (entry_wanted_at stage) ≡ true
-no_entry work (Asked entry ask disk) awaited = absurd (cc (awaited))
+no_entry work (Asked entry) awaited = absurd (cc (awaited))
 no_entry work (Working vid task) awaited = refl
-no_entry work (Publishing entry opened_inode) awaited = absurd (cc (awaited))
-no_entry work (Answered opened_inode) awaited = refl
+no_entry work (Publishing entry opened) awaited = absurd (cc (awaited))
+no_entry work (Answered change) awaited = refl
 
-may_command : (act : OpAct) (op : Op) (ask : VdiAsk) → IsAwaitedAtOpStage act op.stage → MayComeTo (outcome_of_command act) (Commanding ask op)
-may_command (op_acts.Append entry) op ask awaited = tt
-may_command (op_acts.Work work) op ask awaited = no_entry work op.stage awaited
-may_command (op_acts.Reply reply) op ask awaited = tt
+may_command : (act : OpAct) (op : Op) → IsAwaitedAtOpStage act op.stage → MayComeTo (outcome_of_command act) (Commanding op)
+may_command (op_acts.Append entry) op awaited = tt
+may_command (op_acts.Work work) op awaited = no_entry work op.stage awaited
+may_command (op_acts.Reply reply) op awaited = tt
 
-command_moved : (session req : ℕ) (ask : VdiAsk) (step : ops.OpStep) (so_far : StepState) → IsAwaitedByCommand step → HasNoWorkIn req so_far
-    → StepHasOneWork so_far → HasSteppedFree session req (outcome_of_command step.act) (after_command_step session req ask step so_far)
-command_moved session req ask step so_far awaited free good =
+command_moved : (session req : ℕ) (step : ops.OpStep) (so_far : StepState) → IsAwaitedByCommand step → HasNoWorkIn req so_far
+    → StepHasOneWork so_far → HasSteppedFree session req (outcome_of_command step.act) (after_command_step session req step so_far)
+command_moved session req step so_far awaited free good =
     let works = so_far.node.gateway.works in
-    let request : Request = record { session = session; course = Commanding ask step.op } in
+    let request : Request = record { session = session; course = Commanding step.op } in
     let after = record (session_in session so_far) {
-      disk = disk_with_act ask step.op step.act (session_in session so_far).disk;
+      disk = disk_after (disk_change step) (session_in session so_far).disk;
       command = Some req;
     } in
     record {
       good = driven_session works (tree.insert so_far.node.requests req request) so_far.node.sessions session after refl
           (driven_course works so_far.node.requests so_far.node.sessions req free good request);
       free = free_session req works so_far.node.sessions session after refl free;
-      course = Commanding ask step.op;
+      course = Commanding step.op;
       there = get-insert_same so_far.node.requests req request;
-      may = may_command step.act step.op ask awaited;
+      may = may_command step.act step.op awaited;
     }
 
 -- a request whose work is no more
@@ -144,7 +142,7 @@ freed_good session req number work attempt status so_far learns good =
 pub wanted_never : (entry : Entry) (course : Course) → waits_for_entry entry course ≡ true → may_work course ≡ false
 wanted_never entry (Waiting ask) waits = refl
 wanted_never entry (Driving driver) waits = absurd (cc (waits))
-wanted_never entry (Commanding ask op) waits = by_entry (entry_wanted op) waits
+wanted_never entry (Commanding op) waits = by_entry (entry_wanted op) waits
   where
     by_entry : (o : Option Entry) → option_map_or (λ (wanted : Entry). is_same_entry wanted entry) o false ≡ true → is_none o ≡ false
     by_entry None waits = absurd (cc (waits))
@@ -156,26 +154,26 @@ free_in req so_far never good = free_at so_far.node.gateway.works so_far.node.re
 pub awaited_of : (one : Option ops.OpStep) (step : ops.OpStep) → IfSome one IsAwaitedByCommand → one ≡ Some step → IsAwaitedByCommand step
 awaited_of one step awaited is = subst (λ (o : Option ops.OpStep). IfSome o IsAwaitedByCommand) is awaited
 
-pub steps_free : {input : Input} {node : Node} → (so_far : StepState) (session req : ℕ) (next : Outcome) (moved : StepState) → RequestSteps input node so_far session req next moved → StepHasOneWork so_far → HasSteppedFree session req next moved
-steps_free so_far session req next moved (DiskBegins ask disk there on may) good =
+pub steps_free : {input : Input} {node : Node} → (so_far : StepState) (session req : ℕ) (next : Outcome) (moved : StepState) → RequestSteps input node so_far session req next moved → IsSoundStep input node → StepHasOneWork so_far → HasSteppedFree session req next moved
+steps_free so_far session req next moved (DiskBegins ask disk there on may) sound good =
     driven_moved session req disk (drivers.begin_driver disk ask) so_far (free_in req so_far (ap may_work_at there) good) good
-steps_free so_far session req next moved (DiskGoesOn number work attempt status bytes driver disk step ends on is) good =
+steps_free so_far session req next moved (DiskGoesOn number work attempt status bytes driver disk step ends on is) sound good =
     let (now, free) = freed_good session req number work attempt status so_far ends.ends.learns good in
     driven_moved session req disk step (without_ended_work session req work status so_far) free now
-steps_free so_far session req next moved (CommandBegins ask step arrival is) good =
+steps_free so_far session req next moved (CommandBegins ask step arrival is) sound good =
     let disk = inode_open (session_in session so_far).disk in
-    command_moved session req ask step so_far
+    command_moved session req step so_far
     (awaited_of (begin_command so_far.node.me session ask disk) step (begin_awaited so_far.node.me session ask disk) is)
-    (free_in req so_far (ap may_work_at arrival.none) good) good
-steps_free so_far session req next moved (CommandGoesOn number work attempt status bytes ask op step ends is) good =
+    (free_in req so_far (ap may_work_at (arrival.none sound)) good) good
+steps_free so_far session req next moved (CommandGoesOn number work attempt status bytes op step ends is) sound good =
     let (now, free) = freed_good session req number work attempt status so_far ends.ends.learns good in
-    command_moved session req ask step (without_ended_work session req work status so_far)
+    command_moved session req step (without_ended_work session req work status so_far)
     (awaited_of (op_on_done bytes op) step (done_awaited bytes op) is) free now
-steps_free {input} {node} so_far session req next moved (CommandDecided entry ask op step from read there waits is) good =
-    command_moved session req ask step so_far
-    (awaited_of (on_decision (effects_of so_far.node.peer) (decision_on entry node.peer) op) step
-    (decision_awaited (effects_of so_far.node.peer) (decision_on entry node.peer) op) is)
-    (free_in req so_far (ap may_work_at there ∙ wanted_never entry (Commanding ask op) waits) good) good
+steps_free {input} {node} so_far session req next moved (CommandDecided entry op step from read there waits is) sound good =
+    command_moved session req step so_far
+    (awaited_of (on_decision (effects_of so_far.node.peer) (inode_open (session_in session so_far).disk) (decision_on entry node.peer) op) step
+    (decision_awaited (effects_of so_far.node.peer) (inode_open (session_in session so_far).disk) (decision_on entry node.peer) op) is)
+    (free_in req so_far (ap may_work_at there ∙ wanted_never entry (Commanding op) waits) good) good
 
 -- ---- a work whose turn has come
 
@@ -209,9 +207,17 @@ open_out req work so_far there good number waiting waits same =
     = ap (tree.get so_far.node.gateway.works) (sym same) ∙ good.waiting_free number waiting waits in
     absurd (cc (there, none))
 
-pub comes_free : {input : Input} {node : Node} → (so_far : StepState) (session req : ℕ) (asked : Work) (lined : StepState) → WorkIsNext input node so_far session req asked lined → StepHasOneWork so_far → MayOpenWork session req lined
-comes_free so_far session req asked lined (AtOnce work moved steps begins) good =
-    let m = steps_free so_far session req (ToWork work) moved steps good in
+-- and it is there
+pub never_alone : (req : ℕ) (work : Work) (so_far : StepState) → tree.get so_far.node.gateway.works req ≡ Some work → tree.get so_far.node.requests req ≡ None
+    → StepHasOneWork so_far → ⊥
+never_alone req work so_far there none good =
+    let may = good.open_works req work there in
+    let never = ap may_work_at none in
+    cc (may, never)
+
+pub comes_free : {input : Input} {node : Node} → (so_far : StepState) (session req : ℕ) (asked : Work) (lined : StepState) → WorkIsNext input node so_far session req asked lined → IsSoundStep input node → StepHasOneWork so_far → MayOpenWork session req lined
+comes_free so_far session req asked lined (AtOnce work moved steps begins) sound good =
+    let m = steps_free so_far session req (ToWork work) moved steps sound good in
     let inode_queue = (session_in session moved).inode_queue in
     let after = record (session_in session moved) { inode_queue = queue_with_open inode_queue req work } in
     record {
@@ -221,7 +227,7 @@ comes_free so_far session req asked lined (AtOnce work moved steps begins) good 
       there = m.there;
       may = m.may;
     }
-comes_free so_far session req asked lined (InTurn work later none is) good =
+comes_free so_far session req asked lined (InTurn work later none is) sound good =
     let first : lines.Waiting = record { req = req; work = work } in
     let after = record (session_in session so_far) { inode_queue = record { current = Some req; waiting = later } } in
     let there : Contains (waiting_in session so_far.node.sessions) first
@@ -234,13 +240,14 @@ comes_free so_far session req asked lined (InTurn work later none is) good =
       there = attempt_with_status.there;
       may = attempt_with_status.may;
     }
-comes_free so_far session req asked lined (Again work course from next there request) good = record {
+comes_free so_far session req asked lined (Again work course from next there request) sound good = record {
   good = good;
   out = open_out req asked so_far there good;
   course = course;
   there = request;
   may = sym (ap may_work_at request) ∙ good.open_works req asked there;
 }
+comes_free so_far session req asked lined (AgainAlone work from next there none) sound good = absurd (never_alone req asked so_far there none good)
 
 -- ---- the end of a request
 
@@ -259,7 +266,12 @@ pub course_refused_good : (session req : ℕ) (cause : Cause) (course : Course) 
     → StepHasOneWork (course_refused session req cause course so_far)
 course_refused_good session req cause (Waiting ask) so_far free good = good
 course_refused_good session req cause (Driving driver) so_far free good = ended_good session req (Refused cause) so_far free good
-course_refused_good session req cause (Commanding ask op) so_far free good = command_refused_good session req (on_refusal cause op) so_far free good
+course_refused_good session req cause (Commanding op) so_far free good = command_refused_good session req (on_refusal cause op) so_far free good
+
+request_refused_good : (req : ℕ) (cause : Cause) (request : Option Request) (so_far : StepState) → HasNoWorkIn req so_far → StepHasOneWork so_far
+    → StepHasOneWork (request_refused req cause request so_far)
+request_refused_good req cause None so_far free good = good
+request_refused_good req cause (Some request) so_far free good = course_refused_good request.session req cause request.course so_far free good
 
 denied_good : (session req : ℕ) (asked : Work) (so_far : StepState) → MayOpenWork session req so_far
     → StepHasOneWork (without_denied_work session req asked so_far) × HasNoWorkIn req (without_denied_work session req asked so_far)
@@ -292,44 +304,45 @@ none_good = record {
   apart = λ number. subst AreOfDifferentRequests (sym (none_there number)) tt;
 }
 
-pub change_keeps_one_work : {input : Input} {node : Node} → (so_far next : StepState) → Change input node so_far next → StepHasOneWork so_far → StepHasOneWork next
-change_keeps_one_work so_far next (changes.Marks req number work attempt status learns over) good =
+pub change_keeps_one_work : {input : Input} {node : Node} → (so_far next : StepState) → Change input node so_far next → IsSoundStep input node → StepHasOneWork so_far → StepHasOneWork next
+change_keeps_one_work so_far next (changes.Marks req number work attempt status learns over) sound good =
     open_still req work (record work { stage = Open (attempt_with_status number status attempt) }) status so_far learns.there good
-change_keeps_one_work so_far next (changes.Fails session req number work attempt status course ends done why) good =
+change_keeps_one_work so_far next (changes.Fails session req number work attempt status course ends done why) sound good =
     open_still req work (record work { ended = work.ended + 1; stage = Ended }) status so_far ends.learns.there good
-change_keeps_one_work so_far next (changes.Stops session req number work attempt status course bytes ends over) good =
+change_keeps_one_work so_far next (changes.Stops session req number work attempt status course bytes ends over) sound good =
     (freed_good session req number work attempt status so_far ends.ends.learns good).0
-change_keeps_one_work so_far next (changes.Refuses session req number work attempt status course cause ends done why) good =
+change_keeps_one_work so_far next (changes.Refuses session req number work attempt status course cause ends done why) sound good =
     let (now, free) = freed_good session req number work attempt status so_far ends.learns good in
     course_refused_good session req cause course (without_ended_work session req work status so_far) free now
-change_keeps_one_work so_far next (changes.Opens session req asked lined comes short) good =
-    let l = comes_free so_far session req asked lined comes good in
+change_keeps_one_work so_far next (changes.Opens session req asked lined comes short) sound good =
+    let l = comes_free so_far session req asked lined comes sound good in
     driven_insert lined.node.gateway.works lined.node.requests lined.node.sessions req (record asked { stage = Open (attempt_in asked lined.node) }) (ap may_work_at l.there ∙ l.may) l.out l.good
-change_keeps_one_work so_far next (changes.Holds session req asked lined comes short touched) good =
-    let l = comes_free so_far session req asked lined comes good in
+change_keeps_one_work so_far next (changes.Holds session req asked lined comes short touched) sound good =
+    let l = comes_free so_far session req asked lined comes sound good in
     driven_insert lined.node.gateway.works lined.node.requests lined.node.sessions req (record asked { stage = WaitsForMembers (record { 0 = lined.node.peer.epoch }) }) (ap may_work_at l.there ∙ l.may) l.out l.good
-change_keeps_one_work so_far next (changes.Denies session req asked lined course comes short untouched there) good =
-    let (now, free) = denied_good session req asked lined (comes_free so_far session req asked lined comes good) in
-    course_refused_good session req (Halt (zones_of_members lined.node) (zones_for asked.work)) course (without_denied_work session req asked lined) free now
-change_keeps_one_work so_far next (changes.Lines session req work moved steps waits) good =
-    let m = steps_free so_far session req (ToWork work) moved steps good in
+change_keeps_one_work so_far next (changes.Denies session req asked lined request comes short untouched there own) sound good =
+    let (now, free) = denied_good session req asked lined (comes_free so_far session req asked lined comes sound good) in
+    request_refused_good req (Halt (zones_of_members lined.node) (zones_for asked.work)) request (without_denied_work session req asked lined) free now
+change_keeps_one_work so_far next (changes.Strays req work gateway there none apart) sound good = absurd (never_alone req work so_far there none good)
+change_keeps_one_work so_far next (changes.Lines session req work moved steps waits) sound good =
+    let m = steps_free so_far session req (ToWork work) moved steps sound good in
     let inode_queue = (session_in session moved).inode_queue in
     driven_queued moved.node.gateway.works moved.node.requests moved.node.sessions session (record (session_in session moved) { inode_queue = queue_with_waiting inode_queue req work })
     (record { req = req; work = work }) refl
     (ap (may_work_of session) m.there ∙ ap (λ (b : Bool). b && may_work m.course) (eq-eqb session session refl) ∙ m.may)
     m.free m.good
-change_keeps_one_work so_far next (changes.Appends session req entry moved steps) good = (steps_free so_far session req (ToEntry entry) moved steps good).good
-change_keeps_one_work so_far next (changes.Replies session req reply moved steps) good =
-    let m = steps_free so_far session req (ToReply reply) moved steps good in
+change_keeps_one_work so_far next (changes.Appends session req entry moved steps) sound good = (steps_free so_far session req (ToEntry entry) moved steps sound good).good
+change_keeps_one_work so_far next (changes.Replies session req reply moved steps) sound good =
+    let m = steps_free so_far session req (ToReply reply) moved steps sound good in
     ended_good session req reply moved m.free m.good
-change_keeps_one_work so_far next (changes.Arrives session req ask disk arrival on) good =
+change_keeps_one_work so_far next (changes.Arrives session req ask disk arrival on) sound good =
     let works = so_far.node.gateway.works in
     let request : Request = record { session = session; course = Waiting ask } in
     driven_session works (tree.insert so_far.node.requests req request) so_far.node.sessions session
     (record (session_in session so_far) { queue = (session_in session so_far).queue ++ queued_as disk.inode.spec.shift req ask ∷ [] }) refl
-    (driven_course works so_far.node.requests so_far.node.sessions req (free_in req so_far (ap may_work_at arrival.none) good) good request)
-change_keeps_one_work so_far next (changes.Rejects session req ask cause arrival) good = good
-change_keeps_one_work so_far next (changes.Recovers due) good = good
+    (driven_course works so_far.node.requests so_far.node.sessions req (free_in req so_far (ap may_work_at (arrival.none sound)) good) good request)
+change_keeps_one_work so_far next (changes.Rejects session req ask cause arrival) sound good = good
+change_keeps_one_work so_far next (changes.Recovers due) sound good = good
 
 -- a step begins so, on whatever input
 pub received_one_work : (input : Input) (node : Node) → StepHasOneWork (at_first node) → StepHasOneWork (input_received input (at_first node))

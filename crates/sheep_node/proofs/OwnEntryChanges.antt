@@ -1,7 +1,8 @@
 -- Every change leaves the outbox to this node's entries.
-use Rattle.std.proofs.Common.{◌≡◌, ◌≢◌, ℕ, Bool, true, false, List, [], ◌∷◌, ◌++◌, All, option_to_list, Option, Some, None, option_map, IfSome, refl, sym, ap, subst, ◌∙◌, ⊎_elim}
+use Rattle.std.proofs.Common.{◌≡◌, ◌≢◌, ℕ, true, false, List, [], ◌∷◌, ◌++◌, All, option_to_list, Option, Some, None, IfSome, refl, sym, ap, subst, ◌∙◌, ⊎_elim}
 use Rattle.std.specs.Ordering.{nat_cmp}
 use Rattle.std.specs.FinMap as tree
+use Rattle.std.specs.Option.{option_map, option_and_then}
 use Rattle.std.proofs.lemmas.List.{append-nil}
 use Rattle.std.proofs.lemmas.List.Elements.{All-nil, All-push, All-tail}
 use Rattle.std.proofs.lemmas.Bool.{cases_eq}
@@ -12,7 +13,9 @@ use Rattle.object_id.specs.declared.cause.Cause.{Cause}
 use Rattle.object_id.specs.declared.cause.Cause.TheVariants.{Halt}
 use Rattle.object_id.specs.declared.node.NodeId.{NodeId}
 use Rattle.object_id.specs.declared.entry.Entry.{Entry}
-use Rattle.object_id.specs.declared.entry.Entry.TheVariants.{Recovered}
+use Rattle.object_id.specs.declared.entry.Entry.TheVariants as entries
+use Rattle.object_id.specs.declared.entry.Entry.TheVariants.{Format, Join, Leave, Reweight, Recovered, Reserve, Publish, Lock, Unlock}
+use Rattle.object_id.specs.declared.entry.Origin.TheVariants.{Fresh, SnapshotOf, CloneOf}
 use Rattle.inode.specs.Layout.{Content}
 use Rattle.vdi_directory.specs.declared.header.Header.{Header}
 use Rattle.vdi_directory.specs.declared.effect.Effect.{Effect}
@@ -39,23 +42,20 @@ use Rattle.vdi_ops.specs.Entries.{first_entry}
 use Rattle.vdi_directory.specs.Chains.{chain_of}
 use Rattle.vdi_ops.specs.Op as ops
 use Rattle.vdi_ops.specs.Op.{Task, Opening, WritingBack, Tagging, Copying, Making, OpStage, Asked, Working, Publishing, Answered, Op, IsAwaitedAtOpStage, IsAwaitedByCommand}
-use Rattle.vdi_ops.specs.Steps.{begun_with_entry, begin_command, taken_over, copied_from, step_after_grant, step_after_known_grant, step_after_decision, decided_at, on_decision, task_done, done_at, op_on_done, refused_at, on_refusal}
+use Rattle.vdi_ops.specs.Steps.{first_step, begin_command, tag_step, copy_step, step_after_grant, step_after_decision, decided_at, on_decision, task_done, done_at, op_on_done, refused_at, on_refusal}
 use Rattle.vdi_ops.proofs.StepLemmas.{begin_awaited, done_awaited, decision_awaited}
 use Rattle.sheep_node.specs.declared.input.Input.{Input}
 use Rattle.sheep_node.specs.declared.input.Input.TheVariants as inputs
 use Rattle.sheep_node.specs.State.{Course, Waiting, Driving, Commanding, Request, Node, initial_node}
-use Rattle.sheep_node.specs.May.{May}
-use Rattle.sheep_node.specs.OneWork.{HasOneWorkPerRequest}
 use Rattle.sheep_node.specs.RecoveryView.{recovery_state_of}
 use Rattle.sheep_node.specs.StepState.{StepState, at_first, with_optional_entry, session_in, request_ended}
-use Rattle.sheep_node.specs.RequestWorks.{command_refused, course_refused}
-use Rattle.sheep_node.specs.Courses.{after_command_step}
-use Rattle.sheep_node.specs.Guests.{inode_open}
+use Rattle.sheep_node.specs.RequestWorks.{command_refused, course_refused, request_refused}
+use Rattle.sheep_node.specs.Courses.{inode_open, after_command_step}
 use Rattle.sheep_node.specs.LogReading.{entry_read, on_back}
 use Rattle.sheep_node.specs.Step.{on_request, recovery_stepped, on_put, on_recover_tick, node_step}
 use Rattle.sheep_node.specs.OwnEntries.{IsEntryOf, IsTaskOf, IsStageOf, IsCommandOf, IsCourseOf, AreOwnEntries, HasOnlyOwnEntries}
 use Rattle.sheep_node.specs.Changes as changes
-use Rattle.sheep_node.specs.Changes.{HasRequest, Outcome, ToWork, ToEntry, ToReply, outcome_of_driver, outcome_of_command, without_ended_work, RequestSteps, DiskBegins, DiskGoesOn, CommandBegins, CommandGoesOn, CommandDecided, WorkIsNext, AtOnce, InTurn, Again, input_received, Change}
+use Rattle.sheep_node.specs.Changes.{HasRequest, Outcome, ToWork, ToEntry, ToReply, outcome_of_driver, outcome_of_command, without_ended_work, RequestSteps, DiskBegins, DiskGoesOn, CommandBegins, CommandGoesOn, CommandDecided, WorkIsNext, AtOnce, InTurn, Again, AgainAlone, input_received, Change}
 use Rattle.sheep_node.proofs.OneWorkChanges.{awaited_of}
 use Rattle.sheep_node.proofs.StepChain.{kept_by_chain, step_chain}
 
@@ -75,48 +75,54 @@ first_of by session disk (Clone base tag name) = refl
 first_of by session disk (Delete name tag) = refl
 first_of by session disk Check = tt
 
-begun_of : (by : NodeId) (session : ℕ) (ask : VdiAsk) (disk : Option Content) (entry : Option Entry) → IfSome entry (IsEntryOf by)
-    → IfSome (begun_with_entry by session ask disk entry) (StepOf by)
-begun_of by session ask disk None of = tt
-begun_of by session ask disk (Some entry) of = (refl, of)
+begun_of : (by : NodeId) (session : ℕ) (entry : Option Entry) → IfSome entry (IsEntryOf by) → IfSome (option_map (first_step by session) entry) (StepOf by)
+begun_of by session None of = tt
+begun_of by session (Some entry) of = (refl, of)
 
 begin_of : (by : NodeId) (session : ℕ) (ask : VdiAsk) (disk : Option Content) → IfSome (begin_command by session ask disk) (StepOf by)
 unfolding begin_command
-begin_of by session ask disk = begun_of by session ask disk (first_entry by session disk ask) (first_of by session disk ask)
+begin_of by session ask disk = begun_of by session (first_entry by session disk ask) (first_of by session disk ask)
 
 module _ (me : NodeId) (op : Op) (own : op.by ≡ me) where
-  granted_of : (vid : Vid) (chain : List ℕ) (disk : Option Content) (ask : VdiAsk) (header : Header) → IfSome (step_after_grant op vid chain disk ask header) (StepOf me)
-  granted_of vid chain disk (Create name spec) header = (own, own)
-  granted_of vid chain disk (Attach name tag) header = (own, tt)
-  granted_of vid chain disk Close header = (own, tt)
-  granted_of vid chain disk (Snapshot tag) header = by_disk disk
-    where
-      by_disk : (disk : Option Content) → IfSome (taken_over op vid tag header disk) (StepOf me)
-      by_disk None = tt
-      by_disk (Some old) = (own, tt)
-  granted_of vid chain disk (Clone base tag name) header = by_parent header.parent
-    where
-      by_parent : (parent : Option Vid) → IfSome (copied_from op vid chain header parent) (StepOf me)
-      by_parent None = tt
-      by_parent (Some parent) = (own, tt)
-  granted_of vid chain disk (Delete name tag) header = (own, tt)
-  granted_of vid chain disk Check header = tt
+  taken_of : (vid : Vid) (tag : List ℕ) (header : Header) (disk : Option Content) → IfSome (option_map (tag_step op vid tag header) disk) (StepOf me)
+  taken_of vid tag header None = tt
+  taken_of vid tag header (Some old) = (own, tt)
 
-  known_of : (vid : Vid) (chain : List ℕ) (disk : Option Content) (ask : VdiAsk) (header : Option Header)
-      → IfSome (step_after_known_grant op vid chain disk ask header) (StepOf me)
-  known_of vid chain disk ask None = tt
-  known_of vid chain disk ask (Some header) = granted_of vid chain disk ask header
+  copied_of : (vid : Vid) (chain : List ℕ) (header : Header) (parent : Option Vid) → IfSome (option_map (copy_step op vid chain header) parent) (StepOf me)
+  copied_of vid chain header None = tt
+  copied_of vid chain header (Some parent) = (own, tt)
 
-  decided_of : (known : List Effect) (ask : VdiAsk) (disk : Option Content) (decision : Decision) → IfSome (step_after_decision known op ask disk decision) (StepOf me)
-  decided_of known ask disk decisions.None = (own, tt)
-  decided_of known ask disk (decisions.Granted vid) = known_of vid (chain_of known vid.0) disk ask (header_of known vid.0)
-  decided_of known ask disk (decisions.Refused cause) = (own, tt)
+  granted_of : (vid : Vid) (chain : List ℕ) (disk : Option Content) (entry : Entry) (header : Header) → IfSome (step_after_grant op vid chain disk entry header) (StepOf me)
+  granted_of vid chain disk (Reserve by session name (Fresh spec)) header = (own, own)
+  granted_of vid chain disk (Reserve by session name (SnapshotOf tag)) header = taken_of vid tag header disk
+  granted_of vid chain disk (Reserve by session name (CloneOf base tag)) header = copied_of vid chain header header.parent
+  granted_of vid chain disk (Lock by session name tag) header = (own, tt)
+  granted_of vid chain disk (Unlock by session id) header = (own, tt)
+  granted_of vid chain disk (entries.Delete by session name tag) header = (own, tt)
+  granted_of vid chain disk (Format members) header = tt
+  granted_of vid chain disk (Join node zone vnodes) header = tt
+  granted_of vid chain disk (Leave node) header = tt
+  granted_of vid chain disk (Reweight node vnodes) header = tt
+  granted_of vid chain disk (Recovered node epoch) header = tt
+  granted_of vid chain disk (Publish by id) header = tt
+  granted_of vid chain disk (entries.Clone by id) header = tt
+  granted_of vid chain disk (entries.Snapshot by old id) header = tt
 
-  at_decision : (known : List Effect) (decision : Decision) (stage : OpStage) → IfSome (decided_at known decision op stage) (StepOf me)
-  at_decision known decision (Asked entry ask disk) = decided_of known ask disk decision
-  at_decision known decision (Working vid task) = tt
-  at_decision known decision (Publishing entry opened) = (own, tt)
-  at_decision known decision (Answered opened) = tt
+  known_of : (vid : Vid) (chain : List ℕ) (disk : Option Content) (entry : Entry) (header : Option Header)
+      → IfSome (option_and_then (step_after_grant op vid chain disk entry) header) (StepOf me)
+  known_of vid chain disk entry None = tt
+  known_of vid chain disk entry (Some header) = granted_of vid chain disk entry header
+
+  decided_of : (known : List Effect) (disk : Option Content) (entry : Entry) (decision : Decision) → IfSome (step_after_decision known disk op entry decision) (StepOf me)
+  decided_of known disk entry decisions.None = (own, tt)
+  decided_of known disk entry (decisions.Granted vid) = known_of vid (chain_of known vid.0) disk entry (header_of known vid.0)
+  decided_of known disk entry (decisions.Refused cause) = (own, tt)
+
+  at_decision : (known : List Effect) (disk : Option Content) (decision : Decision) (stage : OpStage) → IfSome (decided_at known disk decision op stage) (StepOf me)
+  at_decision known disk decision (Asked entry) = decided_of known disk entry decision
+  at_decision known disk decision (Working vid task) = tt
+  at_decision known disk decision (Publishing entry opened) = (own, tt)
+  at_decision known disk decision (Answered change) = tt
 
   task_of : (vid : Vid) (bytes : List ℕ) (task : Task) → IsTaskOf me task → StepOf me (task_done op vid bytes task)
   task_of vid bytes (Opening true ids header) of = (own, tt)
@@ -127,24 +133,24 @@ module _ (me : NodeId) (op : Op) (own : op.by ≡ me) where
   task_of vid bytes (Making entry opened) of = (own, of)
 
   at_done : (bytes : List ℕ) (stage : OpStage) → IsStageOf me stage → IfSome (done_at bytes op stage) (StepOf me)
-  at_done bytes (Asked entry ask disk) of = tt
+  at_done bytes (Asked entry) of = tt
   at_done bytes (Working vid task) of = task_of vid bytes task of
   at_done bytes (Publishing entry opened) of = tt
-  at_done bytes (Answered opened) of = tt
+  at_done bytes (Answered change) of = tt
 
   at_refusal : (cause : Cause) (stage : OpStage) → IfSome (refused_at cause op stage) (λ (end : OpEnd). IfSome end.unlock (IsEntryOf me))
-  at_refusal cause (Asked entry ask disk) = tt
+  at_refusal cause (Asked entry) = tt
   at_refusal cause (Working vid task) = own
   at_refusal cause (Publishing entry opened) = tt
-  at_refusal cause (Answered opened) = tt
+  at_refusal cause (Answered change) = tt
 
   done_of : (bytes : List ℕ) → IsStageOf me op.stage → IfSome (op_on_done bytes op) (StepOf me)
   unfolding op_on_done
   done_of bytes of = at_done bytes op.stage of
 
-  decision_of : (known : List Effect) (decision : Decision) → IfSome (on_decision known decision op) (StepOf me)
+  decision_of : (known : List Effect) (disk : Option Content) (decision : Decision) → IfSome (on_decision known disk decision op) (StepOf me)
   unfolding on_decision
-  decision_of known decision = at_decision known decision op.stage
+  decision_of known disk decision = at_decision known disk decision op.stage
 
   refusal_of : (cause : Cause) → IfSome (on_refusal cause op) (λ (end : OpEnd). IfSome end.unlock (IsEntryOf me))
   unfolding on_refusal
@@ -183,22 +189,22 @@ module _ (me : NodeId) where
   NextOf (ToReply reply) = Unit {0}
 
   append_of : (entry : Entry) (stage : OpStage) → IsAwaitedAtOpStage (op_acts.Append entry) stage → IsStageOf me stage → IsEntryOf me entry
-  append_of entry (Asked wanted ask disk) awaited of = let same : entry ≡ wanted = cc (awaited) in subst (IsEntryOf me) (sym same) of
+  append_of entry (Asked wanted) awaited of = let same : entry ≡ wanted = cc (awaited) in subst (IsEntryOf me) (sym same) of
   append_of entry (Working vid task) awaited of = absurd (cc (awaited.1))
   append_of entry (Publishing wanted opened) awaited of = let same : entry ≡ wanted = cc (awaited) in subst (IsEntryOf me) (sym same) of
-  append_of entry (Answered opened) awaited of = absurd (cc (awaited.1))
+  append_of entry (Answered change) awaited of = absurd (cc (awaited.1))
 
   command_next : (act : OpAct) (stage : OpStage) → IsAwaitedAtOpStage act stage → IsStageOf me stage → NextOf (outcome_of_command act)
   command_next (op_acts.Append entry) stage awaited of = append_of entry stage awaited of
   command_next (op_acts.Work work) stage awaited of = tt
   command_next (op_acts.Reply reply) stage awaited of = tt
 
-  command_own : (session req : ℕ) (ask : VdiAsk) (step : ops.OpStep) (so_far : StepState) → IsAwaitedByCommand step → IsCommandOf me step.op → OnlyOwn so_far
-      → OnlyOwn (after_command_step session req ask step so_far) × NextOf (outcome_of_command step.act)
-  command_own session req ask step so_far awaited of own = (
+  command_own : (session req : ℕ) (step : ops.OpStep) (so_far : StepState) → IsAwaitedByCommand step → IsCommandOf me step.op → OnlyOwn so_far
+      → OnlyOwn (after_command_step session req step so_far) × NextOf (outcome_of_command step.act)
+  command_own session req step so_far awaited of own = (
     record {
       own_so = own.own_so;
-      commands = all_put At so_far.node.requests own.commands req (record { session = session; course = Commanding ask step.op }) of;
+      commands = all_put At so_far.node.requests own.commands req (record { session = session; course = Commanding step.op }) of;
       entries = own.entries;
     },
     command_next step.act step.op.stage awaited of.1,
@@ -227,22 +233,22 @@ module _ (me : NodeId) where
   )
   steps_own so_far session req next moved (CommandBegins ask step arrival is) own =
       let disk = inode_open (session_in session so_far).disk in
-      command_own session req ask step so_far
+      command_own session req step so_far
       (awaited_of (begin_command so_far.node.me session ask disk) step (begin_awaited so_far.node.me session ask disk) is)
       (subst (λ (by : NodeId). IsCommandOf by step.op) own.own_so
       (step_of so_far.node.me (begin_command so_far.node.me session ask disk) step (begin_of so_far.node.me session ask disk) is)) own
-  steps_own so_far session req next moved (CommandGoesOn number work attempt status bytes ask op step ends is) own =
-      let of = own.commands req (record { session = session; course = Commanding ask op }) ends.ends.request in
-      command_own session req ask step (without_ended_work session req work status so_far)
+  steps_own so_far session req next moved (CommandGoesOn number work attempt status bytes op step ends is) own =
+      let of = own.commands req (record { session = session; course = Commanding op }) ends.ends.request in
+      command_own session req step (without_ended_work session req work status so_far)
       (awaited_of (op_on_done bytes op) step (done_awaited bytes op) is) (step_of me (op_on_done bytes op) step (done_of me op of.0 bytes of.1) is)
       (record { own_so = own.own_so; commands = own.commands; entries = own.entries })
-  steps_own {input} {node} so_far session req next moved (CommandDecided entry ask op step from read there waits is) own =
-      let of = own.commands req (record { session = session; course = Commanding ask op }) there in
-      command_own session req ask step so_far
-      (awaited_of (on_decision (effects_of so_far.node.peer) (decision_on entry node.peer) op) step
-      (decision_awaited (effects_of so_far.node.peer) (decision_on entry node.peer) op) is)
-      (step_of me (on_decision (effects_of so_far.node.peer) (decision_on entry node.peer) op) step
-      (decision_of me op of.0 (effects_of so_far.node.peer) (decision_on entry node.peer)) is) own
+  steps_own {input} {node} so_far session req next moved (CommandDecided entry op step from read there waits is) own =
+      let of = own.commands req (record { session = session; course = Commanding op }) there in
+      command_own session req step so_far
+      (awaited_of (on_decision (effects_of so_far.node.peer) (inode_open (session_in session so_far).disk) (decision_on entry node.peer) op) step
+      (decision_awaited (effects_of so_far.node.peer) (inode_open (session_in session so_far).disk) (decision_on entry node.peer) op) is)
+      (step_of me (on_decision (effects_of so_far.node.peer) (inode_open (session_in session so_far).disk) (decision_on entry node.peer) op) step
+      (decision_of me op of.0 (effects_of so_far.node.peer) (inode_open (session_in session so_far).disk) (decision_on entry node.peer)) is) own
 
   comes_own : {input : Input} {node : Node} → (so_far : StepState) (session req : ℕ) (asked : Work) (lined : StepState) → WorkIsNext input node so_far session req asked lined → OnlyOwn so_far → OnlyOwn lined
   comes_own so_far session req asked lined (AtOnce work moved steps begins) own =
@@ -250,6 +256,7 @@ module _ (me : NodeId) where
       record { own_so = m.own_so; commands = m.commands; entries = m.entries }
   comes_own so_far session req asked lined (InTurn work later none is) own = record { own_so = own.own_so; commands = own.commands; entries = own.entries }
   comes_own so_far session req asked lined (Again work course from next there request) own = own
+  comes_own so_far session req asked lined (AgainAlone work from next there none) own = own
 
   ended_own : (session req : ℕ) (reply : GuestRsp) (so_far : StepState) → OnlyOwn so_far → OnlyOwn (request_ended session req reply so_far)
   unfolding request_ended
@@ -263,7 +270,7 @@ module _ (me : NodeId) where
       → OnlyOwn (course_refused session req cause course so_far)
   refused_own session req cause (Waiting ask) so_far of own = own
   refused_own session req cause (Driving driver) so_far of own = ended_own session req (Refused cause) so_far own
-  refused_own session req cause (Commanding ask op) so_far of own = by_end (on_refusal cause op) (refusal_of me op of.0 cause)
+  refused_own session req cause (Commanding op) so_far of own = by_end (on_refusal cause op) (refusal_of me op of.0 cause)
     where
       more : (unlock : Option Entry) → IfSome unlock (IsEntryOf me) → All (IsEntryOf me) (so_far.node.outbox ++ option_to_list unlock)
       more None of = subst (All (IsEntryOf me)) (sym (append-nil so_far.node.outbox)) own.entries
@@ -275,6 +282,12 @@ module _ (me : NodeId) where
           ended_own session req end.reply (with_optional_entry end.unlock so_far)
           (record { own_so = own.own_so; commands = own.commands; entries = more end.unlock of })
 
+  request_refused_own : (req : ℕ) (cause : Cause) (request : Option Request) (so_far : StepState) → tree.get so_far.node.requests req ≡ request → OnlyOwn so_far
+      → OnlyOwn (request_refused req cause request so_far)
+  request_refused_own req cause None so_far there own = own
+  request_refused_own req cause (Some request) so_far there own =
+      refused_own request.session req cause request.course so_far (own.commands req request there) own
+
   pub change_keeps_own_entries : {input : Input} {node : Node} → (so_far next : StepState) → Change input node so_far next → OnlyOwn so_far → OnlyOwn next
   change_keeps_own_entries so_far next (changes.Marks req number work attempt status learns over) own = own
   change_keeps_own_entries so_far next (changes.Fails session req number work attempt status course ends done why) own = own
@@ -283,9 +296,10 @@ module _ (me : NodeId) where
       refused_own session req cause course (without_ended_work session req work status so_far) (own.commands req (record { session = session; course = course }) ends.request) own
   change_keeps_own_entries so_far next (changes.Opens session req asked lined comes short) own = comes_own so_far session req asked lined comes own
   change_keeps_own_entries so_far next (changes.Holds session req asked lined comes short touched) own = comes_own so_far session req asked lined comes own
-  change_keeps_own_entries so_far next (changes.Denies session req asked lined course comes short untouched there) own =
-      let l = comes_own so_far session req asked lined comes own in
-      refused_own session req (Halt (changes.zones_of_members lined.node) (zones_for asked.work)) course (changes.without_denied_work session req asked lined) (l.commands req (record { session = session; course = course }) there) l
+  change_keeps_own_entries so_far next (changes.Denies session req asked lined request comes short untouched there is_own) own =
+      request_refused_own req (Halt (changes.zones_of_members lined.node) (zones_for asked.work)) request (changes.without_denied_work session req asked lined) there
+      (comes_own so_far session req asked lined comes own)
+  change_keeps_own_entries so_far next (changes.Strays req work gateway there none apart) own = own
   change_keeps_own_entries so_far next (changes.Lines session req work moved steps waits) own = (steps_own so_far session req (ToWork work) moved steps own).0
   change_keeps_own_entries so_far next (changes.Appends session req entry moved steps) own =
       let m = steps_own so_far session req (ToEntry entry) moved steps own in
@@ -330,11 +344,10 @@ module _ (me : NodeId) where
   }
 
 -- a node whose outbox has its own entries keeps it so
-pub own_entries_stay : (input : Input) (node : Node) → May input node → HasOneWorkPerRequest node → HasOnlyOwnEntries node
-    → HasOnlyOwnEntries (node_step input node).node
-own_entries_stay input node may driven own =
+pub own_entries_stay : (input : Input) (node : Node) → HasOnlyOwnEntries node → HasOnlyOwnEntries (node_step input node).node
+own_entries_stay input node own =
     let after : AreOwnEntries node.me (node_step input node).node.me (node_step input node).node.requests (node_step input node).node.outbox
-    = kept_by_chain (OnlyOwn node.me) (change_keeps_own_entries node.me) (step_chain input node may driven)
+    = kept_by_chain (OnlyOwn node.me) (change_keeps_own_entries node.me) (step_chain input node)
     (received_own_entries node.me input node own) in
     subst (λ (me : NodeId). AreOwnEntries me (node_step input node).node.me (node_step input node).node.requests (node_step input node).node.outbox)
     (sym after.own_so) after

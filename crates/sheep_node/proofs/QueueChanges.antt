@@ -1,5 +1,5 @@
 -- Every change leaves each session's queue to its reads and writes without reply.
-use Rattle.std.proofs.Common.{◌≡◌, ◌≢◌, ◌⊎◌, inl, inr, ℕ, ◌==◌, ◌&&◌, not, Bool, true, false, cond, List, [], ◌∷◌, ◌++◌, filter, Contains, Option, Some, None, unwrap_or, refl, sym, ap, subst, ◌∙◌, ⊎_elim}
+use Rattle.std.proofs.Common.{◌≡◌, ◌≢◌, ℕ, ◌==◌, ◌&&◌, not, Bool, true, false, cond, List, [], ◌∷◌, ◌++◌, Contains, Option, Some, None, unwrap_or, refl, sym, ap, subst, ◌∙◌, ⊎_elim}
 use Rattle.std.specs.Ordering.{nat_cmp}
 use Rattle.std.specs.FinMap as tree
 use Rattle.std.proofs.Math.Bool.{and-false}
@@ -12,7 +12,6 @@ use Rattle.object_id.specs.declared.cause.Cause.{Cause}
 use Rattle.object_id.specs.declared.cause.Cause.TheVariants.{Halt}
 use Rattle.object_id.specs.declared.entry.Entry.{Entry}
 use Rattle.peer_proto.specs.declared.guest.DiskAsk.{DiskAsk}
-use Rattle.peer_proto.specs.declared.guest.VdiAsk.{VdiAsk}
 use Rattle.peer_proto.specs.declared.guest.GuestRsp.{GuestRsp}
 use Rattle.peer_proto.specs.declared.guest.GuestRsp.TheVariants.{Refused}
 use Rattle.gateway.specs.declared.message.Status.{Status}
@@ -28,15 +27,15 @@ use Rattle.guest_driver.specs.InodeQueue as lines
 use Rattle.guest_driver.specs.InodeQueue.{queue_with_open, queue_after_end}
 use Rattle.vdi_ops.specs.declared.end.OpEnd.{OpEnd}
 use Rattle.vdi_ops.specs.Op as ops
-use Rattle.vdi_ops.specs.Op.{Op}
+use Rattle.vdi_ops.specs.Op.{Op, disk_change}
 use Rattle.vdi_ops.specs.Steps.{on_refusal}
 use Rattle.sheep_node.specs.declared.input.Input.{Input}
 use Rattle.sheep_node.specs.declared.input.Input.TheVariants as inputs
 use Rattle.sheep_node.specs.State.{Course, Waiting, Driving, Commanding, Request, Session, Node, new_session}
 use Rattle.sheep_node.specs.RecoveryView.{recovery_state_of}
-use Rattle.sheep_node.specs.StepState.{StepState, at_first, with_optional_entry, session_in, with_course, request_ended}
-use Rattle.sheep_node.specs.RequestWorks.{command_refused, course_refused}
-use Rattle.sheep_node.specs.Courses.{after_driver_step, disk_with_act, after_command_step}
+use Rattle.sheep_node.specs.StepState.{StepState, at_first, with_optional_entry, session_in, request_ended}
+use Rattle.sheep_node.specs.RequestWorks.{command_refused, course_refused, request_refused}
+use Rattle.sheep_node.specs.Courses.{after_driver_step, disk_after, after_command_step}
 use Rattle.sheep_node.specs.Guests.{queued_as}
 use Rattle.sheep_node.specs.LogReading.{entry_read, on_back}
 use Rattle.sheep_node.specs.Step.{on_request, recovery_stepped, on_put, on_recover_tick, node_step}
@@ -44,7 +43,7 @@ use Rattle.sheep_node.specs.May.{is_disk_course, May}
 use Rattle.sheep_node.specs.OneWork.{HasOneWorkPerRequest}
 use Rattle.sheep_node.specs.SessionQueues.{is_disk_request_of, session_among, queue_in, IsQueued, AreDiskRequests, QueuesAreDiskRequests}
 use Rattle.sheep_node.specs.Changes as changes
-use Rattle.sheep_node.specs.Changes.{HasRequest, Outcome, ToWork, ToEntry, ToReply, without_ended_work, RequestSteps, DiskBegins, DiskGoesOn, CommandBegins, CommandGoesOn, CommandDecided, WorkIsNext, AtOnce, InTurn, Again, input_received, Change}
+use Rattle.sheep_node.specs.Changes.{HasRequest, IsSoundStep, Outcome, ToWork, ToEntry, ToReply, without_ended_work, RequestSteps, DiskBegins, DiskGoesOn, CommandBegins, CommandGoesOn, CommandDecided, WorkIsNext, AtOnce, InTurn, Again, AgainAlone, input_received, Change}
 use Rattle.sheep_node.proofs.OneWorkParts.{Requests, Sessions}
 use Rattle.sheep_node.proofs.StepChain.{kept_by_chain, step_chain}
 
@@ -174,11 +173,16 @@ refused_queued : (session req : ℕ) (cause : Cause) (course : Course) (so_far :
     → QueuesAre (course_refused session req cause course so_far)
 refused_queued session req cause (Waiting ask) so_far there queued = queued
 refused_queued session req cause (Driving driver) so_far there queued = ended_queued session req (Driving driver) (Refused cause) so_far there queued
-refused_queued session req cause (Commanding ask op) so_far there queued = by_end (on_refusal cause op)
+refused_queued session req cause (Commanding op) so_far there queued = by_end (on_refusal cause op)
   where
     by_end : (end : Option OpEnd) → QueuesAre (command_refused session req end so_far)
     by_end None = queued
-    by_end (Some end) = ended_queued session req (Commanding ask op) end.reply (with_optional_entry end.unlock so_far) there queued
+    by_end (Some end) = ended_queued session req (Commanding op) end.reply (with_optional_entry end.unlock so_far) there queued
+
+request_refused_queued : (req : ℕ) (cause : Cause) (request : Option Request) (so_far : StepState) → tree.get so_far.node.requests req ≡ request → QueuesAre so_far
+    → QueuesAre (request_refused req cause request so_far)
+request_refused_queued req cause None so_far there queued = queued
+request_refused_queued req cause (Some request) so_far there queued = refused_queued request.session req cause request.course so_far there queued
 
 -- ---- a step that a request takes
 
@@ -206,60 +210,61 @@ driven_took session req disk step so_far same queued =
           (queued_session so_far.node.requests so_far.node.sessions session after refl queued);
     }
 
-command_took : (session req : ℕ) (ask : VdiAsk) (step : ops.OpStep) (so_far : StepState)
-    → ((number : ℕ) → is_disk_request_of number (Some (record { session = session; course = Commanding ask step.op })) ≡ is_disk_request_of number (tree.get so_far.node.requests req))
-    → QueuesAre so_far → HasSteppedQueued session req (after_command_step session req ask step so_far)
-command_took session req ask step so_far same queued =
-    let request : Request = record { session = session; course = Commanding ask step.op } in
+command_took : (session req : ℕ) (step : ops.OpStep) (so_far : StepState)
+    → ((number : ℕ) → is_disk_request_of number (Some (record { session = session; course = Commanding step.op })) ≡ is_disk_request_of number (tree.get so_far.node.requests req))
+    → QueuesAre so_far → HasSteppedQueued session req (after_command_step session req step so_far)
+command_took session req step so_far same queued =
+    let request : Request = record { session = session; course = Commanding step.op } in
     record {
-      course = Commanding ask step.op;
+      course = Commanding step.op;
       there = get-insert_same so_far.node.requests req request;
       queued = queued_session (tree.insert so_far.node.requests req request) so_far.node.sessions session
           (record (session_in session so_far) {
-            disk = disk_with_act ask step.op step.act (session_in session so_far).disk;
+            disk = disk_after (disk_change step) (session_in session so_far).disk;
             command = Some req;
           }) refl
           (queued_course so_far.node.requests so_far.node.sessions req request same queued);
     }
 
 -- a command is no read or write
-off_disk : (session number : ℕ) (ask : VdiAsk) (op : Op) → is_disk_request_of number (Some (record { session = session; course = Commanding ask op })) ≡ false
-off_disk session number ask op = and-false (session == number)
+off_disk : (session number : ℕ) (op : Op) → is_disk_request_of number (Some (record { session = session; course = Commanding op })) ≡ false
+off_disk session number op = and-false (session == number)
 
 same_there : (session req : ℕ) (one other : Course) (so_far : StepState) → HasRequest session req other so_far → is_disk_course one ≡ is_disk_course other → (number : ℕ)
     → is_disk_request_of number (Some (record { session = session; course = one })) ≡ is_disk_request_of number (tree.get so_far.node.requests req)
 same_there session req one other so_far there same number = ap (λ (b : Bool). session == number && b) same ∙ ap (is_disk_request_of number) (sym there)
 
-steps_took : {input : Input} {node : Node} → (so_far : StepState) (session req : ℕ) (next : Outcome) (moved : StepState) → RequestSteps input node so_far session req next moved → QueuesAre so_far → HasSteppedQueued session req moved
-steps_took so_far session req next moved (DiskBegins ask disk there on may) queued =
+steps_took : {input : Input} {node : Node} → (so_far : StepState) (session req : ℕ) (next : Outcome) (moved : StepState) → RequestSteps input node so_far session req next moved → IsSoundStep input node → QueuesAre so_far → HasSteppedQueued session req moved
+steps_took so_far session req next moved (DiskBegins ask disk there on may) sound queued =
     driven_took session req disk (drivers.begin_driver disk ask) so_far
     (same_there session req (Driving (drivers.begin_driver disk ask).driver) (Waiting ask) so_far there refl) queued
-steps_took so_far session req next moved (DiskGoesOn number work attempt status bytes driver disk step ends on is) queued =
+steps_took so_far session req next moved (DiskGoesOn number work attempt status bytes driver disk step ends on is) sound queued =
     driven_took session req disk step (without_ended_work session req work status so_far)
     (same_there session req (Driving step.driver) (Driving driver) so_far ends.ends.request refl) (freed_queued session req work status so_far queued)
-steps_took so_far session req next moved (CommandBegins ask step arrival is) queued =
-    command_took session req ask step so_far (λ number. off_disk session number ask step.op ∙ ap (is_disk_request_of number) (sym arrival.none)) queued
-steps_took so_far session req next moved (CommandGoesOn number work attempt status bytes ask op step ends is) queued =
-    command_took session req ask step (without_ended_work session req work status so_far)
-    (same_there session req (Commanding ask step.op) (Commanding ask op) so_far ends.ends.request refl) (freed_queued session req work status so_far queued)
-steps_took so_far session req next moved (CommandDecided entry ask op step from read there waits is) queued =
-    command_took session req ask step so_far (same_there session req (Commanding ask step.op) (Commanding ask op) so_far there refl) queued
+steps_took so_far session req next moved (CommandBegins ask step arrival is) sound queued =
+    command_took session req step so_far (λ number. off_disk session number step.op ∙ ap (is_disk_request_of number) (sym (arrival.none sound))) queued
+steps_took so_far session req next moved (CommandGoesOn number work attempt status bytes op step ends is) sound queued =
+    command_took session req step (without_ended_work session req work status so_far)
+    (same_there session req (Commanding step.op) (Commanding op) so_far ends.ends.request refl) (freed_queued session req work status so_far queued)
+steps_took so_far session req next moved (CommandDecided entry op step from read there waits is) sound queued =
+    command_took session req step so_far (same_there session req (Commanding step.op) (Commanding op) so_far there refl) queued
 
-comes_queued : {input : Input} {node : Node} → (so_far : StepState) (session req : ℕ) (asked : Work) (lined : StepState) → WorkIsNext input node so_far session req asked lined → QueuesAre so_far → QueuesAre lined
-comes_queued so_far session req asked lined (AtOnce work moved steps begins) queued =
+comes_queued : {input : Input} {node : Node} → (so_far : StepState) (session req : ℕ) (asked : Work) (lined : StepState) → WorkIsNext input node so_far session req asked lined → IsSoundStep input node → QueuesAre so_far → QueuesAre lined
+comes_queued so_far session req asked lined (AtOnce work moved steps begins) sound queued =
     queued_session moved.node.requests moved.node.sessions session
     (record (session_in session moved) { inode_queue = queue_with_open (session_in session moved).inode_queue req work }) refl
-    (steps_took so_far session req (ToWork work) moved steps queued).queued
-comes_queued so_far session req asked lined (InTurn work later none is) queued =
+    (steps_took so_far session req (ToWork work) moved steps sound queued).queued
+comes_queued so_far session req asked lined (InTurn work later none is) sound queued =
     queued_session so_far.node.requests so_far.node.sessions session
     (record (session_in session so_far) { inode_queue = record { current = Some req; waiting = later } }) refl queued
-comes_queued so_far session req asked lined (Again work course from next there request) queued = queued
+comes_queued so_far session req asked lined (Again work course from next there request) sound queued = queued
+comes_queued so_far session req asked lined (AgainAlone work from next there none) sound queued = queued
 
 -- ---- every change
 
 module _ (session req : ℕ) (ask : DiskAsk) (disk : Disk) (so_far : StepState) (none : tree.get so_far.node.requests req ≡ None) (queued : QueuesAre so_far) where
-  abbrev request : Request
-  request = record { session = session; course = Waiting ask }
+  abbrev new_request : Request
+  new_request = record { session = session; course = Waiting ask }
 
   abbrev after : Session
   after = record (session_in session so_far) { queue = (session_in session so_far).queue ++ queued_as disk.inode.spec.shift req ask ∷ [] }
@@ -272,25 +277,25 @@ module _ (session req : ℕ) (ask : DiskAsk) (disk : Disk) (so_far : StepState) 
   queue_other : (number : ℕ) → number ≢ session → queue_in number (tree.insert so_far.node.sessions session after) ≡ queue_in number so_far.node.sessions
   queue_other number other = ap (λ (o : Option Session). (unwrap_or o new_session).queue) (get-insert_other so_far.node.sessions session after number other)
 
-  -- what was in a queue is another request
+  -- what was in a queue is another new_request
   was_other : (number q : ℕ) → is_disk_request_of number (tree.get so_far.node.requests q) ≡ true → q ≢ req
   was_other number q on is =
       let off : is_disk_request_of number (tree.get so_far.node.requests q) ≡ false = ap (λ (k : ℕ). is_disk_request_of number (tree.get so_far.node.requests k)) is ∙ ap (is_disk_request_of number) none in
       absurd (cc (on, off))
 
-  still : (number q : ℕ) → q ≢ req → is_disk_request_of number (tree.get (tree.insert so_far.node.requests req request) q) ≡ is_disk_request_of number (tree.get so_far.node.requests q)
-  still number q apart = ap (is_disk_request_of number) (get-insert_other so_far.node.requests req request q apart)
+  still : (number q : ℕ) → q ≢ req → is_disk_request_of number (tree.get (tree.insert so_far.node.requests req new_request) q) ≡ is_disk_request_of number (tree.get so_far.node.requests q)
+  still number q apart = ap (is_disk_request_of number) (get-insert_other so_far.node.requests req new_request q apart)
 
-  now_on : (number q : ℕ) → number ≡ session → q ≡ req → is_disk_request_of number (tree.get (tree.insert so_far.node.requests req request) q) ≡ true
+  now_on : (number q : ℕ) → number ≡ session → q ≡ req → is_disk_request_of number (tree.get (tree.insert so_far.node.requests req new_request) q) ≡ true
   now_on number q own is =
-      ap (λ (k : ℕ). is_disk_request_of number (tree.get (tree.insert so_far.node.requests req request) k)) is
-      ∙ ap (is_disk_request_of number) (get-insert_same so_far.node.requests req request)
+      ap (λ (k : ℕ). is_disk_request_of number (tree.get (tree.insert so_far.node.requests req new_request) k)) is
+      ∙ ap (is_disk_request_of number) (get-insert_same so_far.node.requests req new_request)
       ∙ ap (λ (b : Bool). b && true) (eq-eqb session number (sym own))
 
-  old_in : (number q : ℕ) → IsQueued q (queue_in number so_far.node.sessions) → is_disk_request_of number (tree.get (tree.insert so_far.node.requests req request) q) ≡ true
+  old_in : (number q : ℕ) → IsQueued q (queue_in number so_far.node.sessions) → is_disk_request_of number (tree.get (tree.insert so_far.node.requests req new_request) q) ≡ true
   old_in number q in_it = let on = queued.there number q in_it in still number q (was_other number q on) ∙ on
 
-  arrived : AreDiskRequests (tree.insert so_far.node.requests req request) (tree.insert so_far.node.sessions session after)
+  arrived : AreDiskRequests (tree.insert so_far.node.requests req new_request) (tree.insert so_far.node.sessions session after)
   arrived = record {
     there = λ number q in_it. ⊎_elim
         (λ (own : number ≡ session).
@@ -305,7 +310,7 @@ module _ (session req : ℕ) (ask : DiskAsk) (disk : Disk) (so_far : StepState) 
     has = λ number q on. ⊎_elim
         (λ (is : q ≡ req).
         let own : session ≡ number = of_one number session (Waiting ask)
-        (sym (ap (λ (k : ℕ). is_disk_request_of number (tree.get (tree.insert so_far.node.requests req request) k)) is ∙ ap (is_disk_request_of number) (get-insert_same so_far.node.requests req request)) ∙ on) in
+        (sym (ap (λ (k : ℕ). is_disk_request_of number (tree.get (tree.insert so_far.node.requests req new_request) k)) is ∙ ap (is_disk_request_of number) (get-insert_same so_far.node.requests req new_request)) ∙ on) in
         subst (IsQueued q) (sym (queue_own number (sym own))) (
           queued_as disk.inode.spec.shift req ask,
           Contains-append_right (queue_in session so_far.node.sessions) (queued_as disk.inode.spec.shift req ask ∷ []) (queued_as disk.inode.spec.shift req ask)
@@ -324,29 +329,30 @@ module _ (session req : ℕ) (ask : DiskAsk) (disk : Disk) (so_far : StepState) 
         (cases_eq q req);
   }
 
-pub change_keeps_queues : {input : Input} {node : Node} → (so_far next : StepState) → Change input node so_far next → QueuesAre so_far → QueuesAre next
-change_keeps_queues so_far next (changes.Marks req number work attempt status learns over) queued = queued
-change_keeps_queues so_far next (changes.Fails session req number work attempt status course ends done why) queued = queued
-change_keeps_queues so_far next (changes.Stops session req number work attempt status course bytes ends over) queued = freed_queued session req work status so_far queued
-change_keeps_queues so_far next (changes.Refuses session req number work attempt status course cause ends done why) queued =
+pub change_keeps_queues : {input : Input} {node : Node} → (so_far next : StepState) → Change input node so_far next → IsSoundStep input node → QueuesAre so_far → QueuesAre next
+change_keeps_queues so_far next (changes.Marks req number work attempt status learns over) sound queued = queued
+change_keeps_queues so_far next (changes.Fails session req number work attempt status course ends done why) sound queued = queued
+change_keeps_queues so_far next (changes.Stops session req number work attempt status course bytes ends over) sound queued = freed_queued session req work status so_far queued
+change_keeps_queues so_far next (changes.Refuses session req number work attempt status course cause ends done why) sound queued =
     refused_queued session req cause course (without_ended_work session req work status so_far) ends.request (freed_queued session req work status so_far queued)
-change_keeps_queues so_far next (changes.Opens session req asked lined comes short) queued = comes_queued so_far session req asked lined comes queued
-change_keeps_queues so_far next (changes.Holds session req asked lined comes short touched) queued = comes_queued so_far session req asked lined comes queued
-change_keeps_queues so_far next (changes.Denies session req asked lined course comes short untouched there) queued =
-    refused_queued session req (Halt (changes.zones_of_members lined.node) (zones_for asked.work)) course (changes.without_denied_work session req asked lined) there
+change_keeps_queues so_far next (changes.Opens session req asked lined comes short) sound queued = comes_queued so_far session req asked lined comes sound queued
+change_keeps_queues so_far next (changes.Holds session req asked lined comes short touched) sound queued = comes_queued so_far session req asked lined comes sound queued
+change_keeps_queues so_far next (changes.Denies session req asked lined request comes short untouched there own) sound queued =
+    request_refused_queued req (Halt (changes.zones_of_members lined.node) (zones_for asked.work)) request (changes.without_denied_work session req asked lined) there
     (queued_session lined.node.requests lined.node.sessions session (record (session_in session lined) { inode_queue = queue_after_end (session_in session lined).inode_queue asked.work }) refl
-    (comes_queued so_far session req asked lined comes queued))
-change_keeps_queues so_far next (changes.Lines session req work moved steps waits) queued =
+    (comes_queued so_far session req asked lined comes sound queued))
+change_keeps_queues so_far next (changes.Strays req work gateway there none apart) sound queued = queued
+change_keeps_queues so_far next (changes.Lines session req work moved steps waits) sound queued =
     queued_session moved.node.requests moved.node.sessions session
     (record (session_in session moved) { inode_queue = lines.queue_with_waiting (session_in session moved).inode_queue req work }) refl
-    (steps_took so_far session req (ToWork work) moved steps queued).queued
-change_keeps_queues so_far next (changes.Appends session req entry moved steps) queued = (steps_took so_far session req (ToEntry entry) moved steps queued).queued
-change_keeps_queues so_far next (changes.Replies session req reply moved steps) queued =
-    let took = steps_took so_far session req (ToReply reply) moved steps queued in
+    (steps_took so_far session req (ToWork work) moved steps sound queued).queued
+change_keeps_queues so_far next (changes.Appends session req entry moved steps) sound queued = (steps_took so_far session req (ToEntry entry) moved steps sound queued).queued
+change_keeps_queues so_far next (changes.Replies session req reply moved steps) sound queued =
+    let took = steps_took so_far session req (ToReply reply) moved steps sound queued in
     ended_queued session req took.course reply moved took.there took.queued
-change_keeps_queues so_far next (changes.Arrives session req ask disk arrival on) queued = arrived session req ask disk so_far arrival.none queued
-change_keeps_queues so_far next (changes.Rejects session req ask cause arrival) queued = queued
-change_keeps_queues so_far next (changes.Recovers due) queued = queued
+change_keeps_queues so_far next (changes.Arrives session req ask disk arrival on) sound queued = arrived session req ask disk so_far (arrival.none sound) queued
+change_keeps_queues so_far next (changes.Rejects session req ask cause arrival) sound queued = queued
+change_keeps_queues so_far next (changes.Recovers due) sound queued = queued
 
 -- where nothing is asked nothing is queued
 pub none_queued : AreDiskRequests tree.empty tree.empty
@@ -382,4 +388,4 @@ received_queues (inputs.Back entries) node queued = none_queued
 pub queues_stay : (input : Input) (node : Node) → May input node → HasOneWorkPerRequest node → QueuesAreDiskRequests node
     → QueuesAreDiskRequests (node_step input node).node
 queues_stay input node may driven queued =
-    kept_by_chain QueuesAre change_keeps_queues (step_chain input node may driven) (received_queues input node queued)
+    kept_by_chain QueuesAre (λ so_far next change. change_keeps_queues so_far next change (may, driven)) (step_chain input node) (received_queues input node queued)

@@ -8,14 +8,11 @@ use Rattle.proof_tools.proofs.FiniteMaps.{get-insert_cases, get-remove_other, ge
 use Rattle.object_id.specs.declared.cause.Cause.{Cause}
 use Rattle.object_id.specs.declared.cause.Cause.TheVariants.{Halt}
 use Rattle.object_id.specs.declared.entry.Entry.{Entry}
-use Rattle.peer_proto.specs.declared.guest.VdiAsk.{VdiAsk}
 use Rattle.gateway.specs.Work.{zones_for}
 use Rattle.gateway.specs.State as gateways
 use Rattle.gateway.specs.State.{Work}
 use Rattle.recovery.specs.Steps as recovery_steps
 use Rattle.guest_driver.specs.Driver as drivers
-use Rattle.vdi_ops.specs.declared.act.OpAct.{OpAct}
-use Rattle.vdi_ops.specs.declared.act.OpAct.TheVariants as op_acts
 use Rattle.vdi_ops.specs.declared.end.OpEnd.{OpEnd}
 use Rattle.vdi_ops.specs.Op as ops
 use Rattle.vdi_ops.specs.Steps.{on_refusal}
@@ -25,15 +22,13 @@ use Rattle.sheep_node.specs.declared.input.Input.{Input}
 use Rattle.sheep_node.specs.declared.input.Input.TheVariants as inputs
 use Rattle.sheep_node.specs.State.{Course, Waiting, Driving, Commanding, Request, Node}
 use Rattle.sheep_node.specs.RecoveryView.{recovery_state_of}
-use Rattle.sheep_node.specs.StepState.{StepState, at_first, with_optional_entry, request_ended}
-use Rattle.sheep_node.specs.RequestWorks.{command_refused, course_refused}
+use Rattle.sheep_node.specs.StepState.{StepState, at_first, request_ended}
+use Rattle.sheep_node.specs.RequestWorks.{command_refused, course_refused, request_refused}
 use Rattle.sheep_node.specs.Courses.{after_command_step}
 use Rattle.sheep_node.specs.LogReading.{entry_read, on_back}
 use Rattle.sheep_node.specs.Step.{on_request, recovery_stepped, on_put, on_recover_tick, node_step}
-use Rattle.sheep_node.specs.May.{May}
-use Rattle.sheep_node.specs.OneWork.{HasOneWorkPerRequest}
 use Rattle.sheep_node.specs.Changes as changes
-use Rattle.sheep_node.specs.Changes.{Outcome, ToWork, ToEntry, ToReply, RequestSteps, DiskBegins, DiskGoesOn, CommandBegins, CommandGoesOn, CommandDecided, WorkIsNext, AtOnce, InTurn, Again, input_received, Change}
+use Rattle.sheep_node.specs.Changes.{Outcome, ToWork, ToEntry, ToReply, RequestSteps, DiskBegins, DiskGoesOn, CommandBegins, CommandGoesOn, CommandDecided, WorkIsNext, AtOnce, InTurn, Again, AgainAlone, input_received, Change}
 use Rattle.sheep_node.proofs.OneWorkParts.{Requests}
 use Rattle.sheep_node.proofs.StepChain.{kept_by_chain, step_chain}
 
@@ -59,18 +54,22 @@ module _ (P : ℕ → Type 0) where
       (λ (other : q ≢ req). all q at (sym (get-remove_other requests req q other) ∙ got))
       (cases_eq q req)
 
-  command_are : (session req : ℕ) (ask : VdiAsk) (step : ops.OpStep) (so_far : StepState) → P req → In so_far → In (after_command_step session req ask step so_far)
-  command_are session req ask step so_far so all = put_are so_far.node.requests req (record { session = session; course = Commanding ask step.op }) so all
+  command_are : (session req : ℕ) (step : ops.OpStep) (so_far : StepState) → P req → In so_far → In (after_command_step session req step so_far)
+  command_are session req step so_far so all = put_are so_far.node.requests req (record { session = session; course = Commanding step.op }) so all
 
   refused_are : (session req : ℕ) (cause : Cause) (course : Course) (so_far : StepState) → In so_far → In (course_refused session req cause course so_far)
   unfolding request_ended
   refused_are session req cause (Waiting ask) so_far all = all
   refused_are session req cause (Driving driver) so_far all = gone_are so_far.node.requests req all
-  refused_are session req cause (Commanding ask op) so_far all = by_end (on_refusal cause op)
+  refused_are session req cause (Commanding op) so_far all = by_end (on_refusal cause op)
     where
       by_end : (end : Option OpEnd) → In (command_refused session req end so_far)
       by_end None = all
       by_end (Some end) = gone_are so_far.node.requests req all
+
+  request_refused_are : (req : ℕ) (cause : Cause) (request : Option Request) (so_far : StepState) → In so_far → In (request_refused req cause request so_far)
+  request_refused_are req cause None so_far all = all
+  request_refused_are req cause (Some request) so_far all = refused_are request.session req cause request.course so_far all
 
   received_requests : (input : Input) (node : Node) → In (at_first node) → In (input_received input (at_first node))
   unfolding entry_read on_request on_recover_tick on_back
@@ -100,16 +99,17 @@ module _ (P : ℕ → Type 0) where
     steps_are so_far session req next moved (DiskGoesOn number work attempt status bytes driver disk step ends on is) all =
         put_are so_far.node.requests req (record { session = session; course = Driving step.driver }) (all req (record { session = session; course = Driving driver }) ends.ends.request) all
     steps_are so_far session req next moved (CommandBegins ask step arrival is) all =
-        command_are session req ask step so_far (asked req session (asks.Vdi ask) arrival.from) all
-    steps_are so_far session req next moved (CommandGoesOn number work attempt status bytes ask op step ends is) all =
-        command_are session req ask step (changes.without_ended_work session req work status so_far) (all req (record { session = session; course = Commanding ask op }) ends.ends.request) all
-    steps_are so_far session req next moved (CommandDecided entry ask op step from read there waits is) all =
-        command_are session req ask step so_far (all req (record { session = session; course = Commanding ask op }) there) all
+        command_are session req step so_far (asked req session (asks.Vdi ask) arrival.from) all
+    steps_are so_far session req next moved (CommandGoesOn number work attempt status bytes op step ends is) all =
+        command_are session req step (changes.without_ended_work session req work status so_far) (all req (record { session = session; course = Commanding op }) ends.ends.request) all
+    steps_are so_far session req next moved (CommandDecided entry op step from read there waits is) all =
+        command_are session req step so_far (all req (record { session = session; course = Commanding op }) there) all
 
     comes_are : (so_far : StepState) (session req : ℕ) (tried : Work) (lined : StepState) → WorkIsNext input node so_far session req tried lined → In so_far → In lined
     comes_are so_far session req tried lined (AtOnce work moved steps begins) all = steps_are so_far session req (ToWork work) moved steps all
     comes_are so_far session req tried lined (InTurn work later none is) all = all
     comes_are so_far session req tried lined (Again work course from next there request) all = all
+    comes_are so_far session req tried lined (AgainAlone work from next there none) all = all
 
     change_keeps_requests : (so_far next : StepState) → Change input node so_far next → In so_far → In next
     unfolding request_ended
@@ -120,8 +120,9 @@ module _ (P : ℕ → Type 0) where
         refused_are session req cause course (changes.without_ended_work session req work status so_far) all
     change_keeps_requests so_far next (changes.Opens session req tried lined comes short) all = comes_are so_far session req tried lined comes all
     change_keeps_requests so_far next (changes.Holds session req tried lined comes short touched) all = comes_are so_far session req tried lined comes all
-    change_keeps_requests so_far next (changes.Denies session req tried lined course comes short untouched there) all =
-        refused_are session req (Halt (changes.zones_of_members lined.node) (zones_for tried.work)) course (changes.without_denied_work session req tried lined) (comes_are so_far session req tried lined comes all)
+    change_keeps_requests so_far next (changes.Denies session req tried lined request comes short untouched there own) all =
+        request_refused_are req (Halt (changes.zones_of_members lined.node) (zones_for tried.work)) request (changes.without_denied_work session req tried lined) (comes_are so_far session req tried lined comes all)
+    change_keeps_requests so_far next (changes.Strays req work gateway there none apart) all = all
     change_keeps_requests so_far next (changes.Lines session req work moved steps waits) all = steps_are so_far session req (ToWork work) moved steps all
     change_keeps_requests so_far next (changes.Appends session req entry moved steps) all = steps_are so_far session req (ToEntry entry) moved steps all
     change_keeps_requests so_far next (changes.Replies session req reply moved steps) all =
@@ -131,14 +132,14 @@ module _ (P : ℕ → Type 0) where
     change_keeps_requests so_far next (changes.Rejects session req ask cause arrival) all = all
     change_keeps_requests so_far next (changes.Recovers due) all = all
 
-    pub requests_stay : May input node → HasOneWorkPerRequest node → AllAre P node.requests → AllAre P (node_step input node).node.requests
-    requests_stay may driven all = kept_by_chain In change_keeps_requests (step_chain input node may driven) (received_requests input node all)
+    pub requests_stay : AllAre P node.requests → AllAre P (node_step input node).node.requests
+    requests_stay all = kept_by_chain In change_keeps_requests (step_chain input node) (received_requests input node all)
 
 -- a request that a node has once it stepped it had, or it is the guest's
-pub requests_from_inputs : (input : Input) (node : Node) (req : ℕ) → May input node → HasOneWorkPerRequest node
+pub requests_from_inputs : (input : Input) (node : Node) (req : ℕ)
     → tree.contains_key (node_step input node).node.requests req ≡ true
     → (tree.contains_key node.requests req ≡ true) ⊎ ((session : ℕ) × (ask : Ask) × (input ≡ inputs.Guest req session ask))
-requests_from_inputs input node req may driven has = by_request (tree.get (node_step input node).node.requests req) refl has
+requests_from_inputs input node req has = by_request (tree.get (node_step input node).node.requests req) refl has
   where
     IsKnown : ℕ → Type 0
     IsKnown q = (tree.contains_key node.requests q ≡ true) ⊎ ((session : ℕ) × (ask : Ask) × (input ≡ inputs.Guest q session ask))
@@ -146,5 +147,5 @@ requests_from_inputs input node req may driven has = by_request (tree.get (node_
     by_request : (o : Option Request) → tree.get (node_step input node).node.requests req ≡ o → is_some o ≡ true → IsKnown req
     by_request None is has = absurd (cc (has))
     by_request (Some request) is has =
-        requests_stay IsKnown input node (λ q session ask from. inr (session, ask, from)) may driven
+        requests_stay IsKnown input node (λ q session ask from. inr (session, ask, from))
         (λ q had got. inl (ap (λ (o : Option Request). is_some o) got)) req request is

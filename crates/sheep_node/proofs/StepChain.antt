@@ -1,20 +1,18 @@
 -- The step of a node is a chain of changes.
-use Rattle.std.proofs.Common.{◌≡◌, ◌≢◌, ℕ, ◌+◌, ◌==◌, nat_lt, not, ◌||◌, Bool, true, false, cond, List, [], ◌∷◌, ◌++◌, fold, Contains, Option, Some, None, is_some, is_none, refl, sym, ap, subst, ◌∙◌, ⊎_elim}
+use Rattle.std.proofs.Common.{◌≡◌, ℕ, ◌+◌, not, Bool, true, false, cond, List, [], ◌∷◌, fold, Option, Some, None, is_some, is_none, refl, sym, ap, subst, ◌∙◌, ⊎_elim}
 use Rattle.std.specs.Prelude.{IsTrue}
 use Rattle.std.specs.Ordering.{nat_cmp}
 use Rattle.std.specs.List.{list_any}
 use Rattle.std.specs.FinMap as tree
-use Rattle.std.proofs.lemmas.Bool.{eqb-true, or_cases}
-use Rattle.proof_tools.proofs.Booleans.{has_value}
+use Rattle.std.specs.FinSet.{FinSet}
+use Rattle.std.proofs.lemmas.Bool.{or_cases}
 use Rattle.proof_tools.proofs.Lists.{find-contains}
-use Rattle.proof_tools.proofs.FiniteMaps.{get-entry, get-insert_same}
+use Rattle.proof_tools.proofs.FiniteMaps.{get-entry, get-insert_other, get-insert_same, get-remove_other}
 use Rattle.object_id.specs.declared.cause.Cause.{Cause}
 use Rattle.object_id.specs.declared.cause.Cause.TheVariants.{Halt}
 use Rattle.object_id.specs.declared.node.Epoch.{Epoch}
 use Rattle.object_id.specs.declared.entry.Entry.{Entry}
 use Rattle.vdi_directory.specs.declared.decision.Decision.{Decision}
-use Rattle.hash_ring.specs.Placement.{zone_count}
-use Rattle.vnode_table.specs.Epochs.{members_at}
 use Rattle.vnode_table.specs.Targets.{targets_in}
 use Rattle.peer_proto.specs.Work.{oid_of, policy_of}
 use Rattle.peer_proto.specs.declared.guest.DiskAsk.{DiskAsk}
@@ -56,41 +54,27 @@ use Rattle.sheep_node.specs.declared.input.Input.TheVariants as inputs
 use Rattle.sheep_node.specs.State.{Course, Waiting, Driving, Commanding, Request, Node}
 use Rattle.sheep_node.specs.RecoveryView.{recovery_state_of}
 use Rattle.sheep_node.specs.StepState.{StepState, at_first, with_node, with_gateway, session_in, with_inode_queue, with_course}
-use Rattle.sheep_node.specs.RequestWorks.{request_refused, queue_left, after_start, work_begun, work_asked}
-use Rattle.sheep_node.specs.Courses.{after_driver_step, driver_acted, driver_stepped, driver_went_on, disk_went_on, disk_begun, after_command_step, command_acted, command_stepped, command_went_on, course_went_on, course_decided}
+use Rattle.sheep_node.specs.RequestWorks.{request_refused, after_start, work_begun, work_asked}
+use Rattle.sheep_node.specs.Courses.{inode_open, after_driver_step, driver_acted, driver_stepped, driver_went_on, disk_went_on, disk_begun, after_command_step, command_acted, command_stepped, command_went_on, course_went_on, course_decided}
 use Rattle.sheep_node.specs.Waiting.{next_begun, course_begun, found_request_begun, begun_if_may, passed_over, queued_requests, let_begin, work_done, work_refused, after_act, after_gateway_step}
-use Rattle.sheep_node.specs.Guests.{request_refusal, inode_open, with_queued_request, request_taken, request_taken_unless, on_guest}
+use Rattle.sheep_node.specs.Guests.{request_refusal, with_queued_request, request_taken, request_taken_unless, on_guest}
 use Rattle.sheep_node.specs.AwaitedEntry.{waits_for_entry}
 use Rattle.sheep_node.specs.LogReading.{entry_read, asker_of, decision_told, on_log_entry}
 use Rattle.sheep_node.specs.Step as steps
 use Rattle.sheep_node.specs.Step.{recovery_stepped, on_put, on_input, is_due, with_recovered, recovered_put, node_step}
-use Rattle.sheep_node.specs.May.{fits_node, May}
-use Rattle.sheep_node.specs.OneWork.{may_work_at, HasOneWorkPerRequest}
+use Rattle.sheep_node.specs.May.{fits_node}
 use Rattle.sheep_node.specs.Changes as changes
-use Rattle.sheep_node.specs.Changes.{IsTold, input_received, IsOverWith, HasRequest, LearnsStatus, EndsAttempt, EndsWork, Arrival, gateway_with_touch, without_ended_work, refusal_after_status, ToWork, outcome_of_driver, outcome_of_command, RequestSteps, DiskBegins, DiskGoesOn, CommandBegins, CommandGoesOn, CommandDecided, new_work, WorkIsNext, AtOnce, InTurn, Again, has_too_few_zones, zones_of_members, without_denied_work, Change, Leads, Still, Then}
+use Rattle.sheep_node.specs.Changes.{IsTold, input_received, IsOverWith, IsOfSession, IsSoundStep, HasRequest, LearnsStatus, EndsAttempt, EndsWork, Arrival, gateway_with_touch, without_ended_work, refusal_after_status, ToWork, outcome_of_driver, outcome_of_command, RequestSteps, DiskBegins, DiskGoesOn, CommandBegins, CommandGoesOn, CommandDecided, new_work, WorkIsNext, AtOnce, InTurn, Again, AgainAlone, has_too_few_zones, zones_of_members, without_denied_work, Change, Leads, Still, Then}
 use Rattle.sheep_node.proofs.AwaitedWorks.{found_got}
 use Rattle.sheep_node.proofs.OneWorkChanges.{StepHasOneWork, comes_free, change_keeps_one_work, received_one_work}
 
--- a chain of changes to a turn, in which works are with their requests
+-- a chain of changes to here; in a sound step works are with their requests by now
 pub record IsReached (input : Input) (node : Node) (first so_far : StepState) : Type 0 where
   pub leads : Leads input node first so_far
-  pub good : StepHasOneWork so_far
+  pub good : IsSoundStep input node → StepHasOneWork so_far
 
 pub reached_by : {input : Input} {node : Node} {first so_far next : StepState} → IsReached input node first so_far → Change input node so_far next → IsReached input node first next
-reached_by {input} {node} {first} {so_far} {next} walk change = record { leads = Then walk.leads change; good = change_keeps_one_work so_far next change walk.good }
-
--- the request of an open work is there
-record HasAsker (req : ℕ) (so_far : StepState) : Type 0 where
-  session : ℕ
-  course : Course
-  there : HasRequest session req course so_far
-
-asker_at : (req : ℕ) (so_far : StepState) (request : Option Request) → tree.get so_far.node.requests req ≡ request → may_work_at request ≡ true → HasAsker req so_far
-asker_at req so_far None is may = absurd (cc (may))
-asker_at req so_far (Some request) is may = record { session = request.session; course = request.course; there = is }
-
-asker_in : (req : ℕ) (work : Work) (so_far : StepState) → tree.get so_far.node.gateway.works req ≡ Some work → StepHasOneWork so_far → HasAsker req so_far
-asker_in req work so_far there good = asker_at req so_far (tree.get so_far.node.requests req) refl (good.open_works req work there)
+reached_by {input} {node} {first} {so_far} {next} walk change = record { leads = Then walk.leads change; good = λ sound. change_keeps_one_work so_far next change sound (walk.good sound) }
 
 module _ (input : Input) (node : Node) (first : StepState) where
   -- ---- a work begins
@@ -111,10 +95,8 @@ module _ (input : Input) (node : Node) (first : StepState) where
           (refusal_step lined.node.gateway req work (Halt (zones_of_members lined.node) (zones_for work))))
       by_touched short true touched = reached_by walk (changes.Holds session req (new_work work) lined comes short touched)
       by_touched short false untouched =
-          let cause = Halt (zones_of_members lined.node) (zones_for work) in
-          let l = comes_free so_far session req (new_work work) lined comes walk.good in
-          subst (λ (o : Option Request). IsReached input node first (request_refused req cause o (without_denied_work session req (new_work work) lined))) (sym l.there)
-          (reached_by walk (changes.Denies session req (new_work work) lined l.course comes short untouched l.there))
+          reached_by walk (changes.Denies session req (new_work work) lined (tree.get lined.node.requests req) comes short untouched refl
+          (λ sound. subst (IsOfSession session) (sym (comes_free so_far session req (new_work work) lined comes sound (walk.good sound)).there) refl))
 
       by_zones : (b : Bool) → has_too_few_zones (new_work work) lined.node ≡ b
           → Begins (cond b (halt_step lined.node.gateway req (new_work work) epoch (zones_of_members lined.node))
@@ -153,12 +135,12 @@ module _ (input : Input) (node : Node) (first : StepState) where
   command_walk so_far session req (op_acts.Work work) moved steps walk = asked_walk so_far session req work moved steps walk
   command_walk so_far session req (op_acts.Reply reply) moved steps walk = reached_by walk (changes.Replies session req reply moved steps)
 
-  command_stepped_walk : (so_far : StepState) (session req : ℕ) (ask : VdiAsk) (step : ops.OpStep) (freed : StepState)
-      → RequestSteps input node so_far session req (outcome_of_command step.act) (after_command_step session req ask step freed) → IsReached input node first so_far
-      → IsReached input node first (command_stepped session req ask step freed)
+  command_stepped_walk : (so_far : StepState) (session req : ℕ) (step : ops.OpStep) (freed : StepState)
+      → RequestSteps input node so_far session req (outcome_of_command step.act) (after_command_step session req step freed) → IsReached input node first so_far
+      → IsReached input node first (command_stepped session req step freed)
   unfolding command_stepped
-  command_stepped_walk so_far session req ask step freed steps walk =
-      command_walk so_far session req step.act (after_command_step session req ask step freed) steps walk
+  command_stepped_walk so_far session req step freed steps walk =
+      command_walk so_far session req step.act (after_command_step session req step freed) steps walk
 
   -- ---- what waited begins
 
@@ -178,7 +160,7 @@ module _ (input : Input) (node : Node) (first : StepState) where
       by_run true may = disk_begun_walk so_far session req ask (session_in session so_far).disk there refl may walk
       by_run false waits = walk
   course_begun_walk so_far session req (Driving driver) there walk = walk
-  course_begun_walk so_far session req (Commanding ask op) there walk = walk
+  course_begun_walk so_far session req (Commanding op) there walk = walk
 
   request_begun_walk : (so_far : StepState) (req : ℕ) (request : Option Request) → tree.get so_far.node.requests req ≡ request → IsReached input node first so_far
       → IsReached input node first (found_request_begun req request so_far)
@@ -256,18 +238,18 @@ module _ (input : Input) (node : Node) (first : StepState) where
               driver_stepped_walk so_far session req disk step freed
               (DiskGoesOn number work attempt status bytes_now driver disk step (ends_as (Driving driver) same) on next) walk
 
-      command_done_walk : (ask : VdiAsk) (op : Op) → course ≡ Commanding ask op → (step : Option ops.OpStep) → op_on_done bytes_now op ≡ step
-          → IsReached input node first (command_went_on session req ask step freed)
-      command_done_walk ask op same None none = stops (Commanding ask op) same none
-      command_done_walk ask op same (Some step) next =
-          command_stepped_walk so_far session req ask step freed
-          (CommandGoesOn number work attempt status bytes_now ask op step (ends_as (Commanding ask op) same) next) walk
+      command_done_walk : (op : Op) → course ≡ Commanding op → (step : Option ops.OpStep) → op_on_done bytes_now op ≡ step
+          → IsReached input node first (command_went_on session req step freed)
+      command_done_walk op same None none = stops (Commanding op) same none
+      command_done_walk op same (Some step) next =
+          command_stepped_walk so_far session req step freed
+          (CommandGoesOn number work attempt status bytes_now op step (ends_as (Commanding op) same) next) walk
 
       went_on_walk : (at : Course) → course ≡ at → IsReached input node first (course_went_on session req bytes_now at freed)
       unfolding course_went_on
       went_on_walk (Waiting ask) same = stops (Waiting ask) same tt
       went_on_walk (Driving driver) same = disk_walk driver same (session_in session freed).disk refl
-      went_on_walk (Commanding ask op) same = command_done_walk ask op same (op_on_done bytes_now op) refl
+      went_on_walk (Commanding op) same = command_done_walk op same (op_on_done bytes_now op) refl
 
       pub done_walk : IsReached input node first (after_gateway_act (done_step (gateway_with_touch req work status so_far) req work.work bytes_now))
       done_walk =
@@ -290,37 +272,70 @@ module _ (input : Input) (node : Node) (first : StepState) where
     abbrev pub Settled : gateway_steps.GatewayStep → Type 0
     Settled step = IsReached input node first (after_act step.act (with_gateway step.gateway so_far))
 
-    module _ (number : ℕ) (status : Status) (settled : is_unanswered status ≡ false) (told : IsTold input number status) (req : ℕ) (work : Work)
+    -- a work whose request isn't there goes on in the gateway alone
+    module _ (req : ℕ) (work : Work) (there : tree.get so_far.node.gateway.works req ≡ Some work) (none : tree.get so_far.node.requests req ≡ None) where
+      module _ (touched : FinSet nat_cmp) where
+        abbrev gateway : Gateway
+        gateway = record so_far.node.gateway { touched = touched }
+
+        gone_walk : IsReached input node first (with_gateway (without_work req gateway) so_far)
+        gone_walk =
+            reached_by walk (changes.Strays req work (without_work req gateway) there none
+            (record { own = refl; others = λ other apart. get-remove_other so_far.node.gateway.works req other apart }))
+
+        stray_done_walk : (bytes : List ℕ) → Settled (done_step gateway req work.work bytes)
+        stray_done_walk bytes =
+            subst (λ (o : Option Request). IsReached input node first (work_done work.work req bytes o (with_gateway (without_work req gateway) so_far)))
+            (sym none) gone_walk
+
+        stray_refused_walk : (cause : Cause) → Settled (refusal_step gateway req work.work cause)
+        stray_refused_walk cause =
+            subst (λ (o : Option Request). IsReached input node first (work_refused work.work req cause o (with_gateway (without_work req gateway) so_far)))
+            (sym none) gone_walk
+
+        stray_failure_walk : (cause : Option Cause) → Settled (failure_step gateway req work cause)
+        stray_failure_walk None =
+            let later : Work = record work { ended = work.ended + 1; stage = Ended } in
+            reached_by walk (changes.Strays req work (with_work req later gateway) there none
+            (record { own = refl; others = λ other apart. get-insert_other so_far.node.gateway.works req later other apart }))
+        stray_failure_walk (Some cause) = stray_refused_walk cause
+
+    module _ (number : ℕ) (status : Status) (settled : IsSoundStep input node → is_unanswered status ≡ false) (told : IsTold input number status) (req : ℕ) (work : Work)
         (there : tree.get so_far.node.gateway.works req ≡ Some work) (awaited : is_awaited_in number work ≡ true) where
       module _ (attempt : Attempt) (open_so : work.stage ≡ Open attempt) where
         learns : LearnsStatus input node so_far req number work attempt status
         learns = record { there = there; open_so = open_so; awaited = awaited; settled = settled; told = told }
 
-        module _ (over : is_over (messages_with_status number status attempt.messages) ≡ true) where
-          asker_now : HasAsker req so_far
-          asker_now = asker_in req work so_far there walk.good
-
-          ends : EndsAttempt input node so_far asker_now.session req number work attempt status asker_now.course
-          ends = record { learns = learns; over = over; request = asker_now.there }
+        module _ (over : is_over (messages_with_status number status attempt.messages) ≡ true) (request : Request)
+            (got : tree.get so_far.node.requests req ≡ Some request) where
+          ends : EndsAttempt input node so_far request.session req number work attempt status request.course
+          ends = record { learns = learns; over = over; request = got }
 
           not_done_walk : is_done work.work (messages_with_status number status attempt.messages) ≡ false → (cause : Option Cause)
               → refusal_after_status req number work attempt status so_far ≡ cause → Settled (failure_step (gateway_with_touch req work status so_far) req work cause)
           not_done_walk never None why =
-              reached_by walk (changes.Fails asker_now.session req number work attempt status asker_now.course ends never why)
+              reached_by walk (changes.Fails request.session req number work attempt status request.course ends never why)
           not_done_walk never (Some cause) why =
-              refused_walk so_far asker_now.session req number work attempt status asker_now.course ends walk cause never why
+              refused_walk so_far request.session req number work attempt status request.course ends walk cause never why
 
-          over_walk : (b : Bool) → is_done work.work (messages_with_status number status attempt.messages) ≡ b
-              → Settled (cond b (done_step (gateway_with_touch req work status so_far) req work.work (bytes_given work.work (messages_with_status number status attempt.messages)))
-              (failure_step (gateway_with_touch req work status so_far) req work (refusal_after_status req number work attempt status so_far)))
-          over_walk true is = done_walk so_far asker_now.session req number work attempt status asker_now.course ends walk is
-          over_walk false never = not_done_walk never (refusal_after_status req number work attempt status so_far) refl
+        over_walk : is_over (messages_with_status number status attempt.messages) ≡ true → (request : Option Request)
+            → tree.get so_far.node.requests req ≡ request → (b : Bool) → is_done work.work (messages_with_status number status attempt.messages) ≡ b
+            → Settled (cond b (done_step (gateway_with_touch req work status so_far) req work.work (bytes_given work.work (messages_with_status number status attempt.messages)))
+            (failure_step (gateway_with_touch req work status so_far) req work (refusal_after_status req number work attempt status so_far)))
+        over_walk over None none true is =
+            stray_done_walk req work there none (gateway_with_touch req work status so_far).touched (bytes_given work.work (messages_with_status number status attempt.messages))
+        over_walk over None none false never =
+            stray_failure_walk req work there none (gateway_with_touch req work status so_far).touched (refusal_after_status req number work attempt status so_far)
+        over_walk over (Some request) got true is =
+            done_walk so_far request.session req number work attempt status request.course (ends over request got) walk is
+        over_walk over (Some request) got false never =
+            not_done_walk over request got never (refusal_after_status req number work attempt status so_far) refl
 
         goes_walk : (b : Bool) → is_over (messages_with_status number status attempt.messages) ≡ b
             → Settled (cond b (gateway_steps.attempt_ended (gateway_with_touch req work status so_far) req work (attempt_with_status number status attempt))
             (waiting_step (with_work req (record work { stage = Open (attempt_with_status number status attempt) }) (gateway_with_touch req work status so_far))))
         unfolding gateway_steps.attempt_ended
-        goes_walk true over = over_walk over (is_done work.work (messages_with_status number status attempt.messages)) refl
+        goes_walk true over = over_walk over (tree.get so_far.node.requests req) refl (is_done work.work (messages_with_status number status attempt.messages)) refl
         goes_walk false over = reached_by walk (changes.Marks req number work attempt status learns over)
 
       known_walk : (stage : WorkStage) → work.stage ≡ stage → Settled (status_step_in (gateway_with_touch req work status so_far) req work number status stage)
@@ -333,7 +348,7 @@ module _ (input : Input) (node : Node) (first : StepState) where
           let none : is_awaited_in number work ≡ false = ap (λ (stage : WorkStage). list_any (is_awaited_message number) (open_messages stage)) is in
           absurd (cc (awaited, none))
 
-    pub answered_walk : (number : ℕ) (status : Status) → is_unanswered status ≡ false → IsTold input number status
+    pub answered_walk : (number : ℕ) (status : Status) → (IsSoundStep input node → is_unanswered status ≡ false) → IsTold input number status
         → IsReached input node first (after_gateway_step (message_ended so_far.node.gateway number status) so_far)
     unfolding after_gateway_step message_ended
     answered_walk number status settled told = by_asker (asker number so_far.node.gateway) refl
@@ -346,28 +361,28 @@ module _ (input : Input) (node : Node) (first : StepState) where
 
     -- ---- a work is tried again
 
-    module _ (from : input ≡ inputs.RetryTick) (req : ℕ) (asked : Work) (there : tree.get so_far.node.gateway.works req ≡ Some asked)
-        (next : next_try (record { 0 = so_far.node.peer.epoch }) so_far.node.gateway ≡ Some (req, asked)) where
-      asker_here : HasAsker req so_far
-      asker_here = asker_in req asked so_far there walk.good
+    -- it is refused for want of members
+    abbrev IsDenied : ℕ → Work → Type 0
+    IsDenied req asked = has_too_few_zones asked so_far.node ≡ true → is_touched req so_far.node.gateway ≡ false
+        → Settled (refusal_step so_far.node.gateway req asked.work (Halt (zones_of_members so_far.node) (zones_for asked.work)))
 
-      again : WorkIsNext input node so_far asker_here.session req asked so_far
-      again = Again asked asker_here.course from next there asker_here.there
+    denied_walk : (req : ℕ) (asked : Work) (request : Request) → WorkIsNext input node so_far request.session req asked so_far
+        → tree.get so_far.node.requests req ≡ Some request → IsDenied req asked
+    denied_walk req asked request again got short untouched =
+        let cause = Halt (zones_of_members so_far.node) (zones_for asked.work) in
+        subst (λ (o : Option Request). IsReached input node first (work_refused asked.work req cause o (with_gateway (without_work req so_far.node.gateway) so_far))) (sym got)
+        (let_begin_walk request.session (request_refused req cause (Some request) (without_denied_work request.session req asked so_far))
+        (reached_by walk (changes.Denies request.session req asked so_far (Some request) again short untouched got (λ sound. refl))))
 
+    module _ (session req : ℕ) (asked : Work) (again : WorkIsNext input node so_far session req asked so_far) (denied : IsDenied req asked) where
       abbrev here : Epoch
       here = record { 0 = so_far.node.peer.epoch }
 
       by_touched : has_too_few_zones asked so_far.node ≡ true → (b : Bool) → is_touched req so_far.node.gateway ≡ b
           → Settled (cond b (waiting_step (with_work req (record asked { stage = WaitsForMembers here }) so_far.node.gateway))
           (refusal_step so_far.node.gateway req asked.work (Halt (zones_of_members so_far.node) (zones_for asked.work))))
-      by_touched short true touched = reached_by walk (changes.Holds asker_here.session req asked so_far again short touched)
-      by_touched short false untouched =
-          let cause = Halt (zones_of_members so_far.node) (zones_for asked.work) in
-          let gone = with_gateway (without_work req so_far.node.gateway) so_far in
-          subst (λ (o : Option Request). IsReached input node first (work_refused asked.work req cause o gone)) (sym asker_here.there)
-          (let_begin_walk asker_here.session
-          (request_refused req cause (Some (record { session = asker_here.session; course = asker_here.course })) (without_denied_work asker_here.session req asked so_far))
-          (reached_by walk (changes.Denies asker_here.session req asked so_far asker_here.course again short untouched asker_here.there)))
+      by_touched short true touched = reached_by walk (changes.Holds session req asked so_far again short touched)
+      by_touched short false untouched = denied short untouched
 
       tried_walk : Settled (attempt_step so_far.node.epochs so_far.node.gateway req asked so_far.node.sends here)
       unfolding attempt_step
@@ -377,24 +392,35 @@ module _ (input : Input) (node : Node) (first : StepState) where
               → Settled (cond b (halt_step so_far.node.gateway req asked here (zones_of_members so_far.node))
               (open_step so_far.node.gateway req asked (next_attempt asked so_far.node.sends here (targets_in so_far.node.epochs here.0 (oid_of asked.work) (policy_of asked.work)))))
           by_zones true short = by_touched short (is_touched req so_far.node.gateway) refl
-          by_zones false enough = reached_by walk (changes.Opens asker_here.session req asked so_far again enough)
+          by_zones false enough = reached_by walk (changes.Opens session req asked so_far again enough)
 
     pub retry_walk : input ≡ inputs.RetryTick → IsReached input node first (steps.on_retry_tick so_far)
     unfolding steps.on_retry_tick after_gateway_step retry_step
     retry_walk from = by_found (next_try (record { 0 = so_far.node.peer.epoch }) so_far.node.gateway) refl
       where
+        by_request : (req : ℕ) (asked : Work) → next_try (record { 0 = so_far.node.peer.epoch }) so_far.node.gateway ≡ Some (req, asked)
+            → tree.get so_far.node.gateway.works req ≡ Some asked → (request : Option Request) → tree.get so_far.node.requests req ≡ request
+            → Settled (attempt_step so_far.node.epochs so_far.node.gateway req asked so_far.node.sends (record { 0 = so_far.node.peer.epoch }))
+        by_request req asked next there None none =
+            tried_walk 0 req asked (AgainAlone asked from next there none)
+            (λ short untouched. stray_refused_walk req asked there none so_far.node.gateway.touched (Halt (zones_of_members so_far.node) (zones_for asked.work)))
+        by_request req asked next there (Some request) got =
+            let again = Again asked request.course from next there got in
+            tried_walk request.session req asked again (denied_walk req asked request again got)
+
         by_found : (found : Option (ℕ × Work)) → next_try (record { 0 = so_far.node.peer.epoch }) so_far.node.gateway ≡ found
             → Settled (retry_step_of so_far.node.epochs so_far.node.gateway so_far.node.sends (record { 0 = so_far.node.peer.epoch }) found)
         by_found None is = walk
         by_found (Some found) is =
             let test = λ (entry : ℕ × Work). may_try (record { 0 = so_far.node.peer.epoch }) entry.1.stage in
-            tried_walk from found.0 found.1
-            (get-entry so_far.node.gateway.works found (find-contains test (tree.entries so_far.node.gateway.works) found is).0) is
+            by_request found.0 found.1 is
+            (get-entry so_far.node.gateway.works found (find-contains test (tree.entries so_far.node.gateway.works) found is).0)
+            (tree.get so_far.node.requests found.0) refl
 
     -- ---- a guest's request
 
     module _ (session req : ℕ) (ask : Ask) (start : so_far ≡ at_first node) (from : input ≡ inputs.Guest req session ask)
-        (none : tree.get so_far.node.requests req ≡ None) where
+        (none : IsSoundStep input node → tree.get so_far.node.requests req ≡ None) where
       arrival : (refusal : Option Cause) → request_refusal so_far.node.peer (session_in session so_far).disk ask ≡ refusal
           → Arrival input node so_far session req ask refusal
       arrival refusal is = record { first = start; from = from; none = none; refused = is }
@@ -413,10 +439,10 @@ module _ (input : Input) (node : Node) (first : StepState) where
 
     command_begun_walk : (session req : ℕ) (ask : VdiAsk) → Arrival input node so_far session req (asks.Vdi ask) None
         → (step : Option ops.OpStep) → begin_command so_far.node.me session ask (inode_open (session_in session so_far).disk) ≡ step
-        → IsReached input node first (command_went_on session req ask step so_far)
+        → IsReached input node first (command_went_on session req step so_far)
     command_begun_walk session req ask arrival None is = walk
     command_begun_walk session req ask arrival (Some step) is =
-        command_stepped_walk so_far session req ask step so_far (CommandBegins ask step arrival is) walk
+        command_stepped_walk so_far session req step so_far (CommandBegins ask step arrival is) walk
 
     taken_walk : (session req : ℕ) (ask : Ask) → Arrival input node so_far session req ask None
         → IsReached input node first (request_taken session req ask so_far)
@@ -427,7 +453,7 @@ module _ (input : Input) (node : Node) (first : StepState) where
     taken_walk session req (asks.Entry entry) arrival = walk
 
     pub guest_walk : (session req : ℕ) (ask : Ask) → so_far ≡ at_first node → input ≡ inputs.Guest req session ask
-        → tree.get so_far.node.requests req ≡ None → IsReached input node first (on_guest req session ask so_far)
+        → (IsSoundStep input node → tree.get so_far.node.requests req ≡ None) → IsReached input node first (on_guest req session ask so_far)
     unfolding on_guest
     guest_walk session req ask start from none = by_cause (request_refusal so_far.node.peer (session_in session so_far).disk ask) refl
       where
@@ -444,20 +470,20 @@ module _ (input : Input) (node : Node) (first : StepState) where
     abbrev pub decision : Decision
     decision = decision_on entry node.peer
 
-    decided_walk : (req session : ℕ) (ask : VdiAsk) (op : Op) → HasRequest session req (Commanding ask op) so_far
-        → waits_for_entry entry (Commanding ask op) ≡ true → (step : Option ops.OpStep)
-        → on_decision (effects_of so_far.node.peer) decision op ≡ step → IsReached input node first (command_went_on session req ask step so_far)
-    decided_walk req session ask op there waits None none = walk
-    decided_walk req session ask op there waits (Some step) next =
-        command_stepped_walk so_far session req ask step so_far (CommandDecided entry ask op step from read there waits next) walk
+    decided_walk : (req session : ℕ) (op : Op) → HasRequest session req (Commanding op) so_far
+        → waits_for_entry entry (Commanding op) ≡ true → (step : Option ops.OpStep)
+        → on_decision (effects_of so_far.node.peer) (inode_open (session_in session so_far).disk) decision op ≡ step → IsReached input node first (command_went_on session req step so_far)
+    decided_walk req session op there waits None none = walk
+    decided_walk req session op there waits (Some step) next =
+        command_stepped_walk so_far session req step so_far (CommandDecided entry op step from read there waits next) walk
 
     course_walk : (req session : ℕ) (course : Course) → HasRequest session req course so_far → waits_for_entry entry course ≡ true
         → IsReached input node first (course_decided session req decision course so_far)
     unfolding course_decided
     course_walk req session (Waiting ask) there waits = walk
     course_walk req session (Driving driver) there waits = walk
-    course_walk req session (Commanding ask op) there waits =
-        decided_walk req session ask op there waits (on_decision (effects_of so_far.node.peer) decision op) refl
+    course_walk req session (Commanding op) there waits =
+        decided_walk req session op there waits (on_decision (effects_of so_far.node.peer) (inode_open (session_in session so_far).disk) decision op) refl
 
     pub told_walk : (found : Option (ℕ × Request)) → asker_of entry node ≡ found
         → IsReached input node first (decision_told decision found so_far)
@@ -506,90 +532,62 @@ untaken node req free = by_got (tree.get node.requests req) refl free
     by_got None is free = is
     by_got (Some request) is free = absurd (cc (free))
 
--- what a chain needs of its input: a guest's request has a free number, and a reply to a work's message says what came of it
-abbrev pub ChainNeeds : Input → Node → Type 0
-ChainNeeds (inputs.Guest req session ask) node = tree.get node.requests req ≡ None
-ChainNeeds (inputs.Request request) node = Unit {0}
-ChainNeeds (inputs.Reply rsp) node = gateways.gateway_awaits rsp.number node.gateway ≡ true → is_unanswered (status_by rsp.say) ≡ false
-ChainNeeds (inputs.Lost number) node = Unit {0}
-ChainNeeds (inputs.LogEntry entry) node = Unit {0}
-ChainNeeds inputs.Put node = Unit {0}
-ChainNeeds inputs.RecoverTick node = Unit {0}
-ChainNeeds inputs.RetryTick node = Unit {0}
-ChainNeeds (inputs.Back entries) node = Unit {0}
+-- a chain begins where a node is as it was, but for what no work sees
+still : {input : Input} {node : Node} (first : StepState) → (StepHasOneWork (at_first node) → StepHasOneWork first) → IsReached input node first first
+still first keeps = record { leads = Still; good = λ sound. keeps sound.1.driven }
 
--- a node that may step on it has that
-pub needs_by_may : (input : Input) (node : Node) → May input node → HasOneWorkPerRequest node → ChainNeeds input node
-needs_by_may (inputs.Guest req session ask) node may one_work = untaken node req may.condition.number
-needs_by_may (inputs.Request request) node may one_work = tt
-needs_by_may (inputs.Reply rsp) node may one_work =
-    λ waits. fits_settled node rsp (one_work.recovers rsp.number waits) may.condition
-needs_by_may (inputs.Lost number) node may one_work = tt
-needs_by_may (inputs.LogEntry entry) node may one_work = tt
-needs_by_may inputs.Put node may one_work = tt
-needs_by_may inputs.RecoverTick node may one_work = tt
-needs_by_may inputs.RetryTick node may one_work = tt
-needs_by_may (inputs.Back entries) node may one_work = tt
+begins : (input : Input) (node : Node) → IsReached input node (input_received input (at_first node)) (input_received input (at_first node))
+begins input node = still (input_received input (at_first node)) (received_one_work input node)
 
-pub input_chain : (input : Input) (node : Node) → ChainNeeds input node → StepHasOneWork (at_first node)
-    → IsReached input node (input_received input (at_first node)) (on_input input (at_first node))
+pub input_chain : (input : Input) (node : Node) → IsReached input node (input_received input (at_first node)) (on_input input (at_first node))
 unfolding entry_read on_input steps.on_reply steps.on_loss on_log_entry recovery_steps.recovery_on_reply recovery_steps.recovery_on_loss
-input_chain (inputs.Guest req session ask) node needs good =
-    guest_walk (inputs.Guest req session ask) node (at_first node) (at_first node) (record { leads = Still; good = good }) session req ask refl refl
-    needs
-input_chain (inputs.Request request) node needs good =
-    record { leads = Still; good = received_one_work (inputs.Request request) node good }
-input_chain (inputs.Reply rsp) node needs good = by_waits (gateways.gateway_awaits rsp.number node.gateway) refl
+input_chain (inputs.Guest req session ask) node =
+    guest_walk (inputs.Guest req session ask) node (at_first node) (at_first node) (begins (inputs.Guest req session ask) node) session req ask refl refl
+    (λ sound. untaken node req sound.0.condition.number)
+input_chain (inputs.Request request) node = begins (inputs.Request request) node
+input_chain (inputs.Reply rsp) node = by_waits (gateways.gateway_awaits rsp.number node.gateway) refl
   where
     by_waits : (b : Bool) → gateways.gateway_awaits rsp.number node.gateway ≡ b
         → IsReached (inputs.Reply rsp) node (cond b (at_first node) (recovery_stepped (recovery_steps.message_end rsp.number (Some rsp.say) (recovery_state_of node)) (at_first node)))
         (cond b (after_gateway_step (gateway_steps.gateway_on_reply node.gateway rsp) (at_first node))
         (recovery_stepped (recovery_steps.message_end rsp.number (Some rsp.say) (recovery_state_of node)) (at_first node)))
     by_waits true waits =
-        answered_walk (inputs.Reply rsp) node (at_first node) (at_first node) (record { leads = Still; good = good }) rsp.number (status_by rsp.say)
-        (needs waits) (refl, refl)
-    by_waits false none = record { leads = Still; good = good }
-input_chain (inputs.Lost number) node needs good = by_waits (gateways.gateway_awaits number node.gateway) refl
+        answered_walk (inputs.Reply rsp) node (at_first node) (at_first node) (still (at_first node) (λ good. good)) rsp.number (status_by rsp.say)
+        (λ sound. fits_settled node rsp (sound.1.recovers rsp.number waits) sound.0.condition) (refl, refl)
+    by_waits false none =
+        still (recovery_stepped (recovery_steps.message_end rsp.number (Some rsp.say) (recovery_state_of node)) (at_first node)) (λ good. good)
+input_chain (inputs.Lost number) node = by_waits (gateways.gateway_awaits number node.gateway) refl
   where
     by_waits : (b : Bool) → gateways.gateway_awaits number node.gateway ≡ b
         → IsReached (inputs.Lost number) node (cond b (at_first node) (recovery_stepped (recovery_steps.message_end number None (recovery_state_of node)) (at_first node)))
         (cond b (after_gateway_step (gateway_steps.gateway_on_loss node.gateway number) (at_first node))
         (recovery_stepped (recovery_steps.message_end number None (recovery_state_of node)) (at_first node)))
     by_waits true waits =
-        answered_walk (inputs.Lost number) node (at_first node) (at_first node) (record { leads = Still; good = good }) number Lost refl (refl, refl)
-    by_waits false none = record { leads = Still; good = good }
-input_chain (inputs.LogEntry entry) node needs good =
+        answered_walk (inputs.Lost number) node (at_first node) (at_first node) (still (at_first node) (λ good. good)) number Lost (λ sound. refl) (refl, refl)
+    by_waits false none =
+        still (recovery_stepped (recovery_steps.message_end number None (recovery_state_of node)) (at_first node)) (λ good. good)
+input_chain (inputs.LogEntry entry) node =
     let start = with_node (entry_read entry node) (at_first node) in
     told_walk (inputs.LogEntry entry) node start entry refl start refl refl
-    (record { leads = Still; good = received_one_work (inputs.LogEntry entry) node good }) (asker_of entry node) refl
-input_chain inputs.Put node needs good = record { leads = Still; good = received_one_work inputs.Put node good }
-input_chain inputs.RecoverTick node needs good = record { leads = Still; good = received_one_work inputs.RecoverTick node good }
-input_chain inputs.RetryTick node needs good =
-    retry_walk inputs.RetryTick node (at_first node) (at_first node) (record { leads = Still; good = good }) refl
-input_chain (inputs.Back entries) node needs good =
-    record { leads = Still; good = received_one_work (inputs.Back entries) node good }
+    (begins (inputs.LogEntry entry) node) (asker_of entry node) refl
+input_chain inputs.Put node = begins inputs.Put node
+input_chain inputs.RecoverTick node = begins inputs.RecoverTick node
+input_chain inputs.RetryTick node =
+    retry_walk inputs.RetryTick node (at_first node) (at_first node) (begins inputs.RetryTick node) refl
+input_chain (inputs.Back entries) node = begins (inputs.Back entries) node
 
 -- and so is the step whole
-reached_step : (input : Input) (node : Node) → ChainNeeds input node → HasOneWorkPerRequest node
-    → IsReached input node (input_received input (at_first node)) (node_step input node)
+reached_step : (input : Input) (node : Node) → IsReached input node (input_received input (at_first node)) (node_step input node)
 unfolding node_step recovered_put
-reached_step input node needs driven = by_due (is_due (on_input input (at_first node)).node) refl
+reached_step input node = by_due (is_due (on_input input (at_first node)).node) refl
   where
-    walk : IsReached input node (input_received input (at_first node)) (on_input input (at_first node))
-    walk = input_chain input node needs driven.driven
-
     by_due : (b : Bool) → is_due (on_input input (at_first node)).node ≡ b
         → IsReached input node (input_received input (at_first node)) (cond b (with_recovered (on_input input (at_first node))) (on_input input (at_first node)))
-    by_due true due = reached_by walk (changes.Recovers due)
-    by_due false none = walk
+    by_due true due = reached_by (input_chain input node) (changes.Recovers due)
+    by_due false none = input_chain input node
 
-pub chain_of_step : (input : Input) (node : Node) → ChainNeeds input node → HasOneWorkPerRequest node
-    → Leads input node (input_received input (at_first node)) (node_step input node)
-chain_of_step input node needs one_work = (reached_step input node needs one_work).leads
-
-pub step_chain : (input : Input) (node : Node) → May input node → HasOneWorkPerRequest node
-    → Leads input node (input_received input (at_first node)) (node_step input node)
-step_chain input node may one_work = chain_of_step input node (needs_by_may input node may one_work) one_work
+pub step_chain : (input : Input) (node : Node) → Leads input node (input_received input (at_first node)) (node_step input node)
+step_chain input node = (reached_step input node).leads
 
 -- what every change keeps a chain keeps
 pub kept_by_chain : {input : Input} {node : Node} (P : StepState → Type 0)

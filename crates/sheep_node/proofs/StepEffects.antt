@@ -25,23 +25,21 @@ use Rattle.gateway.specs.Outcomes.{AreNumberedFrom}
 use Rattle.gateway.proofs.SendLaws.{sends-numbers}
 use Rattle.recovery.specs.State.{Recovery, RecoveryState}
 use Rattle.recovery.specs.Steps as recovery_steps
-use Rattle.recovery.specs.Tick.{tick_sends, state_after_tick}
 use Rattle.vdi_ops.specs.declared.end.OpEnd.{OpEnd}
 use Rattle.vdi_ops.specs.Steps.{on_refusal}
 use Rattle.sheep_node.specs.declared.input.Input.{Input}
 use Rattle.sheep_node.specs.declared.input.Input.TheVariants as inputs
-use Rattle.sheep_node.specs.State.{Course, Waiting, Driving, Commanding, Node}
+use Rattle.sheep_node.specs.State.{Course, Waiting, Driving, Commanding, Request, Node}
 use Rattle.sheep_node.specs.RecoveryView.{recovery_state_of}
-use Rattle.sheep_node.specs.StepState.{StepState, at_first, with_node, with_sends, replies_in_order, with_guest_reply, with_optional_entry, with_gateway, without_request, request_ended}
-use Rattle.sheep_node.specs.RequestWorks.{command_refused, course_refused}
+use Rattle.sheep_node.specs.StepState.{StepState, at_first, with_sends, replies_in_order, with_guest_reply, with_optional_entry, with_gateway, without_request, request_ended}
+use Rattle.sheep_node.specs.RequestWorks.{command_refused, course_refused, request_refused}
 use Rattle.sheep_node.specs.LogReading.{entry_read, on_back}
 use Rattle.sheep_node.specs.Step.{on_request, recovery_stepped, on_put, on_recover_tick, node_step}
 use Rattle.sheep_node.specs.StepFacts.{AscendFrom, Ascend}
-use Rattle.sheep_node.specs.OneWork.{HasOneWorkPerRequest}
 use Rattle.sheep_node.specs.Changes as changes
-use Rattle.sheep_node.specs.Changes.{Outcome, ToWork, ToEntry, ToReply, without_ended_work, zones_of_members, without_denied_work, attempt_in, RequestSteps, DiskBegins, DiskGoesOn, CommandBegins, CommandGoesOn, CommandDecided, WorkIsNext, AtOnce, InTurn, Again, input_received, Change}
+use Rattle.sheep_node.specs.Changes.{Outcome, ToWork, ToEntry, ToReply, without_ended_work, zones_of_members, without_denied_work, attempt_in, RequestSteps, DiskBegins, DiskGoesOn, CommandBegins, CommandGoesOn, CommandDecided, WorkIsNext, AtOnce, InTurn, Again, AgainAlone, input_received, Change}
 use Rattle.sheep_node.proofs.Numbers.{tick_numbers, numbers_joined}
-use Rattle.sheep_node.proofs.StepChain.{ChainNeeds, kept_by_chain, chain_of_step}
+use Rattle.sheep_node.proofs.StepChain.{kept_by_chain, step_chain}
 
 -- what the changes of a step leave alone
 pub record Untouched : Type 0 where
@@ -124,25 +122,31 @@ module _ (first : ℕ) (was_recovered : Bool) (old : Untouched) where
       → IsInOrder (course_refused session req cause course so_far)
   refused_in_order session req cause (Waiting ask) so_far s = s
   refused_in_order session req cause (Driving driver) so_far s = ended_in_order session req (Refused cause) so_far s
-  refused_in_order session req cause (Commanding ask op) so_far s = by_end (on_refusal cause op)
+  refused_in_order session req cause (Commanding op) so_far s = by_end (on_refusal cause op)
     where
       by_end : (end : Option OpEnd) → IsInOrder (command_refused session req end so_far)
       by_end None = s
       by_end (Some end) = ended_in_order session req end.reply (with_optional_entry end.unlock so_far) s
+
+  request_refused_in_order : (req : ℕ) (cause : Cause) (request : Option Request) (so_far : StepState) → IsInOrder so_far
+      → IsInOrder (request_refused req cause request so_far)
+  request_refused_in_order req cause None so_far s = s
+  request_refused_in_order req cause (Some request) so_far s = refused_in_order request.session req cause request.course so_far s
 
   steps_in_order : {input : Input} {node : Node} → (so_far : StepState) (session req : ℕ) (outcome : Outcome) (moved : StepState)
       → RequestSteps input node so_far session req outcome moved → IsInOrder so_far → IsInOrder moved
   steps_in_order so_far session req outcome moved (DiskBegins ask disk there on may) s = s
   steps_in_order so_far session req outcome moved (DiskGoesOn number work attempt status bytes driver disk step ends on is) s = s
   steps_in_order so_far session req outcome moved (CommandBegins ask step arrival is) s = s
-  steps_in_order so_far session req outcome moved (CommandGoesOn number work attempt status bytes ask op step ends is) s = s
-  steps_in_order so_far session req outcome moved (CommandDecided entry ask op step from read there waits is) s = s
+  steps_in_order so_far session req outcome moved (CommandGoesOn number work attempt status bytes op step ends is) s = s
+  steps_in_order so_far session req outcome moved (CommandDecided entry op step from read there waits is) s = s
 
   next_in_order : {input : Input} {node : Node} → (so_far : StepState) (session req : ℕ) (asked : Work) (lined : StepState)
       → WorkIsNext input node so_far session req asked lined → IsInOrder so_far → IsInOrder lined
   next_in_order so_far session req asked lined (AtOnce work moved steps begins) s = steps_in_order so_far session req (ToWork work) moved steps s
   next_in_order so_far session req asked lined (InTurn work later none is) s = s
   next_in_order so_far session req asked lined (Again work course from next there request) s = s
+  next_in_order so_far session req asked lined (AgainAlone work from next there none) s = s
 
   opened_in_order : (req : ℕ) (asked : Work) (so_far : StepState) → IsInOrder so_far → IsInOrder (changes.with_open_attempt req asked so_far)
   opened_in_order req asked so_far s =
@@ -161,9 +165,10 @@ module _ (first : ℕ) (was_recovered : Bool) (old : Untouched) where
   change_keeps_order so_far next (changes.Opens session req asked lined comes enough) s =
       opened_in_order req asked lined (next_in_order so_far session req asked lined comes s)
   change_keeps_order so_far next (changes.Holds session req asked lined comes short touched) s = next_in_order so_far session req asked lined comes s
-  change_keeps_order so_far next (changes.Denies session req asked lined course comes short untouched there) s =
-      refused_in_order session req (Halt (zones_of_members lined.node) (zones_for asked.work)) course (without_denied_work session req asked lined)
+  change_keeps_order so_far next (changes.Denies session req asked lined request comes short untouched there own) s =
+      request_refused_in_order req (Halt (zones_of_members lined.node) (zones_for asked.work)) request (without_denied_work session req asked lined)
       (next_in_order so_far session req asked lined comes s)
+  change_keeps_order so_far next (changes.Strays req work gateway there none apart) s = s
   change_keeps_order so_far next (changes.Lines session req work moved steps waits) s = steps_in_order so_far session req (ToWork work) moved steps s
   change_keeps_order so_far next (changes.Appends session req entry moved steps) s = steps_in_order so_far session req (ToEntry entry) moved steps s
   change_keeps_order so_far next (changes.Replies session req reply moved steps) s =
@@ -223,11 +228,11 @@ received_in_order (inputs.Back entries) node =
     record { numbers = refl; counted = omega arith; ascend = tt; recovered_stays = λ was. was; same = refl }
 
 -- a step is in order
-pub step_in_order : (input : Input) (node : Node) → ChainNeeds input node → HasOneWorkPerRequest node
+pub step_in_order : (input : Input) (node : Node)
     → IsInOrder node.sends (input_received input (at_first node)).node.recovered (untouched_in (input_received input (at_first node)))
     (node_step input node)
-step_in_order input node needs one_work =
+step_in_order input node =
     let start = input_received input (at_first node) in
     kept_by_chain (IsInOrder node.sends start.node.recovered (untouched_in start))
-    (change_keeps_order node.sends start.node.recovered (untouched_in start)) (chain_of_step input node needs one_work)
+    (change_keeps_order node.sends start.node.recovered (untouched_in start)) (step_chain input node)
     (received_in_order input node)

@@ -1,12 +1,9 @@
 -- What a step gives, and what it leaves of what its node has read, as the input has it.
-use Rattle.std.proofs.Common.{◌≡◌, ℕ, ◌+◌, ◌&&◌, not, Bool, true, false, cond, List, [], ◌∷◌, length, Option, Some, None, Result, Ok, Err, refl, ap, sym, ◌∙◌}
+use Rattle.std.proofs.Common.{◌≡◌, ℕ, ◌+◌, ◌&&◌, not, Bool, true, false, cond, List, [], ◌∷◌, length, slice_get, None, refl, ap, ◌∙◌}
 use Rattle.std.proofs.Math.Bool.{and-false}
 use Rattle.proof_tools.proofs.Booleans.{cond_either}
 use Rattle.object_id.specs.declared.node.NodeId.{NodeId}
 use Rattle.object_id.specs.declared.entry.Entry.{Entry}
-use Rattle.vnode_table.specs.Epochs.{EpochMembers}
-use Rattle.peer_proto.specs.declared.ask.PeerReq.{PeerReq}
-use Rattle.peer_proto.specs.declared.say.PeerRsp.{PeerRsp}
 use Rattle.peer_service.specs.State.{Peer}
 use Rattle.gateway.specs.State as gateways
 use Rattle.gateway.specs.Outcomes.{AreNumberedFrom}
@@ -14,17 +11,15 @@ use Rattle.recovery.specs.State as recoveries
 use Rattle.recovery.specs.Steps as recovery_steps
 use Rattle.sheep_node.specs.declared.input.Input.{Input}
 use Rattle.sheep_node.specs.declared.input.Input.TheVariants as inputs
-use Rattle.sheep_node.specs.State.{Node}
+use Rattle.sheep_node.specs.State.{Node, initial_node}
 use Rattle.sheep_node.specs.RecoveryView.{recovery_state_of}
 use Rattle.sheep_node.specs.StepState.{StepState, at_first}
 use Rattle.sheep_node.specs.LogReading.{entry_read, on_back}
 use Rattle.sheep_node.specs.Step.{on_request, recovery_stepped, on_put, on_recover_tick, on_input, is_due, with_recovered, recovered_put, node_step}
-use Rattle.sheep_node.specs.StepFacts.{read_after, may_begin_recovery, said_on, first_entry_of, put_on, Ascend}
-use Rattle.sheep_node.specs.OneWork.{HasOneWorkPerRequest}
+use Rattle.sheep_node.specs.StepFacts.{read_after, may_begin_recovery, said_on, put_on, Ascend}
 use Rattle.sheep_node.specs.Changes.{input_received}
-use Rattle.sheep_node.proofs.PeerLog.{Log, log_of, served_same, entries_reading, entries_back}
-use Rattle.sheep_node.proofs.StepChain.{ChainNeeds}
-use Rattle.sheep_node.proofs.StepEffects.{Untouched, untouched_in, AreInOrder, step_in_order}
+use Rattle.sheep_node.proofs.PeerLog.{Log, served_same, entries_reading, entries_back}
+use Rattle.sheep_node.proofs.StepEffects.{Untouched, step_in_order}
 
 -- ---- once the input was received
 
@@ -102,7 +97,7 @@ puts_received (inputs.Lost number) node =
 puts_received (inputs.LogEntry entry) node = refl
 puts_received inputs.Put node = by_outbox node.outbox
   where
-    by_outbox : (outbox : List Entry) → (on_put outbox (at_first node)).outputs.put ≡ first_entry_of outbox
+    by_outbox : (outbox : List Entry) → (on_put outbox (at_first node)).outputs.put ≡ slice_get outbox 0
     by_outbox [] = refl
     by_outbox (entry ∷ later) = refl
 puts_received inputs.RecoverTick node = refl
@@ -154,35 +149,35 @@ epochs_received (inputs.Back entries) node quiet = absurd (cc (quiet))
 
 -- ---- a step
 
-module _ (input : Input) (node : Node) (needs : ChainNeeds input node) (one_work : HasOneWorkPerRequest node) where
+module _ (input : Input) (node : Node) where
   -- the sends are numbered upwards from the node's count
   pub step_numbers : AreNumberedFrom node.sends (node_step input node).outputs.sends
-  step_numbers = (step_in_order input node needs one_work).numbers
+  step_numbers = (step_in_order input node).numbers
 
   -- the count grows by how many they are
   pub step_counts : (node_step input node).node.sends ≡ node.sends + length (node_step input node).outputs.sends
-  step_counts = (step_in_order input node needs one_work).counted
+  step_counts = (step_in_order input node).counted
 
   -- the replies ascend by request
   pub step_replies : Ascend (node_step input node).outputs.replies
-  step_replies = (step_in_order input node needs one_work).ascend
+  step_replies = (step_in_order input node).ascend
 
   -- the node stays itself
   pub step_me : (node_step input node).node.me ≡ node.me
-  step_me = ap (λ (u : Untouched). u.me) (step_in_order input node needs one_work).same ∙ me_received input node
+  step_me = ap (λ (u : Untouched). u.me) (step_in_order input node).same ∙ me_received input node
 
   -- its peer, its epochs and its recovery are as they were when the input was received
   pub step_peer : (node_step input node).node.peer ≡ (input_received input (at_first node)).node.peer
-  step_peer = ap (λ (u : Untouched). u.peer) (step_in_order input node needs one_work).same
+  step_peer = ap (λ (u : Untouched). u.peer) (step_in_order input node).same
 
   pub step_epochs : (node_step input node).node.epochs ≡ (input_received input (at_first node)).node.epochs
-  step_epochs = ap (λ (u : Untouched). u.epochs) (step_in_order input node needs one_work).same
+  step_epochs = ap (λ (u : Untouched). u.epochs) (step_in_order input node).same
 
   pub step_epochs_stay : may_begin_recovery input ≡ false → (node_step input node).node.epochs ≡ node.epochs
   step_epochs_stay quiet = step_epochs ∙ epochs_received input node quiet
 
   pub step_recovery : (node_step input node).node.recovery ≡ (input_received input (at_first node)).node.recovery
-  step_recovery = ap (λ (u : Untouched). u.recovery) (step_in_order input node needs one_work).same
+  step_recovery = ap (λ (u : Untouched). u.recovery) (step_in_order input node).same
 
   -- the entries that it has read
   pub step_reads : (node_step input node).node.peer.entries ≡ read_after input node.peer.entries
@@ -190,18 +185,22 @@ module _ (input : Input) (node : Node) (needs : ChainNeeds input node) (one_work
 
   -- what is said to a peer
   pub step_says : (node_step input node).outputs.say ≡ said_on input node
-  step_says = ap (λ (u : Untouched). u.say) (step_in_order input node needs one_work).same ∙ says_received input node
+  step_says = ap (λ (u : Untouched). u.say) (step_in_order input node).same ∙ says_received input node
 
   -- what goes into the log
   pub step_gives : (node_step input node).outputs.put ≡ put_on input node
-  step_gives = ap (λ (u : Untouched). u.put) (step_in_order input node needs one_work).same ∙ puts_received input node
+  step_gives = ap (λ (u : Untouched). u.put) (step_in_order input node).same ∙ puts_received input node
 
   -- `Recovered`, once put, stays so until a recovery begins
   pub step_stays_recovered : may_begin_recovery input ≡ false → node.recovered ≡ true → (node_step input node).node.recovered ≡ true
   step_stays_recovered quiet done =
-      (step_in_order input node needs one_work).recovered_stays (recovered_received input node quiet ∙ done)
+      (step_in_order input node).recovered_stays (recovered_received input node quiet ∙ done)
 
 -- ---- `Recovered`
+
+-- a node opens with none due
+pub none_due_at_opening : (me : NodeId) (tries : ℕ) → is_due (initial_node me tries) ≡ false
+none_due_at_opening me tries = and-false (recoveries.is_finished (recovery_state_of (initial_node me tries)))
 
 put_at_end : (so_far : StepState) (b : Bool) → is_due so_far.node ≡ b → is_due (cond b (with_recovered so_far) so_far).node ≡ false
 put_at_end so_far true due = and-false (recoveries.is_finished (recovery_state_of so_far.node))

@@ -10,4 +10,4 @@ use Rattle.sheep_node.specs.State.{Course, Waiting, Driving, Commanding}
 abbrev pub waits_for_entry : Entry → Course → Bool
 waits_for_entry entry (Waiting ask) = false
 waits_for_entry entry (Driving driver) = false
-waits_for_entry entry (Commanding ask op) = option_map_or (λ (wanted : Entry). is_same_entry wanted entry) (entry_wanted op) false
+waits_for_entry entry (Commanding op) = option_map_or (λ (wanted : Entry). is_same_entry wanted entry) (entry_wanted op) false

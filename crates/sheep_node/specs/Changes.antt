@@ -1,6 +1,6 @@
 -- A node's step by elementary changes: each is one effect on the node and the outputs, with what is known where it happens. Every
 -- step is a chain of these, so what each of them keeps every step keeps.
-use Rattle.std.specs.Prelude.{◌≡◌, ℕ, ◌+◌, nat_lt, Bool, true, false, ◌++◌, List, [], ◌∷◌, map, Option, Some, None, if◌then◌else◌}
+use Rattle.std.specs.Prelude.{◌≡◌, ◌≢◌, ℕ, ◌+◌, nat_lt, Bool, true, false, ◌++◌, List, [], ◌∷◌, map, Option, Some, None, if◌then◌else◌}
 use Rattle.std.specs.FinMap as tree
 use Rattle.object_id.specs.declared.cause.Cause.{Cause}
 use Rattle.object_id.specs.declared.cause.Cause.TheVariants.{Halt}
@@ -37,20 +37,22 @@ use Rattle.vdi_ops.specs.Op as ops
 use Rattle.vdi_ops.specs.Op.{Op}
 use Rattle.vdi_ops.specs.Steps.{begin_command, op_on_done, on_decision}
 use Rattle.recovery.specs.Steps as recovery_steps
-use Rattle.sheep_node.specs.State.{Course, Waiting, Driving, Commanding, Node}
+use Rattle.sheep_node.specs.State.{Course, Waiting, Driving, Commanding, Request, Node}
 use Rattle.sheep_node.specs.RecoveryView.{recovery_state_of}
 use Rattle.sheep_node.specs.StepState.{StepState, at_first, with_node, with_sends, with_guest_reply, with_outbox_entry, with_gateway}
-use Rattle.sheep_node.specs.StepState.{with_session, session_in, with_inode_queue, with_disk, with_course, request_ended}
-use Rattle.sheep_node.specs.RequestWorks.{course_refused, queue_left}
-use Rattle.sheep_node.specs.Courses.{after_driver_step, after_command_step}
+use Rattle.sheep_node.specs.StepState.{with_session, session_in, with_inode_queue, with_course, request_ended}
+use Rattle.sheep_node.specs.RequestWorks.{course_refused, request_refused, queue_left}
+use Rattle.sheep_node.specs.Courses.{after_driver_step, inode_open, after_command_step}
 use Rattle.sheep_node.specs.declared.ask.Ask.{Ask}
 use Rattle.sheep_node.specs.declared.ask.Ask.TheVariants as asks
 use Rattle.sheep_node.specs.declared.input.Input.{Input}
 use Rattle.sheep_node.specs.declared.input.Input.TheVariants as inputs
-use Rattle.sheep_node.specs.Guests.{request_refusal, inode_open, queued_as}
+use Rattle.sheep_node.specs.Guests.{request_refusal, queued_as}
 use Rattle.sheep_node.specs.AwaitedEntry.{waits_for_entry}
 use Rattle.sheep_node.specs.LogReading.{entry_read, on_back}
 use Rattle.sheep_node.specs.Step.{on_request, recovery_stepped, on_put, on_recover_tick, is_due, with_recovered}
+use Rattle.sheep_node.specs.May.{May}
+use Rattle.sheep_node.specs.OneWork.{HasOneWorkPerRequest}
 
 -- a request of a session is there, and has come so far
 abbrev pub HasRequest : ℕ → ℕ → Course → StepState → Type 0
@@ -150,7 +152,21 @@ abbrev pub IsOverWith : List ℕ → Option Disk → Course → Type 0
 IsOverWith bytes disk (Waiting ask) = Unit {0}
 IsOverWith bytes None (Driving driver) = Unit {0}
 IsOverWith bytes (Some disk) (Driving driver) = drivers.driver_on_done disk.inode bytes driver ≡ None
-IsOverWith bytes disk (Commanding ask op) = op_on_done bytes op ≡ None
+IsOverWith bytes disk (Commanding op) = op_on_done bytes op ≡ None
+
+-- a request that was looked up is there, of this session
+abbrev pub IsOfSession : ℕ → Option Request → Type 0
+IsOfSession session None = ⊥
+IsOfSession session (Some request) = request.session ≡ session
+
+-- a node may step on the input, and its requests have one work each. Every step is a chain of changes; of a sound one more is known
+abbrev pub IsSoundStep : Input → Node → Type 0
+IsSoundStep input node = May input node × HasOneWorkPerRequest node
+
+-- a gateway is as it was, but for the work of one request and for what was touched
+pub record IsApart (req : ℕ) (old new : Gateway) : Type 0 where
+  pub own : new.me ≡ old.me
+  pub others : (other : ℕ) → other ≢ req → tree.get new.works other ≡ tree.get old.works other
 
 -- what happens as a node steps on an input, once that was received
 module _ (input : Input) (node : Node) where
@@ -160,7 +176,7 @@ module _ (input : Input) (node : Node) where
     pub open_so : work.stage ≡ Open attempt
     pub awaited : is_awaited_in number work ≡ true
     pub told : IsTold input number status
-    pub settled : is_unanswered status ≡ false
+    pub settled : IsSoundStep input node → is_unanswered status ≡ false
 
   -- with it the attempt is over, of a request that is there
   pub record EndsAttempt (so_far : StepState) (session req number : ℕ) (work : Work) (attempt : Attempt) (status : Status)
@@ -176,11 +192,11 @@ module _ (input : Input) (node : Node) where
     pub done : is_done work.work (messages_with_status number status attempt.messages) ≡ true
     pub given : bytes_given work.work (messages_with_status number status attempt.messages) ≡ bytes
 
-  -- the step begins with a guest's request, whose number is free; it is refused, or isn't
+  -- the step begins with a guest's request, whose number is free in a sound step; it is refused, or isn't
   pub record Arrival (so_far : StepState) (session req : ℕ) (ask : Ask) (refusal : Option Cause) : Type 0 where
     pub first : so_far ≡ at_first node
     pub from : input ≡ inputs.Guest req session ask
-    pub none : tree.get so_far.node.requests req ≡ None
+    pub none : IsSoundStep input node → tree.get so_far.node.requests req ≡ None
     pub refused : request_refusal so_far.node.peer (session_in session so_far).disk ask ≡ refusal
 
   -- a request without a work takes a step: it begins, its work is done, or the entry that it waits for was read
@@ -197,18 +213,19 @@ module _ (input : Input) (node : Node) where
         (after_driver_step session req disk step (without_ended_work session req work status so_far))
     CommandBegins : (ask : VdiAsk) (step : ops.OpStep) → Arrival so_far session req (asks.Vdi ask) None
         → begin_command so_far.node.me session ask (inode_open (session_in session so_far).disk) ≡ Some step
-        → RequestSteps so_far session req (outcome_of_command step.act) (after_command_step session req ask step so_far)
-    CommandGoesOn : (number : ℕ) (work : Work) (attempt : Attempt) (status : Status) (bytes : List ℕ) (ask : VdiAsk) (op : Op)
-        (step : ops.OpStep) → EndsWork so_far session req number work attempt status (Commanding ask op) bytes
+        → RequestSteps so_far session req (outcome_of_command step.act) (after_command_step session req step so_far)
+    CommandGoesOn : (number : ℕ) (work : Work) (attempt : Attempt) (status : Status) (bytes : List ℕ) (op : Op)
+        (step : ops.OpStep) → EndsWork so_far session req number work attempt status (Commanding op) bytes
         → op_on_done bytes op ≡ Some step
         → RequestSteps so_far session req (outcome_of_command step.act)
-        (after_command_step session req ask step (without_ended_work session req work status so_far))
+        (after_command_step session req step (without_ended_work session req work status so_far))
     -- the entry is decided by the entries before it; by now the node has read it
-    CommandDecided : (entry : Entry) (ask : VdiAsk) (op : Op) (step : ops.OpStep) → input ≡ inputs.LogEntry entry
-        → so_far.node.peer ≡ (entry_read entry node).peer → HasRequest session req (Commanding ask op) so_far
-        → waits_for_entry entry (Commanding ask op) ≡ true
-        → on_decision (effects_of so_far.node.peer) (decision_on entry node.peer) op ≡ Some step
-        → RequestSteps so_far session req (outcome_of_command step.act) (after_command_step session req ask step so_far)
+    CommandDecided : (entry : Entry) (op : Op) (step : ops.OpStep) → input ≡ inputs.LogEntry entry
+        → so_far.node.peer ≡ (entry_read entry node).peer → HasRequest session req (Commanding op) so_far
+        → waits_for_entry entry (Commanding op) ≡ true
+        → on_decision (effects_of so_far.node.peer) (inode_open (session_in session so_far).disk) (decision_on entry node.peer) op
+        ≡ Some step
+        → RequestSteps so_far session req (outcome_of_command step.act) (after_command_step session req step so_far)
 
   -- a work's turn has come: that of a step at once, the first that waits in its line, or the first that may be tried again
   pub data WorkIsNext (so_far : StepState) (session req : ℕ) : Work → StepState → Type 0 where
@@ -223,6 +240,11 @@ module _ (input : Input) (node : Node) where
     Again : (asked : Work) (course : Course) → input ≡ inputs.RetryTick
         → gateways.next_try (record { 0 = so_far.node.peer.epoch }) so_far.node.gateway ≡ Some (req, asked)
         → tree.get so_far.node.gateway.works req ≡ Some asked → HasRequest session req course so_far
+        → WorkIsNext so_far session req asked so_far
+    -- and one whose request isn't there
+    AgainAlone : (asked : Work) → input ≡ inputs.RetryTick
+        → gateways.next_try (record { 0 = so_far.node.peer.epoch }) so_far.node.gateway ≡ Some (req, asked)
+        → tree.get so_far.node.gateway.works req ≡ Some asked → tree.get so_far.node.requests req ≡ None
         → WorkIsNext so_far session req asked so_far
 
   -- one effect on the node and the outputs
@@ -258,11 +280,17 @@ module _ (input : Input) (node : Node) where
     Holds : (session req : ℕ) (asked : Work) (lined : StepState) → WorkIsNext so_far session req asked lined
         → has_too_few_zones asked lined.node ≡ true → is_touched req lined.node.gateway ≡ true
         → Change so_far (with_work_held req asked lined)
-    -- or its request is refused for want of them
-    Denies : (session req : ℕ) (asked : Work) (lined : StepState) (course : Course) → WorkIsNext so_far session req asked lined
-        → has_too_few_zones asked lined.node ≡ true → is_touched req lined.node.gateway ≡ false → HasRequest session req course lined
-        → Change so_far (course_refused session req (Halt (zones_of_members lined.node) (zones_for asked.work)) course
+    -- or its request, if it is there, is refused for want of them; in a sound step it is there, and of the session
+    Denies : (session req : ℕ) (asked : Work) (lined : StepState) (request : Option Request) → WorkIsNext so_far session req asked lined
+        → has_too_few_zones asked lined.node ≡ true → is_touched req lined.node.gateway ≡ false
+        → tree.get lined.node.requests req ≡ request → (IsSoundStep input node → IsOfSession session request)
+        → Change so_far (request_refused req (Halt (zones_of_members lined.node) (zones_for asked.work)) request
         (without_denied_work session req asked lined))
+    -- a work whose request isn't there goes on in the gateway alone, apart from other works; no node whose requests have one work each
+    -- has such a work
+    Strays : (req : ℕ) (work : Work) (gateway : Gateway) → tree.get so_far.node.gateway.works req ≡ Some work
+        → tree.get so_far.node.requests req ≡ None → IsApart req so_far.node.gateway gateway
+        → Change so_far (with_gateway gateway so_far)
     -- a work waits in its session's line
     Lines : (session req : ℕ) (work : ObjWork) (moved : StepState) → RequestSteps so_far session req (ToWork work) moved
         → may_open_work (session_in session moved).inode_queue work ≡ false

@@ -1,9 +1,8 @@
 -- How a request goes on, and what its session has open then.
-use Rattle.std.specs.Prelude.{ℕ, Bool, false, List, Option, Some, None}
+use Rattle.std.specs.Prelude.{ℕ, List, Option, Some, None}
+use Rattle.std.specs.Option.{option_map}
 use Rattle.inode.specs.Layout.{Content}
 use Rattle.peer_proto.specs.declared.guest.DiskAsk.{DiskAsk}
-use Rattle.peer_proto.specs.declared.guest.VdiAsk.{VdiAsk}
-use Rattle.peer_proto.specs.declared.guest.VdiAsk.TheVariants.{Create, Attach, Close, Snapshot, Clone, Delete, Check}
 use Rattle.vdi_directory.specs.declared.decision.Decision.{Decision}
 use Rattle.peer_service.specs.State.{effects_of}
 use Rattle.guest_driver.specs.declared.disk.Disk.{Disk}
@@ -13,9 +12,8 @@ use Rattle.guest_driver.specs.Driver as drivers
 use Rattle.guest_driver.specs.Driver.{Driver}
 use Rattle.vdi_ops.specs.declared.act.OpAct.{OpAct}
 use Rattle.vdi_ops.specs.declared.act.OpAct.TheVariants as op_acts
-use Rattle.vdi_ops.specs.Entries.{opens_snapshot}
 use Rattle.vdi_ops.specs.Op as ops
-use Rattle.vdi_ops.specs.Op.{Op, opened_inode}
+use Rattle.vdi_ops.specs.Op.{DiskChange, Stays, Opens, Closes, disk_change}
 use Rattle.vdi_ops.specs.Steps.{on_decision, op_on_done}
 use Rattle.sheep_node.specs.State.{Course, Waiting, Driving, Commanding}
 use Rattle.sheep_node.specs.StepState.{StepState, with_outbox_entry, with_session, session_in, with_disk, with_course, request_ended}
@@ -51,37 +49,25 @@ abbrev pub disk_begun : ℕ → ℕ → DiskAsk → Option Disk → StepState �
 disk_begun number req ask None so_far = so_far
 disk_begun number req ask (Some disk) so_far = driver_stepped number req disk (drivers.begin_driver disk ask) so_far
 
--- an opened inode takes the open disk's place, if there is one
-abbrev pub opened_disk_or : Bool → Option Content → Option Disk → Option Disk
-opened_disk_or snapshot None disk = disk
-opened_disk_or snapshot (Some inode) disk = Some (record { inode = inode; snapshot = snapshot })
+-- what a session has open once a command has left this of it
+abbrev pub disk_after : DiskChange → Option Disk → Option Disk
+disk_after Stays disk = disk
+disk_after (Opens snapshot inode) disk = Some (record { inode = inode; snapshot = snapshot })
+disk_after Closes disk = None
 
--- what a session has open after the reply to a command: an opening and a snapshot leave the inode that they opened, a
--- close none, the other commands what was open
-abbrev pub disk_after : VdiAsk → Option Content → Option Disk → Option Disk
-disk_after (Create name spec) inode disk = disk
-disk_after (Attach name tag) inode disk = opened_disk_or (opens_snapshot (Attach name tag)) inode disk
-disk_after Close inode disk = None
-disk_after (Snapshot tag) inode disk = opened_disk_or false inode disk
-disk_after (Clone base tag name) inode disk = disk
-disk_after (Delete name tag) inode disk = disk
-disk_after Check inode disk = disk
+-- the inode of what a session has open
+abbrev pub inode_open : Option Disk → Option Content
+inode_open disk = option_map (λ (disk : Disk). disk.inode) disk
 
--- what is open with an act of a command: its reply leaves another disk
-abbrev pub disk_with_act : VdiAsk → Op → OpAct → Option Disk → Option Disk
-disk_with_act ask op (op_acts.Append entry) disk = disk
-disk_with_act ask op (op_acts.Work work) disk = disk
-disk_with_act ask op (op_acts.Reply reply) disk = disk_after ask (opened_inode op) disk
-
--- a command has taken a step: it is the session's command, and with its reply another disk is open
-abbrev pub after_command_step : ℕ → ℕ → VdiAsk → ops.OpStep → StepState → StepState
-after_command_step number req ask step so_far = with_session
+-- a command has taken a step: it is the session's command, and with its reply another disk may be open
+abbrev pub after_command_step : ℕ → ℕ → ops.OpStep → StepState → StepState
+after_command_step number req step so_far = with_session
     number
     (record (session_in number so_far) {
-      disk = disk_with_act ask step.op step.act (session_in number so_far).disk;
+      disk = disk_after (disk_change step) (session_in number so_far).disk;
       command = Some req;
     })
-    (with_course number req (Commanding ask step.op) so_far)
+    (with_course number req (Commanding step.op) so_far)
 
 -- a command's act: its entry stands in the outbox, a work is come to, or the request ends
 abbrev pub command_acted : ℕ → ℕ → OpAct → StepState → StepState
@@ -90,24 +76,25 @@ command_acted number req (op_acts.Work work) so_far = work_asked number req work
 command_acted number req (op_acts.Reply reply) so_far = request_ended number req reply so_far
 
 -- a command goes on by a step
-unfoldable pub command_stepped : ℕ → ℕ → VdiAsk → ops.OpStep → StepState → StepState
-command_stepped number req ask step so_far = command_acted number req step.act (after_command_step number req ask step so_far)
+unfoldable pub command_stepped : ℕ → ℕ → ops.OpStep → StepState → StepState
+command_stepped number req step so_far = command_acted number req step.act (after_command_step number req step so_far)
 
 -- a command goes on by a step, if there is one
-abbrev pub command_went_on : ℕ → ℕ → VdiAsk → Option ops.OpStep → StepState → StepState
-command_went_on number req ask None so_far = so_far
-command_went_on number req ask (Some step) so_far = command_stepped number req ask step so_far
+abbrev pub command_went_on : ℕ → ℕ → Option ops.OpStep → StepState → StepState
+command_went_on number req None so_far = so_far
+command_went_on number req (Some step) so_far = command_stepped number req step so_far
 
 -- a request's work is done, and the request goes on with the bytes that it gave
 unfoldable pub course_went_on : ℕ → ℕ → List ℕ → Course → StepState → StepState
 course_went_on number req bytes (Waiting ask) so_far = so_far
 course_went_on number req bytes (Driving driver) so_far =
     disk_went_on number req bytes driver (session_in number so_far).disk so_far
-course_went_on number req bytes (Commanding ask op) so_far = command_went_on number req ask (op_on_done bytes op) so_far
+course_went_on number req bytes (Commanding op) so_far = command_went_on number req (op_on_done bytes op) so_far
 
 -- the entry that a command waits for was read and decided; by now the directory knows what the entry did
 unfoldable pub course_decided : ℕ → ℕ → Decision → Course → StepState → StepState
 course_decided number req decision (Waiting ask) so_far = so_far
 course_decided number req decision (Driving driver) so_far = so_far
-course_decided number req decision (Commanding ask op) so_far =
-    command_went_on number req ask (on_decision (effects_of so_far.node.peer) decision op) so_far
+course_decided number req decision (Commanding op) so_far =
+    command_went_on number req
+    (on_decision (effects_of so_far.node.peer) (inode_open (session_in number so_far).disk) decision op) so_far

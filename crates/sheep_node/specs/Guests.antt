@@ -1,8 +1,7 @@
 -- A guest's request comes: it is refused on the spot, or waits for its turn and begins.
 use Rattle.std.specs.Prelude.{ℕ, Bool, false, ◌∷◌, [], ◌++◌, Option, Some, None}
-use Rattle.std.specs.Option.{option_map}
+use Rattle.std.specs.Option.{option_map, option_map_or}
 use Rattle.object_id.specs.declared.cause.Cause.{Cause}
-use Rattle.inode.specs.Layout.{Content}
 use Rattle.peer_proto.specs.declared.guest.DiskAsk.{DiskAsk}
 use Rattle.peer_proto.specs.declared.guest.GuestRsp.TheVariants.{Refused}
 use Rattle.vdi_directory.specs.States.{state_of}
@@ -18,21 +17,16 @@ use Rattle.sheep_node.specs.declared.ask.Ask.{Ask}
 use Rattle.sheep_node.specs.declared.ask.Ask.TheVariants as asks
 use Rattle.sheep_node.specs.State.{Waiting}
 use Rattle.sheep_node.specs.StepState.{StepState, with_guest_reply, session_in, with_session, with_course}
-use Rattle.sheep_node.specs.Courses.{command_went_on}
+use Rattle.sheep_node.specs.Courses.{inode_open, command_went_on}
 use Rattle.sheep_node.specs.Waiting.{course_begun}
 
 -- whether a session's disk is deleted, by the entries that the node has read
 abbrev pub is_open_disk_deleted : Peer → Option Disk → Bool
-is_open_disk_deleted peer None = false
-is_open_disk_deleted peer (Some disk) = is_gone (state_of (effects_of peer) disk.inode.vid)
+is_open_disk_deleted peer disk = option_map_or (λ (disk : Disk). is_gone (state_of (effects_of peer) disk.inode.vid)) disk false
 
 -- what a session has open, as a command sees it
 abbrev pub seen_by_command : Option Disk → Option entries.OpenDisk
 seen_by_command disk = option_map (λ (disk : Disk). record { inode = disk.inode; snapshot = disk.snapshot }) disk
-
--- the inode of what it has open
-abbrev pub inode_open : Option Disk → Option Content
-inode_open disk = option_map (λ (disk : Disk). disk.inode) disk
 
 -- why a request is refused on the spot
 abbrev pub request_refusal : Peer → Option Disk → Ask → Option Cause
@@ -64,7 +58,7 @@ request_taken number req (asks.Disk ask) so_far =
     course_begun number req (Waiting ask)
     (with_queued_request number req ask (session_in number so_far).disk (with_course number req (Waiting ask) so_far))
 request_taken number req (asks.Vdi ask) so_far =
-    command_went_on number req ask (begin_command so_far.node.me number ask (inode_open (session_in number so_far).disk)) so_far
+    command_went_on number req (begin_command so_far.node.me number ask (inode_open (session_in number so_far).disk)) so_far
 request_taken number req (asks.Object work) so_far = so_far
 request_taken number req (asks.Entry entry) so_far = so_far
 

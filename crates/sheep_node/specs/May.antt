@@ -55,7 +55,7 @@ fits_node rsp node = gateways.fits_gateway rsp node.gateway || recovery_fits.fit
 abbrev pub is_disk_course : Course → Bool
 is_disk_course (Waiting ask) = true
 is_disk_course (Driving driver) = true
-is_disk_course (Commanding ask op) = false
+is_disk_course (Commanding op) = false
 
 -- how many reads and writes of a session may be without reply where a request comes: none at a command, and at another one fewer
 -- than may be at once

@@ -16,7 +16,7 @@ use Rattle.sheep_node.specs.State.{Course, Waiting, Driving, Commanding, Request
 abbrev pub may_work : Course → Bool
 may_work (Waiting ask) = false
 may_work (Driving driver) = true
-may_work (Commanding ask op) = is_none (entry_wanted op)
+may_work (Commanding op) = is_none (entry_wanted op)
 
 -- whether a request that was looked up is there, and may have one
 abbrev pub may_work_at : Option Request → Bool

@@ -1,5 +1,5 @@
 -- Whose entries a node has in its outbox: its commands' and its own `Recovered`.
-use Rattle.std.specs.Prelude.{◌≡◌, ℕ, List, All, Option, Some}
+use Rattle.std.specs.Prelude.{◌≡◌, ℕ, List, All, Some}
 use Rattle.std.specs.Ordering.{nat_cmp}
 use Rattle.std.specs.FinMap as tree
 use Rattle.object_id.specs.declared.node.NodeId.{NodeId}
@@ -34,10 +34,10 @@ IsTaskOf me (Making entry opened) = IsEntryOf me entry
 
 -- the one that a command waits for, or comes to, is
 abbrev pub IsStageOf : NodeId → OpStage → Type 0
-IsStageOf me (Asked entry ask disk) = IsEntryOf me entry
+IsStageOf me (Asked entry) = IsEntryOf me entry
 IsStageOf me (Working vid task) = IsTaskOf me task
 IsStageOf me (Publishing entry opened) = IsEntryOf me entry
-IsStageOf me (Answered opened) = Unit {0}
+IsStageOf me (Answered change) = Unit {0}
 
 -- a command is of this node
 abbrev pub IsCommandOf : NodeId → Op → Type 0
@@ -46,7 +46,7 @@ IsCommandOf me op = (op.by ≡ me) × IsStageOf me op.stage
 abbrev pub IsCourseOf : NodeId → Course → Type 0
 IsCourseOf me (Waiting ask) = Unit {0}
 IsCourseOf me (Driving driver) = Unit {0}
-IsCourseOf me (Commanding ask op) = IsCommandOf me op
+IsCourseOf me (Commanding op) = IsCommandOf me op
 
 -- each command is of the node, and each entry of the outbox
 pub record AreOwnEntries (me own : NodeId) (requests : tree.FinMap nat_cmp Request) (outbox : List Entry) : Type 0 where

@@ -23,7 +23,7 @@ command_refused number req (Some end) so_far = request_ended number req end.repl
 abbrev pub course_refused : ℕ → ℕ → Cause → Course → StepState → StepState
 course_refused number req cause (Waiting ask) so_far = so_far
 course_refused number req cause (Driving driver) so_far = request_ended number req (Refused cause) so_far
-course_refused number req cause (Commanding ask op) so_far = command_refused number req (on_refusal cause op) so_far
+course_refused number req cause (Commanding op) so_far = command_refused number req (on_refusal cause op) so_far
 
 -- a request that was looked up ends so, if it is there
 abbrev pub request_refused : ℕ → Cause → Option Request → StepState → StepState

@@ -6,7 +6,6 @@ use Rattle.object_id.specs.declared.node.NodeId.{NodeId}
 use Rattle.object_id.specs.declared.entry.Entry.{Entry}
 use Rattle.vnode_table.specs.Epochs.{EpochMembers}
 use Rattle.peer_proto.specs.declared.guest.DiskAsk.{DiskAsk}
-use Rattle.peer_proto.specs.declared.guest.VdiAsk.{VdiAsk}
 use Rattle.peer_service.specs.State as peers
 use Rattle.peer_service.specs.State.{Peer}
 use Rattle.gateway.specs.State as gateways
@@ -25,8 +24,8 @@ pub data Course : Type 0 where
   Waiting : DiskAsk → Course
   -- a read or write that began
   Driving : Driver → Course
-  -- a command on disks, with what was asked
-  Commanding : VdiAsk → Op → Course
+  -- a command on disks
+  Commanding : Op → Course
 
 -- a request that has no reply: its session, and where it is
 pub record Request : Type 0 where

@@ -1,5 +1,5 @@
 -- A step in the making: the node as far as it has come, and what was put out so far.
-use Rattle.std.specs.Prelude.{ℕ, ◌+◌, nat_lt, List, [], ◌∷◌, ◌++◌, length, option_to_list, Option, Some, None, if◌then◌else◌}
+use Rattle.std.specs.Prelude.{ℕ, ◌+◌, nat_lt, List, [], ◌∷◌, ◌++◌, length, option_to_list, Option, None, if◌then◌else◌}
 use Rattle.std.specs.FinMap as tree
 use Rattle.object_id.specs.declared.node.NodeId.{NodeId}
 use Rattle.object_id.specs.declared.entry.Entry.{Entry}

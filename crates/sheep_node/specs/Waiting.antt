@@ -28,7 +28,7 @@ abbrev pub course_begun : ℕ → ℕ → Course → StepState → StepState
 course_begun number req (Waiting ask) so_far =
     if may_run req (session_in number so_far).queue then disk_begun number req ask (session_in number so_far).disk so_far else so_far
 course_begun number req (Driving driver) so_far = so_far
-course_begun number req (Commanding ask op) so_far = so_far
+course_begun number req (Commanding op) so_far = so_far
 
 -- a request begins, if it is there and waits
 abbrev pub found_request_begun : ℕ → Option Request → StepState → StepState

@@ -1,5 +1,5 @@
 //! Laws of a step, for the proofs of the layers above: each is the contract of a function that does nothing.
-ghost use Rattle.std.specs.Prelude.{◌≡◌, ◌⊎◌, ℕ, ◌+◌, ◌<◌, true, false, List, [], ◌∷◌, ◌++◌, length, Option, Some, None, IsTrue};
+ghost use Rattle.std.specs.Prelude.{◌≡◌, ◌↔◌, ◌⊎◌, ℕ, Bool, ◌+◌, ◌<◌, true, false, List, [], ◌∷◌, ◌++◌, length, Option, Some, None, IsTrue};
 ghost use Rattle.std.specs.FinMap.{contains_key};
 ghost use Rattle.object_id.specs.declared.cause.Cause.{Cause};
 ghost use Rattle.object_id.specs.declared.node.NodeId.{NodeId};
@@ -9,8 +9,7 @@ ghost use Rattle.object_id.specs.declared.entry.Entry.TheVariants as entries;
 ghost use Rattle.object_id.specs.declared.entry.Origin.TheVariants.{Fresh};
 ghost use Rattle.object_id.specs.declared.entry.VdiSpec.{VdiSpec};
 ghost use Rattle.peer_proto.specs.declared.ask.PeerReq.{PeerReq};
-ghost use Rattle.peer_proto.specs.declared.guest.VdiAsk.{VdiAsk};
-ghost use Rattle.peer_proto.specs.declared.guest.VdiAsk.TheVariants.{Create, Attach, Close, Snapshot, Clone, Delete};
+ghost use Rattle.peer_proto.specs.declared.guest.VdiAsk.TheVariants.{Create};
 ghost use Rattle.peer_proto.specs.declared.say.PeerSay.TheVariants.{Refused};
 ghost use Rattle.peer_proto.specs.declared.say.Refusal.TheVariants.{OldEpoch, NewEpoch};
 ghost use Rattle.peer_proto.specs.declared.work.ObjWork.{ObjWork};
@@ -18,7 +17,7 @@ ghost use Rattle.gateway.specs.State.{is_touched};
 ghost use Rattle.gateway.specs.Outcomes.{AreNumberedFrom};
 ghost use Rattle.guest_driver.specs.declared.disk.Disk.{Disk};
 ghost use Rattle.inode.specs.Layout.{Content};
-ghost use Rattle.vdi_ops.specs.Op.{Op, Task, Working, entry_wanted};
+ghost use Rattle.vdi_ops.specs.Op.{Op, Task, Working, Stays, Opens, Closes, entry_wanted};
 ghost use Rattle.sheep_node.specs.declared.ask.Ask.{Ask};
 ghost use Rattle.sheep_node.specs.declared.ask.Ask.TheVariants.{Vdi};
 ghost use Rattle.sheep_node.specs.declared.input.Input.{Input};
@@ -33,88 +32,86 @@ ghost use Rattle.sheep_node.specs.Changes.{input_received, Leads};
 ghost use Rattle.sheep_node.specs.AwaitedEntry.{waits_for_entry};
 ghost use Rattle.sheep_node.specs.RequestWorks.{work_begun, course_refused};
 ghost use Rattle.sheep_node.specs.Courses.{disk_after};
-ghost use Rattle.sheep_node.specs.May.{May};
+ghost use Rattle.sheep_node.specs.May.{IsGuestAsk, MayRead, MayComeBack, May};
+ghost use Rattle.sheep_node.specs.MayTests.{is_guest_ask, may_read, may_come_back, may};
 ghost use Rattle.sheep_node.specs.Step.{is_due, recovered_put, node_step};
 ghost use Rattle.sheep_node.specs.StepFacts.{read_after, may_begin_recovery, only_reply, said_on, put_on, Ascend, IsByTheLog};
 
 /// The sends of a step are numbered upwards from the node's count, and the count grows by how many they are. So no two
 /// sends of a node have one number.
 pub fn sends_are_numbered()
-    ensures numbers { (input : Input) (node : Node) → May input node → HasOneWorkPerRequest node
-        → AreNumberedFrom node.sends (node_step input node).outputs.sends }
-    ensures count { (input : Input) (node : Node) → May input node → HasOneWorkPerRequest node
+    ensures numbers { (input : Input) (node : Node) → AreNumberedFrom node.sends (node_step input node).outputs.sends }
+    ensures count { (input : Input) (node : Node)
         → (node_step input node).node.sends ≡ node.sends + length (node_step input node).outputs.sends }
 {}
 
 /// Only an entry of the log, and coming back, change what a node has read; and it stays itself.
 pub fn only_the_log_is_read()
-    ensures read { (input : Input) (node : Node) → May input node → HasOneWorkPerRequest node
-        → (node_step input node).node.peer.entries ≡ read_after input node.peer.entries }
-    ensures own { (input : Input) (node : Node) → May input node → HasOneWorkPerRequest node → (node_step input node).node.me ≡ node.me }
+    ensures read { (input : Input) (node : Node) → (node_step input node).node.peer.entries ≡ read_after input node.peer.entries }
+    ensures own { (input : Input) (node : Node) → (node_step input node).node.me ≡ node.me }
 {}
 
 /// A node's epoch, its settled epoch and the members of its epochs are those of the entries that it has read: so it opens,
 /// and so it stays at each step.
 pub fn a_node_is_where_its_entries_have_it()
     ensures opens { (me : NodeId) (tries : ℕ) → IsByTheLog (initial_node me tries) }
-    ensures stays { (input : Input) (node : Node) → May input node → HasOneWorkPerRequest node → IsByTheLog node
-        → IsByTheLog (node_step input node).node }
+    ensures stays { (input : Input) (node : Node) → May input node → IsByTheLog node → IsByTheLog (node_step input node).node }
 {}
 
 /// Something is said to a peer only on a request, and put into the log only on Put: the outbox's first entry. Guests are
 /// replied to by ascending request.
 pub fn outputs_are_as_the_input()
-    ensures say { (input : Input) (node : Node) → May input node → HasOneWorkPerRequest node
-        → (node_step input node).outputs.say ≡ said_on input node }
-    ensures put { (input : Input) (node : Node) → May input node → HasOneWorkPerRequest node
-        → (node_step input node).outputs.put ≡ put_on input node }
-    ensures replies { (input : Input) (node : Node) → May input node → HasOneWorkPerRequest node
-        → Ascend (node_step input node).outputs.replies }
+    ensures say { (input : Input) (node : Node) → (node_step input node).outputs.say ≡ said_on input node }
+    ensures put { (input : Input) (node : Node) → (node_step input node).outputs.put ≡ put_on input node }
+    ensures replies { (input : Input) (node : Node) → Ascend (node_step input node).outputs.replies }
 {}
 
-/// A request of another epoch is answered with the node's own, and changes nothing.
+/// A request of another epoch is answered with the node's own, and changes nothing. As in every step a `Recovered` that is due is put,
+/// and none is due once a step was made (`recovered_is_put_once`).
 pub fn other_epochs_are_refused()
-    ensures older { (request : PeerReq) (node : Node) → IsSoundNode node → request.epoch.0 < node.peer.epoch
-        → node_step (inputs.Request request) node ≡ record {
+    ensures older { (request : PeerReq) (node : Node) → request.epoch.0 < node.peer.epoch
+        → node_step (inputs.Request request) node ≡ recovered_put (record {
           node = node;
           outputs = only_reply (record {
             number = request.number;
             epoch = record { 0 = node.peer.epoch };
             say = Refused (OldEpoch (record { 0 = node.peer.epoch }));
           });
-        } }
-    ensures newer { (request : PeerReq) (node : Node) → IsSoundNode node → node.peer.epoch < request.epoch.0
-        → node_step (inputs.Request request) node ≡ record {
+        }) }
+    ensures newer { (request : PeerReq) (node : Node) → node.peer.epoch < request.epoch.0
+        → node_step (inputs.Request request) node ≡ recovered_put (record {
           node = node;
           outputs = only_reply (record {
             number = request.number;
             epoch = record { 0 = node.peer.epoch };
             say = Refused (NewEpoch (record { 0 = node.peer.epoch }));
           });
-        } }
+        }) }
 {}
 
 /// The entry that was put leaves the outbox, and nothing else changes.
 pub fn what_is_put_leaves_the_outbox()
-    ensures { (node : Node) (entry : Entry) (later : List Entry) → IsSoundNode node → node.outbox ≡ entry ∷ later
+    ensures { (node : Node) (entry : Entry) (later : List Entry) → node.outbox ≡ entry ∷ later → is_due node ≡ false
         → (node_step inputs.Put node).node ≡ record node { outbox = later } }
 {}
 
-/// At the end of a step no `Recovered` is due, and none is put twice: once put it stays so, until a recovery begins.
+/// A node opens with no `Recovered` due, and at the end of each step none is due; so a step begins with none due. What isn't due isn't
+/// put, and none is put twice: once put it stays so, until a recovery begins.
 pub fn recovered_is_put_once()
+    ensures opens { (me : NodeId) (tries : ℕ) → is_due (initial_node me tries) ≡ false }
     ensures due { (input : Input) (node : Node) → is_due (node_step input node).node ≡ false }
+    ensures rests { (so_far : StepState) → is_due so_far.node ≡ false → recovered_put so_far ≡ so_far }
     ensures once { (so_far : StepState) → so_far.node.recovered ≡ true → recovered_put so_far ≡ so_far }
-    ensures stays { (input : Input) (node : Node) → May input node → HasOneWorkPerRequest node
-        → may_begin_recovery input ≡ false → node.recovered ≡ true
+    ensures stays { (input : Input) (node : Node) → may_begin_recovery input ≡ false → node.recovered ≡ true
         → (node_step input node).node.recovered ≡ true }
 {}
 
 /// A decision goes to a command that waits for exactly the entry that was read.
 pub fn a_decision_is_on_the_entry_wanted()
-    ensures only { (entry : Entry) (ask : VdiAsk) (op : Op) → waits_for_entry entry (Commanding ask op) ≡ true
+    ensures only { (entry : Entry) (op : Op) → waits_for_entry entry (Commanding op) ≡ true
         → entry_wanted op ≡ Some entry }
-    ensures each { (entry : Entry) (ask : VdiAsk) (op : Op) → entry_wanted op ≡ Some entry
-        → waits_for_entry entry (Commanding ask op) ≡ true }
+    ensures each { (entry : Entry) (op : Op) → entry_wanted op ≡ Some entry
+        → waits_for_entry entry (Commanding op) ≡ true }
 {}
 
 /// A touched request's work begins or waits, and no guest is replied to: it is never refused at its start.
@@ -123,38 +120,26 @@ pub fn a_touched_work_is_not_refused()
         → (work_begun number req work so_far).outputs.replies ≡ so_far.outputs.replies }
 {}
 
-/// What a session has open after its command's reply: the inode that an opening or a snapshot leaves, as a snapshot only
-/// where a tag was asked for; nothing after a close; else what it had.
+/// What a session has open after its command's reply, by what the command left of it: what it had, or that inode, as a snapshot
+/// exactly if the command says so, or nothing.
 pub fn what_a_command_leaves_open()
-    ensures create { (name : List ℕ) (spec : VdiSpec) (opened : Option Content) (disk : Option Disk)
-        → disk_after (Create name spec) opened disk ≡ disk }
-    ensures attach { (name : List ℕ) (inode : Content) (disk : Option Disk)
-        → disk_after (Attach name None) (Some inode) disk ≡ Some (record { inode = inode; snapshot = false }) }
-    ensures attach_snapshot { (name tag : List ℕ) (inode : Content) (disk : Option Disk)
-        → disk_after (Attach name (Some tag)) (Some inode) disk ≡ Some (record { inode = inode; snapshot = true }) }
-    ensures close { (opened : Option Content) (disk : Option Disk) → disk_after Close opened disk ≡ None }
-    ensures snapshot { (tag : List ℕ) (inode : Content) (disk : Option Disk)
-        → disk_after (Snapshot tag) (Some inode) disk ≡ Some (record { inode = inode; snapshot = false }) }
-    ensures clone { (base tag name : List ℕ) (opened : Option Content) (disk : Option Disk)
-        → disk_after (Clone base tag name) opened disk ≡ disk }
-    ensures delete { (name : List ℕ) (tag : Option (List ℕ)) (opened : Option Content) (disk : Option Disk)
-        → disk_after (Delete name tag) opened disk ≡ disk }
-    // A command that was refused leaves what was open, but for a close.
-    ensures refused { (name : List ℕ) (tag : Option (List ℕ)) (disk : Option Disk)
-        → disk_after (Attach name tag) None disk ≡ disk }
+    ensures stays { (disk : Option Disk) → disk_after Stays disk ≡ disk }
+    ensures opens { (snapshot : Bool) (inode : Content) (disk : Option Disk)
+        → disk_after (Opens snapshot inode) disk ≡ Some (record { inode = inode; snapshot = snapshot }) }
+    ensures closes { (disk : Option Disk) → disk_after Closes disk ≡ None }
 {}
 
 /// A command whose work is refused gives back the id that it was granted: its `Unlock` stands in the outbox.
 pub fn a_refused_work_gives_its_id_back()
-    ensures { (number req : ℕ) (cause : Cause) (ask : VdiAsk) (op : Op) (vid : Vid) (task : Task) (so_far : StepState)
+    ensures { (number req : ℕ) (cause : Cause) (op : Op) (vid : Vid) (task : Task) (so_far : StepState)
         → op.stage ≡ Working vid task
-        → (course_refused number req cause (Commanding ask op) so_far).node.outbox
+        → (course_refused number req cause (Commanding op) so_far).node.outbox
         ≡ so_far.node.outbox ++ entries.Unlock op.by op.session vid ∷ [] }
 {}
 
 /// A guest's command begins with its entry in the outbox: a new disk with its reservation.
 pub fn a_create_begins_with_its_reservation()
-    ensures { (req session : ℕ) (name : List ℕ) (spec : VdiSpec) (node : Node) → IsSoundNode node
+    ensures { (req session : ℕ) (name : List ℕ) (spec : VdiSpec) (node : Node) → is_due node ≡ false
         → (node_step (inputs.Guest req session (Vdi (Create name spec))) node).node.outbox
         ≡ node.outbox ++ entries.Reserve node.me session name (Fresh spec) ∷ [] }
 {}
@@ -166,10 +151,10 @@ pub fn a_node_stays_one()
     ensures stays { (input : Input) (node : Node) → May input node → IsSoundNode node → IsSoundNode (node_step input node).node }
 {}
 
-/// A node's step is a chain of changes, each with one effect, behind what its input changes by itself.
+/// A node's step is a chain of changes, each with one effect, behind what its input changes by itself: on any input, of any node. More
+/// is known of a change if the node may step on the input, and its requests have one work each.
 pub fn a_step_is_a_chain_of_changes()
-    ensures { (input : Input) (node : Node) → May input node → HasOneWorkPerRequest node
-        → Leads input node (input_received input (at_first node)) (node_step input node) }
+    ensures { (input : Input) (node : Node) → Leads input node (input_received input (at_first node)) (node_step input node) }
 {}
 
 /// A request has one work at most, open or in its session's line, and a number is waited for once: so a node opens, and so
@@ -183,8 +168,7 @@ pub fn a_request_has_one_work()
 /// The entries that a node puts are its own: its commands' and its own `Recovered`.
 pub fn a_node_puts_its_own_entries()
     ensures opens { (me : NodeId) (tries : ℕ) → HasOnlyOwnEntries (initial_node me tries) }
-    ensures stays { (input : Input) (node : Node) → May input node → HasOneWorkPerRequest node → HasOnlyOwnEntries node
-        → HasOnlyOwnEntries (node_step input node).node }
+    ensures stays { (input : Input) (node : Node) → HasOnlyOwnEntries node → HasOnlyOwnEntries (node_step input node).node }
 {}
 
 /// A session's queue is its reads and writes without reply.
@@ -196,7 +180,15 @@ pub fn a_queue_has_the_disk_requests()
 
 /// A node's requests are those that it had, and the guest's request that it steps on.
 pub fn requests_come_from_inputs()
-    ensures { (input : Input) (node : Node) (req : ℕ) → May input node → HasOneWorkPerRequest node
-        → contains_key (node_step input node).node.requests req ≡ true
+    ensures { (input : Input) (node : Node) (req : ℕ) → contains_key (node_step input node).node.requests req ≡ true
         → (contains_key node.requests req ≡ true) ⊎ ((session : ℕ) × (ask : Ask) × (input ≡ inputs.Guest req session ask)) }
+{}
+
+/// Whether a node may step on an input can be tested, and so can the parts of it: what a guest may ask, which entry may be read next,
+/// and with which entries a lost node may come back.
+pub fn conditions_are_tests()
+    ensures may { (input : Input) (node : Node) → IsTrue (may input node) ↔ May input node }
+    ensures guest_ask { (ask : Ask) → IsTrue (is_guest_ask ask) ↔ IsGuestAsk ask }
+    ensures read { (entries : List Entry) (entry : Entry) → IsTrue (may_read entries entry) ↔ MayRead entries entry }
+    ensures come_back { (entries : List Entry) (node : Node) → IsTrue (may_come_back entries node) ↔ MayComeBack entries node }
 {}

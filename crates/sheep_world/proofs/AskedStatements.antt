@@ -71,6 +71,7 @@ some_ask (lines.Write session offset length pattern) of is = (_, refl)
 some_ask (lines.Snapshot session tag) of is = (_, refl)
 some_ask (lines.Clone session base tag name) of is = (_, refl)
 some_ask (lines.Delete session name tag) of is = (_, refl)
+some_ask (lines.Check session) of is = (_, refl)
 some_ask line of is = absurd (cc (is))
 
 request_there : (statements : List Statement) (req place : ℕ) → req ≡ 1 + place → request_at statements req ≡ slice_get (requests_of statements) place

@@ -1,5 +1,5 @@
 -- The enabled list in parts: together they are the list, so that it is counted and read part by part.
-use Rattle.std.proofs.Common.{◌≡◌, arith, ℕ, zero, suc, ◌+◌, ◌-◌, ◌<◌, ◌≤◌, ◌==◌, nat_lt, Bool, true, false, cond, List, [], ◌∷◌, ◌++◌, length, map, flat_map, filter, Option, refl, sym, ap, ◌∙◌, append-nil, append_assoc}
+use Rattle.std.proofs.Common.{◌≡◌, arith, ℕ, zero, suc, ◌+◌, ◌-◌, ◌<◌, ◌≤◌, ◌==◌, nat_lt, Bool, true, false, cond, List, [], ◌∷◌, ◌++◌, length, map, flat_map, filter, Option, refl, sym, ap, ◌∙◌, append-nil}
 use Rattle.std.specs.Prelude.{sum_by}
 use Rattle.std.specs.List.{slice_get}
 use Rattle.std.specs.Option.{option_map_or}
@@ -86,16 +86,11 @@ module _ (statements : List Statement) (world : World) where
       joined-map_flat message_events (messages_by_sender (tree.entries world.wire))
       ∙ ap (flat_map message_events) (joined-by_sender (tree.entries world.wire))
 
-  rest-joined : joined (of_nodes ++ of_control ∷ []) ≡ flat_map node_events (tree.keys world.hosts) ++ of_control
-  rest-joined =
-      flat_map-append (λ (part : List Event). part) of_nodes (of_control ∷ [])
-      ∙ (λ i. joined-map node_events (tree.keys world.hosts) i ++ append-nil of_control i)
-
   joined-looked_at : joined (looked_at_parts statements world) ≡ looked_at statements world
   joined-looked_at =
-      flat_map-append (λ (part : List Event). part) (guest_events statements ∷ of_messages) (of_nodes ++ of_control ∷ [])
-      ∙ (λ i. (guest_events statements ++ messages-joined i) ++ rest-joined i)
-      ∙ append_assoc (guest_events statements) (flat_map message_events (tree.entries world.wire)) (flat_map node_events (tree.keys world.hosts) ++ of_control)
+      flat_map-append (λ (part : List Event). part) ((guest_events statements ∷ of_messages) ++ of_nodes) (of_control ∷ [])
+      ∙ (λ i. flat_map-append (λ (part : List Event). part) (guest_events statements ∷ of_messages) of_nodes i ++ append-nil of_control i)
+      ∙ (λ i. ((guest_events statements ++ messages-joined i) ++ joined-map node_events (tree.keys world.hosts) i) ++ of_control)
 
   -- together the parts are the enabled list
   pub joined-enabled_parts : joined (enabled_parts statements world) ≡ enabled_events statements world

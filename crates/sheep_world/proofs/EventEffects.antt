@@ -6,7 +6,7 @@ use Rattle.std.specs.FinMap as tree
 use Rattle.std.proofs.lemmas.Bool.{eqb-true, and_parts}
 use Rattle.std.proofs.lemmas.Option.{cond_some}
 use Rattle.object_id.specs.declared.node.NodeId.{NodeId}
-use Rattle.object_id.specs.declared.piece.TheConstants.{BLOCK_BYTES}
+use Rattle.object_id.specs.declared.limits.TheConstants.{BLOCK_BYTES}
 use Rattle.cluster_script.specs.declared.statement.Statement.{Statement}
 use Rattle.cluster_script.specs.NumberedRequests.{session_of, numbered_requests}
 use Rattle.cluster_script.specs.Sessions.{ScriptSession, session_numbered}
@@ -80,20 +80,23 @@ module _ (statements : List Statement) (world : World) (made : EventOutcome) (no
           let (number, of, own) = looked_up (is_of_incarnation statements node.0 host.incarnation) (session_of request.1) writes.1 in
           let (session, declared, is_own) = looked_up (λ (of : ScriptSession). of.node == node.0 && of.incarnation == host.incarnation)
           (session_numbered statements number) own in
-          let ends = and_parts (session.node == node.0) (session.incarnation == host.incarnation) is_own in
-          (request, sym same, record {
-            host = host;
-            there = at;
-            asked = asked;
-            writes = writes.0;
-            number = number;
-            of = of;
-            session = session;
-            declared = declared;
-            gateway = eqb-true session.node node.0 ends.0;
-            lived = eqb-true session.incarnation host.incarnation ends.1;
-            on_disk = parts.1;
-          })
+          let ends = and_parts (session.node == node.0) (session.incarnation == host.incarnation) is_own in (
+            request,
+            sym same,
+            record {
+              host = host;
+              there = at;
+              asked = asked;
+              writes = writes.0;
+              number = number;
+              of = of;
+              session = session;
+              declared = declared;
+              gateway = eqb-true session.node node.0 ends.0;
+              lived = eqb-true session.incarnation host.incarnation ends.1;
+              on_disk = parts.1;
+            },
+          )
 
 -- the next phase is present, with its own losses, and its controls behind those that are left
 pub phase_is_present : (statements : List Statement) (world : World) (made : EventOutcome) → step statements events.Phase world ≡ Some made

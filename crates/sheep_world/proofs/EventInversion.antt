@@ -21,6 +21,7 @@ use Rattle.peer_proto.specs.declared.fault.PeerFault.{PeerFault}
 use Rattle.peer_proto.specs.declared.say.PeerRsp.{PeerRsp}
 use Rattle.peer_proto.specs.Ask.{ask_in}
 use Rattle.peer_proto.specs.Say.{say_in}
+use Rattle.peer_service.specs.Serve.{reply_to}
 use Rattle.sheep_node.specs.declared.ask.Ask.{Ask}
 use Rattle.sheep_node.specs.declared.event.Event.{Event}
 use Rattle.sheep_node.specs.declared.event.Event.TheVariants as events

@@ -25,7 +25,6 @@ use Rattle.sheep_world.specs.WireMatch.{asked_by, asked_by_gateway}
 use Rattle.sheep_world.proofs.NameTools.{same_name}
 use Rattle.sheep_world.proofs.InFlightEvents.{asked_by-opening}
 
-
 -- no message in the wire is a request of a node that is no end there, or the reply to one
 pub no_sender : (world : World) (n : ℕ) → not (has_end_in_wire n world) ≡ true → (name : MessageName) (packet : Packet)
     → tree.get world.wire name ≡ Some packet → name.sender.0 ≢ n
@@ -36,7 +35,6 @@ no_sender world n none name packet got =
     eqb-false name.sender.0 n
     (list_any-none (λ (other : NodeId). other.0 == n) (name.sender ∷ asked_node packet ∷ []) name.sender no_end
     (Contains-first name.sender name.sender (asked_node packet ∷ []) refl))
-
 
 -- what waits for nothing: a new gateway, and a recovery without messages
 pub record Renewed (me : NodeId) (tries : ℕ) (node : Node) : Type 0 where

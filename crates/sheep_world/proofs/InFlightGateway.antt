@@ -40,13 +40,12 @@ use Rattle.sheep_node.specs.RequestWorks.{queue_left}
 use Rattle.sheep_node.specs.Waiting.{work_done, after_act, after_gateway_step}
 use Rattle.sheep_node.specs.Step as steps
 use Rattle.sheep_node.specs.Step.{recovery_stepped, on_input, is_due, with_recovered, recovered_put, node_step}
-use Rattle.sheep_node.proofs.StepChain.{ChainNeeds}
 use Rattle.sheep_node.proofs.StepResults.{step_numbers, step_counts}
 use Rattle.sheep_node.specs.OneWork.{HasOneWorkPerRequest}
 use Rattle.sheep_world.proofs.InFlightSends.{Asking}
 use Rattle.sheep_world.proofs.InFlightRecoveryAnswer.{Other, left_now, lost_asks, replied_asks}
 use Rattle.sheep_world.proofs.OneWorkLaws.{IsGood, IsFree, IsFreeIn, driver_stepped_good, let_begin_good, left_good, left_free, work_refused_good}
-use Rattle.sheep_world.proofs.InFlightRetryTick.{found_got, good_first, good_at_end, good_so_far_asks, good_driven, asks_after}
+use Rattle.sheep_world.proofs.InFlightRetryTick.{found_got, DoesWell, good_first, good_at_end, good_so_far_asks, good_driven, asks_after}
 use Rattle.sheep_world.proofs.InFlightGuest.{command_went_on_good}
 use Rattle.sheep_world.proofs.MarkedMessages.{Marks, marks_open, marks_ended, marks_removed, marked_asks, marked_driven}
 
@@ -69,8 +68,8 @@ unfolding course_went_on
 course_went_on_good old number req bytes (Waiting ask) so_far free good = good
 course_went_on_good old number req bytes (Driving driver) so_far free good =
     disk_went_on_good old number req bytes driver (session_in number so_far).disk so_far free good
-course_went_on_good old number req bytes (Commanding ask op) so_far free good =
-    command_went_on_good old number req ask (op_on_done bytes op) so_far (done_awaited bytes op) free good
+course_went_on_good old number req bytes (Commanding op) so_far free good =
+    command_went_on_good old number req (op_on_done bytes op) so_far (done_awaited bytes op) free good
 
 work_done_good : (old : Node) (work : ObjWork) (req : ℕ) (bytes : List ℕ) (request : Option Request) (so_far : StepState) → IsFreeIn req so_far
     → IsGood old so_far → IsGood old (work_done work req bytes request so_far)
@@ -197,16 +196,16 @@ module _ (node : Node) (driven : HasOneWorkPerRequest node) (number : ℕ) (stat
 
 -- a step that a gateway makes so
 ends_by : (number : ℕ) (input : Input) (node between : Node) (so_far : StepState) → node_step input node ≡ recovered_put so_far → between.sends ≡ node.sends
-    → ChainNeeds input node → HasOneWorkPerRequest node → Asking (Other number) node between [] → HasOneWorkPerRequest between → IsGood between so_far
+    → HasOneWorkPerRequest node → Asking (Other number) node between [] → HasOneWorkPerRequest between → IsGood between so_far
     → DoesWell (Other number) input node
-ends_by number input node between so_far is same needs driven first there good =
+ends_by number input node between so_far is same driven first there good =
     let last : IsGood between (node_step input node) = subst (IsGood between) (sym is) (good_at_end between so_far good) in
     record {
       asks = λ requests.
           asks_after (Other number) node between (node_step input node).node (node_step input node).outputs.sends first
           (good_so_far_asks between (node_step input node)
-          (subst (λ (n : ℕ). AreNumberedFrom n (node_step input node).outputs.sends) (sym same) (step_numbers input node needs driven))
-          (step_counts input node needs driven ∙ ap (λ (n : ℕ). n + length (node_step input node).outputs.sends) (sym same))
+          (subst (λ (n : ℕ). AreNumberedFrom n (node_step input node).outputs.sends) (sym same) (step_numbers input node))
+          (step_counts input node ∙ ap (λ (n : ℕ). n + length (node_step input node).outputs.sends) (sym same))
           last requests);
       driven = good_driven between (node_step input node) there last;
     }
@@ -271,7 +270,7 @@ lost_well node number driven = by_waits (gateways.gateway_awaits number node.gat
         (after_gateway_step (message_ended node.gateway number Lost) (at_first node))
         (ap (λ (b : Bool). recovered_put (cond b (after_gateway_step (message_ended node.gateway number Lost) (at_first node))
         (recovery_stepped (recovery_steps.recovery_on_loss number (recovery_state_of node)) (at_first node)))) waits)
-        refl tt driven (settled_asks node driven number Lost refl waits) (settled_driven node driven number Lost refl waits) (settled_good node driven number Lost refl waits)
+        refl driven (settled_asks node driven number Lost refl waits) (settled_driven node driven number Lost refl waits) (settled_good node driven number Lost refl waits)
     by_waits false none = record {
       asks = λ requests. lost_asks node number none;
       driven = subst (λ (so_far : StepState). HasOneWorkPerRequest so_far.node)
@@ -318,7 +317,7 @@ replied_well node rsp driven fit = by_waits (gateways.gateway_awaits rsp.number 
         (after_gateway_step (message_ended node.gateway rsp.number status) (at_first node))
         (ap (λ (b : Bool). recovered_put (cond b (after_gateway_step (message_ended node.gateway rsp.number status) (at_first node))
         (recovery_stepped (recovery_steps.recovery_on_reply rsp (recovery_state_of node)) (at_first node)))) waits)
-        refl (λ awaits. settled) driven (settled_asks node driven rsp.number status settled waits) (settled_driven node driven rsp.number status settled waits) (settled_good node driven rsp.number status settled waits)
+        refl driven (settled_asks node driven rsp.number status settled waits) (settled_driven node driven rsp.number status settled waits) (settled_good node driven rsp.number status settled waits)
     by_waits false none = record {
       asks = λ requests. replied_asks node rsp none;
       driven = subst (λ (so_far : StepState). HasOneWorkPerRequest so_far.node)

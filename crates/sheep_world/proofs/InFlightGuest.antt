@@ -13,7 +13,7 @@ use Rattle.guest_driver.specs.declared.disk.Disk.{Disk}
 use Rattle.vdi_ops.specs.declared.act.OpAct.{OpAct}
 use Rattle.vdi_ops.specs.declared.act.OpAct.TheVariants as op_acts
 use Rattle.vdi_ops.specs.Op as ops
-use Rattle.vdi_ops.specs.Op.{Op, OpStage, Asked, Working, Publishing, Answered, opened_inode, entry_wanted, entry_wanted_at, IsAwaitedByCommand, IsAwaitedAtOpStage}
+use Rattle.vdi_ops.specs.Op.{Op, OpStage, Asked, Working, Publishing, Answered, disk_change, entry_wanted, entry_wanted_at, IsAwaitedByCommand, IsAwaitedAtOpStage}
 use Rattle.vdi_ops.specs.Steps.{begin_command}
 use Rattle.vdi_ops.proofs.StepLemmas.{begin_awaited}
 use Rattle.sheep_node.specs.declared.ask.Ask.{Ask}
@@ -21,9 +21,9 @@ use Rattle.sheep_node.specs.declared.ask.Ask.TheVariants as asks
 use Rattle.sheep_node.specs.declared.input.Input.TheVariants as inputs
 use Rattle.sheep_node.specs.State.{Waiting, Commanding, Request, Node}
 use Rattle.sheep_node.specs.StepState.{StepState, at_first, session_in, with_disk, with_course}
-use Rattle.sheep_node.specs.Courses.{disk_with_act, after_command_step, command_acted, command_stepped, command_went_on}
+use Rattle.sheep_node.specs.Courses.{disk_after, inode_open, after_command_step, command_acted, command_stepped, command_went_on}
 use Rattle.sheep_node.specs.Guests as nodes
-use Rattle.sheep_node.specs.Guests.{request_refusal, inode_open, queued_as, with_queued_request, request_taken, request_taken_unless}
+use Rattle.sheep_node.specs.Guests.{request_refusal, queued_as, with_queued_request, request_taken, request_taken_unless}
 use Rattle.sheep_node.specs.Step.{on_input, node_step}
 use Rattle.sheep_world.specs.World.{Host, World, host_at, is_host_up}
 use Rattle.sheep_world.specs.Asking.{ask_of_statement, input_by, input_of}
@@ -43,42 +43,42 @@ use Rattle.sheep_world.proofs.InFlightRetryTick.{good_first, good_at_end}
 
 -- a command whose act is a work waits for no entry
 no_entry : (work : ObjWork) (stage : OpStage) → IsAwaitedAtOpStage (op_acts.Work work) stage → is_none (entry_wanted_at stage) ≡ true
-no_entry work (Asked entry ask disk) awaited = absurd (cc (awaited))
+no_entry work (Asked entry) awaited = absurd (cc (awaited))
 no_entry work (Working vid task) awaited = refl
-no_entry work (Publishing entry opened_inode) awaited = absurd (cc (awaited))
-no_entry work (Answered opened_inode) awaited = refl
+no_entry work (Publishing entry opened) awaited = absurd (cc (awaited))
+no_entry work (Answered change) awaited = refl
 
-command_acted_good : (old : Node) (number req : ℕ) (ask : VdiAsk) (op : Op) (act : OpAct) (so_far : StepState) → IsAwaitedAtOpStage act op.stage
-    → tree.get so_far.node.requests req ≡ Some (record { session = number; course = Commanding ask op })
+command_acted_good : (old : Node) (number req : ℕ) (op : Op) (act : OpAct) (so_far : StepState) → IsAwaitedAtOpStage act op.stage
+    → tree.get so_far.node.requests req ≡ Some (record { session = number; course = Commanding op })
     → IsFreeIn req so_far → IsGood old so_far → IsGood old (command_acted number req act so_far)
-command_acted_good old number req ask op (op_acts.Append entry) so_far awaited there free good = record { going = good.going; driven = good.driven }
-command_acted_good old number req ask op (op_acts.Work work) so_far awaited there free good =
+command_acted_good old number req op (op_acts.Append entry) so_far awaited there free good = record { going = good.going; driven = good.driven }
+command_acted_good old number req op (op_acts.Work work) so_far awaited there free good =
     work_asked_good old number req work so_far free
     (ap (may_work_of number) there
     ∙ ap (λ (b : Bool). b && is_none (entry_wanted op)) (eq-eqb number number refl)
     ∙ no_entry work op.stage awaited)
     good
-command_acted_good old number req ask op (op_acts.Reply reply) so_far awaited there free good = ended_good old number req reply so_far free good
+command_acted_good old number req op (op_acts.Reply reply) so_far awaited there free good = ended_good old number req reply so_far free good
 
-command_stepped_good : (old : Node) (number req : ℕ) (ask : VdiAsk) (step : ops.OpStep) (so_far : StepState) → IsAwaitedByCommand step → IsFreeIn req so_far
-    → IsGood old so_far → IsGood old (command_stepped number req ask step so_far)
+command_stepped_good : (old : Node) (number req : ℕ) (step : ops.OpStep) (so_far : StepState) → IsAwaitedByCommand step → IsFreeIn req so_far
+    → IsGood old so_far → IsGood old (command_stepped number req step so_far)
 unfolding command_stepped
-command_stepped_good old number req ask step so_far awaited free good =
-    let request : Request = record { session = number; course = Commanding ask step.op } in
-    let course = with_course number req (Commanding ask step.op) so_far in
+command_stepped_good old number req step so_far awaited free good =
+    let request : Request = record { session = number; course = Commanding step.op } in
+    let course = with_course number req (Commanding step.op) so_far in
     let session = record (session_in number so_far) {
-      disk = disk_with_act ask step.op step.act (session_in number so_far).disk;
+      disk = disk_after (disk_change step) (session_in number so_far).disk;
       command = Some req;
     } in
-    command_acted_good old number req ask step.op step.act (after_command_step number req ask step so_far) awaited
+    command_acted_good old number req step.op step.act (after_command_step number req step so_far) awaited
     (get-insert_same so_far.node.requests req request)
     (free_session req so_far.node.gateway.works so_far.node.sessions number session refl free)
-    (good_session old number session course refl (good_course old number req (Commanding ask step.op) so_far free good))
+    (good_session old number session course refl (good_course old number req (Commanding step.op) so_far free good))
 
-pub command_went_on_good : (old : Node) (number req : ℕ) (ask : VdiAsk) (step : Option ops.OpStep) (so_far : StepState) → IfSome step IsAwaitedByCommand
-    → IsFreeIn req so_far → IsGood old so_far → IsGood old (command_went_on number req ask step so_far)
-command_went_on_good old number req ask None so_far awaited free good = good
-command_went_on_good old number req ask (Some step) so_far awaited free good = command_stepped_good old number req ask step so_far awaited free good
+pub command_went_on_good : (old : Node) (number req : ℕ) (step : Option ops.OpStep) (so_far : StepState) → IfSome step IsAwaitedByCommand
+    → IsFreeIn req so_far → IsGood old so_far → IsGood old (command_went_on number req step so_far)
+command_went_on_good old number req None so_far awaited free good = good
+command_went_on_good old number req (Some step) so_far awaited free good = command_stepped_good old number req step so_far awaited free good
 
 -- ---- a guest's request
 
@@ -102,7 +102,7 @@ taken_good old number req (asks.Disk ask) so_far free good =
     (λ never. pushed_free number req ask disk waiting free)
     (pushed_good old number req ask disk waiting (good_course old number req (Waiting ask) so_far free good))
 taken_good old number req (asks.Vdi ask) so_far free good =
-    command_went_on_good old number req ask (begin_command so_far.node.me number ask (inode_open (session_in number so_far).disk)) so_far
+    command_went_on_good old number req (begin_command so_far.node.me number ask (inode_open (session_in number so_far).disk)) so_far
     (begin_awaited so_far.node.me number ask (inode_open (session_in number so_far).disk)) free good
 taken_good old number req (asks.Object work) so_far free good = good
 taken_good old number req (asks.Entry entry) so_far free good = good

@@ -1,7 +1,7 @@
 -- A node that reads an entry of the log leaves nodes and wire together.
 use Rattle.std.proofs.Common.{◌≡◌, inl, ℕ, ◌+◌, ◌==◌, ◌<◌, nat_lt, Bool, true, false, ◌||◌, cond, List, [], ◌∷◌, ◌++◌, length, map, Contains, Option, Some, None, is_some, is_none, refl, sym, ap, subst, ◌∙◌, ⊎_elim}
 use native.Mathlib.Omega.{arith}
-use Rattle.std.specs.Option.{option_map}
+use Rattle.std.specs.Option.{option_map, option_map_or}
 use Rattle.std.specs.FinMap as tree
 use Rattle.std.proofs.lemmas.Bool.{eqb-true, or_cases, or_left, or_right}
 use Rattle.std.proofs.lemmas.Option.{same_Some}
@@ -53,7 +53,7 @@ use Rattle.sheep_node.specs.RecoveryView.{recovery_state_of}
 use Rattle.sheep_node.specs.May.{fits_node}
 use Rattle.sheep_node.specs.AwaitedEntry.{waits_for_entry}
 use Rattle.sheep_node.specs.StepState.{StepState, at_first}
-use Rattle.sheep_node.specs.Courses.{course_decided}
+use Rattle.sheep_node.specs.Courses.{inode_open, course_decided}
 use Rattle.sheep_node.specs.LogReading as nodes
 use Rattle.sheep_node.specs.LogReading.{asker_of, decision_told, on_log_entry}
 use Rattle.sheep_node.specs.Step.{on_input, node_step}
@@ -239,7 +239,7 @@ read_driven entry node driven = kept_driven node (nodes.entry_read entry node) (
 wanted_never : (entry : Entry) (course : Course) → waits_for_entry entry course ≡ true → may_work course ≡ false
 wanted_never entry (Waiting ask) waits = absurd (cc (waits))
 wanted_never entry (Driving driver) waits = absurd (cc (waits))
-wanted_never entry (Commanding ask op) waits = by_entry (entry_wanted op) waits
+wanted_never entry (Commanding op) waits = by_entry (entry_wanted op) waits
   where
     by_entry : (o : Option Entry) → option_map_or (λ (wanted : Entry). is_same_entry wanted entry) o false ≡ true → is_none o ≡ false
     by_entry None waits = absurd (cc (waits))
@@ -250,9 +250,9 @@ decided_good : (old : Node) (number req : ℕ) (decision : Decision) (course : C
 unfolding course_decided
 decided_good old number req decision (Waiting ask) so_far free good = good
 decided_good old number req decision (Driving driver) so_far free good = good
-decided_good old number req decision (Commanding ask op) so_far free good =
-    command_went_on_good old number req ask (on_decision (effects_of so_far.node.peer) decision op) so_far
-    (decision_awaited (effects_of so_far.node.peer) decision op) free good
+decided_good old number req decision (Commanding op) so_far free good =
+    command_went_on_good old number req (on_decision (effects_of so_far.node.peer) (inode_open (session_in number so_far).disk) decision op) so_far
+    (decision_awaited (effects_of so_far.node.peer) (inode_open (session_in number so_far).disk) decision op) free good
 
 told_good : (entry : Entry) (decision : Decision) (node : Node) (so_far : StepState) (found : Option (ℕ × Request)) → asker_of entry node ≡ found
     → so_far.node.requests ≡ node.requests → (old : Node) → IsGood old so_far → IsGood old (decision_told decision found so_far)
@@ -287,8 +287,8 @@ reads_well entry node driven =
       asks = λ requests.
           asks_after Any node after so_far.node so_far.outputs.sends (read_asks entry node)
           (good_so_far_asks after so_far
-          (subst (λ (n : ℕ). AreNumberedFrom n so_far.outputs.sends) (sym same) (step_numbers (inputs.LogEntry entry) node tt driven))
-          (step_counts (inputs.LogEntry entry) node tt driven ∙ ap (λ (n : ℕ). n + length so_far.outputs.sends) (sym same))
+          (subst (λ (n : ℕ). AreNumberedFrom n so_far.outputs.sends) (sym same) (step_numbers (inputs.LogEntry entry) node))
+          (step_counts (inputs.LogEntry entry) node ∙ ap (λ (n : ℕ). n + length so_far.outputs.sends) (sym same))
           good requests);
       driven = good_driven after so_far (read_driven entry node driven) good;
     }

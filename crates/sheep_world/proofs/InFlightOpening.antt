@@ -23,7 +23,6 @@ use Rattle.sheep_node.specs.LogReading.{asker_of, decision_told, entry_read, on_
 use Rattle.sheep_node.specs.AwaitedEntry.{waits_for_entry}
 use Rattle.peer_service.specs.LogReading.{decision_on}
 use Rattle.sheep_node.specs.Step.{on_input, is_due, with_recovered, recovered_put, node_step}
-use Rattle.sheep_node.proofs.NumberChanges.{one_work_at_opening}
 use Rattle.sheep_node.proofs.StepResults.{step_me}
 use Rattle.sheep_world.specs.declared.name.MessageName.{MessageName}
 use Rattle.sheep_world.specs.World.{name_cmp, Packet, Host}
@@ -107,8 +106,7 @@ module _ (statements : List Statement) where
     numbered = λ q host got.
         let (member, own, is) = opening_found q host got in
         ap (λ (host : Host). host.node.me.0) (sym is)
-        ∙ ap (λ (me : NodeId). me.0) (step_me (inputs.LogEntry (format_entry statements)) (nodes.initial_node member.node (tries_of statements)) tt
-        (one_work_at_opening member.node (tries_of statements)))
+        ∙ ap (λ (me : NodeId). me.0) (step_me (inputs.LogEntry (format_entry statements)) (nodes.initial_node member.node (tries_of statements)))
         ∙ sym own;
     on_the_way = λ q host got up.
         let (member, own, is) = opening_found q host got in

@@ -41,7 +41,6 @@ use Rattle.sheep_node.specs.StepState.{StepState, at_first, with_gateway}
 use Rattle.sheep_node.specs.Waiting.{after_act, after_gateway_step}
 use Rattle.sheep_node.specs.Step as steps
 use Rattle.sheep_node.specs.Step.{is_due, with_recovered, recovered_put, on_input, node_step}
-use Rattle.sheep_node.proofs.StepChain.{ChainNeeds}
 use Rattle.sheep_node.proofs.StepResults.{step_numbers, step_counts}
 use Rattle.sheep_world.specs.World.{Host, World, host_at, is_host_up}
 use Rattle.sheep_world.specs.Conditions as conditions
@@ -284,11 +283,11 @@ good_so_far_asks node so_far numbers counts good requests =
           (or_cases (gateways.fits_gateway rsp node.gateway) (recovery_fits.fits_recovery rsp (recovery_state_of node)) fit);
     }
 
-pub good_asks : (input : Input) (node : Node) → ChainNeeds input node → HasOneWorkPerRequest node → IsGood node (node_step input node)
+pub good_asks : (input : Input) (node : Node) → IsGood node (node_step input node)
     → All (λ (send : NodeId × PeerReq). IsPeerReq send.1) (node_step input node).outputs.sends
     → Asking Any node (node_step input node).node (node_step input node).outputs.sends
-good_asks input node needs driven good requests =
-    good_so_far_asks node (node_step input node) (step_numbers input node needs driven) (step_counts input node needs driven) good requests
+good_asks input node good requests =
+    good_so_far_asks node (node_step input node) (step_numbers input node) (step_counts input node) good requests
 
 -- what a good step drives its node to
 pub good_driven : (old : Node) (so_far : StepState) → HasOneWorkPerRequest old → IsGood old so_far → HasOneWorkPerRequest so_far.node
@@ -353,9 +352,9 @@ pub record DoesWell (Stays : ℕ → Type 0) (input : Input) (node : Node) : Typ
   pub driven : HasOneWorkPerRequest (node_step input node).node
 
 -- a good step does well
-pub good_well : (input : Input) (node : Node) → ChainNeeds input node → HasOneWorkPerRequest node → IsGood node (node_step input node) → DoesWell Any input node
-good_well input node needs driven good =
-    record { asks = λ requests. good_asks input node needs driven good requests; driven = good_driven node (node_step input node) driven good }
+pub good_well : (input : Input) (node : Node) → HasOneWorkPerRequest node → IsGood node (node_step input node) → DoesWell Any input node
+good_well input node driven good =
+    record { asks = λ requests. good_asks input node good requests; driven = good_driven node (node_step input node) driven good }
 
 -- ---- a work is tried again
 

@@ -7,7 +7,8 @@ use Rattle.std.proofs.lemmas.Option.{same_Some}
 use Rattle.object_id.specs.declared.entry.Entry.{Entry}
 use Rattle.object_id.specs.declared.entry.Entry.TheVariants as entries
 use Rattle.object_id.specs.declared.entry.Member.{Member}
-use Rattle.epoch_log.specs.Members.{IsWeight, is_member_node, is_member}
+use Rattle.object_id.specs.Node.{IsWeight}
+use Rattle.epoch_log.specs.Members.{is_member_node, is_member}
 use Rattle.epoch_log.specs.Epochs.{epoch_of, members_in}
 use Rattle.epoch_log.specs.Appending.{IsLog}
 use Rattle.epoch_log.proofs.MembersLemmas.{IsLog-some, IsLog-push}

@@ -7,8 +7,9 @@ use Rattle.std.specs.List.Sorted.{IsStrictlyIncreasing}
 use Rattle.std.proofs.lemmas.Bool.{eqb-true, eqb-false, ltb-true, ltb-false, or_cases}
 use Rattle.std.proofs.lemmas.List.Elements.{All-nil, All-cons}
 use Rattle.object_id.specs.declared.entry.Member.{Member}
-use Rattle.epoch_log.specs.Members.{is_member_node, IsWeight, node_numbers, HaveWeights, is_member}
+use Rattle.object_id.specs.Node.{IsNode, IsWeight}
 use Rattle.object_id.specs.declared.limits.TheConstants.{NODES_DEFAULT, VNODES_DEFAULT}
+use Rattle.epoch_log.specs.Members.{is_member_node, node_numbers, HaveWeights, is_member}
 use Rattle.cluster_script.specs.declared.statement.Statement.{Statement}
 use Rattle.cluster_script.specs.declared.statement.Statement.TheVariants.{Cluster, Vnodes}
 use Rattle.cluster_script.specs.Language.{MayStand, EachMayStand, IsScript}
@@ -137,7 +138,7 @@ module _ (statements : List Statement) (script : IsScript statements) where
             some = let all : length (members_from statements 0 count) ≡ count = members_so statements 0 count in omega (arith, all, within.0);
             ordered = record {
               ascending = subst IsStrictlyIncreasing (sym (numbers_so statements 0 count)) (ascend statements count);
-              below_64 = subst (All (λ node. node < 64)) (sym (numbers_so statements 0 count)) (all_below statements 0 count (omega (arith, within.1)));
+              nodes = subst (All IsNode) (sym (numbers_so statements 0 count)) (all_below statements 0 count (omega (arith, within.1)));
             };
             weights = all_weigh statements 0 count weight_at_first;
           },

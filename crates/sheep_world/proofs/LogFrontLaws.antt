@@ -9,7 +9,6 @@ use Rattle.sheep_node.specs.declared.event.Event.{Event}
 use Rattle.sheep_node.specs.declared.input.Input.TheVariants as inputs
 use Rattle.sheep_node.specs.State as nodes
 use Rattle.sheep_node.specs.StepFacts.{read_after}
-use Rattle.sheep_node.proofs.NumberChanges.{one_work_at_opening}
 use Rattle.sheep_node.proofs.StepResults.{step_reads}
 use Rattle.sheep_world.specs.World.{Host, World}
 use Rattle.sheep_world.specs.Opening.{format_entry, initial_world}
@@ -20,9 +19,7 @@ use Rattle.sheep_world.specs.HostChanges.{HostsKeep}
 use Rattle.sheep_world.specs.Began.{Began}
 use Rattle.sheep_world.specs.LogFronts.{IsFront, ReadsTheLog, AllReadTheLog}
 use Rattle.sheep_world.proofs.BegunWorlds.{each_where}
-use Rattle.sheep_world.proofs.StepsByCause.{chain_needs}
 use Rattle.sheep_world.proofs.TogetherInRuns.{holds_together}
-use Rattle.sheep_world.proofs.WireAtEvents.{is_ready}
 use Rattle.sheep_world.specs.HoldsTogether.{MessagesAreInRange, HoldsTogether}
 use Rattle.cluster_script.specs.Language.{IsScript}
 
@@ -90,21 +87,19 @@ unfolding initial_world
 reads_kept statements = record {
   opens = λ member.
       subst (λ (read : List Entry). IsFront read (format_entry statements ∷ []))
-      (sym (step_reads (inputs.LogEntry (format_entry statements)) (nodes.initial_node member.node (tries_of statements)) tt
-      (one_work_at_opening member.node (tries_of statements))))
+      (sym (step_reads (inputs.LogEntry (format_entry statements)) (nodes.initial_node member.node (tries_of statements))))
       (whole (format_entry statements ∷ []));
   stays = λ event world made h i n host front.
       front_of_front host.node.peer.entries world.log made.world.log front (log_grows statements event world made h);
   steps = λ world n host cause i there up caused front.
-      subst (λ (read : List Entry). IsFront read (log_after_cause cause world.log)) 
-      (sym (step_reads (input_of_cause cause) host.node (chain_needs statements world n host cause caused (is_ready statements world i n host there up))
-      (i.driven n host there)))
+      subst (λ (read : List Entry). IsFront read (log_after_cause cause world.log))
+      (sym (step_reads (input_of_cause cause) host.node))
       (front_of_front (read_after (input_of_cause cause) host.node.peer.entries) world.log (log_after_cause cause world.log)
       (reads_by statements world n host cause caused front) (by_step cause world.log));
   fails = λ world n host i front. front;
   returns = λ world n host i there front.
       subst (λ (read : List Entry). IsFront read (log_after_return statements n world))
-      (sym (step_reads (inputs.Back (log_after_return statements n world)) host.node tt (i.driven n host there))) (whole (log_after_return statements n world));
+      (sym (step_reads (inputs.Back (log_after_return statements n world)) host.node)) (whole (log_after_return statements n world));
   joins = λ world n i control. record { rest = world.log; is = refl };
 }
 

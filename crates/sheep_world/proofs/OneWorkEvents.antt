@@ -31,7 +31,7 @@ use Rattle.sheep_world.specs.World.{Packet, Request as Sent, Host, World, host_a
 use Rattle.sheep_world.specs.Conditions.{may_put, may_recover, may_lose_node, may_leave, may_join, may_reweight, may_come_back, may_end_phase, may_deliver}
 use Rattle.sheep_world.specs.NodeSteps.{host_stepped, node_stepped, at_rest}
 use Rattle.sheep_world.specs.Effects.{with_entries, put_effect, recover_tick_effect}
-use Rattle.sheep_world.specs.Messages.{without_message, with_reply_packet, request_got, request_delivered, delivered_as, message_delivered}
+use Rattle.sheep_world.specs.Messages.{without_message, request_got, request_delivered, delivered_as, message_delivered}
 use Rattle.sheep_world.specs.Opening as worlds
 use Rattle.sheep_world.specs.Opening.{format_entry, initial_host}
 use Rattle.sheep_world.specs.MembershipChanges.{lost_host, control_taken, host_changed, without_replies, node_lost, node_left, node_joined, node_reweighted, join_of, last_weight, revived_host, node_rejoined, came_back, phase_ended}

@@ -168,7 +168,7 @@ course_refused_good : (old : Node) (number req : ℕ) (cause : Cause) (course : 
     → IsGood old (course_refused number req cause course so_far)
 course_refused_good old number req cause (Waiting ask) so_far free good = good
 course_refused_good old number req cause (Driving driver) so_far free good = ended_good old number req (Refused cause) so_far free good
-course_refused_good old number req cause (Commanding ask op) so_far free good = command_refused_good old number req (on_refusal cause op) so_far free good
+course_refused_good old number req cause (Commanding op) so_far free good = command_refused_good old number req (on_refusal cause op) so_far free good
 
 pub request_refused_good : (old : Node) (req : ℕ) (cause : Cause) (request : Option Request) (so_far : StepState) → IsFreeIn req so_far → IsGood old so_far
     → IsGood old (request_refused req cause request so_far)
@@ -368,7 +368,7 @@ course_begun_good old number req (Waiting ask) so_far free good =
     cond_either (IsGood old) (may_run req (session_in number so_far).queue) (disk_begun number req ask (session_in number so_far).disk so_far) so_far
     (disk_begun_good old number req ask (session_in number so_far).disk so_far (free refl) good) good
 course_begun_good old number req (Driving driver) so_far free good = good
-course_begun_good old number req (Commanding ask op) so_far free good = good
+course_begun_good old number req (Commanding op) so_far free good = good
 
 -- a request that may have no work has none
 pub free_of : (old : Node) (req : ℕ) (request : Request) (so_far : StepState) → tree.get so_far.node.requests req ≡ Some request → may_work request.course ≡ false

@@ -1,5 +1,5 @@
 -- Which events leave the recoveries in range.
-use Rattle.std.proofs.Common.{◌≡◌, ◌≢◌, ⊎_elim, ℕ, true, false, List, Some, ap, subst, ◌∙◌}
+use Rattle.std.proofs.Common.{◌≡◌, ◌≢◌, ⊎_elim, ℕ, true, false, List, Some, refl, ap, subst, ◌∙◌}
 use Rattle.proof_tools.proofs.FiniteMaps.{get-insert_cases}
 use Rattle.std.specs.Ordering.{nat_cmp}
 use Rattle.std.specs.FinMap as tree
@@ -38,7 +38,7 @@ module _ (statements : List Statement) (world : World) (driven : NodesHaveOneWor
       let input = inputs.Guest req session.number ask in
       let new = new-begun statements session.number world begun session req host asked.declared asked.next (ap (tree.get world.hosts) asked.gateway ∙ there) in
       good_range host.node (node_step input host.node) (guest_good host.node req session.number ask (driven n host there) new)
-      (step_epochs_stay input host.node new (driven n host there) refl) (range n host there)
+      (step_epochs_stay input host.node refl) (range n host there)
   step_range (RequestComes name to request) here none = absurd (cc (none))
   step_range (ReplyComes name from rsp) here none = absurd (cc (none))
   step_range (LossIsTold name packet) here none = told_range host.node name.number (driven n host there) (range n host there)
@@ -47,7 +47,7 @@ module _ (statements : List Statement) (world : World) (driven : NodesHaveOneWor
   step_range RecoveryTicks may none = recovered_range host.node may (numbers_left host up) (range n host there)
   step_range WorkIsRetried may none = good_range
       host.node (node_step inputs.RetryTick host.node) (retry_good host.node (driven n host there))
-      (step_epochs_stay inputs.RetryTick host.node tt (driven n host there) refl) (range n host there)
+      (step_epochs_stay inputs.RetryTick host.node refl) (range n host there)
 
 -- the recoveries of all nodes stay in range where the one of a changed host is
 range_after : (hosts : tree.FinMap nat_cmp Host) (n : ℕ) (host : Host) → RecoversInRange host.node → AllRecoverInRange hosts

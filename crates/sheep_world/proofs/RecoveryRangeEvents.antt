@@ -132,7 +132,7 @@ told_range node number driven range = by_waits (gateways.gateway_awaits number n
         let good : IsGood between (node_step (inputs.Lost number) node)
         = subst (IsGood between) (sym is) (good_at_end between so_far (settled_good node driven number Lost refl waits)) in
         good_range between (node_step (inputs.Lost number) node) good
-        (step_epochs_stay (inputs.Lost number) node tt driven refl) (record { own = range.own; range = range.range })
+        (step_epochs_stay (inputs.Lost number) node refl) (record { own = range.own; range = range.range })
     by_waits false none =
         let is : node_step (inputs.Lost number) node ≡ recovered_put (recovery_stepped (recovery_steps.recovery_on_loss number (recovery_state_of node)) (at_first node))
         = ap (λ (b : Bool). recovered_put (cond b (after_gateway_step (message_ended node.gateway number Lost) (at_first node))

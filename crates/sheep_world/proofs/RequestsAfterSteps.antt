@@ -37,7 +37,7 @@ use Rattle.vdi_ops.specs.declared.act.OpAct.{OpAct}
 use Rattle.vdi_ops.specs.declared.act.OpAct.TheVariants as op_acts
 use Rattle.vdi_ops.specs.declared.end.OpEnd.{OpEnd}
 use Rattle.vdi_ops.specs.Op as ops
-use Rattle.vdi_ops.specs.Op.{Op, opened_inode}
+use Rattle.vdi_ops.specs.Op.{Op}
 use Rattle.vdi_ops.specs.Steps.{begin_command, on_refusal, op_on_done, on_decision}
 use Rattle.sheep_node.specs.declared.ask.Ask.{Ask}
 use Rattle.sheep_node.specs.declared.ask.Ask.TheVariants as asks
@@ -47,10 +47,10 @@ use Rattle.sheep_node.specs.State.{Course, Waiting, Driving, Commanding, Request
 use Rattle.sheep_node.specs.RecoveryView.{recovery_state_of}
 use Rattle.sheep_node.specs.StepState.{StepState, at_first, with_node, with_optional_entry, with_gateway, session_in, with_inode_queue, with_disk, with_course, request_ended}
 use Rattle.sheep_node.specs.RequestWorks.{command_refused, course_refused, request_refused, queue_left, after_start, start_of, work_begun, work_asked}
-use Rattle.sheep_node.specs.Courses.{driver_acted, driver_stepped, driver_went_on, disk_went_on, disk_begun, after_command_step, command_acted, command_stepped, command_went_on, course_went_on, course_decided}
+use Rattle.sheep_node.specs.Courses.{driver_acted, driver_stepped, driver_went_on, disk_went_on, disk_begun, inode_open, after_command_step, command_acted, command_stepped, command_went_on, course_went_on, course_decided}
 use Rattle.sheep_node.specs.Waiting.{next_begun, course_begun, found_request_begun, begun_if_may, passed_over, queued_requests, let_begin, work_done, work_refused, after_act, after_gateway_step}
 use Rattle.sheep_node.specs.Guests as guests
-use Rattle.sheep_node.specs.Guests.{request_refusal, inode_open, with_queued_request, request_taken, request_taken_unless}
+use Rattle.sheep_node.specs.Guests.{request_refusal, with_queued_request, request_taken, request_taken_unless}
 use Rattle.sheep_node.specs.AwaitedEntry.{waits_for_entry}
 use Rattle.sheep_node.specs.LogReading.{entry_read, asker_of, decision_told, on_log_entry, on_back}
 use Rattle.sheep_node.specs.Step as steps
@@ -101,7 +101,7 @@ module _ (P : ℕ → Type 0) where
       → AreIn (course_refused number req cause course so_far)
   course_refused_are number req cause (Waiting ask) so_far all = all
   course_refused_are number req cause (Driving driver) so_far all = ended_are number req (Refused cause) so_far all
-  course_refused_are number req cause (Commanding ask op) so_far all = command_refused_are number req (on_refusal cause op) so_far all
+  course_refused_are number req cause (Commanding op) so_far all = command_refused_are number req (on_refusal cause op) so_far all
 
   request_refused_are : (req : ℕ) (cause : Cause) (request : Option Request) (so_far : StepState) → AreIn so_far
       → AreIn (request_refused req cause request so_far)
@@ -163,17 +163,17 @@ module _ (P : ℕ → Type 0) where
   command_acted_are number req (op_acts.Work work) so_far all = work_asked_are number req work so_far all
   command_acted_are number req (op_acts.Reply reply) so_far all = ended_are number req reply so_far all
 
-  command_stepped_are : (number req : ℕ) (ask : VdiAsk) (step : ops.OpStep) (so_far : StepState) → P req → AreIn so_far
-      → AreIn (command_stepped number req ask step so_far)
+  command_stepped_are : (number req : ℕ) (step : ops.OpStep) (so_far : StepState) → P req → AreIn so_far
+      → AreIn (command_stepped number req step so_far)
   unfolding command_stepped
-  command_stepped_are number req ask step so_far so all =
-      command_acted_are number req step.act (after_command_step number req ask step so_far)
-      (are_with so_far.node.requests req (record { session = number; course = Commanding ask step.op }) so all)
+  command_stepped_are number req step so_far so all =
+      command_acted_are number req step.act (after_command_step number req step so_far)
+      (are_with so_far.node.requests req (record { session = number; course = Commanding step.op }) so all)
 
-  command_went_on_are : (number req : ℕ) (ask : VdiAsk) (step : Option ops.OpStep) (so_far : StepState) → P req → AreIn so_far
-      → AreIn (command_went_on number req ask step so_far)
-  command_went_on_are number req ask None so_far so all = all
-  command_went_on_are number req ask (Some step) so_far so all = command_stepped_are number req ask step so_far so all
+  command_went_on_are : (number req : ℕ) (step : Option ops.OpStep) (so_far : StepState) → P req → AreIn so_far
+      → AreIn (command_went_on number req step so_far)
+  command_went_on_are number req None so_far so all = all
+  command_went_on_are number req (Some step) so_far so all = command_stepped_are number req step so_far so all
 
   course_went_on_are : (number req : ℕ) (bytes : List ℕ) (course : Course) (so_far : StepState) → P req → AreIn so_far
       → AreIn (course_went_on number req bytes course so_far)
@@ -181,15 +181,15 @@ module _ (P : ℕ → Type 0) where
   course_went_on_are number req bytes (Waiting ask) so_far so all = all
   course_went_on_are number req bytes (Driving driver) so_far so all =
       disk_went_on_are number req bytes driver (session_in number so_far).disk so_far so all
-  course_went_on_are number req bytes (Commanding ask op) so_far so all = command_went_on_are number req ask (op_on_done bytes op) so_far so all
+  course_went_on_are number req bytes (Commanding op) so_far so all = command_went_on_are number req (op_on_done bytes op) so_far so all
 
   course_decided_are : (number req : ℕ) (decision : Decision) (course : Course) (so_far : StepState) → P req → AreIn so_far
       → AreIn (course_decided number req decision course so_far)
   unfolding course_decided
   course_decided_are number req decision (Waiting ask) so_far so all = all
   course_decided_are number req decision (Driving driver) so_far so all = all
-  course_decided_are number req decision (Commanding ask op) so_far so all =
-      command_went_on_are number req ask (on_decision (effects_of so_far.node.peer) decision op) so_far so all
+  course_decided_are number req decision (Commanding op) so_far so all =
+      command_went_on_are number req (on_decision (effects_of so_far.node.peer) (inode_open (session_in number so_far).disk) decision op) so_far so all
 
   -- ---- what waited begins
 
@@ -198,7 +198,7 @@ module _ (P : ℕ → Type 0) where
       cond_either AreIn (may_run req (session_in number so_far).queue) (disk_begun number req ask (session_in number so_far).disk so_far) so_far
       (disk_begun_are number req ask (session_in number so_far).disk so_far so all) all
   course_begun_are number req (Driving driver) so_far so all = all
-  course_begun_are number req (Commanding ask op) so_far so all = all
+  course_begun_are number req (Commanding op) so_far so all = all
 
   request_begun_are : (req : ℕ) (request : Option Request) (so_far : StepState) → tree.get so_far.node.requests req ≡ request → AreIn so_far
       → AreIn (found_request_begun req request so_far)
@@ -258,7 +258,7 @@ module _ (P : ℕ → Type 0) where
       course_begun_are number req (Waiting ask) (with_queued_request number req ask disk waiting) so
       (pushed_are number req ask disk waiting (are_with so_far.node.requests req (record { session = number; course = Waiting ask }) so all))
   taken_are number req (asks.Vdi ask) so_far so all =
-      command_went_on_are number req ask (begin_command so_far.node.me number ask (inode_open (session_in number so_far).disk)) so_far so all
+      command_went_on_are number req (begin_command so_far.node.me number ask (inode_open (session_in number so_far).disk)) so_far so all
   taken_are number req (asks.Object work) so_far so all = all
   taken_are number req (asks.Entry entry) so_far so all = all
 

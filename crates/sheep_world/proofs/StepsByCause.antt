@@ -24,7 +24,6 @@ use Rattle.sheep_node.specs.May.{has_numbers, fits_node, May}
 use Rattle.sheep_node.specs.StepState.{StepState, at_first}
 use Rattle.sheep_node.specs.Step as steps
 use Rattle.sheep_node.specs.Step.{on_put, is_due, with_recovered, recovered_put, on_input, node_step}
-use Rattle.sheep_node.proofs.StepChain.{ChainNeeds}
 use Rattle.sheep_node.proofs.StepResults.{step_reads}
 use Rattle.sheep_world.specs.World.{Host, World, is_host_up}
 use Rattle.sheep_world.specs.Meets.{MeetsBeside}
@@ -52,19 +51,19 @@ module _ (request : PeerReq) (node : Node) where
   unfolding steps.on_request
   served_keeps = record { me_so = refl; gateway_so = refl; requests_so = refl; sessions_so = refl; sends_so = refl; messages_so = refl }
 
-  served_reads : HasOneWorkPerRequest node → after_request.node.peer.entries ≡ node.peer.entries
+  served_reads : after_request.node.peer.entries ≡ node.peer.entries
   unfolding node_step on_input recovered_put
-  served_reads driven =
+  served_reads =
       sym (cond_either (λ (so_far : StepState). so_far.node.peer.entries ≡ after_request.node.peer.entries) (is_due after_request.node)
       (with_recovered after_request) after_request refl refl)
-      ∙ step_reads (inputs.Request request) node tt driven
+      ∙ step_reads (inputs.Request request) node
 
-  served_asks : HasOneWorkPerRequest node → AsksFrom Any node after_request
+  served_asks : AsksFrom Any node after_request
   unfolding steps.on_request
-  served_asks driven = kept_asks
+  served_asks = kept_asks
       node after_request.node served_keeps
       (λ oid size known.
-      ap (λ (entries : List Entry). option_map (row_size (kind_of oid)) (option_map (λ (header : Header). header.spec) (header_of (log_effects entries) (vid_of oid)))) (served_reads driven)
+      ap (λ (entries : List Entry). option_map (row_size (kind_of oid)) (option_map (λ (header : Header). header.spec) (header_of (log_effects entries) (vid_of oid)))) served_reads
       ∙ known)
 
   pub served_silent : (node_step (inputs.Request request) node).outputs.sends ≡ []
@@ -74,7 +73,7 @@ module _ (request : PeerReq) (node : Node) where
   served_well : HasOneWorkPerRequest node → DoesWell Any (inputs.Request request) node
   unfolding node_step on_input
   served_well driven = record {
-    asks = λ requests. asks_at_end Any node after_request (served_asks driven);
+    asks = λ requests. asks_at_end Any node after_request served_asks;
     driven = driven_at_end after_request (kept_driven node after_request.node served_keeps driven);
   }
 
@@ -131,24 +130,11 @@ reply_fits_here statements world n host name from rsp here ready = reply_fits
     n name.number host (packets_of world.wire n) from here.bytes rsp ready.matches ready.up
     (ap (λ (k : ℕ). packets_of world.wire k name.number) (sym here.here) ∙ here.there) here.read
 
--- so a step is a chain of changes
-pub chain_needs : (statements : List Statement) (world : World) (n : ℕ) (host : Host) (cause : NodeCause) → IsCause statements world n host cause
-    → IsReady statements world n host → ChainNeeds (input_of_cause cause) host.node
-chain_needs statements world n host (GuestAsks session req ask) asked ready = asked_new statements world n host session req ask asked ready
-chain_needs statements world n host (RequestComes name to request) here ready = tt
-chain_needs statements world n host (ReplyComes name from rsp) here ready =
-    λ waits. fits_settled host.node rsp ready.driven waits (reply_fits_here statements world n host name from rsp here ready)
-chain_needs statements world n host (LossIsTold name packet) here ready = tt
-chain_needs statements world n host (EntryIsRead entry) next ready = tt
-chain_needs statements world n host (EntryIsPut entry) first ready = tt
-chain_needs statements world n host RecoveryTicks may ready = tt
-chain_needs statements world n host WorkIsRetried may ready = tt
-
 pub does_well : (statements : List Statement) (world : World) (n : ℕ) (host : Host) (cause : NodeCause) → IsCause statements world n host cause
     → IsReady statements world n host → DoesWell (StaysAt cause) (input_of_cause cause) host.node
 does_well statements world n host (GuestAsks session req ask) asked ready =
     let new = asked_new statements world n host session req ask asked ready in
-    good_well (inputs.Guest req session.number ask) host.node new ready.driven (guest_good host.node req session.number ask ready.driven new)
+    good_well (inputs.Guest req session.number ask) host.node ready.driven (guest_good host.node req session.number ask ready.driven new)
 does_well statements world n host (RequestComes name to request) here ready = served_well request host.node ready.driven
 does_well statements world n host (ReplyComes name from rsp) here ready =
     let got = ap (λ (k : ℕ). packets_of world.wire k name.number) (sym here.here) ∙ here.there in
@@ -163,7 +149,7 @@ does_well statements world n host RecoveryTicks may ready = record {
   driven = recover_driven host.node may ready.driven;
 }
 does_well statements world n host WorkIsRetried may ready =
-    good_well inputs.RetryTick host.node tt ready.driven (retry_good host.node ready.driven)
+    good_well inputs.RetryTick host.node ready.driven (retry_good host.node ready.driven)
 
 -- a node steps on what it may
 pub steps_on_may : (statements : List Statement) (world : World) (n : ℕ) (host : Host) (cause : NodeCause) → IsCause statements world n host cause

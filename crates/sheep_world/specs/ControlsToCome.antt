@@ -1,6 +1,6 @@
 -- The controls of a script that are still to come, and that each fits the nodes that are there when it comes.
 use Rattle.std.specs.Prelude.{◌≡◌, ℕ, ◌+◌, ◌<◌, Bool, true, false, ◌||◌, List, [], ◌∷◌, ◌++◌, drop, flat_map, is_some}
-use Rattle.epoch_log.specs.Members.{IsWeight}
+use Rattle.object_id.specs.Node.{IsWeight}
 use Rattle.cluster_script.specs.declared.statement.Statement.{Statement}
 use Rattle.cluster_script.specs.declared.statement.Statement.TheVariants.{Fail, Join, Reweight, Back}
 use Rattle.cluster_script.specs.Nodes.{failed_by}

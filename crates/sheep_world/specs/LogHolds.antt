@@ -3,7 +3,7 @@ use Rattle.std.specs.Prelude.{◌≡◌, ℕ, ◌-◌, ◌^◌, ◌<◌, Bool, t
 use Rattle.std.specs.FinMap as tree
 use Rattle.object_id.specs.declared.entry.Entry.{Entry}
 use Rattle.epoch_log.specs.Members as members
-use Rattle.epoch_log.specs.Members.{IsWeight}
+use Rattle.object_id.specs.Node.{IsWeight}
 use Rattle.epoch_log.specs.Epochs.{begins_epoch, epoch_of, members_in}
 use Rattle.epoch_log.specs.Appending.{is_format, IsReservable, IsLog}
 use Rattle.sheep_world.specs.World.{Host, World}

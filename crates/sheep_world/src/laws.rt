@@ -11,7 +11,7 @@ ghost use Rattle.peer_proto.specs.Say.{say_in};
 ghost use Rattle.disk_history.specs.declared.event.HistEvent.{HistEvent};
 ghost use Rattle.disk_history.specs.declared.event.HistEvent.TheVariants.{WriterLost};
 ghost use Rattle.guest_driver.specs.declared.disk.Disk.{Disk};
-ghost use Rattle.object_id.specs.declared.piece.TheConstants.{BLOCK_BYTES};
+ghost use Rattle.object_id.specs.declared.limits.TheConstants.{BLOCK_BYTES};
 ghost use Rattle.std.specs.List.{range_with_len};
 ghost use Rattle.sheep_node.specs.declared.event.Event.{Event};
 ghost use Rattle.sheep_node.specs.declared.event.Event.TheVariants as events;

@@ -1,7 +1,6 @@
 -- When a check is refused on the spot, by the disk that is open.
-use Rattle.std.proofs.Common.{◌≡◌, ℕ, ◌<◌, ◌≤◌, nat_le, true, false, cond, Option, Some, None, ap, ◌∙◌}
+use Rattle.std.proofs.Common.{◌≡◌, ◌<◌, ◌≤◌, nat_le, true, false, cond, Some, None, ap, ◌∙◌}
 use Rattle.std.proofs.lemmas.Bool.{le-leb, lt-leb}
-use Rattle.object_id.specs.declared.cause.Cause.{Cause}
 use Rattle.object_id.specs.declared.cause.Cause.TheVariants.{Readonly, InvalidParms}
 use Rattle.peer_proto.specs.declared.guest.VdiAsk.TheVariants.{Check}
 use Rattle.vdi_ops.specs.Entries.{OpenDisk, own_bytes, command_refusal}

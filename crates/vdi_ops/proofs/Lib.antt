@@ -2,3 +2,4 @@ pub mod StepLemmas
 mod TableLemmas
 mod CourseLemmas
 mod CheckRefusals
+mod DiskChanges

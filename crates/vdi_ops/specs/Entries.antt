@@ -1,31 +1,26 @@
 -- The entry that each command begins with, and when a command is refused on the spot.
-use Rattle.std.specs.Prelude.{ℕ, ◌*◌, ◌^◌, ◌==◌, nat_le, false, Bool, List, count_by, Option, Some, None, option_map}
-use Rattle.std.specs.Prelude.{is_some, if◌then◌else◌}
+use Rattle.std.specs.Prelude.{ℕ, ◌*◌, ◌^◌, ◌==◌, nat_le, Bool, List, count_by, Option, Some, None, option_map}
+use Rattle.std.specs.Prelude.{if◌then◌else◌}
 use Rattle.object_id.specs.declared.node.NodeId.{NodeId}
 use Rattle.object_id.specs.declared.cause.Cause.{Cause}
 use Rattle.object_id.specs.declared.cause.Cause.TheVariants.{Readonly, VdiNotLocked, InvalidParms}
 use Rattle.object_id.specs.declared.entry.Origin.TheVariants.{Fresh, SnapshotOf, CloneOf}
 use Rattle.object_id.specs.declared.entry.Entry.{Entry}
 use Rattle.object_id.specs.declared.entry.Entry.TheVariants as entries
-use Rattle.object_id.specs.Spec.{IsSpec, IsName}
+use Rattle.object_id.specs.Spec.{IsSpec, IsName, IsTag}
 use Rattle.inode.specs.Layout.{Content}
 use Rattle.peer_proto.specs.declared.guest.VdiAsk.{VdiAsk}
 use Rattle.peer_proto.specs.declared.guest.VdiAsk.TheVariants.{Create, Attach, Close, Snapshot, Clone, Delete, Check}
 use Rattle.vdi_ops.specs.declared.limits.TheConstants.{CHECKED_BYTES_MAX}
 
--- a tag, where there is one, is as a name may be
-abbrev pub IsOptionalTag : Option (List ℕ) → Type 0
-IsOptionalTag None = Unit {0}
-IsOptionalTag (Some tag) = IsName tag
-
 -- what a command may ask: its names and tags are such, and a new disk may be made so
 abbrev pub IsVdiAsk : VdiAsk → Type 0
 IsVdiAsk (Create name spec) = IsName name × IsSpec spec
-IsVdiAsk (Attach name tag) = IsName name × IsOptionalTag tag
+IsVdiAsk (Attach name tag) = IsName name × IsTag tag
 IsVdiAsk Close = Unit {0}
 IsVdiAsk (Snapshot tag) = IsName tag
 IsVdiAsk (Clone base tag name) = IsName base × IsName tag × IsName name
-IsVdiAsk (Delete name tag) = IsName name × IsOptionalTag tag
+IsVdiAsk (Delete name tag) = IsName name × IsTag tag
 IsVdiAsk Check = Unit {0}
 
 -- the open disk decides at once: its inode, and whether it is a snapshot
@@ -69,16 +64,6 @@ command_refusal disk (Snapshot tag) = needs_working_disk disk
 command_refusal disk (Clone base tag name) = None
 command_refusal disk (Delete name tag) = None
 command_refusal disk Check = check_refusal disk
-
--- whether what a command opens is a snapshot
-abbrev pub opens_snapshot : VdiAsk → Bool
-opens_snapshot (Create name spec) = false
-opens_snapshot (Attach name tag) = is_some tag
-opens_snapshot Close = false
-opens_snapshot (Snapshot tag) = false
-opens_snapshot (Clone base tag name) = false
-opens_snapshot (Delete name tag) = false
-opens_snapshot Check = false
 
 -- the entry that gives a disk back, or the reservation of an id
 abbrev pub unlock_of : NodeId → ℕ → ℕ → Entry

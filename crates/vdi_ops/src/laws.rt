@@ -1,5 +1,5 @@
 //! Laws of the definitions, for the proofs of the layers above: each is the contract of a function that does nothing.
-ghost use Rattle.std.specs.Prelude.{◌≡◌, ◌⊎◌, ℕ, ◌+◌, ◌*◌, ◌^◌, ◌<◌, ◌≤◌, ◌==◌, true, false, List, [], ◌∷◌, length, map, All, Option, Some, None, IfSome, IsTrue, is_some};
+ghost use Rattle.std.specs.Prelude.{◌≡◌, ◌⊎◌, ℕ, ◌+◌, ◌*◌, ◌^◌, ◌<◌, ◌≤◌, ◌==◌, true, false, List, [], ◌∷◌, length, map, All, Option, Some, None, option_map, IfSome, IsTrue, is_some};
 ghost use Rattle.std.specs.List.{list_any};
 ghost use Rattle.object_id.specs.declared.oid.Vid.{Vid};
 ghost use Rattle.object_id.specs.declared.node.NodeId.{NodeId};
@@ -25,7 +25,8 @@ ghost use Rattle.vdi_ops.specs.Entries.{OpenDisk, own_bytes, command_refusal, fi
 ghost use Rattle.vdi_directory.specs.Chains.{chain_of};
 ghost use Rattle.vdi_ops.specs.Tables.{kept_entry, table_in, holes, inode_by};
 ghost use Rattle.vdi_ops.specs.InodeWorks.{written_bytes, written_back, read_inode, create_inode, write_back, write_tag};
-ghost use Rattle.vdi_ops.specs.Op.{Op, entry_wanted, op_bytes_wanted, IsAwaitedByCommand};
+ghost use Rattle.vdi_ops.specs.Op.{Op, Opening, WritingBack, Asked, Working, Publishing, Stays, Opens, Closes, entry_wanted, op_bytes_wanted};
+ghost use Rattle.vdi_ops.specs.Op.{IsAwaitedByCommand, disk_change};
 ghost use Rattle.vdi_ops.specs.Steps.{begin_command, on_decision, op_on_done, on_refusal};
 ghost use Rattle.vdi_ops.specs.Course.{Decided, Given, op_acts_from};
 
@@ -35,7 +36,7 @@ pub fn commands_go_so()
     ensures create { (known : List Effect) (by : NodeId) (session : ℕ) (name : List ℕ) (spec : VdiSpec) (disk : Option Content)
         (vid : Vid) (header : TheHeader) (last : Decision)
         → header_of known vid.0 ≡ Some header
-        → op_acts_from known (begin_command by session (Create name spec) disk)
+        → op_acts_from known disk (begin_command by session (Create name spec) disk)
         (Decided (decisions.Granted vid) ∷ Given [] ∷ Decided last ∷ [])
         ≡ Append (entries.Reserve by session name (Fresh spec)) ∷ Work (create_inode (inode_by header vid.0 (holes header.spec)))
         ∷ Append (entries.Publish by vid) ∷ Reply Done ∷ [] }
@@ -43,7 +44,7 @@ pub fn commands_go_so()
     ensures attach { (known : List Effect) (by : NodeId) (session : ℕ) (name : List ℕ) (disk : Option Content) (vid : Vid)
         (header : TheHeader) (bytes : List ℕ)
         → header_of known vid.0 ≡ Some header
-        → op_acts_from known (begin_command by session (Attach name None) disk)
+        → op_acts_from known disk (begin_command by session (Attach name None) disk)
         (Decided (decisions.Granted vid) ∷ Given bytes ∷ Given [] ∷ [])
         ≡ Append (entries.Lock by session name None) ∷ Work (read_inode vid.0 header.spec)
         ∷ Work (write_back (inode_by header vid.0 (table_in (vid.0 ∷ chain_of known vid.0) header.spec bytes)) bytes) ∷ Reply Done ∷ [] }
@@ -51,16 +52,16 @@ pub fn commands_go_so()
     ensures attach_snapshot { (known : List Effect) (by : NodeId) (session : ℕ) (name tag : List ℕ) (disk : Option Content) (vid : Vid)
         (header : TheHeader) (bytes : List ℕ)
         → header_of known vid.0 ≡ Some header
-        → op_acts_from known (begin_command by session (Attach name (Some tag)) disk) (Decided (decisions.Granted vid) ∷ Given bytes ∷ [])
+        → op_acts_from known disk (begin_command by session (Attach name (Some tag)) disk) (Decided (decisions.Granted vid) ∷ Given bytes ∷ [])
         ≡ Append (entries.Lock by session name (Some tag)) ∷ Work (read_inode vid.0 header.spec) ∷ Reply Done ∷ [] }
     ensures close { (known : List Effect) (by : NodeId) (session : ℕ) (disk : Content)
-        → op_acts_from known (begin_command by session Close (Some disk)) (Decided decisions.None ∷ [])
+        → op_acts_from known (Some disk) (begin_command by session Close (Some disk)) (Decided decisions.None ∷ [])
         ≡ Append (entries.Unlock by session (record { 0 = disk.vid })) ∷ Reply Done ∷ [] }
     // The open disk's inode gets the tag, and the granted id's inode is created with the session's table.
     ensures snapshot { (known : List Effect) (by : NodeId) (session : ℕ) (tag : List ℕ) (disk : Content) (vid : Vid) (header : TheHeader)
         (last : Decision)
         → header_of known vid.0 ≡ Some header
-        → op_acts_from known (begin_command by session (Snapshot tag) (Some disk))
+        → op_acts_from known (Some disk) (begin_command by session (Snapshot tag) (Some disk))
         (Decided (decisions.Granted vid) ∷ Given [] ∷ Given [] ∷ Decided last ∷ [])
         ≡ Append (entries.Reserve by session disk.name (SnapshotOf tag)) ∷ Work (write_tag disk tag)
         ∷ Work (create_inode (inode_by header vid.0 disk.table)) ∷ Append (entries.Snapshot by (record {
@@ -70,7 +71,7 @@ pub fn commands_go_so()
     ensures clone { (known : List Effect) (by : NodeId) (session : ℕ) (base tag name : List ℕ) (disk : Option Content) (vid parent : Vid)
         (header : TheHeader) (bytes : List ℕ) (last : Decision)
         → header_of known vid.0 ≡ Some header → header.parent ≡ Some parent
-        → op_acts_from known (begin_command by session (Clone base tag name) disk)
+        → op_acts_from known disk (begin_command by session (Clone base tag name) disk)
         (Decided (decisions.Granted vid) ∷ Given bytes ∷ Given [] ∷ Decided last ∷ [])
         ≡ Append (entries.Reserve by session name (CloneOf base tag)) ∷ Work (read_inode parent.0 header.spec)
         ∷ Work (create_inode (inode_by header vid.0 (table_in (chain_of known vid.0) header.spec bytes))) ∷ Append
@@ -78,13 +79,13 @@ pub fn commands_go_so()
     ensures delete { (known : List Effect) (by : NodeId) (session : ℕ) (name : List ℕ) (tag : Option (List ℕ)) (disk : Option Content)
         (vid : Vid) (header : TheHeader)
         → header_of known vid.0 ≡ Some header
-        → op_acts_from known (begin_command by session (Delete name tag) disk) (Decided (decisions.Granted vid) ∷ [])
+        → op_acts_from known disk (begin_command by session (Delete name tag) disk) (Decided (decisions.Granted vid) ∷ [])
         ≡ Append (entries.Delete by session name tag) ∷ Reply Done ∷ [] }
     // Where the first entry is refused, that is the reply.
     ensures refused { (known : List Effect) (by : NodeId) (session : ℕ) (entry : Entry) (ask : VdiAsk) (disk : Option Content)
         (cause : Cause)
         → first_entry by session disk ask ≡ Some entry
-        → op_acts_from known (begin_command by session ask disk) (Decided (decisions.Refused cause) ∷ [])
+        → op_acts_from known disk (begin_command by session ask disk) (Decided (decisions.Refused cause) ∷ [])
         ≡ Append entry ∷ Reply (Refused cause) ∷ [] }
 {}
 
@@ -100,17 +101,35 @@ pub fn checks_are_refused_so()
     ensures entry { (by : NodeId) (session : ℕ) (disk : Option Content) → begin_command by session Check disk ≡ None }
 {}
 
-/// What a command does is what it then waits for: the decision on an entry, a work, or nothing, once it has its reply.
+/// What a command leaves of what its session has open, with its reply: an opening of a disk, and a snapshot, the inode that they
+/// made; an opening of a snapshot the one that it read; a close nothing. The others leave it as it was.
+pub fn what_becomes_of_the_open_disk()
+    ensures attach { (bytes : List ℕ) (op : Op) (vid : Vid) (inode : Content) → op.stage ≡ Working vid (WritingBack inode)
+        → option_map disk_change (op_on_done bytes op) ≡ Some (Opens false inode) }
+    ensures attach_snapshot { (bytes : List ℕ) (op : Op) (vid : Vid) (ids : List ℕ) (header : TheHeader)
+        → op.stage ≡ Working vid (Opening true ids header)
+        → option_map disk_change (op_on_done bytes op) ≡ Some (Opens true (inode_by header vid.0 (table_in ids header.spec bytes))) }
+    ensures snapshot { (known : List Effect) (disk : Option Content) (decision : Decision) (op : Op) (entry : Entry) (inode : Content)
+        → op.stage ≡ Publishing entry (Some inode)
+        → option_map disk_change (on_decision known disk decision op) ≡ Some (Opens false inode) }
+    ensures published { (known : List Effect) (disk : Option Content) (decision : Decision) (op : Op) (entry : Entry)
+        → op.stage ≡ Publishing entry None → option_map disk_change (on_decision known disk decision op) ≡ Some Stays }
+    ensures close { (known : List Effect) (disk : Option Content) (op : Op) (by : NodeId) (session : ℕ) (vid : Vid)
+        → op.stage ≡ Asked (entries.Unlock by session vid)
+        → option_map disk_change (on_decision known disk decisions.None op) ≡ Some Closes }
+{}
+
+/// What a command does is what it then waits for: the decision on that entry, that work, or nothing, once it has its reply.
 pub fn a_command_waits_for_what_it_did()
     ensures begun { (by : NodeId) (session : ℕ) (ask : VdiAsk) (disk : Option Content)
         → IfSome (begin_command by session ask disk) IsAwaitedByCommand }
-    ensures decided { (known : List Effect) (decision : Decision) (op : Op)
-        → IfSome (on_decision known decision op) IsAwaitedByCommand }
+    ensures decided { (known : List Effect) (disk : Option Content) (decision : Decision) (op : Op)
+        → IfSome (on_decision known disk decision op) IsAwaitedByCommand }
     ensures done { (bytes : List ℕ) (op : Op)
         → IfSome (op_on_done bytes op) IsAwaitedByCommand }
     // An entry is decided, and a work is done or refused, only where the command waits for it.
-    ensures entries { (known : List Effect) (decision : Decision) (op : Op)
-        → IsTrue (is_some (on_decision known decision op)) → IsTrue (is_some (entry_wanted op)) }
+    ensures entries { (known : List Effect) (disk : Option Content) (decision : Decision) (op : Op)
+        → IsTrue (is_some (on_decision known disk decision op)) → IsTrue (is_some (entry_wanted op)) }
     ensures works { (bytes : List ℕ) (op : Op) → is_some (op_on_done bytes op) ≡ is_some (op_bytes_wanted op) }
     ensures refused { (cause : Cause) (op : Op) → is_some (on_refusal cause op) ≡ is_some (op_bytes_wanted op) }
 {}

@@ -21,7 +21,7 @@ pub use act::OpAct;
 pub use end::OpEnd;
 pub use laws::{
     a_command_waits_for_what_it_did, an_inode_has_room, checks_are_refused_so, commands_go_so,
-    the_table_alone_is_taken, the_table_is_written_back,
+    the_table_alone_is_taken, the_table_is_written_back, what_becomes_of_the_open_disk,
 };
 pub use limits::CHECKED_BYTES_MAX;
 pub use peer_proto::{GuestRsp, VdiAsk, WorkDone};
