@@ -1,6 +1,6 @@
 -- Parts of objects block by block: one strip more of a part, and one block more through the strips of parts.
-use Rattle.std.proofs.Common.{◌≡◌, ℕ, zero, suc, ◌+◌, ◌-◌, ◌*◌, ◌/◌, ◌%◌, ◌<◌, ◌≤◌, List, [], ◌∷◌, ◌++◌, length, map, take, drop, refl, sym, ap, ap₂, ◌∙◌, subst, arith, IsTrue, append_assoc, append-nil, length-append, add-mul, one-mul, mul_assoc, suc-mul, zero-add, le_refl, take_at, drop_at, take_all, take-take, false}
-use Rattle.std.specs.List.{All, flat_map, range_with_len}
+use Rattle.std.proofs.Common.{◌≡◌, ℕ, zero, suc, ◌+◌, ◌-◌, ◌*◌, ◌/◌, ◌%◌, ◌<◌, ◌≤◌, List, [], ◌∷◌, ◌++◌, length, map, take, drop, refl, sym, ap, ap₂, ◌∙◌, subst, arith, IsTrue, append_assoc, append-nil, length-append, add-mul, mul_assoc, suc-mul, zero-add, le_refl, take_at, take_all, take-take, false}
+use Rattle.std.specs.List.{All, range_with_len}
 use Rattle.std.proofs.lemmas.List.{map-id, drop-drop, drop-take, length-take-le}
 use Rattle.std.proofs.lemmas.List.Elements.{All-map}
 use Rattle.std.proofs.lemmas.List.FromFn.{length-range_with_len, get_or-range_with_len}
@@ -15,9 +15,9 @@ use Rattle.object_id.specs.Policy.{is_width, need_of}
 use Rattle.gf256.specs.Strip.{strip, block_through, Divides}
 use Rattle.gf256.proofs.StripLaws.{strip_some}
 use Rattle.strip_coding.specs.Choice.{strip_at}
-use Rattle.strip_coding.specs.Part.{strips_of_blocks, blocks_through, part_size, first_part, parts_in, bytes_of_parts, is_in_strips}
-use Rattle.strip_coding.proofs.Widths.{divides}
-use Rattle.strip_coding.proofs.PartLaws.{part_of_blocks}
+use Rattle.gf256.specs.Part.{strips_of_blocks, blocks_through, part_size, first_part, parts_in, bytes_of_parts, is_in_strips}
+use Rattle.gf256.proofs.Widths.{divides}
+use Rattle.gf256.proofs.PartLaws.{part_of_blocks}
 use Rattle.strip_coding.proofs.DecodeLaws.{within_strips}
 
 -- after a piece of a list is put, its front ends with the piece
@@ -130,21 +130,3 @@ coded_parts d p indexes parts long is aligned whole =
     ap (λ n. blocks_through d indexes n (parts_in (long / d) d parts))
     (ap (λ n. n / (512 / d)) (length-first_part d (long / d) parts splits.some whole ∙ part_of_blocks d long splits aligned)
     ∙ mul-div_cancel (long / 512) (strip_some d splits))
-
--- parts that are laid one after another are read back
-laid_from : (size at : ℕ) (front : List ℕ) (parts : List (List ℕ)) → length front ≡ at * size
-    → All (λ part. length part ≡ size) parts
-    → map (λ place. take size (drop (place * size) (front ++ flat_map (λ part. part) parts))) (range_with_len at (length parts)) ≡ parts
-laid_from size at front [] before long = refl
-laid_from size at front (part ∷ parts) before long =
-    let rest : List ℕ = flat_map (λ part. part) parts in
-    let more : length (front ++ part) ≡ (at + 1) * size =
-    length-append front part ∙ ap₂ ◌+◌ before (long 0 [] (omega arith)) ∙ (let e : at * size + size ≡ (at + 1) * size = omega (arith, add-mul at 1 size, one-mul size) in e) in
-    ap₂ ◌∷◌
-    (ap (take size) (drop_at front (part ++ rest) (at * size) before) ∙ take_at part rest size (long 0 [] (omega arith)))
-    (ap (λ bytes. map (λ place. take size (drop (place * size) bytes)) (range_with_len (at + 1) (length parts))) (sym (append_assoc front part rest))
-    ∙ laid_from size (at + 1) (front ++ part) parts more (λ k d l. long (suc k) d (omega arith)))
-
-pub parts_in-laid : (size : ℕ) (parts : List (List ℕ)) → All (λ part. length part ≡ size) parts
-    → parts_in size (length parts) (flat_map (λ part. part) parts) ≡ parts
-parts_in-laid size parts long = laid_from size 0 [] parts (sym (zero-mul size)) long

@@ -6,7 +6,7 @@
 //! [`decode_block`] gives the one block that has given strips at d different indexes. The part of an object
 //! under an index has the index's strip of each block, or all bytes of what is kept in whole copies: [`part`]
 //! makes it, and [`bytes_of_parts`] makes the bytes of as many parts as a read needs.
-//! The crate stands on `gf256`, where strips are defined, and on `object_id` for policies. It takes no
+//! The crate stands on `gf256`, where strips and parts are defined, and on `object_id` for policies. It takes no
 //! memory.
 #![tactic(auto)]
 
@@ -20,5 +20,5 @@ mod rows;
 
 pub use coding::{decode_block, encode_block};
 pub use gf256::TooFewStrips;
-pub use laws::{choice_laws, enough_parts, part_laws};
+pub use laws::choice_laws;
 pub use parts::{bytes_of_parts, part, part_size};

@@ -6,7 +6,7 @@ ghost use Rattle.std.specs.List.{All, range_with_len};
 ghost use Rattle.object_id.specs.Policy.{IsPolicy, is_width, need_of};
 ghost use Rattle.gf256.specs.Polynomial.{ArePoints};
 ghost use Rattle.gf256.specs.Strip.{strip_bytes};
-ghost use Rattle.strip_coding.specs.Part.{strips_of_blocks, blocks_through, IsAligned, part_size, part, parts_in, bytes_of_parts};
+ghost use Rattle.gf256.specs.Part.{strips_of_blocks, blocks_through, IsAligned, part_size, part, parts_in, bytes_of_parts};
 
 use crate::choice::MOST_DATA_STRIPS;
 use crate::coding::{block, strip};
@@ -30,7 +30,7 @@ pub fn part_size(policy: Policy, kind: Kind, n: usize) -> usize
 }
 
 /// Makes the part of some bytes under an index.
-#[tactic(auto, unfolding(crate::specs::Part::part))]
+#[tactic(auto, unfolding(gf256::specs::Part::part))]
 pub fn part(policy: Policy, kind: Kind, index: u8, bytes: &[u8], out: &mut [u8])
     requires policy { IsPolicy policy }
     requires index { index < TARGETS_MAX }

@@ -4,9 +4,9 @@ use Rattle.std.specs.List.{All, range_with_len}
 use borrow.Rule.Slice.PartMut.{put_mid}
 use Rattle.gf256.specs.Strip.{block_through}
 use Rattle.strip_coding.specs.Choice.{strip_at}
-use Rattle.strip_coding.specs.Part.{blocks_through, parts_in}
-use Rattle.strip_coding.proofs.Widths.{divides}
-use Rattle.strip_coding.proofs.PartLaws.{part_of_blocks}
+use Rattle.gf256.specs.Part.{blocks_through, parts_in}
+use Rattle.gf256.proofs.Widths.{divides}
+use Rattle.gf256.proofs.PartLaws.{part_of_blocks}
 use Rattle.strip_coding.proofs.DecodeLaws.{mid_width, length-put_mid}
 use Rattle.strip_coding.proofs.BlockByBlock.{take-put_mid, blocks_through-more, strips_of_parts, places_within}
 use Rattle.strip_coding.proofs.parts.blocks.Goals as goal

@@ -1,5 +1,5 @@
 use Rattle.std.proofs.Common.{◌≡◌, ◌*◌, ◌/◌, length, take}
-use Rattle.strip_coding.specs.Part.{blocks_through, parts_in}
+use Rattle.gf256.specs.Part.{blocks_through, parts_in}
 use Rattle.strip_coding.proofs.parts.blocks.Given as goal
 
 -- the blocks so far

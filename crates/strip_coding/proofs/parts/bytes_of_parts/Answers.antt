@@ -4,7 +4,7 @@ use Rattle.object_id.specs.declared.policy.Policy.{Policy}
 use Rattle.object_id.specs.declared.policy.Policy.TheVariants.{Coded}
 use Rattle.object_id.specs.declared.oid.Kind.TheVariants.{Block}
 use Rattle.object_id.specs.Policy.{IsPolicy, need_of}
-use Rattle.strip_coding.specs.Part.{IsAligned, part_size, parts_in, bytes_of_parts, is_in_strips}
+use Rattle.gf256.specs.Part.{IsAligned, part_size, parts_in, bytes_of_parts, is_in_strips}
 use Rattle.strip_coding.proofs.BlockByBlock.{one_part, coded_parts}
 use Rattle.strip_coding.proofs.parts.bytes_of_parts.Goals as goal
 

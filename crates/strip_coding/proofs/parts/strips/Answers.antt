@@ -4,9 +4,9 @@ use Rattle.std.proofs.Math.Nat.{zero-mul}
 use Rattle.std.proofs.lemmas.Nat.{row_fits}
 use borrow.Rule.Slice.PartMut.{put_mid}
 use Rattle.gf256.specs.Strip.{strip}
-use Rattle.strip_coding.specs.Part.{strips_of_blocks}
-use Rattle.strip_coding.proofs.Widths.{divides}
-use Rattle.strip_coding.proofs.PartLaws.{part_of_blocks}
+use Rattle.gf256.specs.Part.{strips_of_blocks}
+use Rattle.gf256.proofs.Widths.{divides}
+use Rattle.gf256.proofs.PartLaws.{part_of_blocks}
 use Rattle.strip_coding.proofs.DecodeLaws.{mid_width, length-put_mid}
 use Rattle.strip_coding.proofs.BlockByBlock.{take-put_mid, strips_of_blocks-more}
 use Rattle.strip_coding.proofs.parts.strips.Goals as goal

@@ -1,5 +1,5 @@
 use Rattle.std.proofs.Common.{◌≡◌, ◌*◌, length, take}
-use Rattle.strip_coding.specs.Part.{strips_of_blocks}
+use Rattle.gf256.specs.Part.{strips_of_blocks}
 use Rattle.strip_coding.proofs.parts.strips.Given as goal
 
 -- the strips of the blocks so far
