@@ -234,3 +234,30 @@ fn keeps_its_table(rt: HostRuntime) -> Result<(), Fail> {
     );
     Ok(())
 }
+
+// The tag stands behind the 256 bytes of the name.
+#[test]
+fn writes_its_tag_behind_the_name(rt: HostRuntime) -> Result<(), Fail> {
+    let alloc = rt.alloc();
+    let mut inode = disk_a(alloc)?;
+    inode.set_tag(alloc, b"monday")?;
+    assert_eq!(rt;
+        (inode.name(), inode.tag()),
+        (b"a".as_slice(), b"monday".as_slice())
+    );
+    let mut want = bytes_of(alloc, DISK_A)?;
+    want[256..262].copy_from_slice(b"monday");
+    assert_eq!(rt; inode.to_bytes(alloc)?.as_slice(), want.as_slice());
+    Ok(())
+}
+
+// Five bytes stand where the table is: the first entry is whole, the second has its lowest byte, and the third none.
+#[test]
+fn reads_entries_of_short_bytes(rt: HostRuntime) -> Result<(), Fail> {
+    let alloc = rt.alloc();
+    let bytes = bytes_of(alloc, b"4669 4664:0102030405")?;
+    let entries = entries_in(alloc, 3, bytes.as_slice())?;
+    assert_eq!(rt; entries.as_slice(), [0x0403_0201, 5, 0].as_slice());
+    an_inode_is_as_long_as_its_table();
+    Ok(())
+}
