@@ -144,9 +144,9 @@ mod tests {
         for index in 0..3 {
             let mut strips = [9; 512];
             part(policy, Kind::Block, index, &bytes, &mut strips);
-            let first = firsts[index as usize];
-            assert_eq!(rt; &strips[..256], [first; 256].as_slice(), "index {index}");
-            assert_eq!(rt; &strips[256..], [0; 256].as_slice(), "index {index}");
+            let mut want = [0; 512];
+            want[..256].fill(firsts[index as usize]);
+            assert_eq!(rt; strips, want, "index {index}");
         }
         assert_eq!(rt; part_size(policy, Kind::Block, 1024), 512);
     }
