@@ -45,7 +45,7 @@ pub fn power(exponent: usize) -> u8
 #[cfg(test)]
 mod tests {
     use super::*;
-    use crate::laws::{field_laws, interpolation_laws, strip_laws};
+    use crate::laws::{enough_parts, field_laws, interpolation_laws, part_laws, strip_laws};
 
     // Made by a plain program that multiplies bit by bit, and inverts by 254 products.
     #[test]
@@ -79,5 +79,7 @@ mod tests {
         field_laws();
         interpolation_laws();
         strip_laws();
+        part_laws();
+        enough_parts();
     }
 }

@@ -4,3 +4,4 @@ pub mod TableLemmas
 pub mod SpecLemmas
 pub mod SpelledLemmas
 pub mod ReadLemmas
+pub mod LengthLemmas

@@ -223,17 +223,21 @@ children-fill : length no_children ≡ CHILDREN_BYTES
 unfolding no_children
 children-fill = length-replicate {A = ℕ} CHILDREN_BYTES 0
 
+-- what this store writes fills each place
+pub zeros-fill : (content : Content) → IsFieldText content.name → IsFieldText content.tag → Fills content (unread_zeros content)
+zeros-fill content name tag = record {
+  name = text-fills content.name name.0;
+  tag = text-fills content.tag tag.0;
+  times = refl;
+  vm_state_size = refl;
+  store_policy = refl;
+  children = children-fill;
+}
+
 pub encoded-inode : (content : Content) (rest : List ℕ) → IsFieldText content.name → IsFieldText content.tag → SpellsInode (inode_bytes content (unread_zeros content) ++ rest) content
 encoded-inode content rest name tag = record {
   unread = unread_zeros content;
   rest = rest;
-  fills = record {
-    name = text-fills content.name name.0;
-    tag = text-fills content.tag tag.0;
-    times = refl;
-    vm_state_size = refl;
-    store_policy = refl;
-    children = children-fill;
-  };
+  fills = zeros-fill content name tag;
   whole = refl;
 }

@@ -1,4 +1,4 @@
-ghost use Rattle.std.specs.Prelude.{◌≡◌, ◌<◌, [], length, slice_index, slice_set, replicate, IfOk};
+ghost use Rattle.std.specs.Prelude.{◌≡◌, ◌<◌, [], length, slice_index, slice_set, replicate, IfOk, OnOk, OnErr};
 ghost use Rattle.std.specs.Int.{w32};
 ghost use Rattle.object_id.specs.Spec.{IsSpec, IsName, objects_of};
 ghost use Rattle.object_id.specs.Fields.{zeros};
@@ -104,6 +104,16 @@ impl Inode {
         ensures { result.now ≡ self.now.tag }
     {
         self.tag.as_slice()
+    }
+
+    /// Sets the tag that the disk has as a snapshot.
+    pub fn set_tag(&mut self, alloc: Global, tag: &[u8]) -> Result<(), NoMemory>
+        requires { IsName tag.now }
+        ensures set { OnOk result (self.new ≡ record self.old { tag = tag.now }) }
+        ensures unchanged { OnErr result (self.new ≡ self.old) }
+    {
+        self.tag = Bytes::from_slice(alloc, tag)?;
+        Ok(())
     }
 
     pub fn spec(&self) -> VdiSpec

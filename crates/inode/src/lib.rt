@@ -20,6 +20,9 @@ mod writing;
 
 pub use fault::InodeFault;
 pub use inode::Inode;
-pub use laws::{an_inode_has_room_for_all_entries, inodes_are_read_again};
+pub use laws::{
+    an_inode_has_room_for_all_entries, an_inode_is_as_long_as_its_table, inodes_are_read_again,
+};
 pub use layout::{CHILDREN_BYTES, INODE_BYTES, INODE_HEADER_BYTES, TEXT_BYTES};
 pub use object_id::VdiSpec;
+pub use reading::entries_in;

@@ -1,9 +1,10 @@
 //! Reading the fields of an inode, in the order of their refusals.
-ghost use Rattle.std.specs.Prelude.{◌≡◌, ◌≢◌, ◌+◌, ◌*◌, ◌%◌, ◌^◌, ◌<◌, ◌≤◌, length, All, IfOk, IfSome};
+ghost use Rattle.std.specs.Prelude.{◌≡◌, ◌≢◌, ◌+◌, ◌*◌, ◌%◌, ◌^◌, ◌<◌, ◌≤◌, length, slice_index, All, IfOk, IfSome};
 ghost use Rattle.std.specs.List.{list_all, position};
 ghost use Rattle.std.specs.Int.{w32};
 ghost use Rattle.object_id.specs.Policy.{IsPolicy};
 ghost use Rattle.object_id.specs.Spec.{IsSpec, objects_of};
+ghost use Rattle.object_id.specs.Fields as fields;
 ghost use Rattle.object_id.specs.Fields.{numbers_at};
 ghost use Rattle.inode.specs.Layout.{IsFieldText};
 ghost use Rattle.inode.specs.Reading as reading;
@@ -159,15 +160,37 @@ fn check_table(spec: VdiSpec, bytes: &[u8]) -> Result<(), InodeFault>
     Ok(())
 }
 
-/// The entries of a table that is whole.
-fn read_table(alloc: Global, count: u32, bytes: &[u8]) -> Result<Vec<u32>, NoMemory>
-    requires { INODE_HEADER_BYTES + 4 * count ≤ length bytes.now }
+/// The byte at an offset; 0 past the end.
+fn byte_at(bytes: &[u8], at: usize) -> u8
+    ensures { result ≡ slice_index bytes.now at }
+{
+    match bytes.get(at) {
+        Some(byte) => *byte,
+        None => 0,
+    }
+}
+
+/// The number of four bytes at an offset, of which those past the end are 0.
+fn entry_at(bytes: &[u8], at: usize) -> u32
+    requires { at + 4 < 2 ^ 64 }
+    ensures { result ≡ fields.u32_at at bytes.now }
+{
+    u32::from_le_bytes([
+        byte_at(bytes, at),
+        byte_at(bytes, at + 1),
+        byte_at(bytes, at + 2),
+        byte_at(bytes, at + 3),
+    ])
+}
+
+/// So many entries of the table in bytes that need be no inode: what is past their end reads as 0.
+pub fn entries_in(alloc: Global, count: u32, bytes: &[u8]) -> Result<Vec<u32>, NoMemory>
     ensures value { IfOk result (λ table. table.items ≡ numbers_at w32 count INODE_HEADER_BYTES bytes.now) }
     ensures count { IfOk result (λ table. length table.items ≡ count) }
 {
     let mut table = Vec::with_capacity(alloc, count as usize)?;
     for place in 0..count as usize {
-        table.push(u32_at(bytes, INODE_HEADER_BYTES + 4 * place))?;
+        table.push(entry_at(bytes, INODE_HEADER_BYTES + 4 * place))?;
     }
     Ok(table)
 }
@@ -214,7 +237,7 @@ fn make(alloc: Global, parts: &Parts<'_>, bytes: &[u8]) -> Result<Inode, NoMemor
 {
     let name = Bytes::from_slice(alloc, parts.name)?;
     let tag = Bytes::from_slice(alloc, parts.tag)?;
-    let table = read_table(alloc, objects(parts.spec), bytes)?;
+    let table = entries_in(alloc, objects(parts.spec), bytes)?;
     Ok(Inode {
         name,
         tag,

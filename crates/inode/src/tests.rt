@@ -46,6 +46,10 @@ const INODES: &[u8] = b"0~ShortInode\n\
 /// The inode of a disk `a` of one MiB on one node.
 const DISK_A: &[u8] = b"4668 0:61 536:0000100000000000 552:00000116 556:010000008cec0100";
 
+/// That inode with the tag `monday`, which is 6d 6f 6e 64 61 79 behind the 256 bytes of the name.
+const DISK_A_WITH_TAG: &[u8] =
+    b"4668 0:61 256:6d6f6e646179 536:0000100000000000 552:00000116 556:010000008cec0100";
+
 // Inodes worked by hand: that of the disk `a`, then with one byte less, with half a header, and with a shift of 11; then one
 // in which everything is wrong, and what is told is mended from row to row.
 const MENDED: &[u8] =
@@ -232,5 +236,30 @@ fn keeps_its_table(rt: HostRuntime) -> Result<(), Fail> {
         inode_text(alloc, &inode)?.as_str(),
         "62 - 12288 4:2 12 2 9 7 7 0 7"
     );
+    Ok(())
+}
+
+#[test]
+fn writes_its_tag_behind_the_name(rt: HostRuntime) -> Result<(), Fail> {
+    let alloc = rt.alloc();
+    let mut inode = disk_a(alloc)?;
+    inode.set_tag(alloc, b"monday")?;
+    assert_eq!(rt;
+        (inode.name(), inode.tag()),
+        (b"a".as_slice(), b"monday".as_slice())
+    );
+    let want = bytes_of(alloc, DISK_A_WITH_TAG)?;
+    assert_eq!(rt; inode.to_bytes(alloc)?.as_slice(), want.as_slice());
+    Ok(())
+}
+
+// Five bytes stand where the table is: the first entry is whole, the second has its lowest byte, and the third none.
+#[test]
+fn reads_entries_of_short_bytes(rt: HostRuntime) -> Result<(), Fail> {
+    let alloc = rt.alloc();
+    let bytes = bytes_of(alloc, b"4669 4664:0102030405")?;
+    let entries = entries_in(alloc, 3, bytes.as_slice())?;
+    assert_eq!(rt; entries.as_slice(), [0x0403_0201, 5, 0].as_slice());
+    an_inode_is_as_long_as_its_table();
     Ok(())
 }

@@ -476,6 +476,14 @@ fn copies_works(rt: HostRuntime) -> Result<(), Fail> {
         length: 4_096,
     };
     assert!(rt; matches!(&all.copy(alloc)?, ObjWork::ReadAll { length: 4_096, .. }));
+    assert_eq!(rt;
+        (copy.oid(), copy.policy()),
+        (Oid::inode(Vid(1)), Policy::Copies(3))
+    );
+    assert_eq!(rt;
+        (all.oid(), all.policy()),
+        (Oid::object(Vid(1), 3), Policy::Copies(2))
+    );
     let done = WorkDone {
         req: 2,
         bytes: Bytes::from_slice(alloc, b"read")?,

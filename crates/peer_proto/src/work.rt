@@ -1,4 +1,5 @@
 ghost use Rattle.std.specs.Prelude.{◌≡◌, IfOk};
+ghost use Rattle.peer_proto.specs.Work.{oid_of, policy_of};
 
 use object_id::{Bytes, NoMemory, Oid, Policy};
 use std::alloc::Global;
@@ -36,6 +37,30 @@ pub enum ObjWork {
 }
 
 impl ObjWork {
+    /// The object that the work is on.
+    pub fn oid(&self) -> Oid
+        ensures { result ≡ oid_of self.now }
+    {
+        match self {
+            ObjWork::Create { oid, .. } => *oid,
+            ObjWork::Write { oid, .. } => *oid,
+            ObjWork::Read { oid, .. } => *oid,
+            ObjWork::ReadAll { oid, .. } => *oid,
+        }
+    }
+
+    /// The policy of the object's disk.
+    pub fn policy(&self) -> Policy
+        ensures { result ≡ policy_of self.now }
+    {
+        match self {
+            ObjWork::Create { policy, .. } => *policy,
+            ObjWork::Write { policy, .. } => *policy,
+            ObjWork::Read { policy, .. } => *policy,
+            ObjWork::ReadAll { policy, .. } => *policy,
+        }
+    }
+
     pub fn copy(&self, alloc: Global) -> Result<Self, NoMemory>
         ensures { IfOk result (λ copy. copy ≡ self.now) }
     {

@@ -50,7 +50,7 @@ use Rattle.object_id.specs.declared.oid.Kind.{Kind}
 use Rattle.object_id.specs.declared.oid.Kind.TheVariants.{Block, Inode}
 use Rattle.object_id.specs.declared.entry.Entry.TheVariants as entries
 use Rattle.object_id.specs.Oid.{kind_of}
-use Rattle.strip_coding.specs.Part.{IsAligned}
+use Rattle.gf256.specs.Part.{IsAligned}
 use Rattle.peer_proto.specs.Work.{oid_of, policy_of}
 use Rattle.peer_proto.specs.declared.work.ObjWork.{ObjWork}
 use Rattle.peer_proto.specs.declared.work.ObjWork.TheVariants as works

@@ -11,7 +11,7 @@ use Rattle.object_id.specs.Oid.{kind_of, vid_of}
 use Rattle.object_id.specs.Policy.{IsPolicy}
 use Rattle.object_id.specs.Spec.{IsSpec}
 use Rattle.object_id.proofs.SameLemmas.{entries_decided}
-use Rattle.strip_coding.specs.Part.{IsAligned}
+use Rattle.gf256.specs.Part.{IsAligned}
 use Rattle.epoch_log.specs.Appending.{IsReservable}
 use Rattle.vdi_directory.specs.declared.header.Header.{Header}
 use Rattle.vdi_directory.proofs.ValidLemmas.{header-valid}

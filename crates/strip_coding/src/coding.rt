@@ -132,7 +132,7 @@ pub fn decode_block(
 #[cfg(test)]
 mod tests {
     use super::*;
-    use crate::laws::{choice_laws, enough_parts, part_laws};
+    use crate::laws::choice_laws;
     use object_id::fnv1a;
 
     /// Bytes without a pattern that coding could keep.
@@ -404,8 +404,6 @@ mod tests {
         let mut decoded = [0; 512];
         assert_eq!(rt; decode_block(16, &indexes, &strips, &mut decoded), Ok(()));
         assert_eq!(rt; decoded, block);
-        part_laws();
-        enough_parts();
         choice_laws();
     }
 }
