@@ -1,5 +1,5 @@
 -- What a store holds, and what each call makes of it.
-use Rattle.std.specs.Prelude.{ℕ, ◌+◌, ◌-◌, ◌<◌, ◌≤◌, List, [], ◌∷◌, ◌++◌, length, Option, Some, None, Result, Ok, Err, unwrap_or, nat_le, if◌then◌else◌}
+use Rattle.std.specs.Prelude.{ℕ, ◌+◌, ◌-◌, ◌<◌, ◌≤◌, List, [], ◌∷◌, ◌++◌, length, take, Option, Some, None, Result, Ok, Err, unwrap_or, nat_le, if◌then◌else◌}
 use Rattle.std.specs.Option.{option_map}
 use Rattle.std.specs.Ordering.{nat_cmp}
 use Rattle.std.specs.FinMap as tree
@@ -65,9 +65,9 @@ copy_of row = record { index = row.index; from = row.from; to = row.to; length =
 abbrev pub copy_at : AllRows → ℕ → ℕ → Option RowCopy
 copy_at all oid level = option_map copy_of (row_holding level (rows_of all oid))
 
--- all the bytes of a row, whose copy leaves out the last zeros
+-- all the bytes of a row, whose copy leaves out the last zeros; what a copy has past the row's length isn't the row's
 abbrev pub row_bytes : RowCopy → List ℕ
-row_bytes row = row.bytes ++ zeros (row.length - length row.bytes)
+row_bytes row = take row.length row.bytes ++ zeros (row.length - length row.bytes)
 
 -- an object without rows isn't there
 abbrev pub with_rows : {B : Type 0} → ℕ → List B → List (ℕ × List B) → List (ℕ × List B)
