@@ -49,7 +49,7 @@ fn move_to_front(items: &mut Vec<Oid>, gone: usize)
 }
 
 impl OidList {
-    /// The empty list. Takes no memory.
+    /// The empty list. Takes no memory, and costs nothing.
     pub fn new(alloc: Global) -> OidList
         ensures { result ≡ [] }
     {
@@ -59,7 +59,7 @@ impl OidList {
         }
     }
 
-    /// The ids of an ascending vector without repeats, without copying them.
+    /// The ids of an ascending vector without repeats, without copying them. Costs nothing.
     pub fn from_vec(items: Vec<Oid>) -> OidList
         requires { IsStrictlyIncreasing items.items }
         ensures { result ≡ items.items }
@@ -67,7 +67,7 @@ impl OidList {
         OidList { items, gone: 0 }
     }
 
-    /// Adds an id that is greater than the last one. Without memory the list stays.
+    /// Adds an id that is greater than the last one. Without memory the list stays. Costs nothing, but for a move when the list grows.
     pub fn push(&mut self, oid: Oid) -> Result<(), NoMemory>
         requires { IfSome (slice_get self.old (length self.old - 1)) (λ last. last < oid) }
         ensures ok { OnOk result (self.new ≡ self.old ++ oid ∷ []) }
@@ -77,14 +77,14 @@ impl OidList {
         Ok(())
     }
 
-    /// Costs nothing.
+    /// How many ids there are. Costs nothing.
     pub fn len(&self) -> usize
         ensures { result ≡ length self.now }
     {
         self.as_slice().len()
     }
 
-    /// Costs nothing.
+    /// Whether there is no id. Costs nothing.
     pub fn is_empty(&self) -> bool
         ensures { IsTrue result ↔ (self.now ≡ []) }
     {
@@ -98,7 +98,7 @@ impl OidList {
         self.as_slice().get(k)
     }
 
-    /// Costs nothing.
+    /// The ids in order. Costs nothing.
     pub fn as_slice(&self) -> &[Oid]
         ensures value { result.now ≡ self.now }
         ensures ascending { IsStrictlyIncreasing result.now }
@@ -160,7 +160,7 @@ impl OidList {
         self.items.retain(keep);
     }
 
-    /// Takes memory for the ids, and costs them.
+    /// Takes memory for a copy of the ids, and costs them.
     pub fn copy(&self, alloc: Global) -> Result<OidList, NoMemory>
         ensures { IfOk result (λ copy. copy ≡ self.now) }
     {

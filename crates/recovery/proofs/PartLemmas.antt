@@ -1,5 +1,5 @@
 -- The rows that are taken at a level, and the part that is made by them.
-use Rattle.std.proofs.Common.{◌≡◌, ℕ, ◌+◌, ◌-◌, ◌≤◌, ◌==◌, nat_lt, Bool, true, false, cond, List, [], ◌∷◌, ◌++◌, length, drop, map, fold, Option, Some, unwrap_or, refl, ap, ap₂, sym, ◌∙◌, arith, zero-add, append-nil, length-append}
+use Rattle.std.proofs.Common.{◌≡◌, ℕ, ◌-◌, ◌≤◌, ◌==◌, nat_lt, Bool, true, false, cond, List, [], ◌∷◌, ◌++◌, length, drop, map, fold, Option, Some, unwrap_or, refl, ap, ap₂, sym, ◌∙◌, arith, zero-add, append-nil}
 use Rattle.std.specs.List.{AllByRecursion}
 use Rattle.std.specs.FinMap as tree
 use Rattle.std.proofs.lemmas.List.{length-map, drop-replicate, take_all}

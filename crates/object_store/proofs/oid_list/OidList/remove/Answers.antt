@@ -1,6 +1,5 @@
 use Rattle.std.proofs.Common.{◌≡◌, ℕ, ◌<◌, List, length, get_or, true, take, drop, filter, not, ◌+◌, ◌++◌, ap, sym, subst, ◌∙◌, ◌==◌}
 use Rattle.std.specs.List.{list_any}
-use Rattle.std.specs.List.Sorted.{IsStrictlyIncreasing}
 use Rattle.object_store.proofs.OidLemmas.{found-at, one-goes, none-goes}
 use Rattle.object_store.proofs.oid_list.OidList.remove.Goals as goal
 

@@ -1,4 +1,4 @@
-use Rattle.std.proofs.Common.{◌≡◌, ℕ, ◌+◌, ◌≤◌, ◌<◌, is_some, List, length, drop, ap, sym, subst, ◌∙◌, arith, length-drop}
+use Rattle.std.proofs.Common.{ℕ, ◌<◌, is_some, List, length, drop, ap, sym, subst, ◌∙◌, arith, length-drop}
 use Rattle.std.specs.List.Sorted.{IsStrictlyIncreasing}
 use Rattle.std.proofs.lemmas.List.{drop-drop}
 use Rattle.object_store.proofs.OidLemmas.{IsStrictlyIncreasing-rest, first-there}
