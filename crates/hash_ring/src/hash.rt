@@ -3,7 +3,7 @@ ghost use Rattle.hash_ring.specs.Circle.{hash_of_object, hash_of_virtual};
 
 use object_id::{NodeId, Oid, fnv1a};
 
-/// Where an object lies on the circle: the FNV-1a hash of the 8 bytes of its id, little-endian.
+/// Where an object lies on the circle: the FNV-1a hash of the 8 bytes of its id, little-endian. Costs these bytes.
 #[tactic(auto, unfolding(crate::specs::Circle::hash_of_object))]
 pub fn object_hash(oid: Oid) -> u64
     ensures { result ≡ hash_of_object oid }

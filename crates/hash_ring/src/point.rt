@@ -14,7 +14,8 @@ pub struct Point {
     pub zone: u32,
 }
 
-/// Whether no node stands twice in the members and each has a weight that there may be: what [`crate::Ring::build`] asks.
+/// Whether no node stands twice in the members and each has a weight that there may be: what [`crate::Ring::build`] asks. Costs a look
+/// at each pair of members.
 pub fn are_weighted(members: &[Member]) -> bool
     ensures { IsTrue result ↔ AreWeighted members.now }
 {
@@ -38,7 +39,7 @@ fn stands_before(members: &[Member], end: usize, node: NodeId) -> bool
     members[..end].iter().any(|member| member.node == node)
 }
 
-/// Whether the points of each node have one zone: what [`crate::Ring::from_points`] asks.
+/// Whether the points of each node have one zone: what [`crate::Ring::from_points`] asks. Costs a look at each pair of points.
 pub fn nodes_have_one_zone(points: &[Point]) -> bool
     ensures { IsTrue result ↔ NodesHaveOneZone points.now }
 {

@@ -27,7 +27,7 @@ impl Model for Ring {
 }
 
 impl Ring {
-    /// The ring of the points of the members' virtual nodes, as many for each member as its weight.
+    /// The ring of the points of the members' virtual nodes, as many for each member as its weight. Costs the sorting of these points.
     pub fn build(alloc: Global, members: &[Member]) -> Result<Ring, NoMemory>
         requires { AreWeighted members.now }
         ensures points { IfOk result (λ ring. IsPermutation (points_of members.now) ring) }
@@ -42,7 +42,7 @@ impl Ring {
         Ok(Ring::from_points(points))
     }
 
-    /// The ring of these points, which may have equal hashes. Takes no memory.
+    /// The ring of these points, which may have equal hashes. Takes no memory, and costs their sorting.
     pub fn from_points(points: Vec<Point>) -> Ring
         requires { NodesHaveOneZone points.items }
         ensures points { IsPermutation points.items result }
@@ -56,7 +56,8 @@ impl Ring {
     }
 
     /// Fills in the first `n` targets of an object of this hash, and answers how many they are: `n`, or fewer
-    /// where there are fewer zones. The rest of `out` stays. Takes no memory.
+    /// where there are fewer zones. The rest of `out` stays. Takes no memory. Costs the logarithm of the points, and a look at each
+    /// from the hash on up to the last target: at all of them where there are fewer zones than `n`.
     pub fn targets(&self, hash: u64, n: usize, out: &mut [NodeId]) -> usize
         requires { n ≤ length out.old }
         ensures count { result ≡ length (targets_among self.now hash n) }

@@ -1,11 +1,13 @@
 -- Which row is an object's at a level, and what a copy has of a row's bytes.
-use Rattle.std.proofs.Common.{◌≡◌, ◌≢◌, ◌⊎◌, inl, inr, ℕ, suc, ◌-◌, ◌<◌, ◌≤◌, Bool, true, false, ◌&&◌, cond, nat_eq, List, [], ◌∷◌, ◌++◌, length, drop, get_or, fold, Option, None, Some, unwrap_or, refl, ap, sym, ◌∙◌, subst, arith}
+use Rattle.std.proofs.Common.{◌≡◌, ◌≢◌, ◌⊎◌, inl, inr, ℕ, suc, ◌+◌, ◌-◌, ◌<◌, ◌≤◌, Bool, true, false, ◌&&◌, cond, nat_eq, List, [], ◌∷◌, ◌++◌, length, take, drop, min, get_or, fold, Option, None, Some, unwrap_or, refl, ap, ap₂, sym, ◌∙◌, subst, arith, length-append}
 use Rattle.std.proofs.lemmas.Bool.{leb-true, leb-false, and_parts, eqb-true}
 use Rattle.std.proofs.lemmas.Bool.Decides.{nat_tests}
 use Rattle.std.specs.List.{AllByRecursion}
 use Rattle.std.proofs.Math.Bool.{and-true}
-use Rattle.std.proofs.lemmas.List.{nil_from_length}
+use Rattle.std.proofs.lemmas.List.{nil_from_length, take_all, length-take, length-replicate}
 use Rattle.object_store.specs.declared.row.Row.{Row}
+use Rattle.object_store.specs.declared.row.RowCopy.{RowCopy}
+use Rattle.object_store.specs.Store.{SeenRow, copy_of, row_bytes}
 use Rattle.object_id.specs.Fields.{zeros}
 use Rattle.object_store.specs.Bytes.{trimmed_bytes}
 use Rattle.object_store.specs.Rows.{holds, is_no_later, better, row_holding, IsRowAt}
@@ -119,6 +121,28 @@ trimmed_bytes-padded (byte ∷ bytes) = go (trimmed_bytes-padded bytes) (nat_eq 
     go rest true false is_zero some = kept rest
     go rest false true other none = kept rest
     go rest false false other some = kept rest
+
+-- a copy has all the row's bytes
+pub row_bytes-copy_of : (row : SeenRow) → row_bytes (copy_of row) ≡ row.bytes
+row_bytes-copy_of row =
+    ap (λ (bytes : List ℕ). bytes ++ zeros (length row.bytes - length (trimmed_bytes row.bytes)))
+    (take_all (length row.bytes) (trimmed_bytes row.bytes) within)
+    ∙ trimmed_bytes-padded row.bytes
+  where
+    within : length (trimmed_bytes row.bytes) ≤ length row.bytes
+    within =
+        let sum : length (trimmed_bytes row.bytes) + (length row.bytes - length (trimmed_bytes row.bytes)) ≡ length row.bytes
+        = ap (λ (n : ℕ). length (trimmed_bytes row.bytes) + n) (sym (length-replicate (length row.bytes - length (trimmed_bytes row.bytes)) 0))
+        ∙ sym (length-append (trimmed_bytes row.bytes) (zeros (length row.bytes - length (trimmed_bytes row.bytes))))
+        ∙ ap (λ (bytes : List ℕ). length bytes) (trimmed_bytes-padded row.bytes) in
+        omega arith
+
+-- whatever bytes a copy has, its row has its length
+pub length-row_bytes : (copy : RowCopy) → length (row_bytes copy) ≡ copy.length
+length-row_bytes copy =
+    length-append (take copy.length copy.bytes) (zeros (copy.length - length copy.bytes))
+    ∙ ap₂ (λ (m n : ℕ). m + n) (length-take copy.length copy.bytes) (length-replicate (copy.length - length copy.bytes) 0)
+    ∙ (let sum : min copy.length (length copy.bytes) + (copy.length - length copy.bytes) ≡ copy.length = omega arith in sum)
 
 abbrev NoZeroAtEnd : List ℕ → Type 0
 NoZeroAtEnd bytes = (front : List ℕ) → trimmed_bytes bytes ≢ front ++ 0 ∷ []

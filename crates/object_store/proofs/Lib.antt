@@ -1,4 +1,5 @@
 pub mod ByteLemmas
+pub mod OidLemmas
 pub mod RowLemmas
 pub mod KeptLemmas
 pub mod SeenLemmas

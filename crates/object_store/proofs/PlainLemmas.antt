@@ -1,10 +1,12 @@
 -- The objects that a plain store keeps, as the finite map as which they are seen.
-use Rattle.std.proofs.Common.{◌≡◌, ℕ, ◌+◌, Bool, true, false, cond, List, [], ◌∷◌, map, Option, Some, None, unwrap_or, refl, ap, sym, ◌∙◌, subst}
+use Rattle.std.proofs.Common.{◌≡◌, ℕ, ◌+◌, Bool, true, false, cond, List, [], ◌∷◌, length, map, fold, Option, Some, None, unwrap_or, refl, ap, sym, ◌∙◌, subst}
 use Rattle.std.specs.Option.{option_map}
 use Rattle.std.specs.Ordering.{is_eq, nat_cmp}
 use Rattle.std.specs.Cmp.{nat_cmp_total, eq_by_cmp_equiv}
 use Rattle.std.specs.List.Sorted.{IsStrictlySortedBy}
-use Rattle.std.specs.Map.{lookup, keys_of}
+use Rattle.std.specs.List.{sum_by}
+use Rattle.std.specs.Map.{lookup, keys_of, values_of}
+use Rattle.std.proofs.lemmas.List.{length-map}
 use Rattle.std.specs.BTreeMap.{is_at}
 use Rattle.std.specs.FinMap as tree
 use Rattle.std.specs.FinMap.Entries.{find}
@@ -13,7 +15,7 @@ use Rattle.object_store.specs.declared.key.Key.{Key}
 use Rattle.object_store.specs.declared.row.Row.{Row}
 use Rattle.object_store.specs.Bytes.{KeptBytes}
 use Rattle.object_store.specs.Rows.{open_at}
-use Rattle.object_store.specs.Store.{SeenRow, rows_of, open_row, with_rows, each_entry, each}
+use Rattle.object_store.specs.Store.{SeenRow, rows_of, row_count, open_row, with_rows, each_entry, each}
 use Rattle.object_store.specs.Answers.{KeepsRoom, KeepsOtherRoom}
 use Rattle.object_store.specs.KeptRows.{seen_row, RoomIn, KeepsRowRoom}
 use Rattle.object_store.specs.Plain.{Objects, seen_entry, seen_rows, kept_of, HasRoomIn, IsPut}
@@ -112,6 +114,20 @@ entries-seen_rows es sorted =
 
 pub keys-seen_rows : (es : Objects) → IsStrictlySortedBy nat_cmp (keys_of es) → tree.keys (seen_rows es) ≡ keys_of es
 keys-seen_rows es sorted = ap keys_of (entries-seen_rows es sorted) ∙ keys-seen_row es
+
+-- as many rows are seen as are kept
+row_sum : (n : ℕ) (es : Objects)
+    → fold (λ (sum : ℕ) (rows : List SeenRow). sum + length rows) n (values_of (map seen_entry es))
+    ≡ fold (λ (sum : ℕ) (rows : List (Row KeptBytes)). sum + length rows) n (values_of es)
+row_sum n [] = refl
+row_sum n (e ∷ es) =
+    ap (λ (count : ℕ). fold (λ (sum : ℕ) (rows : List SeenRow). sum + length rows) (n + count) (values_of (map seen_entry es))) (length-map e.1 seen_row)
+    ∙ row_sum (n + length e.1) es
+
+pub row_count-seen_rows : (es : Objects) → IsStrictlySortedBy nat_cmp (keys_of es)
+    → row_count (seen_rows es) ≡ sum_by (λ (rows : List (Row KeptBytes)). length rows) (values_of es)
+row_count-seen_rows es sorted =
+    ap (λ entries. sum_by (λ (rows : List SeenRow). length rows) (values_of entries)) (entries-seen_rows es sorted) ∙ row_sum 0 es
 
 -- each object's rows are changed, and are seen changed
 pub seen_rows-each_entry : (change : ℕ → List (Row KeptBytes) → List (Row KeptBytes)) (shown : ℕ → List SeenRow → List SeenRow)

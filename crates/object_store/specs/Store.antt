@@ -1,5 +1,6 @@
 -- What a store holds, and what each call makes of it.
-use Rattle.std.specs.Prelude.{ℕ, ◌+◌, ◌-◌, ◌<◌, ◌≤◌, List, [], ◌∷◌, ◌++◌, length, Option, Some, None, Result, Ok, Err, unwrap_or, nat_le, if◌then◌else◌}
+use Rattle.std.specs.Prelude.{ℕ, ◌+◌, ◌-◌, ◌<◌, ◌≤◌, List, [], ◌∷◌, ◌++◌, length, take, Option, Some, None, Result, Ok, Err, unwrap_or, nat_le, if◌then◌else◌}
+use Rattle.std.specs.List.{slice_get, sum_by}
 use Rattle.std.specs.Option.{option_map}
 use Rattle.std.specs.Ordering.{nat_cmp}
 use Rattle.std.specs.FinMap as tree
@@ -9,6 +10,8 @@ use Rattle.object_store.specs.declared.fault.StoreFault.TheVariants.{NoObj, OutO
 use Rattle.object_store.specs.declared.key.Key.{Key}
 use Rattle.object_store.specs.declared.row.Row.{Row}
 use Rattle.object_store.specs.declared.row.RowCopy.{RowCopy}
+use Rattle.object_store.specs.declared.row.RowSummary.{RowSummary}
+use Rattle.object_id.specs.Hash.{fnv1a_of}
 use Rattle.object_id.specs.Fields.{zeros}
 use Rattle.object_store.specs.Bytes.{piece_at, trimmed_bytes}
 use Rattle.object_store.specs.Rows.{is_open_at, open_at, created, changed, row_holding, OpenFrom}
@@ -65,9 +68,27 @@ copy_of row = record { index = row.index; from = row.from; to = row.to; length =
 abbrev pub copy_at : AllRows → ℕ → ℕ → Option RowCopy
 copy_at all oid level = option_map copy_of (row_holding level (rows_of all oid))
 
--- all the bytes of a row, whose copy leaves out the last zeros
+-- a row without its bytes
+abbrev pub summary_of : SeenRow → RowSummary
+summary_of row = record {
+  index = row.index;
+  from = row.from;
+  to = row.to;
+  length = length row.bytes;
+  hash = fnv1a_of (trimmed_bytes row.bytes);
+}
+
+-- row number k of an object, from 0, without its bytes
+abbrev pub summary_at : AllRows → ℕ → ℕ → Option RowSummary
+summary_at all oid k = option_map summary_of (slice_get (rows_of all oid) k)
+
+-- how many rows all objects have
+abbrev pub row_count : AllRows → ℕ
+row_count all = sum_by length (tree.values all)
+
+-- all the bytes of a row, whose copy leaves out the last zeros; what a copy has past the row's length isn't the row's
 abbrev pub row_bytes : RowCopy → List ℕ
-row_bytes row = row.bytes ++ zeros (row.length - length row.bytes)
+row_bytes row = take row.length row.bytes ++ zeros (row.length - length row.bytes)
 
 -- an object without rows isn't there
 abbrev pub with_rows : {B : Type 0} → ℕ → List B → List (ℕ × List B) → List (ℕ × List B)

@@ -1,9 +1,10 @@
 ghost use Rattle.std.specs.Prelude.{◌≡◌, ◌+◌, ◌≤◌, length, take, IfOk, OnOk};
 ghost use Rattle.object_id.specs.Piece.{laid_over};
 ghost use Rattle.object_id.specs.Fields.{zeros};
+ghost use Rattle.object_id.specs.Hash.{fnv1a_of};
 ghost use Rattle.object_store.specs.Bytes.{piece_at, trimmed_bytes};
 
-use object_id::{Bytes, NoMemory, lay_over};
+use object_id::{Bytes, NoMemory, fnv1a, lay_over};
 use std::alloc::Global;
 use std::marker::Model;
 
@@ -86,6 +87,14 @@ impl Content {
         }
         out.fill(0);
         lay_over(out, 0, front);
+    }
+
+    /// The hash of the bytes up to the last one that isn't 0.
+    pub fn hash(&self) -> u64
+        ensures { result ≡ fnv1a_of (trimmed_bytes self.now.bytes) }
+    {
+        let kept = self.kept.as_slice();
+        fnv1a(&kept[..trimmed_len(kept)])
     }
 
     /// The bytes up to the last one that isn't 0.

@@ -6,7 +6,8 @@ ghost use Rattle.object_store.specs.declared.key.Key.{Key};
 ghost use Rattle.object_store.specs.Rows.{closed_all, advanced, purged, without_disk, holds, row_holding, IsRowAt, IsOrderly};
 ghost use Rattle.object_id.specs.Fields.{zeros};
 ghost use Rattle.object_store.specs.Bytes.{trimmed_bytes};
-ghost use Rattle.object_store.specs.Store.{AllRows, SeenRow, rows_of, create_at, write_at, read_at, each, OpenUpTo, OpenBelow};
+ghost use Rattle.object_store.specs.declared.row.RowCopy.{RowCopy};
+ghost use Rattle.object_store.specs.Store.{AllRows, SeenRow, copy_of, row_bytes, rows_of, create_at, write_at, read_at, each, OpenUpTo, OpenBelow};
 ghost use Rattle.object_store.specs.Calls.{Call, rows_step, rows_after, story_of, read_story, touches, Has};
 
 /// No open row is from an epoch above the node's: the calls of a node keep the conditions of the later ones.
@@ -63,4 +64,7 @@ pub fn copies_are_of_the_latest_row()
         → AllByRecursion (λ row. holds level row ≡ false) rows }
     ensures bytes { (bytes : List ℕ) → trimmed_bytes bytes ++ zeros (length bytes - length (trimmed_bytes bytes)) ≡ bytes }
     ensures last { (bytes front : List ℕ) → trimmed_bytes bytes ≢ front ++ 0 ∷ [] }
+    // So all the row's bytes are in it; and what was told as a row has the row's length, whatever bytes were told.
+    ensures whole { (row : SeenRow) → row_bytes (copy_of row) ≡ row.bytes }
+    ensures cut { (copy : RowCopy) → length (row_bytes copy) ≡ copy.length }
 {}

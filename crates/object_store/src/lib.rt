@@ -29,5 +29,5 @@ pub use laws::{
 };
 pub use oid_list::OidList;
 pub use plain::PlainStore;
-pub use row::{Row, RowCopy};
+pub use row::{Row, RowCopy, RowSummary};
 pub use store::ObjStore;

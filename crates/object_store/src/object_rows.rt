@@ -1,4 +1,4 @@
-ghost use Rattle.std.specs.Prelude.{◌≡◌, ◌↔◌, ℕ, ◌+◌, ◌-◌, ◌≤◌, Bool, true, not, ◌&&◌, List, [], ◌∷◌, length, map, filter, IfSome, OnOk, OnErr, IsTrue, nat_eq, if◌then◌else◌, Some, vec_len, vec_capacity};
+ghost use Rattle.std.specs.Prelude.{◌≡◌, ◌↔◌, ℕ, ◌+◌, ◌-◌, ◌≤◌, Bool, true, not, ◌&&◌, List, [], ◌∷◌, length, map, filter, slice_get, IfSome, OnOk, OnErr, IsTrue, nat_eq, if◌then◌else◌, Some, vec_len, vec_capacity};
 ghost use Rattle.std.specs.Option.{option_copied};
 ghost use Rattle.object_store.specs.Rows.{is_open_at, is_replaced, ended, open_at, closed, closed_all, created, advanced_row, advanced, purged, without_disk, has_ended_below, row_holding, better, IsOrderly};
 ghost use Rattle.object_store.specs.KeptRows.{seen_row, rows_with_piece, lay, RoomIn, KeepsRowRoom};
@@ -44,6 +44,19 @@ impl ObjectRows {
         ensures { result ≡ nat_eq (length self.now) 0 }
     {
         self.rows.is_empty()
+    }
+
+    pub fn len(&self) -> usize
+        ensures { result ≡ length self.now }
+    {
+        self.rows.as_slice().len()
+    }
+
+    /// Row number `k`, from 0.
+    pub fn get(&self, k: usize) -> Option<&Row<Content>>
+        ensures { option_copied result ≡ slice_get self.now k }
+    {
+        self.rows.get(k)
     }
 
     /// The open row of an index.

@@ -1,11 +1,11 @@
-ghost use Rattle.std.specs.Prelude.{◌≡◌, ℕ, ◌+◌, ◌≤◌, List, [], length, IfSome, IfOk, OnOk, OnErr, IsSome};
+ghost use Rattle.std.specs.Prelude.{◌≡◌, ℕ, ◌+◌, ◌≤◌, List, [], length, slice_get, IfSome, IfOk, OnOk, OnErr, IsSome};
 ghost use Rattle.std.specs.Option.{option_map, option_copied};
 ghost use Rattle.std.specs.Map.{lookup};
 ghost use Rattle.std.specs.BTreeMap.{is_at};
 ghost use Rattle.std.specs.Ordering.{nat_cmp};
 ghost use Rattle.std.specs.FinMap as tree;
 ghost use Rattle.object_store.specs.Rows.{open_at, created};
-ghost use Rattle.object_store.specs.Store.{open_row, piece_there, value_within, copy_of};
+ghost use Rattle.object_store.specs.Store.{open_row, rows_of, piece_there, value_within, copy_of, summary_of};
 ghost use Rattle.object_store.specs.Answers.{KeepsRoom};
 ghost use Rattle.object_store.specs.KeptRows.{seen_row, rows_with_piece, RoomIn};
 ghost use Rattle.object_store.specs.Plain.{seen_rows, kept_of, HasRoomIn, IsPut};
@@ -16,7 +16,7 @@ use crate::keeps::Keeps;
 use crate::key::Key;
 use crate::object_rows::ObjectRows;
 use crate::oid_list::OidList;
-use crate::row::{Row, RowCopy};
+use crate::row::{Row, RowCopy, RowSummary};
 use crate::store::ObjStore;
 use object_id::{Epoch, NoMemory, Oid, Vid};
 use std::alloc::Global;
@@ -55,6 +55,16 @@ impl PlainStore {
     {
         match self.objects.get(&key.oid) {
             Some(rows) => rows.open_row(key.index),
+            None => None,
+        }
+    }
+
+    /// Row number `k` of an object.
+    fn row(&self, oid: Oid, k: usize) -> Option<&Row<Content>>
+        ensures { option_map seen_row (option_copied result) ≡ slice_get (rows_of (seen_rows self.now) oid) k }
+    {
+        match self.objects.get(&oid) {
+            Some(rows) => rows.get(k),
             None => None,
         }
     }
@@ -182,6 +192,18 @@ impl ObjStore for PlainStore {
         Ok(Some(copy_row(self.alloc, row)?))
     }
 
+    fn row_summary(&self, oid: Oid, k: usize) -> Option<RowSummary> {
+        match self.row(oid, k) {
+            Some(row) => Some(summary(row)),
+            None => None,
+        }
+    }
+
+    fn row_count(&self) -> u128 {
+        let _objects = self.objects.len();
+        self.objects.values().map(|rows| rows.len() as u128).sum()
+    }
+
     fn advance(&mut self, next: Epoch, keeps: &[Key]) {
         let keeps = Keeps::new(keeps);
         self.objects.retain(|oid, rows| {
@@ -225,6 +247,18 @@ fn check_end(offset: u32, length: usize, size: u32) -> Result<(), StoreFault>
         Ok(())
     } else {
         Err(StoreFault::OutOfObject)
+    }
+}
+
+fn summary(row: &Row<Content>) -> RowSummary
+    ensures { result ≡ summary_of (seen_row row.now) }
+{
+    RowSummary {
+        index: row.index,
+        from: row.from,
+        to: row.to,
+        length: row.bytes.len(),
+        hash: row.bytes.hash(),
     }
 }
 

@@ -13,6 +13,16 @@ pub struct Row<B> {
     pub bytes: B,
 }
 
+/// What a row is, without its bytes: it has `length` of them, and `hash` is FNV-1a of those up to the last one that isn't 0.
+#[derive(Clone, Copy, Debug, PartialEq, Eq)]
+pub struct RowSummary {
+    pub index: u8,
+    pub from: Epoch,
+    pub to: Option<Epoch>,
+    pub length: u32,
+    pub hash: u64,
+}
+
 /// A copy of a row. It has `length` bytes: those of `bytes`, which end at the last one that isn't 0, and zeros.
 #[derive(Debug, Drop)]
 pub struct RowCopy {

@@ -3,7 +3,7 @@
 ghost use Rattle.std.specs.Prelude.{◌≡◌, ◌<◌, ◌^◌, length};
 ghost use Rattle.std.specs.FinMap as tree;
 
-use crate::{Key, ObjStore, OidList, PlainStore, RowCopy, StoreFault};
+use crate::{Key, ObjStore, OidList, PlainStore, RowCopy, RowSummary, StoreFault};
 use object_id::{Epoch, NoMemory, Oid, Vid};
 use std::marker::Model;
 use std::test::Fail;
@@ -99,6 +99,14 @@ impl<O: ObjStore> Tried<O> {
 
     fn list(&self) -> Result<OidList, NoMemory> {
         self.store.list()
+    }
+
+    fn row_summary(&self, key: &Key, k: usize) -> Option<RowSummary> {
+        self.store.row_summary(key.oid, k)
+    }
+
+    fn row_count(&self) -> u128 {
+        self.store.row_count()
     }
 }
 
@@ -281,5 +289,66 @@ fn grows_a_list_of_ids(rt: HostRuntime) -> Result<(), Fail> {
     let first = key(1, 0, 0).oid;
     list.push(first)?;
     assert_eq!(rt; (list.get(0), list.get(1)), (Some(&first), None));
+    Ok(())
+}
+
+// The first id goes, then one in the middle and one that isn't there; what is kept then goes by the disk.
+#[test]
+fn takes_ids_out_of_a_list(rt: HostRuntime) -> Result<(), Fail> {
+    let mut list = OidList::new(rt.alloc());
+    let [a, b, c, d] = [
+        key(1, 0, 0).oid,
+        key(1, 1, 0).oid,
+        key(2, 0, 0).oid,
+        key(3, 0, 0).oid,
+    ];
+    for oid in [a, b, c, d] {
+        if list.len() == 0 || list.as_slice()[list.len() - 1] < oid {
+            list.push(oid)?;
+        }
+    }
+    assert_eq!(rt; list.remove_first(), Some(a));
+    assert!(rt; list.has(c) && !list.has(a));
+    list.remove(c);
+    list.remove(a);
+    assert_eq!(rt; list.as_slice(), [b, d].as_slice());
+    list.retain(|oid| oid.vid() != Vid(1));
+    assert_eq!(rt; list.copy(rt.alloc())?.as_slice(), [d].as_slice());
+    assert_eq!(rt; (list.remove_first(), list.remove_first()), (Some(d), None));
+    assert!(rt; list.is_empty());
+    Ok(())
+}
+
+// The hash of `a` is the published one.
+#[test]
+fn visits_rows_without_a_copy(rt: HostRuntime) -> Result<(), Fail> {
+    let mut node = Tried::new(PlainStore::new(rt.alloc()));
+    let [first, second] = [key(1, 0, 0), key(2, 0, 3)];
+    node.create(&first, 1, 0, b"a")?;
+    node.create(&first, 2, 0, b"b")?;
+    node.create(&second, 2, 0, b"a")?;
+    assert_eq!(rt; node.row_count(), 3);
+    let closed = RowSummary {
+        index: 0,
+        from: Epoch(1),
+        to: Some(Epoch(1)),
+        length: 4096,
+        hash: 0xaf63_dc4c_8601_ec8c,
+    };
+    assert_eq!(rt; node.row_summary(&first, 0), Some(closed));
+    let open = RowSummary {
+        index: 3,
+        from: Epoch(2),
+        to: None,
+        ..closed
+    };
+    assert_eq!(rt; node.row_summary(&second, 0), Some(open));
+    assert_eq!(rt;
+        (
+            node.row_summary(&second, 1),
+            node.row_summary(&key(3, 0, 0), 0)
+        ),
+        (None, None)
+    );
     Ok(())
 }

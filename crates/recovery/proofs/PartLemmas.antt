@@ -1,8 +1,8 @@
 -- The rows that are taken at a level, and the part that is made by them.
-use Rattle.std.proofs.Common.{◌≡◌, ℕ, ◌+◌, ◌-◌, ◌≤◌, ◌==◌, nat_lt, Bool, true, false, cond, List, [], ◌∷◌, ◌++◌, length, drop, map, fold, Option, Some, unwrap_or, refl, ap, ap₂, sym, ◌∙◌, arith, zero-add, append-nil, length-append}
+use Rattle.std.proofs.Common.{◌≡◌, ℕ, ◌-◌, ◌≤◌, ◌==◌, nat_lt, Bool, true, false, cond, List, [], ◌∷◌, ◌++◌, length, drop, map, fold, Option, Some, unwrap_or, refl, ap, ap₂, sym, ◌∙◌, arith, zero-add, append-nil}
 use Rattle.std.specs.List.{AllByRecursion}
 use Rattle.std.specs.FinMap as tree
-use Rattle.std.proofs.lemmas.List.{length-map, length-replicate, drop-replicate}
+use Rattle.std.proofs.lemmas.List.{length-map, drop-replicate, take_all}
 use Rattle.object_id.specs.Piece.{laid_over}
 use Rattle.object_id.specs.declared.oid.Kind.{Kind}
 use Rattle.object_id.specs.declared.policy.Policy.{Policy}
@@ -53,18 +53,14 @@ over_themselves bytes =
     ∙ ap (λ (k : ℕ). bytes ++ zeros k) (let none : length bytes - length bytes ≡ 0 = omega arith in none)
     ∙ append-nil bytes
 
-length_of_all : (row : RowCopy) → length row.bytes ≤ row.length → length (row_bytes row) ≡ row.length
-length_of_all row fits =
-    length-append row.bytes (zeros (row.length - length row.bytes))
-    ∙ ap (λ (k : ℕ). length row.bytes + k) (length-replicate (row.length - length row.bytes) 0)
-    ∙ (let sum : length row.bytes + (row.length - length row.bytes) ≡ row.length = omega (arith, fits) in sum)
-
 -- a row that is put by its first bytes is the row
 pub put_by_first_bytes : (key : Key) (row : RowCopy) (shown : NodeView) → length row.bytes ≤ row.length
     → with_row key row.length row.bytes shown ≡ with_row key (length (row_bytes row)) (row_bytes row) shown
 put_by_first_bytes key row shown fits =
     let same : laid_over (zeros row.length) 0 row.bytes ≡ laid_over (zeros (length (row_bytes row))) 0 (row_bytes row)
-    = over_zeros row.length row.bytes ∙ sym (over_themselves (row_bytes row)) in
+    = over_zeros row.length row.bytes
+    ∙ ap (λ (bytes : List ℕ). bytes ++ zeros (row.length - length row.bytes)) (sym (take_all row.length row.bytes fits))
+    ∙ sym (over_themselves (row_bytes row)) in
     ap (λ (bytes : List ℕ). shown_without_pending key.oid (record shown {
       rows = tree.insert shown.rows key.oid (created key.index shown.epoch bytes (rows_of shown.rows key.oid));
     })) same

@@ -1,9 +1,9 @@
 -- What is pending once the list is finished.
-use Rattle.std.proofs.Common.{◌≡◌, ◌↔◌, ◌⊎◌, inl, inr, ℕ, Bool, true, false, cond, List, [], ◌∷◌, filter, Contains, refl, ap, sym, subst, ◌∙◌}
+use Rattle.std.proofs.Common.{◌≡◌, ◌↔◌, ◌⊎◌, ℕ, Bool, true, List, Contains}
 use Rattle.std.specs.FinMap as tree
 use Rattle.std.specs.List.Sorted.{IsStrictlyIncreasing}
 use Rattle.std.proofs.lemmas.List.Kept.{IsStrictlyIncreasing-filter}
-use Rattle.proof_tools.proofs.Lists.{Contains-head, Contains-cons, Contains-nil, Contains-cons_cases, Contains-filter, filter-contains}
+use Rattle.proof_tools.proofs.Lists.{Contains-filter, filter-contains}
 use Rattle.object_list.specs.Union.{union}
 use Rattle.object_list.proofs.UnionLemmas.{union-ascending, union-has, union-only}
 use Rattle.recovery.specs.Shown.{is_to_recover}

@@ -1,0 +1,17 @@
+use Rattle.std.proofs.Common.{ltb, ltb-true, arith, rules}
+use Rattle.std.proofs.lemmas.Bool.{ltb-false}
+use Rattle.std.proofs.lemmas.List.Sorted.{IsPartitionPoint-from_clause, IsPartitionedBy-ltb}
+use Rattle.object_store.proofs.OidLemmas.{IsNonDecreasing-from_strict}
+use Rattle.object_store.proofs.oid_list.place_of.Goals as goal
+
+pub returns-clause-before : goal.returns-clause-before
+returns-clause-before c =
+    let parted = IsPartitionedBy-ltb (λ other. other) c.args.oids.now c.args.oid (IsNonDecreasing-from_strict c.args.oids.now c.requires) in
+    let point = IsPartitionPoint-from_clause (λ other. ltb other c.args.oid) c.args.oids.now c.partition_point.result c.partition_point.ensures.partitioned parted (λ a r q k. search rules) in
+    λ k d below. ltb-true _ _ (point.0 k d (let bound = c.partition_point.ensures.bound in omega (arith, bound, below)) below)
+
+pub returns-clause-behind : goal.returns-clause-behind
+returns-clause-behind c =
+    let parted = IsPartitionedBy-ltb (λ other. other) c.args.oids.now c.args.oid (IsNonDecreasing-from_strict c.args.oids.now c.requires) in
+    let point = IsPartitionPoint-from_clause (λ other. ltb other c.args.oid) c.args.oids.now c.partition_point.result c.partition_point.ensures.partitioned parted (λ a r q k. search rules) in
+    λ k d from within. ltb-false _ _ (point.1 k d from within)
