@@ -1,6 +1,6 @@
 -- A peer's request of another epoch changes nothing, in every run: it is refused, and no `Recovered` is due that the step might put.
-use Rattle.std.proofs.Common.{◌≡◌, ◌≢◌, ⊎_elim, arith, ℕ, ◌<◌, ◌≤◌, nat_lt, Bool, true, false, cond, List, flat_map, Option, Some, None, Result, Ok, refl, sym, ap, ◌∙◌, subst}
-use Rattle.std.specs.Option.{option_map}
+use Rattle.std.proofs.Common.{◌≡◌, ◌≢◌, ⊎_elim, arith, ℕ, ◌<◌, ◌≤◌, nat_lt, Bool, true, false, cond, List, flat_map, Option, Some, None, Result, Ok, refl, sym, ap, ◌∙◌, subst, [], ◌++◌}
+use Rattle.std.specs.Option.{option_map, option_map_or, option_and_then}
 use Rattle.std.specs.Ordering.{is_eq}
 use Rattle.std.specs.Cmp.{nat_cmp_total, tied_itself}
 use Rattle.std.specs.FinMap as tree
@@ -29,12 +29,13 @@ use Rattle.sheep_world.specs.World.{Packet, Request, Host, World, node_at, messa
 use Rattle.sheep_world.specs.NodeSteps.{world_after_step, host_stepped, node_stepped, at_rest}
 use Rattle.sheep_world.specs.Conditions.{may_deliver}
 use Rattle.sheep_world.specs.Messages.{request_got, request_delivered, delivered_as, message_delivered}
-use Rattle.sheep_world.specs.HistoryAdditions.{reply_grown}
-use Rattle.sheep_world.specs.Step.{EventOutcome, with_replies, step}
+use Rattle.sheep_world.specs.HistoryAdditions.{reply_grown, check_write_grown, check_write_by}
+use Rattle.sheep_world.specs.Step.{EventOutcome, with_replies, step, delivery_made}
 use Rattle.overlap_law.specs.Words.{Hosts}
 use Rattle.overlap_law.specs.Past.{MomentWithPast, run_with_past}
 use Rattle.overlap_law.specs.Headline.{IsOfAnotherEpoch, ChangesNothing, OtherEpochsChangeNothing}
 use Rattle.overlap_law.proofs.RestLemmas.{AreRested, run-rested}
+use Rattle.sheep_node.specs.CheckWrites.{CheckWrite, check_write_on}
 
 got-own : (hosts : Hosts) (n : ℕ) (host : Host) → tree.get (tree.insert hosts n host) n ≡ Some host
 got-own hosts n host =
@@ -42,7 +43,8 @@ got-own hosts n host =
     ∙ ap (λ (b : Bool). cond b (Some host) (tree.get hosts n)) (ap is_eq (tied_itself nat_cmp_total n))
 
 -- the world after says only this, and the node is as it was
-record IsAsBefore (n : ℕ) (node : Node) (rsp : PeerRsp) (after : World) : Type 0 where
+record IsAsBefore (input : Input) (n : ℕ) (node : Node) (rsp : PeerRsp) (after : World) : Type 0 where
+  stepped : after.input ≡ Some input
   said : after.outputs ≡ only_reply rsp
   same : node_at n after ≡ Some node
 
@@ -51,43 +53,43 @@ abbrev saying : Node → PeerRsp → StepState
 saying node rsp = record { node = node; outputs = only_reply rsp }
 
 world_after_step-as_before : (script : List Statement) (n : ℕ) (input : Input) (host : Host) (rsp : PeerRsp) (world : World)
-    → IsAsBefore n host.node rsp (world_after_step script n input host (saying host.node rsp) world)
+    → IsAsBefore input n host.node rsp (world_after_step script n input host (saying host.node rsp) world)
 world_after_step-as_before script n input host rsp world =
-    record { said = refl; same = ap (option_map (λ (s : Host). s.node)) (got-own world.hosts n host) }
+    record { stepped = refl; said = refl; same = ap (option_map (λ (s : Host). s.node)) (got-own world.hosts n host) }
 
 host-as_before : (script : List Statement) (n : ℕ) (input : Input) (o : Option Host) (node : Node) (rsp : PeerRsp) (world : World)
     → option_map (λ (s : Host). s.node) o ≡ Some node → node_step input node ≡ saying node rsp
-    → IsAsBefore n node rsp (host_stepped script n input o world)
+    → IsAsBefore input n node rsp (host_stepped script n input o world)
 host-as_before script n input None node rsp world found says_so = absurd (cc (found))
 host-as_before script n input (Some host) node rsp world found says_so =
     let same : host.node ≡ node = same_Some host.node node found in
     let own : node_step input host.node ≡ saying host.node rsp
     = subst (λ (x : Node). node_step input x ≡ saying x rsp) (sym same) says_so in
-    subst (λ (x : Node). IsAsBefore n x rsp (world_after_step script n input host (node_step input host.node) world)) same
-    (subst (λ (so_far : StepState). IsAsBefore n host.node rsp (world_after_step script n input host so_far world)) (sym own)
+    subst (λ (x : Node). IsAsBefore input n x rsp (world_after_step script n input host (node_step input host.node) world)) same
+    (subst (λ (so_far : StepState). IsAsBefore input n host.node rsp (world_after_step script n input host so_far world)) (sym own)
     (world_after_step-as_before script n input host rsp world))
 
 node-as_before : (script : List Statement) (n : ℕ) (input : Input) (node : Node) (rsp : PeerRsp) (world : World)
     → node_at n world ≡ Some node → node_step input node ≡ saying node rsp
-    → IsAsBefore n node rsp (node_stepped script n input world)
+    → IsAsBefore input n node rsp (node_stepped script n input world)
 unfolding node_stepped
 node-as_before script n input node rsp world found says_so =
     host-as_before script n input (tree.get world.hosts n) node rsp world found says_so
 
 got-as_before : (script : List Statement) (name : MessageName) (to : NodeId) (request : PeerReq) (node : Node) (rsp : PeerRsp) (world : World)
     → node_at to.0 world ≡ Some node → node_step (inputs.Request request) node ≡ saying node rsp
-    → IsAsBefore to.0 node rsp (request_got script name to (Ok request) world)
+    → IsAsBefore (inputs.Request request) to.0 node rsp (request_got script name to (Ok request) world)
 got-as_before script name to request node rsp world found says_so =
     let before = node-as_before script to.0 (inputs.Request request) node rsp world found says_so in
-    record { said = before.said; same = before.same }
+    record { stepped = before.stepped; said = before.said; same = before.same }
 
 message_delivered-as_before : (script : List Statement) (name : MessageName) (to : NodeId) (bytes : List ℕ) (request : PeerReq) (node : Node) (rsp : PeerRsp)
     (world : World) → message_at name world ≡ Some (Request to bytes) → ask_in bytes ≡ Ok request → node_at to.0 world ≡ Some node
-    → node_step (inputs.Request request) node ≡ saying node rsp → IsAsBefore to.0 node rsp (message_delivered script name world)
+    → node_step (inputs.Request request) node ≡ saying node rsp → IsAsBefore (inputs.Request request) to.0 node rsp (message_delivered script name world)
 unfolding request_delivered
 message_delivered-as_before script name to bytes request node rsp world packet decoded found says_so =
-    subst (λ (l : Option Packet). IsAsBefore to.0 node rsp (delivered_as script name l world)) (sym packet)
-    (subst (λ (r : Result PeerReq PeerFault). IsAsBefore to.0 node rsp (request_got script name to r (at_rest world))) (sym decoded)
+    subst (λ (l : Option Packet). IsAsBefore (inputs.Request request) to.0 node rsp (delivered_as script name l world)) (sym packet)
+    (subst (λ (r : Result PeerReq PeerFault). IsAsBefore (inputs.Request request) to.0 node rsp (request_got script name to r (at_rest world))) (sym decoded)
     (got-as_before script name to request node rsp (at_rest world) found says_so))
 
 made-same : (b : Bool) (one made : EventOutcome) → cond b (Some one) None ≡ Some made → one ≡ made
@@ -98,6 +100,18 @@ made-same false one made e = absurd (cc (e))
 abbrev refusing : Node → PeerReq → Refusal → PeerRsp
 refusing node request refusal = record { number = request.number; epoch = record { 0 = node.peer.epoch }; say = says.Refused refusal }
 
+-- a check comes to a write by a reply alone
+no_check_writes : (name : MessageName) (request : PeerReq) (before after : World) → after.input ≡ Some (inputs.Request request)
+    → check_write_by name before after ≡ None
+unfolding check_write_on
+no_check_writes name request before after is =
+    ap (λ (input : Option Input). option_and_then (λ (input : Input). option_and_then (check_write_on input) (node_at name.sender.0 before)) input) is
+    ∙ by_node (node_at name.sender.0 before)
+  where
+    by_node : (node : Option Node) → option_and_then (check_write_on (inputs.Request request)) node ≡ None
+    by_node None = refl
+    by_node (Some node) = refl
+
 refused-changes_nothing : (script : List Statement) (world : World) (name : MessageName) (to : NodeId) (node : Node) (request : PeerReq) (made : EventOutcome)
     (refusal : Refusal) → IsOfAnotherEpoch script world name to node request made
     → epoch_refusal node.peer.epoch request.epoch.0 ≡ Some refusal
@@ -105,17 +119,21 @@ refused-changes_nothing : (script : List Statement) (world : World) (name : Mess
     → ChangesNothing to node request made
 unfolding step
 refused-changes_nothing script world name to node request made refusal is why says_so =
-    let before : IsAsBefore to.0 node (refusing node request refusal) (message_delivered script name world)
+    let before : IsAsBefore (inputs.Request request) to.0 node (refusing node request refusal) (message_delivered script name world)
     = message_delivered-as_before script name to is.bytes request node (refusing node request refusal) world is.packet is.decoded is.asked says_so in
-    let so : with_replies script world (message_delivered script name world) ≡ made
-    = made-same (may_deliver name world) (with_replies script world (message_delivered script name world)) made is.delivered in
+    let so : delivery_made script name world (message_delivered script name world) ≡ made
+    = made-same (may_deliver name world) (delivery_made script name world (message_delivered script name world)) made is.delivered in
     subst (λ (m : EventOutcome). ChangesNothing to node request m) so
     (record {
       refusal = refusal;
       why = why;
       said = ap (λ outputs. outputs.say) before.said;
       same = before.same;
-      silent = ap (λ outputs. flat_map (reply_grown script world) outputs.replies) before.said;
+      silent =
+          ap (λ (write : Option CheckWrite). option_map_or (check_write_grown script) write []
+          ++ flat_map (reply_grown script world write) (message_delivered script name world).outputs.replies)
+          (no_check_writes name request world (message_delivered script name world) before.stepped)
+          ∙ ap (λ outputs. flat_map (reply_grown script world None) outputs.replies) before.said;
     })
 
 older : (own requested : ℕ) → requested < own → epoch_refusal own requested ≡ Some (OldEpoch (record { 0 = own }))

@@ -1,5 +1,5 @@
 -- Requests and commands: the works that are open are those that they wait for, and commands keep what they were granted.
-use Rattle.std.specs.Prelude.{◌≡◌, ℕ, ◌<◌, Bool, true, false, List, slice_get, slice_index, Option, Some, None}
+use Rattle.std.specs.Prelude.{◌≡◌, ℕ, ◌<◌, Bool, true, false, List, slice_get, slice_index, Option, Some, None, ◌++◌, ◌∷◌, ◌^◌, length}
 use Rattle.std.specs.FinMap as tree
 use Rattle.object_id.specs.declared.oid.Vid.{Vid}
 use Rattle.object_id.specs.declared.entry.Entry.{Entry}
@@ -16,13 +16,16 @@ use Rattle.guest_driver.specs.InodeQueue as lines
 use Rattle.vdi_ops.specs.InodeWorks.{read_inode, create_inode, write_tag}
 use Rattle.vdi_ops.specs.TaskWorks.{IsWrittenBack, IsBaseRead}
 use Rattle.vdi_ops.specs.Op.{Task, Opening, WritingBack, Tagging, Copying, Making, OpStage, Asked, Working, Publishing, Answered, Op}
-use Rattle.sheep_node.specs.State.{Node, Session, Request, Course, Waiting, Driving, Commanding}
+use Rattle.sheep_node.specs.State.{Node, Session, Request, Course, Waiting, Driving, Commanding, Checking, DoingWork, AwaitingDecision}
 use Rattle.overlap_law.specs.Attempts.{AttemptRecord}
 use Rattle.overlap_law.specs.Reached.{Hosts}
 use Rattle.overlap_law.specs.Each.{EachUp}
 use Rattle.overlap_law.specs.Writers.{MayWrite}
 use Rattle.vdi_directory.specs.declared.effect.Effect.{Effect}
 use Rattle.overlap_law.specs.Drafts.{IsDrawn}
+use Rattle.disk_check.specs.Check.{CheckStage, Comparing, WritingBack, Check, read_copies, write_value}
+use Rattle.disk_check.specs.Check as checks
+use Rattle.disk_check.specs.Table.{own_indexes}
 
 -- the open disk's inode gets a tag; the one that is to take its place has its table
 pub record IsTagged (open_disk : Option Disk) (old : Vid) (draft : Content) (work : ObjWork) : Type 0 where
@@ -65,11 +68,35 @@ pub record IsOfDriver (open_disk : Option Disk) (driver : Driver) (work : ObjWor
   pub there : open_disk ≡ Some disk
   pub awaited : drivers.IsAwaitedByDriver disk.inode driver (acts.Work work)
 
+-- the value of the own object before these is written over the whole of it
+pub record IsValueWrite (disk : Disk) (check : Check) (later : List ℕ) (work : ObjWork) : Type 0 where
+  pub index : ℕ
+  pub value : List ℕ
+  pub before : List ℕ
+  pub own : before ++ index ∷ later ≡ own_indexes disk.inode
+  pub whole : length value ≡ 2 ^ check.spec.shift
+  pub work_of : work ≡ write_value check index value
+
+-- a work is that of a check of this disk
+abbrev pub IsOfCheckStage : Disk → Check → CheckStage → ObjWork → Type 0
+IsOfCheckStage disk check (Comparing index later) work = work ≡ read_copies check index
+IsOfCheckStage disk check (WritingBack later) work = IsValueWrite disk check later work
+IsOfCheckStage disk check checks.Answered work = ⊥
+
+-- a work is that of a check of the open disk
+pub record IsOfCheck (open_disk : Option Disk) (check : Check) (work : ObjWork) : Type 0 where
+  pub disk : Disk
+  pub there : open_disk ≡ Some disk
+  pub is : IsOfCheckStage disk check check.stage work
+
 -- a request waits for a work
 abbrev pub WaitsFor : List Effect → (ℕ → Bool) → List AttemptRecord → Option Disk → Course → ObjWork → Type 0
 WaitsFor effects good_id attempts disk (Waiting ask) work = ⊥
 WaitsFor effects good_id attempts disk (Driving driver) work = IsOfDriver disk driver work
 WaitsFor effects good_id attempts disk (Commanding op) work = IsOfStage effects good_id attempts disk op.stage work
+WaitsFor effects good_id attempts disk (Checking check) work = IsOfCheck disk check work
+WaitsFor effects good_id attempts disk (DoingWork asked) work = work ≡ asked
+WaitsFor effects good_id attempts disk (AwaitingDecision entry) work = ⊥
 
 -- a node's request, with its session, waits for a work
 pub record IsWaitedFor (effects : List Effect) (good_id : ℕ

@@ -22,7 +22,7 @@ use Rattle.guest_driver.specs.declared.disk.Disk.{Disk}
 use Rattle.cluster_script.specs.declared.statement.Statement.{Statement}
 use Rattle.cluster_script.specs.Language.{IsScript}
 use Rattle.sheep_node.specs.declared.event.Event.{Event}
-use Rattle.sheep_node.specs.State.{Node, Request, Course, Waiting, Driving, Commanding, session_at}
+use Rattle.sheep_node.specs.State.{Node, Request, Course, Waiting, Driving, Commanding, session_at, Checking, DoingWork, AwaitingDecision}
 use Rattle.sheep_world.specs.World.{World}
 use Rattle.sheep_world.specs.Conditions.{is_disk_request_at}
 use Rattle.sheep_world.specs.HistoryAdditions.{disk_of}
@@ -59,11 +59,15 @@ abbrev pub NoObjects : List Statement → Type 0
 NoObjects script = IsScript script → (events : List Event) (before : MomentWithPast) (event : Event) (made : EventOutcome)
     → run_with_past script events ≡ Some before → step script event before.world ≡ Some made → NoObjectIsMissing script before made
 
--- the disk that a request's work is for, by its object: of a read or write the session's open one, of a command that of the inode
+-- the disk that a request's work is for, by its object: of a read or write the session's open one, of a command that of the inode, of a check
+-- the one that it checks; a client without a script may ask for objects that were never made
 abbrev pub disk_for : Option Disk → ℕ → Course → Option ℕ
 disk_for opened oid (Waiting ask) = None
 disk_for opened oid (Driving driver) = option_map (λ (disk : Disk). disk.inode.vid) opened
 disk_for opened oid (Commanding op) = Some (vid_of oid)
+disk_for opened oid (Checking check) = Some check.vid
+disk_for opened oid (DoingWork work) = None
+disk_for opened oid (AwaitingDecision entry) = None
 
 -- a message of an open attempt, whose work is for a disk
 pub record IsMessageFor (node : Node) (vid : ℕ) (message : Message) : Type 0 where

@@ -14,7 +14,7 @@ use Rattle.peer_proto.specs.declared.guest.DiskAsk.TheVariants.{Read, Write}
 use Rattle.guest_driver.specs.declared.disk.Disk.{Disk}
 use Rattle.guest_driver.specs.Pieces.{Piece, pieces}
 use Rattle.guest_driver.specs.Driver.{Driver, DriverStage, Reads, Writes, Answered}
-use Rattle.sheep_node.specs.State.{Node, Request, Course, Waiting, Driving, Commanding, session_at}
+use Rattle.sheep_node.specs.State.{Node, Request, Course, Waiting, Driving, Commanding, session_at, Checking, DoingWork, AwaitingDecision}
 use Rattle.overlap_law.specs.Attempts.{AttemptRecord}
 use Rattle.overlap_law.specs.Words.{Hosts, bytes_by}
 use Rattle.overlap_law.specs.Each.{EachUp}
@@ -52,17 +52,23 @@ driver_payload (Reads told piece rest) = []
 driver_payload (Writes payload stage piece rest) = payload
 driver_payload Answered = []
 
--- the pieces that a request has still to write, by where it is
+-- the pieces that a read or write has still to write, by where it is
 abbrev pub left_to_write : ℕ → Course → List Piece
 left_to_write shift (Waiting ask) = left_of_ask shift ask
 left_to_write shift (Driving driver) = left_of_driver driver
 left_to_write shift (Commanding op) = []
+left_to_write shift (Checking check) = []
+left_to_write shift (DoingWork work) = []
+left_to_write shift (AwaitingDecision entry) = []
 
 -- the bytes that a request writes, by where it is
 abbrev pub payload_at : Course → List ℕ
 payload_at (Waiting ask) = payload_in ask
 payload_at (Driving driver) = driver_payload driver
 payload_at (Commanding op) = []
+payload_at (Checking check) = []
+payload_at (DoingWork work) = []
+payload_at (AwaitingDecision entry) = []
 
 -- a request of a node, on the disk that its session has open, which is there by the history
 pub record IsOn (ledger : Ledger) (node : Node) (req : ℕ) (request : Request) (opened : Disk) (disk : histories.Disk) : Type 0 where

@@ -1,7 +1,7 @@
 -- The run against the script: each request at a gateway is the one of its number, of a session of this incarnation,
 -- with the disk on which it
 -- began; each attempt is for such a one; and who is to join is new.
-use Rattle.std.specs.Prelude.{◌≡◌, ℕ, true, false, List, length, ◌∷◌, ◌++◌, slice_get, Option, Some, None, is_some}
+use Rattle.std.specs.Prelude.{◌≡◌, ℕ, true, false, List, length, ◌∷◌, ◌++◌, slice_get, Option, Some, None, is_some, ◌≢◌, Bool, []}
 use Rattle.std.specs.FinMap as tree
 use Rattle.cluster_script.specs.declared.statement.Statement.{Statement}
 use Rattle.cluster_script.specs.declared.statement.Statement.TheVariants as lines
@@ -21,7 +21,7 @@ use Rattle.vdi_ops.specs.Op as commands
 use Rattle.vdi_ops.specs.Op.{Task, Opening, WritingBack, Tagging, Copying, Making, OpStage, Asked, Working, Publishing, Op}
 use Rattle.sheep_node.specs.declared.ask.Ask.{Ask}
 use Rattle.sheep_node.specs.declared.ask.Ask.TheVariants as asks
-use Rattle.sheep_node.specs.State.{Request, Course, Waiting, Driving, Commanding, session_at}
+use Rattle.sheep_node.specs.State.{Request, Course, Waiting, Driving, Commanding, session_at, Checking, DoingWork, AwaitingDecision}
 use Rattle.sheep_world.specs.World.{Host, StartedRequest, World, progress_at, host_at}
 use Rattle.sheep_world.specs.BegunRequests.{WasBegun}
 use Rattle.sheep_world.specs.ControlsToCome.{controls_to_come}
@@ -29,6 +29,10 @@ use Rattle.sheep_world.specs.Asking.{ask_of_statement, session_asking}
 use Rattle.overlap_law.specs.Attempts.{AttemptRecord}
 use Rattle.overlap_law.specs.Each.{EachAttempt}
 use Rattle.overlap_law.specs.Holders.{is_object_among}
+use Rattle.disk_check.specs.Check.{CheckStage, Comparing, WritingBack, Check}
+use Rattle.disk_check.specs.Check as checks
+use Rattle.disk_check.specs.Table.{own_indexes, inherited_count}
+use Rattle.peer_proto.specs.declared.guest.VdiAsk.TheVariants as disk_commands
 
 -- a piece and those behind it are the last ones of a request on this disk
 abbrev pub AreLeft : Disk → ℕ → ℕ → Piece → List Piece → Type 0
@@ -85,11 +89,46 @@ pub record IsCommandOfAsk (asked : Option Ask) (op : Op) : Type 0 where
   pub of : asked ≡ Some (asks.Vdi ask)
   pub is : IsStageOfAsk op.by op.session ask op.stage
 
+-- the indexes of the own objects that a check has still to compare
+abbrev pub indexes_left : CheckStage → List ℕ
+indexes_left (Comparing index later) = index ∷ later
+indexes_left (WritingBack later) = later
+indexes_left checks.Answered = []
+
+-- a check is at an own object of a disk, and has counted those before it, and what isn't the disk's own
+pub record IsCheckOf (disk : Disk) (check : Check) : Type 0 where
+  pub vid : check.vid ≡ disk.inode.vid
+  pub spec : check.spec ≡ disk.inode.spec
+  pub before : List ℕ
+  pub indexes : before ++ indexes_left check.stage ≡ own_indexes disk.inode
+  pub objects : check.found.objects ≡ length before
+  pub inherited : check.found.inherited ≡ inherited_count disk.inode
+  pub waits : check.stage ≢ checks.Answered
+
+-- a check is of the working disk that its session has open
+pub record IsCheckOfAsk (asked : Option Ask) (opened : Option Disk) (began : Option ℕ) (check : Check) : Type 0 where
+  pub on : IsOnDisk opened began
+  pub working : on.disk.snapshot ≡ false
+  pub of : asked ≡ Some (asks.Vdi disk_commands.Check)
+  pub is : IsCheckOf on.disk check
+
+-- whether a request is a client's, who asks without a script
+abbrev pub is_of_client : Course → Bool
+is_of_client (Waiting ask) = false
+is_of_client (Driving driver) = false
+is_of_client (Commanding op) = false
+is_of_client (Checking check) = false
+is_of_client (DoingWork work) = true
+is_of_client (AwaitingDecision entry) = true
+
 -- where a request is, by what was asked, what its session has open, and on which disk it began
 abbrev pub IsCourseOfAsk : Option Ask → Option Disk → Option ℕ → Course → Type 0
 IsCourseOfAsk asked opened began (Waiting ask) = (asked ≡ Some (asks.Disk ask)) × IsOnDisk opened began
 IsCourseOfAsk asked opened began (Driving driver) = IsDriverOfAsk asked opened began driver
 IsCourseOfAsk asked opened began (Commanding op) = IsCommandOfAsk asked op
+IsCourseOfAsk asked opened began (Checking check) = IsCheckOfAsk asked opened began check
+IsCourseOfAsk asked opened began (DoingWork work) = ⊥
+IsCourseOfAsk asked opened began (AwaitingDecision entry) = ⊥
 
 -- a request of a node is the script's of its number
 pub record IsRequestOfScript (script : List Statement) (world : World) (n : ℕ) (host : Host) (req : ℕ) (request : Request) : Type 0 where
@@ -106,10 +145,11 @@ pub record IsRequestOfScript (script : List Statement) (world : World) (n : ℕ)
   pub number : started.req ≡ req
   pub course : IsCourseOfAsk (ask_of_statement statement) (session_at request.session host.node).disk started.disk request.course
 
--- each request of a node that isn't lost is one of the script
+-- each request of a node that isn't lost is one of the script, but for a client's
 pub record RequestsAreTheScripts (script : List Statement) (world : World) : Type 0 where
   pub each : (n req : ℕ) (host : Host) (request : Request) → host_at n world ≡ Some host → host.is_lost ≡ false
-      → tree.get host.node.requests req ≡ Some request → IsRequestOfScript script world n host req request
+      → tree.get host.node.requests req ≡ Some request → is_of_client request.course ≡ false
+      → IsRequestOfScript script world n host req request
 
 -- an attempt is for a request of a session of its gateway's incarnation
 pub record IsForARequest (script : List Statement) (attempt : AttemptRecord) : Type 0 where
