@@ -5,7 +5,7 @@ use Rattle.std.specs.List.{list_all, list_any}
 use Rattle.std.proofs.lemmas.List.Folds.{list_all-append, list_any-append}
 use Rattle.std.proofs.lemmas.List.Sums.{sum_by-append}
 use Rattle.std.proofs.Math.Bool.{and-true, or-false}
-use Rattle.cluster_script.specs.declared.limits.TheConstants.{REQUESTS_MAX, READ_BYTES_MAX, WRITE_BYTES_MAX}
+use Rattle.object_id.specs.declared.limits.TheConstants.{REQUESTS_MAX, READ_BYTES_MAX, WRITE_BYTES_MAX}
 use Rattle.cluster_script.specs.declared.statement.Statement.{Statement}
 use Rattle.cluster_script.specs.declared.statement.Statement.TheVariants.{Cluster, Session, Create, OpenDisk, Close, Read, Write}
 use Rattle.cluster_script.specs.declared.draft.Totals.{Totals}

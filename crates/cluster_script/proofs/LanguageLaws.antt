@@ -6,7 +6,7 @@ use Rattle.object_id.specs.declared.policy.Policy.{Policy}
 use Rattle.object_id.specs.declared.policy.Policy.TheVariants.{Copies}
 use Rattle.cluster_script.specs.declared.statement.Pattern.{Pattern}
 use Rattle.cluster_script.specs.declared.statement.Pattern.TheVariants as patterns
-use Rattle.cluster_script.specs.declared.limits.TheConstants.{SHIFT_DEFAULT}
+use Rattle.object_id.specs.declared.limits.TheConstants.{SHIFT_DEFAULT}
 use Rattle.cluster_script.specs.declared.statement.Statement.{Statement}
 use Rattle.cluster_script.specs.declared.statement.Statement.TheVariants.{Cluster, Session, Create, OpenDisk, Close, Read, Write}
 use Rattle.cluster_script.specs.Statements.{is_cluster, has, disk_name}

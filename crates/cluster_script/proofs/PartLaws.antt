@@ -12,7 +12,8 @@ use Rattle.cluster_script.specs.declared.statement.Statement.{Statement}
 use Rattle.cluster_script.specs.declared.statement.Statement.TheVariants as lines
 use Rattle.cluster_script.specs.declared.fault.LineCause.{LineCause}
 use Rattle.cluster_script.specs.declared.fault.LineCause.TheVariants as causes
-use Rattle.cluster_script.specs.declared.limits.TheConstants.{BLOCK, SIZE_MAX, SHIFT_DEFAULT, NODES_MAX, SESSION_MAX, SESSIONS_MAX}
+use Rattle.object_id.specs.declared.limits.TheConstants.{BLOCK_BYTES, SHIFT_DEFAULT, NODES_MAX, SESSIONS_MAX}
+use Rattle.cluster_script.specs.declared.limits.TheConstants.{ONE_DISK_SIZE_MAX, ONE_DISK_SESSION_MAX}
 use Rattle.cluster_script.specs.Statements.{is_setting, is_cluster, is_request, read_bytes, write_bytes, has, is_session_declared}
 use Rattle.cluster_script.specs.Settings.{is_set, nodes_set}
 use Rattle.cluster_script.specs.Nodes.{uses_node, is_node_used, failed_by, failed_from, is_failed, is_node_there}
@@ -97,13 +98,13 @@ module _ (before : List Statement) (session : ℕ) (words : List Word) (s : Stat
   unfolding create_of_one create_request_at
   create-same read =
       read-on (keyword_at (codes "-c") words) _ s read (λ rest given e1. read-on (plain_number_at 1 1 rest) _ s e1 (λ copies one e2.
-      read-on (name_word_at copies.1) _ s e2 (λ name named e3. read-on (blocks_at BLOCK SIZE_MAX name.1) _ s e3 (λ size sized e4.
+      read-on (name_word_at copies.1) _ s e2 (λ name named e3. read-on (blocks_at BLOCK_BYTES ONE_DISK_SIZE_MAX name.1) _ s e3 (λ size sized e4.
       read-on (end_of_words size.1) _ s e4 (λ end ended e5. (
         rw (
           copies-read words rest copies given one,
           no-option (codes "-z") copies.1 name refl named,
           named,
-          blocks-wider BLOCK SIZE_MAX BLOCK (2 ^ 20 * 2 ^ 22) name.1 size (omega arith) (omega arith) sized,
+          blocks-wider BLOCK_BYTES ONE_DISK_SIZE_MAX BLOCK_BYTES (2 ^ 20 * 2 ^ 22) name.1 size (omega arith) (omega arith) sized,
           ended,
         ) e5,
         asks before (lines.Create session (Copies copies.0) SHIFT_DEFAULT name.0 size.0) s refl e5,
@@ -289,8 +290,8 @@ asked-same : (before : List Statement) (first : Word) (words : List Word) (s : S
 unfolding asked_of_one asking_of_one statement_at statement_behind_cluster session_request_at asking_session
 asked-same before first words s there digits read =
     read-on (asking_of_one before first) _ s read (λ session asked e1. read-on (number_of first) _ session asked (λ number spelled e2.
-    read-on (number_in_range 1 SESSION_MAX number) _ session e2 (λ one kept e3.
-    let range = range-kept 1 SESSION_MAX number one kept in
+    read-on (number_in_range 1 ONE_DISK_SESSION_MAX number) _ session e2 (λ one kept e3.
+    let range = range-kept 1 ONE_DISK_SESSION_MAX number one kept in
     let same = request-same before session words s e1 in (
       rw (
         number-no-keyword first (codes "cluster") number spelled refl,

@@ -5,7 +5,7 @@ use Rattle.std.specs.List.{flat_map, range_with_len}
 use Rattle.std.proofs.lemmas.List.FromFn.{length-map-range_with_len}
 use Rattle.std.proofs.lemmas.List.Sums.{length-filter, sum_by-append}
 use Rattle.proof_tools.proofs.Lists.{range_with_len-append}
-use Rattle.cluster_script.specs.declared.limits.TheConstants.{BLOCK}
+use Rattle.object_id.specs.declared.limits.TheConstants.{BLOCK_BYTES}
 use Rattle.cluster_script.specs.declared.statement.Pattern.{Pattern}
 use Rattle.cluster_script.specs.declared.statement.Statement.{Statement}
 use Rattle.cluster_script.specs.declared.statement.Statement.TheVariants.{Cluster, Vnodes, Tries, Limit, Zone}
@@ -19,7 +19,7 @@ session_of-there (Cluster nodes) = refl
 session_of-there s = refl
 
 pub length-payload_of : (pattern : Pattern) (count : ℕ) → length (payload_of pattern count) ≡ count
-length-payload_of pattern count = length-map-range_with_len (λ place. byte_of pattern (place / BLOCK)) 0 count
+length-payload_of pattern count = length-map-range_with_len (λ place. byte_of pattern (place / BLOCK_BYTES)) 0 count
 
 -- a setting is no request
 setting-no_request : (s : Statement) → is_setting s ≡ true → is_request s ≡ false

@@ -6,23 +6,24 @@ use Rattle.std.proofs.lemmas.Bool.{and_parts, not-true, not-false, leb-true, ltb
 use Rattle.object_id.specs.Policy.{IsPolicy, is_width}
 use Rattle.object_id.specs.declared.policy.Policy.{Policy}
 use Rattle.object_id.specs.declared.policy.Policy.TheVariants.{Copies, Coded}
-use Rattle.object_id.specs.declared.limits.TheConstants.{SHIFT_MIN, SHIFT_MAX}
+use Rattle.object_id.specs.declared.limits.TheConstants.{SHIFT_MIN, SHIFT_MAX, BLOCK_BYTES, SHIFT_DEFAULT, LENGTH_MAX, NODES_MAX, VNODES_MAX, TRIES_MAX, LIMIT_MAX, SESSIONS_MAX, LOSSES_MAX, REQUESTS_MAX, READ_BYTES_MAX, WRITE_BYTES_MAX, COPIES_MAX, PARITY_MAX, OBJECTS_MAX, ZONES_MAX}
 use Rattle.cluster_script.specs.declared.statement.Pattern.{Pattern}
 use Rattle.cluster_script.specs.declared.statement.Pattern.TheVariants as patterns
 use Rattle.cluster_script.specs.declared.statement.Statement.{Statement}
 use Rattle.cluster_script.specs.declared.statement.Statement.TheVariants.{Cluster, Vnodes, Tries, Limit, Session, Create, OpenDisk, Close, Read, Write, Snapshot, Clone, Delete, Fail, Join, Lose, Settle, ListNodes, ListVdis, ClusterInfo, Dump, Zone, Reweight, Back, Check}
 use Rattle.cluster_script.specs.declared.fault.LineCause.{LineCause}
 use Rattle.cluster_script.specs.declared.fault.LineCause.TheVariants as causes
-use Rattle.cluster_script.specs.declared.limits.TheConstants.{BLOCK, SHIFT_DEFAULT, LENGTH_MAX, NODES_MAX, VNODES_MAX, TRIES_MAX, LIMIT_MAX, SESSIONS_MAX, LOSSES_MAX, REQUESTS_MAX, READ_BYTES_MAX, WRITE_BYTES_MAX, CHECKS_MAX}
+use Rattle.cluster_script.specs.declared.limits.TheConstants.{CHECKS_MAX}
 use Rattle.cluster_script.specs.Statements.{is_setting, is_cluster, has, is_session_declared, is_check, is_request, read_bytes, write_bytes}
 use Rattle.cluster_script.specs.Settings.{is_set, nodes_set, vnodes_set, tries_set, limit_set, zone_set}
 use Rattle.cluster_script.specs.Phases.{losses_from}
 use Rattle.cluster_script.specs.Nodes.{is_node_used, is_failed, is_node_there, IsNodeThere}
-use Rattle.cluster_script.specs.OneDisk.{IsPrintedName, IsSpan}
+use Rattle.object_id.specs.Span.{IsSpan}
+use Rattle.cluster_script.specs.OneDisk.{IsPrintedName}
 use Rattle.cluster_script.specs.Language.{MaySet, HasCluster, MayAsk, IsPrintedTag, IsByte, MayStand}
 use Rattle.cluster_script.specs.Words.{Word, is_next_word, option_at}
 use Rattle.cluster_script.specs.Numbers.{is_digits, number_of}
-use Rattle.cluster_script.specs.Requests.{has_room, request_within_limits, is_colon, strips_in, copies_in, policy_of_word, policy_option_at, shift_option_at, tag_at, create_request_at, disk_words_at, open_request_at, close_request_at, span_at, read_request_at, pattern_byte_at, named_pattern_at, pattern_at, write_request_at, snapshot_request_at, clone_request_at, delete_request_at, check_request_at, check_within_limits, copy_verb_at, verb_at, vdi_request_at}
+use Rattle.cluster_script.specs.Requests.{has_room, request_within_limits, is_colon, strips_in, copies_in, policy_of_word, policy_option_at, shift_option_at, tag_at, create_request_at, disk_words_at, open_request_at, close_request_at, span_at, read_request_at, pattern_byte_at, named_pattern_at, pattern_at, write_request_at, snapshot_request_at, clone_request_at, delete_request_at, check_request_at, copy_verb_at, verb_at, vdi_request_at}
 use Rattle.cluster_script.specs.ClusterLines.{setting_at, zone_at, there_at, session_line_at, fail_at, join_at, reweight_at, back_at, lose_at, alone_at, followed_at, barrier_at, happening_at}
 use Rattle.cluster_script.specs.Script.{asking_session, session_request_at, statement_behind_cluster, statement_at}
 use Rattle.cluster_script.specs.Spelling.{IsNumber, IsSize, IsPolicyWord, IsOption, IsRequestWords, IsAskedOfDisk, IsPatternWords, IsSpelled}
@@ -73,7 +74,7 @@ zone-reads before words s e =
     let first = test-passed (list_all is_setting before) words turn causes.Word turned in
     let once = test-failed (is_set (zone_set node.0) before) node.1 rest causes.Twice new in
     let a = number-read 0 (NODES_MAX - 1) turn node answered in
-    let b = number-read 0 (NODES_MAX - 1) rest zone zoned in
+    let b = number-read 0 (ZONES_MAX - 1) rest zone zoned in
     let none = end-read zone.1 end ended in
     let parted : a.word ∷ b.word ∷ [] ≡ words = cc in
     let said : Zone node.0 zone.0 ≡ s = cc in
@@ -242,18 +243,18 @@ unfolding strips_in
 strips-kept word policy e =
     read-on (number_of (before_first is_colon word)) _ _ e (λ d first e1.
     read-on (number_of (after_first is_colon word)) _ _ e1 (λ p second e2.
-    let passed = test-passed (is_width d && nat_le 1 p && nat_le p 15) (Coded d p) policy causes.Range e2 in
-    let outer = and_parts (is_width d && nat_le 1 p) (nat_le p 15) passed.0 in
+    let passed = test-passed (is_width d && nat_le 1 p && nat_le p PARITY_MAX) (Coded d p) policy causes.Range e2 in
+    let outer = and_parts (is_width d && nat_le 1 p) (nat_le p PARITY_MAX) passed.0 in
     let inner = and_parts (is_width d) (nat_le 1 p) outer.0 in
-    subst IsPolicy passed.1 (inner.0, leb-true 1 p inner.1, leb-true p 15 outer.1)))
+    subst IsPolicy passed.1 (inner.0, leb-true 1 p inner.1, leb-true p PARITY_MAX outer.1)))
 
 copies-kept : (word : Word) (policy : Policy) → copies_in word ≡ Ok policy → IsPolicy policy
 unfolding copies_in
 copies-kept word policy e =
     read-on (number_of word) _ _ e (λ copies spelled e1.
-    let passed = test-passed (nat_le 1 copies && nat_le copies 31) (Copies copies) policy causes.Range e1 in
-    let parts = and_parts (nat_le 1 copies) (nat_le copies 31) passed.0 in
-    subst IsPolicy passed.1 (leb-true 1 copies parts.0, leb-true copies 31 parts.1))
+    let passed = test-passed (nat_le 1 copies && nat_le copies COPIES_MAX) (Copies copies) policy causes.Range e1 in
+    let parts = and_parts (nat_le 1 copies) (nat_le copies COPIES_MAX) passed.0 in
+    subst IsPolicy passed.1 (leb-true 1 copies parts.0, leb-true copies COPIES_MAX parts.1))
 
 policy-kept : (word : Word) (policy : Policy) → policy_of_word word ≡ Ok policy → IsPolicy policy
 policy-kept word policy e =
@@ -307,7 +308,7 @@ unfolding span_at
 span-read words span e =
     read-on _ _ _ e (λ offset begins e1. read-on _ _ _ e1 (λ bytes ends e2.
     let a = blocks-read 0 (2 ^ 64 - 1) words offset begins in
-    let b = blocks-read BLOCK LENGTH_MAX offset.1 bytes ends in
+    let b = blocks-read BLOCK_BYTES LENGTH_MAX offset.1 bytes ends in
     let same : (offset.0, bytes.0, bytes.1) ≡ span = cc in
     subst (λ (p : ℕ × ℕ × List Word). (x y : Word) × (words ≡ x ∷ y ∷ p.2) × IsSize p.0 x × IsSize p.1 y × IsSpan p.0 p.1) same (
       a.word,
@@ -434,7 +435,7 @@ module _ (before : List Statement) (session : ℕ) (known : is_session_declared 
       let c = policy-option-read words policy chosen in
       let z = shift-option-read policy.1 shift sized in
       let own = name-read shift.1 name named in
-      let b = blocks-read BLOCK (2 ^ 20 * 2 ^ shift.0) name.1 size measured in
+      let b = blocks-read BLOCK_BYTES (OBJECTS_MAX * 2 ^ shift.0) name.1 size measured in
       let none = end-read size.1 end ended in
       let last : shift.1 ≡ name.0 ∷ b.word ∷ [] = cc in
       let parted : words ≡ c.0 ++ z.0 ++ name.0 ∷ b.word ∷ [] =

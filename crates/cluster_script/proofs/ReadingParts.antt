@@ -5,7 +5,7 @@ use Rattle.std.proofs.lemmas.Bool.{and_parts, leb-true, eqb-true}
 use Rattle.std.proofs.lemmas.Slice.Eq.{bytes_eq-Decides}
 use Rattle.cluster_script.specs.declared.fault.LineCause.{LineCause}
 use Rattle.cluster_script.specs.declared.fault.LineCause.TheVariants as causes
-use Rattle.cluster_script.specs.declared.limits.TheConstants.{BLOCK}
+use Rattle.object_id.specs.declared.limits.TheConstants.{BLOCK_BYTES}
 use Rattle.cluster_script.specs.OneDisk.{IsPrintedName}
 use Rattle.cluster_script.specs.ReadResults.{◌>>=◌}
 use Rattle.cluster_script.specs.Words.{Word, word_at, keyword_at, is_next_word, option_at, end_of_words, is_name, name_word_at}
@@ -91,10 +91,10 @@ range-kept low high number within e =
       subst (λ (n : ℕ). n ≤ high) passed.1 (leb-true number high parts.1),
     )
 
-pub blocks-whole : (number whole : ℕ) → aligned_number number ≡ Ok whole → (number ≡ whole) × (whole % BLOCK ≡ 0)
+pub blocks-whole : (number whole : ℕ) → aligned_number number ≡ Ok whole → (number ≡ whole) × (whole % BLOCK_BYTES ≡ 0)
 blocks-whole number whole e =
-    let passed = test-passed (number % BLOCK == 0) number whole causes.Unaligned e in
-    (passed.1, subst (λ (n : ℕ). n % BLOCK ≡ 0) passed.1 (eqb-true (number % BLOCK) 0 passed.0))
+    let passed = test-passed (number % BLOCK_BYTES == 0) number whole causes.Unaligned e in
+    (passed.1, subst (λ (n : ℕ). n % BLOCK_BYTES ≡ 0) passed.1 (eqb-true (number % BLOCK_BYTES) 0 passed.0))
 
 -- words begin with a word that spells a number within limits
 pub record IsNumberRead (low high : ℕ) (words : List Word) (number : ℕ × List Word) : Type 0 where
@@ -126,7 +126,7 @@ pub record IsBlocksRead (low high : ℕ) (words : List Word) (size : ℕ × List
   pub spelled : size_of_word word ≡ Ok size.0
   pub least : low ≤ size.0
   pub most : size.0 ≤ high
-  pub whole : size.0 % BLOCK ≡ 0
+  pub whole : size.0 % BLOCK_BYTES ≡ 0
 
 pub blocks-read : (low high : ℕ) (words : List Word) (size : ℕ × List Word) → blocks_at low high words ≡ Ok size
     → IsBlocksRead low high words size

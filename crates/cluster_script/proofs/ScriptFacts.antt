@@ -6,7 +6,8 @@ use Rattle.std.proofs.lemmas.Bool.{ltb-true, eqb-true, or_cases, or_left, or_rig
 use Rattle.std.proofs.lemmas.List.{append-nil}
 use Rattle.std.proofs.lemmas.List.Folds.{list_any-append}
 use Rattle.std.proofs.lemmas.List.Sums.{sum_by-append}
-use Rattle.cluster_script.specs.declared.limits.TheConstants.{NODES_MAX, SESSIONS_MAX, READ_BYTES_MAX, WRITE_BYTES_MAX}
+use Rattle.object_id.specs.declared.limits.TheConstants.{NODES_MAX, READ_BYTES_MAX, WRITE_BYTES_MAX}
+use Rattle.object_id.specs.Node.{IsSession}
 use Rattle.cluster_script.specs.declared.statement.Statement.{Statement}
 use Rattle.cluster_script.specs.declared.statement.Statement.TheVariants.{Cluster, Session, Read, Write, Fail, Join, Back}
 use Rattle.cluster_script.specs.Statements.{is_cluster, declares, is_session_declared, read_bytes, write_bytes}
@@ -28,20 +29,17 @@ any-before : (kind : Statement → Bool) (before rest : List Statement) → list
 any-before kind before rest there = list_any-append kind before rest ∙ or_left (list_any kind before) (list_any kind rest) there
 
 -- a declared session has a number of sessions, and stands behind a `cluster`
-abbrev pub IsSessionNumber : ℕ → Type 0
-IsSessionNumber session = (1 ≤ session) × (session ≤ SESSIONS_MAX)
-
 declaring : (session : ℕ) (first later : List Statement) (s : Statement) → MayStand first s → declares session s ≡ true
-    → IsSessionNumber session × HasCluster (first ++ s ∷ later)
+    → IsSession session × HasCluster (first ++ s ∷ later)
 declaring session first later (Session number node) may found =
     let same : number ≡ session = eqb-true number session found in
     ((omega (arith, may.2), omega (arith, may.3)), any-before is_cluster first (Session number node ∷ later) may.0)
 declaring session first later s may found = absurd cc
 
 pub is_session_declared-session : (before : List Statement) (session : ℕ) → IsScript before → is_session_declared session before ≡ true
-    → IsSessionNumber session × HasCluster before
+    → IsSession session × HasCluster before
 is_session_declared-session before session script found =
-    kind-shows (declares session) (λ statements. IsSessionNumber session × HasCluster statements) (declaring session) [] before script found
+    kind-shows (declares session) (λ statements. IsSession session × HasCluster statements) (declaring session) [] before script found
 
 -- a used node has a number of nodes
 using : (node : ℕ) (first later : List Statement) (s : Statement) → MayStand first s → uses_node node s ≡ true → node < NODES_MAX

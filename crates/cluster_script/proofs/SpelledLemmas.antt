@@ -7,23 +7,24 @@ use Rattle.std.proofs.lemmas.List.Sums.{list_all-from_AllPass}
 use Rattle.std.proofs.lemmas.Slice.Eq.{bytes_eq-Decides}
 use Rattle.object_id.specs.declared.policy.Policy.{Policy}
 use Rattle.object_id.specs.declared.policy.Policy.TheVariants.{Copies}
-use Rattle.object_id.specs.declared.limits.TheConstants.{SHIFT_MIN, SHIFT_MAX}
+use Rattle.object_id.specs.declared.limits.TheConstants.{SHIFT_MIN, SHIFT_MAX, BLOCK_BYTES, SHIFT_DEFAULT, LENGTH_MAX, NODES_MAX, VNODES_MAX, TRIES_MAX, LIMIT_MAX, SESSIONS_MAX, LOSSES_MAX, REQUESTS_MAX, READ_BYTES_MAX, WRITE_BYTES_MAX, OBJECTS_MAX, ZONES_MAX}
 use Rattle.cluster_script.specs.declared.statement.Pattern.{Pattern}
 use Rattle.cluster_script.specs.declared.statement.Pattern.TheVariants as patterns
 use Rattle.cluster_script.specs.declared.statement.Statement.{Statement}
 use Rattle.cluster_script.specs.declared.statement.Statement.TheVariants.{Cluster, Vnodes, Tries, Limit, Session, Create, OpenDisk, Close, Read, Write, Snapshot, Clone, Delete, Fail, Join, Lose, Settle, ListNodes, ListVdis, ClusterInfo, Dump, Zone, Reweight, Back, Check}
 use Rattle.cluster_script.specs.declared.fault.LineCause.{LineCause}
 use Rattle.cluster_script.specs.declared.fault.LineCause.TheVariants as causes
-use Rattle.cluster_script.specs.declared.limits.TheConstants.{BLOCK, SHIFT_DEFAULT, LENGTH_MAX, NODES_MAX, VNODES_MAX, TRIES_MAX, LIMIT_MAX, SESSIONS_MAX, LOSSES_MAX, REQUESTS_MAX, READ_BYTES_MAX, WRITE_BYTES_MAX, CHECKS_MAX}
+use Rattle.cluster_script.specs.declared.limits.TheConstants.{CHECKS_MAX}
 use Rattle.cluster_script.specs.Statements.{is_session_declared, is_request, read_bytes, write_bytes}
 use Rattle.cluster_script.specs.Settings.{nodes_set, vnodes_set, tries_set, limit_set}
 use Rattle.cluster_script.specs.Nodes.{IsNodeThere}
-use Rattle.cluster_script.specs.OneDisk.{IsPrintedName, IsSpan}
+use Rattle.object_id.specs.Span.{IsSpan}
+use Rattle.cluster_script.specs.OneDisk.{IsPrintedName}
 use Rattle.cluster_script.specs.Language.{MaySet, HasCluster, MayAsk, IsPrintedTag, IsByte, MayStand, IsScript}
 use Rattle.cluster_script.specs.Words.{Word, keyword_at, is_next_word, option_at, is_name_byte, is_name, name_word_at}
 use Rattle.cluster_script.specs.Numbers.{is_digits, digits_value, scaled_number, number_in_range, aligned_number, plain_number_at, blocks_at}
 use Rattle.cluster_script.specs.Requests.{request_within_limits, policy_option_at, shift_option_at, tag_at, create_request_at, disk_words_at, open_request_at, close_request_at, check_request_at, span_at, read_request_at, pattern_byte_at, named_pattern_at, pattern_at, write_request_at, snapshot_request_at, clone_request_at, delete_request_at, copy_verb_at, verb_at, vdi_request_at}
-use Rattle.cluster_script.specs.ClusterLines.{setting_at, node_number_at, zone_at, there_at, session_line_at, fail_at, join_at, reweight_at, back_at, lose_at, alone_at, followed_at, barrier_at, happening_at}
+use Rattle.cluster_script.specs.ClusterLines.{setting_at, node_number_at, zone_number_at, zone_at, there_at, session_line_at, fail_at, join_at, reweight_at, back_at, lose_at, alone_at, followed_at, barrier_at, happening_at}
 use Rattle.cluster_script.specs.Script.{asking_session, session_request_at, statement_behind_cluster, statement_at}
 use Rattle.cluster_script.specs.Spelling.{IsNumber, IsSize, IsPolicyWord, IsOption, IsRequestWords, IsAskedOfDisk, IsPatternWords, IsSpelled}
 use Rattle.cluster_script.proofs.ScriptFacts.{is_session_declared-session, used-node, failed-node, reads-within, writes-within}
@@ -83,8 +84,8 @@ name_word_at-spelled name rest named = rw (name-passes name named) refl
 pub number_in_range-request_within_limits : (low high number : ℕ) → low ≤ number → number ≤ high → number_in_range low high number ≡ Ok number
 number_in_range-request_within_limits low high number above below = rw (le-leb low number above, le-leb number high below) refl
 
-aligned_number-whole : (number : ℕ) → number % BLOCK ≡ 0 → aligned_number number ≡ Ok number
-aligned_number-whole number whole = rw (eq-eqb (number % BLOCK) 0 whole) refl
+aligned_number-whole : (number : ℕ) → number % BLOCK_BYTES ≡ 0 → aligned_number number ≡ Ok number
+aligned_number-whole number whole = rw (eq-eqb (number % BLOCK_BYTES) 0 whole) refl
 
 pub plain_number_at-spelled : (low high number : ℕ) (word : Word) (rest : List Word) → IsNumber number word → low ≤ number → number ≤ high
     → plain_number_at low high (word ∷ rest) ≡ Ok (number, rest)
@@ -92,7 +93,7 @@ unfolding plain_number_at
 plain_number_at-spelled low high number word rest is above below = rw (is, number_in_range-request_within_limits low high number above below) refl
 
 pub blocks_at-spelled : (low high number : ℕ) (word : Word) (rest : List Word) → IsSize number word → low ≤ number → number ≤ high
-    → number % BLOCK ≡ 0 → blocks_at low high (word ∷ rest) ≡ Ok (number, rest)
+    → number % BLOCK_BYTES ≡ 0 → blocks_at low high (word ∷ rest) ≡ Ok (number, rest)
 unfolding blocks_at
 blocks_at-spelled low high number word rest is above below whole =
     rw (is, number_in_range-request_within_limits low high number above below, aligned_number-whole number whole) refl
@@ -151,7 +152,7 @@ create_request_at-spelled before session policy shift name size c z word script 
           (λ w is. plain_number_at-spelled SHIFT_MIN SHIFT_MAX shift w (name ∷ word ∷ []) is may.2.shift.0 may.2.shift.1)
           (name-no-option name (codes "-z") may.1 refl) shifted,
       name_word_at-spelled name (word ∷ []) may.1,
-      blocks_at-spelled BLOCK (2 ^ 20 * 2 ^ shift) size word [] sized may.2.size.0 may.2.size.1 may.2.blocks,
+      blocks_at-spelled BLOCK_BYTES (OBJECTS_MAX * 2 ^ shift) size word [] sized may.2.size.0 may.2.size.1 may.2.blocks,
     )
     (still-request_within_limits before (Create session policy shift name size) script may.0.room refl refl)
   where
@@ -190,7 +191,7 @@ unfolding span_at
 span_at-spelled offset size a b rest span at bytes =
     rw (
       blocks_at-spelled 0 (2 ^ 64 - 1) offset a (b ∷ rest) at (omega arith) (omega (arith, span.below)) span.start,
-      blocks_at-spelled BLOCK LENGTH_MAX size b rest bytes span.least span.most span.whole,
+      blocks_at-spelled BLOCK_BYTES LENGTH_MAX size b rest bytes span.least span.most span.whole,
     ) refl
 
 read_request_at-spelled : (before : List Statement) (session offset size : ℕ) (a b : Word) → IsScript before
@@ -305,11 +306,15 @@ node_number_at-spelled : (node : ℕ) (word : Word) (rest : List Word) → node 
     → node_number_at (word ∷ rest) ≡ Ok (node, rest)
 node_number_at-spelled node word rest below is = plain_number_at-spelled 0 (NODES_MAX - 1) node word rest is (omega arith) (omega arith)
 
+zone_number_at-spelled : (zone : ℕ) (word : Word) (rest : List Word) → zone < ZONES_MAX → IsNumber zone word
+    → zone_number_at (word ∷ rest) ≡ Ok (zone, rest)
+zone_number_at-spelled zone word rest below is = plain_number_at-spelled 0 (ZONES_MAX - 1) zone word rest is (omega arith) (omega arith)
+
 zone_at-spelled : (before : List Statement) (node zone : ℕ) (a b : Word) → MayStand before (Zone node zone)
     → IsNumber node a → IsNumber zone b → zone_at before (a ∷ b ∷ []) ≡ Ok (Zone node zone)
 unfolding zone_at
 zone_at-spelled before node zone a b may first second =
-    rw (may.0.first, node_number_at-spelled node a (b ∷ []) may.1 first, may.0.once, node_number_at-spelled zone b [] may.2 second) refl
+    rw (may.0.first, node_number_at-spelled node a (b ∷ []) may.1 first, may.0.once, zone_number_at-spelled zone b [] may.2 second) refl
 
 there_at-spelled : (before : List Statement) (node : ℕ) (word : Word) (rest : List Word) → IsScript before → IsNodeThere node before
     → IsNumber node word → there_at before (word ∷ rest) ≡ Ok (node, rest)

@@ -16,6 +16,7 @@ use Rattle.std.proofs.lemmas.List.Elements.{All-nil, All-cons, All-append, All-f
 use Rattle.std.proofs.lemmas.List.Folds.{list_all-append, list_any-append, list_any_none}
 use Rattle.std.proofs.lemmas.List.Sums.{AllPass-from_list_all, list_all-from_AllPass, position_or_len_is}
 use Rattle.std.proofs.lemmas.List.Splits.{slice_split_none, slice_split_at}
+use Rattle.object_id.specs.declared.limits.TheConstants.{COPIES_MAX, PARITY_MAX}
 use Rattle.object_id.specs.declared.policy.Policy.{Policy}
 use Rattle.object_id.specs.declared.policy.Policy.TheVariants.{Copies, Coded}
 use Rattle.object_id.specs.Policy.{is_width, IsPolicy}
@@ -192,7 +193,7 @@ policy-is-read (Copies copies) is =
       list_any_none is_colon (decimal copies) (no-colon copies lt),
       decimal-is-number copies lt,
       le-leb 1 copies is.0,
-      le-leb copies 31 is.1,
+      le-leb copies COPIES_MAX is.1,
     ) refl
 policy-is-read (Coded d p) is =
     let d_lt : d < 2 ^ 64 = omega (arith, width-at-most d is.0) in
@@ -207,7 +208,7 @@ policy-is-read (Coded d p) is =
       decimal-is-number p p_lt,
       is.0,
       le-leb 1 p is.1,
-      le-leb p 15 is.2,
+      le-leb p PARITY_MAX is.2,
     ) refl
 
 -- two words one behind the other are one

@@ -5,7 +5,7 @@ use Rattle.cluster_script.specs.declared.statement.Statement.{Statement}
 use Rattle.cluster_script.specs.declared.statement.Statement.TheVariants.{Session, Fail, Join, Lose, Settle, ListNodes, ListVdis, ClusterInfo, Dump, Zone, Reweight, Back}
 use Rattle.cluster_script.specs.declared.fault.LineCause.{LineCause}
 use Rattle.cluster_script.specs.declared.fault.LineCause.TheVariants as causes
-use Rattle.cluster_script.specs.declared.limits.TheConstants.{NODES_MAX, VNODES_MAX, SESSIONS_MAX, LOSSES_MAX}
+use Rattle.object_id.specs.declared.limits.TheConstants.{NODES_MAX, VNODES_MAX, SESSIONS_MAX, LOSSES_MAX, ZONES_MAX}
 use Rattle.cluster_script.specs.Statements.{is_setting, is_session_declared}
 use Rattle.cluster_script.specs.Settings.{is_set, zone_set}
 use Rattle.cluster_script.specs.Phases.{losses_from}
@@ -22,9 +22,13 @@ setting_at statement set most before words = do
   end ← end_of_words number.1
   Ok (statement number.0)
 
--- the number of a node or a zone, and the words after it
+-- the number of a node, and the words after it
 abbrev pub node_number_at : List Word → Result (ℕ × List Word) LineCause
 node_number_at words = plain_number_at 0 (NODES_MAX - 1) words
+
+-- the number of a zone, and the words after it
+abbrev pub zone_number_at : List Word → Result (ℕ × List Word) LineCause
+zone_number_at words = plain_number_at 0 (ZONES_MAX - 1) words
 
 -- `N Z`: the zone of a node, once
 unfoldable pub zone_at : List Statement → List Word → Result Statement LineCause
@@ -32,7 +36,7 @@ zone_at before words = do
   turn ← if list_all is_setting before then Ok words else Err causes.Word
   node ← node_number_at turn
   rest ← if is_set (zone_set node.0) before then Err causes.Twice else Ok node.1
-  zone ← node_number_at rest
+  zone ← zone_number_at rest
   end ← end_of_words zone.1
   Ok (Zone node.0 zone.0)
 

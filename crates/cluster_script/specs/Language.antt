@@ -1,14 +1,17 @@
 -- Which lists of statements are scripts of the whole language.
 use Rattle.std.specs.Prelude.{◌≡◌, ℕ, ◌+◌, ◌^◌, ◌<◌, ◌≤◌, true, false, List, [], ◌∷◌, ◌++◌, Option, Some, None, count_by, sum_by}
 use Rattle.std.specs.List.{list_all}
+use Rattle.object_id.specs.Node.{IsNode, IsZone}
 use Rattle.object_id.specs.Spec.{IsSpec}
 use Rattle.cluster_script.specs.declared.statement.Pattern.{Pattern}
 use Rattle.cluster_script.specs.declared.statement.Pattern.TheVariants as patterns
 use Rattle.cluster_script.specs.declared.statement.Statement.{Statement}
 use Rattle.cluster_script.specs.declared.statement.Statement.TheVariants.{Cluster, Vnodes, Tries, Limit, Session, Create, OpenDisk, Close, Read, Write, Snapshot, Clone, Delete, Fail, Join, Lose, Settle, ListNodes, ListVdis, ClusterInfo, Dump, Zone, Reweight, Back, Check}
-use Rattle.cluster_script.specs.declared.limits.TheConstants.{NODES_MAX, VNODES_MAX, TRIES_MAX, LIMIT_MAX, SESSIONS_MAX, LOSSES_MAX, REQUESTS_MAX, READ_BYTES_MAX, WRITE_BYTES_MAX, CHECKS_MAX}
+use Rattle.object_id.specs.declared.limits.TheConstants.{NODES_MAX, VNODES_MAX, TRIES_MAX, LIMIT_MAX, SESSIONS_MAX, LOSSES_MAX, REQUESTS_MAX, READ_BYTES_MAX, WRITE_BYTES_MAX}
+use Rattle.cluster_script.specs.declared.limits.TheConstants.{CHECKS_MAX}
 use Rattle.cluster_script.specs.Statements.{is_setting, is_cluster, is_session_declared, is_check, is_request, read_bytes, write_bytes, has}
-use Rattle.cluster_script.specs.OneDisk.{IsPrintedName, IsSpan}
+use Rattle.object_id.specs.Span.{IsSpan}
+use Rattle.cluster_script.specs.OneDisk.{IsPrintedName}
 use Rattle.cluster_script.specs.Settings.{is_set, nodes_set, vnodes_set, tries_set, limit_set, zone_set}
 use Rattle.cluster_script.specs.Phases.{losses_from}
 use Rattle.cluster_script.specs.Nodes.{is_node_used, is_failed, IsNodeThere}
@@ -57,14 +60,14 @@ MayStand before (Snapshot session tag) = MayAsk before session × IsPrintedName 
 MayStand before (Clone session base tag name) = MayAsk before session × IsPrintedName base × IsPrintedName tag × IsPrintedName name
 MayStand before (Delete session name tag) = MayAsk before session × IsPrintedName name × IsPrintedTag tag
 MayStand before (Fail node) = HasCluster before × IsNodeThere node before
-MayStand before (Join node) = HasCluster before × (node < NODES_MAX) × (is_node_used node before ≡ false)
+MayStand before (Join node) = HasCluster before × IsNode node × (is_node_used node before ≡ false)
 MayStand before (Lose count) = HasCluster before × (losses_from 0 before + count ≤ LOSSES_MAX)
 MayStand before Settle = HasCluster before
 MayStand before ListNodes = HasCluster before
 MayStand before ListVdis = HasCluster before
 MayStand before ClusterInfo = HasCluster before
 MayStand before Dump = HasCluster before
-MayStand before (Zone node zone) = MaySet before (zone_set node) × (node < NODES_MAX) × (zone < NODES_MAX)
+MayStand before (Zone node zone) = MaySet before (zone_set node) × IsNode node × IsZone zone
 MayStand before (Reweight node vnodes) = HasCluster before × IsNodeThere node before × (1 ≤ vnodes) × (vnodes ≤ VNODES_MAX)
 MayStand before (Back node) = HasCluster before × (is_failed node before ≡ true)
 MayStand before (Check session) = MayAsk before session × (count_by is_check before < CHECKS_MAX)

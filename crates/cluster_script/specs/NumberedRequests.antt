@@ -2,7 +2,7 @@
 use Rattle.std.specs.Prelude.{ℕ, zero, suc, ◌+◌, ◌/◌, ◌%◌, ◌==◌, Bool, true, false, List, map, filter, Option, Some, None}
 use Rattle.std.specs.List.{slice_get, range_with_len, enumerate_from}
 use Rattle.std.specs.Option.{option_map_or}
-use Rattle.cluster_script.specs.declared.limits.TheConstants.{BLOCK}
+use Rattle.object_id.specs.declared.limits.TheConstants.{BLOCK_BYTES}
 use Rattle.cluster_script.specs.declared.statement.Pattern.{Pattern}
 use Rattle.cluster_script.specs.declared.statement.Pattern.TheVariants.{Fill, Step}
 use Rattle.cluster_script.specs.declared.statement.Statement.{Statement}
@@ -54,4 +54,4 @@ byte_of (Step byte) block = (byte + block) % 256
 
 -- the bytes of a write of this length
 abbrev pub payload_of : Pattern → ℕ → List ℕ
-payload_of pattern length = map (λ place. byte_of pattern (place / BLOCK)) (range_with_len 0 length)
+payload_of pattern length = map (λ place. byte_of pattern (place / BLOCK_BYTES)) (range_with_len 0 length)

@@ -4,7 +4,7 @@ use Rattle.std.specs.List.{list_all}
 use Rattle.std.specs.Char.{is_ascii_digit}
 use Rattle.cluster_script.specs.declared.fault.LineCause.{LineCause}
 use Rattle.cluster_script.specs.declared.fault.LineCause.TheVariants as causes
-use Rattle.cluster_script.specs.declared.limits.TheConstants.{BLOCK}
+use Rattle.object_id.specs.declared.limits.TheConstants.{BLOCK_BYTES}
 use Rattle.cluster_script.specs.ReadResults.{◌>>=◌}
 use Rattle.cluster_script.specs.Words.{Word, has_bytes, word_at}
 
@@ -47,7 +47,7 @@ number_in_range low high number = if nat_le low number && nat_le number high the
 
 -- a number of whole blocks
 abbrev pub aligned_number : ℕ → Result ℕ LineCause
-aligned_number number = if number % BLOCK == 0 then Ok number else Err causes.Unaligned
+aligned_number number = if number % BLOCK_BYTES == 0 then Ok number else Err causes.Unaligned
 
 -- a plain number within limits, and the words after it
 unfoldable pub plain_number_at : ℕ → ℕ → List Word → Result (ℕ × List Word) LineCause

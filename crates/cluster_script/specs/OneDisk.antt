@@ -1,11 +1,13 @@
 -- Which lists of statements are scripts of one node, one session, and one disk with one copy.
 use Rattle.std.specs.Prelude.{◌≡◌, ◌≢◌, ℕ, ◌+◌, ◌%◌, ◌^◌, ◌<◌, ◌≤◌, true, false, List, [], ◌∷◌, ◌++◌, length, All, Some, None, IsSome, count_by, sum_by, slice_get}
 use Rattle.object_id.specs.declared.policy.Policy.TheVariants.{Copies}
+use Rattle.object_id.specs.Span.{IsSpan}
 use Rattle.cluster_script.specs.declared.statement.Pattern.{Pattern}
 use Rattle.cluster_script.specs.declared.statement.Pattern.TheVariants.{Fill, Step}
 use Rattle.cluster_script.specs.declared.statement.Statement.{Statement}
 use Rattle.cluster_script.specs.declared.statement.Statement.TheVariants.{Cluster, Session, Create, OpenDisk, Close, Read, Write}
-use Rattle.cluster_script.specs.declared.limits.TheConstants.{BLOCK, NAME_BYTES_MAX, SIZE_MAX, LENGTH_MAX, REQUESTS_MAX, READ_BYTES_MAX, WRITE_BYTES_MAX, SHIFT_DEFAULT}
+use Rattle.object_id.specs.declared.limits.TheConstants.{BLOCK_BYTES, NAME_BYTES_MAX, REQUESTS_MAX, READ_BYTES_MAX, WRITE_BYTES_MAX, SHIFT_DEFAULT}
+use Rattle.cluster_script.specs.declared.limits.TheConstants.{ONE_DISK_SIZE_MAX}
 use Rattle.cluster_script.specs.Statements.{is_cluster, is_session_declared, is_open, is_close, is_request, read_bytes, write_bytes, has, requests_of, disk_name, disk_size}
 
 -- 1 to 255 printed bytes without a blank, of which the first isn't `-` (45)
@@ -17,15 +19,7 @@ pub record IsPrintedName (name : List ℕ) : Type 0 where
 
 -- a size in whole blocks, at most that of one data object
 abbrev pub IsDiskSize : ℕ → Type 0
-IsDiskSize size = (BLOCK ≤ size) × (size ≤ SIZE_MAX) × (size % BLOCK ≡ 0)
-
--- whole blocks from a block's start on; the end may lie past the disk
-pub record IsSpan (offset bytes : ℕ) : Type 0 where
-  pub below : offset < 2 ^ 64
-  pub start : offset % BLOCK ≡ 0
-  pub least : BLOCK ≤ bytes
-  pub most : bytes ≤ LENGTH_MAX
-  pub whole : bytes % BLOCK ≡ 0
+IsDiskSize size = (BLOCK_BYTES ≤ size) × (size ≤ ONE_DISK_SIZE_MAX) × (size % BLOCK_BYTES ≡ 0)
 
 -- every byte of what is written is the same one
 abbrev pub IsPattern : Pattern → Type 0

@@ -5,7 +5,7 @@ use Rattle.cluster_script.specs.declared.statement.Statement.{Statement}
 use Rattle.cluster_script.specs.declared.statement.Statement.TheVariants.{Cluster, Session}
 use Rattle.cluster_script.specs.declared.fault.LineCause.{LineCause}
 use Rattle.cluster_script.specs.declared.fault.LineCause.TheVariants as causes
-use Rattle.cluster_script.specs.declared.limits.TheConstants.{SESSION_MAX}
+use Rattle.cluster_script.specs.declared.limits.TheConstants.{ONE_DISK_SESSION_MAX}
 use Rattle.cluster_script.specs.Statements.{is_setting, is_cluster, is_session_declared, has}
 use Rattle.cluster_script.specs.ReadResults.{◌>>=◌}
 use Rattle.cluster_script.specs.Words.{Word, lines_of, is_next_word, keyword_at, end_of_words}
@@ -39,7 +39,7 @@ one_disk_session_at before words = do
 unfoldable pub one_disk_asking_session : List Statement → Word → Result ℕ LineCause
 one_disk_asking_session before word = do
   number ← number_of word
-  session ← number_in_range 1 SESSION_MAX number
+  session ← number_in_range 1 ONE_DISK_SESSION_MAX number
   if is_session_declared session before then Ok session else Err causes.Unknown
 
 -- digits alone begin a request of the session of that number

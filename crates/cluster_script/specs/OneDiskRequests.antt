@@ -7,7 +7,8 @@ use Rattle.cluster_script.specs.declared.statement.Statement.{Statement}
 use Rattle.cluster_script.specs.declared.statement.Statement.TheVariants.{Create, OpenDisk, Write}
 use Rattle.cluster_script.specs.declared.fault.LineCause.{LineCause}
 use Rattle.cluster_script.specs.declared.fault.LineCause.TheVariants as causes
-use Rattle.cluster_script.specs.declared.limits.TheConstants.{BLOCK, SIZE_MAX, SHIFT_DEFAULT}
+use Rattle.object_id.specs.declared.limits.TheConstants.{BLOCK_BYTES, SHIFT_DEFAULT}
+use Rattle.cluster_script.specs.declared.limits.TheConstants.{ONE_DISK_SIZE_MAX}
 use Rattle.cluster_script.specs.Statements.{is_create, is_open, is_close, is_request, has, disk_name}
 use Rattle.cluster_script.specs.ReadResults.{◌>>=◌}
 use Rattle.cluster_script.specs.Words.{Word, word_at, keyword_at, name_word_at, end_of_words}
@@ -28,7 +29,7 @@ one_disk_create_at before session words = do
   option ← keyword_at (codes "-c") words
   copies ← plain_number_at 1 1 option
   name ← name_word_at copies.1
-  size ← blocks_at BLOCK SIZE_MAX name.1
+  size ← blocks_at BLOCK_BYTES ONE_DISK_SIZE_MAX name.1
   end ← end_of_words size.1
   request_within_limits before (Create session (Copies copies.0) SHIFT_DEFAULT name.0 size.0)
 

@@ -3,7 +3,7 @@ use Rattle.std.specs.Prelude.{ℕ, ◌+◌, ◌-◌, ◌*◌, ◌^◌, ◌==◌,
 use Rattle.std.specs.List.{list_any, before_first, after_first}
 use Rattle.object_id.specs.declared.policy.Policy.{Policy}
 use Rattle.object_id.specs.declared.policy.Policy.TheVariants.{Copies, Coded}
-use Rattle.object_id.specs.declared.limits.TheConstants.{SHIFT_MIN, SHIFT_MAX}
+use Rattle.object_id.specs.declared.limits.TheConstants.{SHIFT_MIN, SHIFT_MAX, BLOCK_BYTES, SHIFT_DEFAULT, LENGTH_MAX, REQUESTS_MAX, READ_BYTES_MAX, WRITE_BYTES_MAX, COPIES_MAX, PARITY_MAX, OBJECTS_MAX}
 use Rattle.object_id.specs.Policy.{is_width}
 use Rattle.cluster_script.specs.declared.statement.Pattern.{Pattern}
 use Rattle.cluster_script.specs.declared.statement.Pattern.TheVariants.{Fill, Step}
@@ -12,7 +12,7 @@ use Rattle.cluster_script.specs.declared.statement.Statement.TheVariants.{Create
 use Rattle.cluster_script.specs.declared.statement.Statement.TheVariants.{Snapshot, Clone, Delete, Check}
 use Rattle.cluster_script.specs.declared.fault.LineCause.{LineCause}
 use Rattle.cluster_script.specs.declared.fault.LineCause.TheVariants as causes
-use Rattle.cluster_script.specs.declared.limits.TheConstants.{BLOCK, SHIFT_DEFAULT, LENGTH_MAX, REQUESTS_MAX, READ_BYTES_MAX, WRITE_BYTES_MAX, CHECKS_MAX}
+use Rattle.cluster_script.specs.declared.limits.TheConstants.{CHECKS_MAX}
 use Rattle.cluster_script.specs.Statements.{is_check, is_request, read_bytes, write_bytes}
 use Rattle.cluster_script.specs.ReadResults.{◌>>=◌}
 use Rattle.cluster_script.specs.Words.{Word, word_at, keyword_at, option_at, name_word_at, end_of_words}
@@ -36,11 +36,11 @@ check_within_limits before s =
 
 -- the policy of so many whole copies
 abbrev pub policy_of_copies : ℕ → Result Policy LineCause
-policy_of_copies copies = if nat_le 1 copies && nat_le copies 31 then Ok (Copies copies) else Err causes.Range
+policy_of_copies copies = if nat_le 1 copies && nat_le copies COPIES_MAX then Ok (Copies copies) else Err causes.Range
 
 -- the policy of d data strips and p parity strips
 abbrev pub policy_of_strips : ℕ → ℕ → Result Policy LineCause
-policy_of_strips d p = if is_width d && nat_le 1 p && nat_le p 15 then Ok (Coded d p) else Err causes.Range
+policy_of_strips d p = if is_width d && nat_le 1 p && nat_le p PARITY_MAX then Ok (Coded d p) else Err causes.Range
 
 -- `:` is 58
 abbrev pub is_colon : ℕ → Bool
@@ -86,7 +86,7 @@ create_request_at before session words = do
   policy ← option_at (codes "-c") policy_option_at (Copies 3) words
   shift ← option_at (codes "-z") shift_option_at SHIFT_DEFAULT policy.1
   name ← name_word_at shift.1
-  size ← blocks_at BLOCK (2 ^ 20 * 2 ^ shift.0) name.1
+  size ← blocks_at BLOCK_BYTES (OBJECTS_MAX * 2 ^ shift.0) name.1
   end ← end_of_words size.1
   request_within_limits before (Create session policy.0 shift.0 name.0 size.0)
 
@@ -114,7 +114,7 @@ close_request_at before session words = do
 unfoldable pub span_at : List Word → Result (ℕ × ℕ × List Word) LineCause
 span_at words = do
   offset ← blocks_at 0 (2 ^ 64 - 1) words
-  length ← blocks_at BLOCK LENGTH_MAX offset.1
+  length ← blocks_at BLOCK_BYTES LENGTH_MAX offset.1
   Ok (offset.0, length.0, length.1)
 
 -- `OFFSET LENGTH`

@@ -7,7 +7,7 @@ use Rattle.cluster_script.specs.declared.fault.LineCause.{LineCause}
 use Rattle.cluster_script.specs.declared.fault.LineCause.TheVariants as causes
 use Rattle.cluster_script.specs.declared.fault.ScriptFault.{ScriptFault}
 use Rattle.cluster_script.specs.declared.fault.ScriptFault.TheVariants as faults
-use Rattle.cluster_script.specs.declared.limits.TheConstants.{NODES_MAX, VNODES_MAX, TRIES_MAX, LIMIT_MAX, SESSIONS_MAX}
+use Rattle.object_id.specs.declared.limits.TheConstants.{NODES_MAX, VNODES_MAX, TRIES_MAX, LIMIT_MAX, SESSIONS_MAX}
 use Rattle.cluster_script.specs.Statements.{is_cluster, is_session_declared, has}
 use Rattle.cluster_script.specs.Settings.{nodes_set, vnodes_set, tries_set, limit_set}
 use Rattle.cluster_script.specs.ReadResults.{◌>>=◌}

@@ -1,5 +1,6 @@
 -- The sessions of a script, each with its gateway and the incarnation of it that the session belongs to.
 use Rattle.std.specs.Prelude.{ℕ, ◌+◌, ◌==◌, nat_lt, Bool, false, List, [], ◌∷◌, ◌++◌, count_by, Option, Some, None, if◌then◌else◌}
+use Rattle.std.specs.Option.{option_map_or}
 use Rattle.std.specs.List.{find}
 use Rattle.cluster_script.specs.declared.statement.Statement.{Statement}
 use Rattle.cluster_script.specs.declared.statement.Statement.TheVariants as lines
@@ -33,8 +34,7 @@ sessions_with session (first ∷ rest) =
 
 -- sessions with the one that was declared, if one was
 abbrev pub with_declared : Option ScriptSession → List ScriptSession → List ScriptSession
-with_declared None sessions = sessions
-with_declared (Some session) sessions = sessions_with session sessions
+with_declared declared sessions = option_map_or (λ session. sessions_with session sessions) declared sessions
 
 -- the sessions that statements declare after those before them
 abbrev pub sessions_from : List Statement → List Statement → List ScriptSession

@@ -4,7 +4,7 @@ use Rattle.std.specs.List.{list_any, range_with_len}
 use Rattle.object_id.specs.declared.entry.Member.{Member}
 use Rattle.cluster_script.specs.declared.statement.Statement.{Statement}
 use Rattle.cluster_script.specs.declared.statement.Statement.TheVariants.{Cluster, Vnodes, Tries, Limit, Zone}
-use Rattle.cluster_script.specs.declared.limits.TheConstants.{NODES_DEFAULT, VNODES_DEFAULT, TRIES_DEFAULT, LIMIT_DEFAULT}
+use Rattle.object_id.specs.declared.limits.TheConstants.{NODES_DEFAULT, VNODES_DEFAULT, TRIES_DEFAULT, LIMIT_DEFAULT}
 
 -- the number of opening members that a statement sets
 abbrev pub nodes_set : Statement → Option ℕ

@@ -9,7 +9,7 @@ use Rattle.cluster_script.specs.declared.statement.Pattern.TheVariants as patter
 use Rattle.cluster_script.specs.declared.statement.Statement.{Statement}
 use Rattle.cluster_script.specs.declared.statement.Statement.TheVariants.{Cluster, Vnodes, Tries, Limit, Session, Create, OpenDisk, Close, Read, Write, Snapshot, Clone, Delete, Fail, Join, Lose, Settle, ListNodes, ListVdis, ClusterInfo, Dump, Zone, Reweight, Back, Check}
 use Rattle.cluster_script.specs.declared.fault.LineCause.{LineCause}
-use Rattle.cluster_script.specs.declared.limits.TheConstants.{SHIFT_DEFAULT}
+use Rattle.object_id.specs.declared.limits.TheConstants.{SHIFT_DEFAULT}
 use Rattle.cluster_script.specs.Language.{IsScript}
 use Rattle.cluster_script.specs.Words.{Word, lines_of, words_of, says_nothing}
 use Rattle.cluster_script.specs.Numbers.{number_of, size_of_word}

@@ -3,7 +3,7 @@ use Rattle.std.specs.Prelude.{◌≡◌, ◌+◌, ◌≤◌, ◌&&◌, ◌||◌,
 use Rattle.std.specs.List.{list_all}
 use Rattle.cluster_script.specs.declared.statement.Statement.{Statement}
 use Rattle.cluster_script.specs.declared.draft.Totals.{Totals}
-use Rattle.cluster_script.specs.declared.limits.TheConstants.{REQUESTS_MAX, READ_BYTES_MAX, WRITE_BYTES_MAX}
+use Rattle.object_id.specs.declared.limits.TheConstants.{REQUESTS_MAX, READ_BYTES_MAX, WRITE_BYTES_MAX}
 use Rattle.cluster_script.specs.Statements.{is_setting, is_cluster, is_create, is_open, is_close, is_request, read_bytes, write_bytes, has}
 
 -- each counter is that of the list, and all are within a script's limits

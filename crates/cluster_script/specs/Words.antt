@@ -3,7 +3,7 @@ use Rattle.std.specs.Prelude.{ℕ, ◌==◌, Bool, true, false, ◌&&◌, not, n
 use Rattle.std.specs.List.{slice_split, list_all, starts_with}
 use Rattle.cluster_script.specs.declared.fault.LineCause.{LineCause}
 use Rattle.cluster_script.specs.declared.fault.LineCause.TheVariants as causes
-use Rattle.cluster_script.specs.declared.limits.TheConstants.{NAME_BYTES_MAX}
+use Rattle.object_id.specs.declared.limits.TheConstants.{NAME_BYTES_MAX}
 use Rattle.cluster_script.specs.ReadResults.{◌>>=◌}
 
 -- a word is its bytes

@@ -7,10 +7,9 @@ ghost use Rattle.cluster_script.specs.Requests.{has_room};
 ghost use Rattle.cluster_script.specs.OneDiskRequests.{is_disk_open, is_disk_named};
 ghost use Rattle.cluster_script.specs.Totals.{IsTotal, totals_after};
 
-use crate::limits::{READ_BYTES_MAX, REQUESTS_MAX, WRITE_BYTES_MAX};
 use crate::statement::Statement;
 use crate::words::is_word;
-use object_id::{Bytes, Items, NoMemory};
+use object_id::{Bytes, Items, NoMemory, READ_BYTES_MAX, REQUESTS_MAX, WRITE_BYTES_MAX};
 use std::alloc::Global;
 use std::marker::Model;
 

@@ -31,9 +31,6 @@ pub use laws::{
     each_session_is_declared, each_statement_stands, every_script_can_be_written,
     one_disk_scripts_are_scripts, one_disk_texts_read_the_same, what_is_asked,
 };
-pub use limits::{
-    LIMIT_MAX, LOSSES_MAX, NODES_MAX, SESSIONS_MAX, TEXT_BYTES_MAX, TRIES_MAX, VNODES_MAX,
-};
 pub use script::{Script, parse};
 pub use statement::{Pattern, Statement};
 

@@ -9,7 +9,7 @@ ghost use Rattle.cluster_script.specs.OneDiskLines.{cluster_at, one_disk_session
 
 use crate::draft::Draft;
 use crate::fault::{LineCause, ReadError};
-use crate::limits::SESSION_MAX;
+use crate::limits::ONE_DISK_SESSION_MAX;
 use crate::number::{is_decimal, number, number_in, within_limits};
 use crate::request::request;
 use crate::statement::Statement;
@@ -139,7 +139,7 @@ fn declared_session(before: &Draft, word: &[u8]) -> Result<u32, LineCause>
     ensures declared { IfOk result (λ number. (is_session_declared number before.now ≡ true) × (number ≡ 1)) }
 {
     let number = number_in(word)?;
-    let session = within_limits(1, SESSION_MAX, number)?;
+    let session = within_limits(1, ONE_DISK_SESSION_MAX, number)?;
     if !before.declares(session) {
         return Err(LineCause::Unknown);
     }

@@ -6,8 +6,8 @@ ghost use Rattle.cluster_script.specs.Words.{words_of};
 ghost use Rattle.cluster_script.specs.Numbers.{is_digits, digits_value, scaled_number as scaled_of, number_of, size_of_word, number_in_range, aligned_number, plain_number_at, blocks_at};
 
 use crate::fault::LineCause;
-use crate::limits::BLOCK;
 use crate::words::word;
+use object_id::BLOCK_BYTES;
 
 /// Whether a word is digits alone.
 pub fn is_decimal(word: &[u8]) -> bool
@@ -92,7 +92,7 @@ fn in_blocks(number: u64) -> Result<u64, LineCause>
     ensures whole { result ≡ aligned_number number }
     ensures same { IfOk result (λ n. n ≡ number) }
 {
-    if number % BLOCK == 0 {
+    if number % u64::from(BLOCK_BYTES) == 0 {
         Ok(number)
     } else {
         Err(LineCause::Unaligned)
@@ -116,7 +116,7 @@ pub fn number(low: u64, high: u64, line: &[u8]) -> Result<(u64, &[u8]), LineCaus
 pub fn blocks(low: u64, high: u64, line: &[u8]) -> Result<(u64, &[u8]), LineCause>
     ensures number { GivesLine (λ x. (x.0, words_of x.1.now)) result (blocks_at low high (words_of line.now)) }
     ensures limits { IfOk result (λ x. (low ≤ x.0) × (x.0 ≤ high)) }
-    ensures whole { IfOk result (λ x. x.0 % BLOCK ≡ 0) }
+    ensures whole { IfOk result (λ x. x.0 % BLOCK_BYTES ≡ 0) }
 {
     let (found, rest) = word(line)?;
     let number = size_in(found)?;

@@ -1,6 +1,7 @@
 ghost use Rattle.std.specs.Prelude.{◌≡◌, true, false, [], IfOk};
 ghost use Rattle.cluster_script.specs.Statements.{is_open, has, requests_of, is_session_declared};
-ghost use Rattle.cluster_script.specs.OneDisk.{MayFollow, IsDiskOpen, IsSpan};
+ghost use Rattle.object_id.specs.Span.{IsSpan};
+ghost use Rattle.cluster_script.specs.OneDisk.{MayFollow, IsDiskOpen};
 ghost use Rattle.cluster_script.specs.ReadResults.{GivesLine, GivesInMemory};
 ghost use Rattle.cluster_script.specs.Words.{words_of};
 ghost use Rattle.cluster_script.specs.Requests.{close_request_at, span_at, read_request_at};
@@ -8,11 +9,11 @@ ghost use Rattle.cluster_script.specs.OneDiskRequests.{one_disk_create_at, one_d
 
 use crate::draft::Draft;
 use crate::fault::{LineCause, ReadError};
-use crate::limits::{BLOCK, LENGTH_MAX, SHIFT_DEFAULT, SIZE_MAX};
+use crate::limits::ONE_DISK_SIZE_MAX;
 use crate::number::{blocks, number};
 use crate::statement::{Pattern, Statement};
 use crate::words::{end, is_word, keyword, name, word};
-use object_id::{Bytes, Policy};
+use object_id::{BLOCK_BYTES, Bytes, LENGTH_MAX, Policy, SHIFT_DEFAULT};
 use std::alloc::Global;
 
 /// A request of the session, from its word `vdi` on.
@@ -104,7 +105,7 @@ fn create(alloc: Global, before: &Draft, session: u32, line: &[u8]) -> Result<St
     let rest = keyword(b"-c", line)?;
     let (copies, rest) = number(1, 1, rest)?;
     let (name, rest) = name(rest)?;
-    let (size, rest) = blocks(BLOCK, SIZE_MAX, rest)?;
+    let (size, rest) = blocks(u64::from(BLOCK_BYTES), ONE_DISK_SIZE_MAX, rest)?;
     end(rest)?;
     if !before.has_room(0, 0) {
         return Err(ReadError::Cause(LineCause::TooMany));
@@ -170,7 +171,7 @@ fn span(line: &[u8]) -> Result<(u64, u32, &[u8]), LineCause>
     ensures is_span { IfOk result (λ x. IsSpan x.0 x.1) }
 {
     let (offset, rest) = blocks(0, u64::MAX, line)?;
-    let (length, rest) = blocks(BLOCK, LENGTH_MAX, rest)?;
+    let (length, rest) = blocks(u64::from(BLOCK_BYTES), LENGTH_MAX, rest)?;
     Ok((offset, length as u32, rest))
 }
 

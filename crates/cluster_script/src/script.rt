@@ -6,11 +6,12 @@ ghost use Rattle.cluster_script.specs.OneDiskLines.{one_disk_script_in};
 
 use crate::draft::Draft;
 use crate::fault::{ReadError, ScriptFault};
-use crate::limits::{LIMIT_DEFAULT, NODES_DEFAULT, TEXT_BYTES_MAX, TRIES_DEFAULT, VNODES_DEFAULT};
 use crate::line::take_line;
 use crate::statement::Statement;
 use crate::words::cut;
-use object_id::Items;
+use object_id::{
+    INPUT_BYTES_MAX, Items, LIMIT_DEFAULT, NODES_DEFAULT, TRIES_DEFAULT, VNODES_DEFAULT,
+};
 use std::alloc::Global;
 use std::marker::Model;
 
@@ -23,14 +24,14 @@ pub struct Script {
 impl Model for Script {
     ghost use Rattle.std.specs.Prelude.{List, length, ◌≤◌};
     ghost use Rattle.cluster_script.specs.declared.statement.Statement.{Statement as Line};
-    ghost use Rattle.cluster_script.specs.declared.limits.TheConstants.{TEXT_BYTES_MAX};
+    ghost use Rattle.object_id.specs.declared.limits.TheConstants.{INPUT_BYTES_MAX};
     ghost use Rattle.cluster_script.specs.OneDisk.{IsOneDiskScript};
 
     ghost Value = { List Line };
 
     ghost view = { λ script. script.statements };
 
-    ghost invariant = { λ script. (length script.statements ≤ TEXT_BYTES_MAX) × IsOneDiskScript script.statements };
+    ghost invariant = { λ script. (length script.statements ≤ INPUT_BYTES_MAX) × IsOneDiskScript script.statements };
 }
 
 impl Script {
@@ -76,7 +77,7 @@ impl Script {
 
     pub fn statements(&self) -> &[Statement]
         ensures statements { result.now ≡ self.now }
-        ensures count { length result.now ≤ TEXT_BYTES_MAX }
+        ensures count { length result.now ≤ INPUT_BYTES_MAX }
         ensures one_disk { IsOneDiskScript result.now }
     {
         self.statements.as_slice()
@@ -125,7 +126,7 @@ fn limit_set(statement: &Statement) -> Option<u32>
 
 /// Reads a text. A script is answered as its statements; else the answer is the first bad line, from 1, and its cause.
 pub fn parse(alloc: Global, text: &[u8]) -> Result<Script, ScriptFault>
-    requires { length text.now ≤ TEXT_BYTES_MAX }
+    requires { length text.now ≤ INPUT_BYTES_MAX }
     ensures exact { AnswersText result (one_disk_script_in text.now) }
     ensures one_disk { IfOk result IsOneDiskScript }
 {

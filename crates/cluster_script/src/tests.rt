@@ -1,5 +1,5 @@
 use super::*;
-use object_id::Policy;
+use object_id::{INPUT_BYTES_MAX, Policy};
 use std::alloc::Global;
 use std::test::*;
 
@@ -17,7 +17,7 @@ fn bad_line(
     for _ in 0..times {
         text.extend_from_slice(last)?;
     }
-    if text.len() > TEXT_BYTES_MAX {
+    if text.len() > INPUT_BYTES_MAX {
         return Err(Fail::from("the text is too long"));
     }
     match parse(alloc, text.as_slice()) {

@@ -5,7 +5,7 @@ ghost use Rattle.cluster_script.specs.ReadResults.{GivesLine};
 ghost use Rattle.cluster_script.specs.Words.{words_of, says_nothing, word_at, keyword_at, end_of_words, is_name_byte, is_name, name_word_at};
 
 use crate::fault::LineCause;
-use crate::limits::NAME_BYTES_MAX;
+use object_id::NAME_BYTES_MAX;
 
 /// The bytes before the first separator, and those after it; all bytes and none where there is none.
 pub fn cut(bytes: &[u8], separator: u8) -> (&[u8], &[u8])

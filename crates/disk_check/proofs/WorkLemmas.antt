@@ -4,6 +4,7 @@ use Rattle.std.specs.List.{range_with_len}
 use Rattle.std.proofs.Math.Nat.{pow-le-pow_right}
 use Rattle.std.proofs.lemmas.List.{length-append, length-take-le}
 use Rattle.object_id.specs.declared.entry.VdiSpec.{VdiSpec}
+use Rattle.object_id.specs.declared.limits.TheConstants.{OBJECT_BYTES_MAX}
 use Rattle.object_id.specs.declared.oid.Kind.{Kind}
 use Rattle.object_id.specs.declared.oid.Kind.TheVariants.{Block, Inode}
 use Rattle.object_id.specs.declared.policy.Policy.{Policy}
@@ -88,7 +89,7 @@ object_whole : (spec : VdiSpec) → IsSpec spec → 2 ^ spec.shift % 512 ≡ 0
 object_whole spec is =
     whole_blocks (2 ^ spec.shift) (2 ^ (spec.shift - 9)) (object_blocks spec.shift (omega (arith, is.shift.0)))
 
-object_most : (spec : VdiSpec) → IsSpec spec → 2 ^ spec.shift ≤ 2 ^ 24
+object_most : (spec : VdiSpec) → IsSpec spec → 2 ^ spec.shift ≤ OBJECT_BYTES_MAX
 object_most spec is = pow-le-pow_right (omega arith) is.shift.1
 
 pub read_copies-work : (inode : Content) (index : ℕ) → IsSpec inode.spec → IsWork (read_copies (begun_check inode) index)
@@ -101,7 +102,7 @@ read_copies-work inode index is = (
 pub write_value-work : (inode : Content) (index : ℕ) (value : List ℕ) → IsSpec inode.spec → length value ≡ 2 ^ inode.spec.shift
     → IsWork (write_value (begun_check inode) index value)
 write_value-work inode index value is long =
-    let most : 2 ^ inode.spec.shift ≤ 2 ^ 24 = object_most inode.spec is in
+    let most : 2 ^ inode.spec.shift ≤ OBJECT_BYTES_MAX = object_most inode.spec is in
     let whole : length value % 512 ≡ 0 = ap (λ n. n % 512) long ∙ object_whole inode.spec is in
     let kind : Kind = kind_of (object_number inode.vid index) in (
       is.policy,

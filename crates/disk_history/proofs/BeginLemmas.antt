@@ -1,6 +1,6 @@
 -- What a write that begins leaves the checker's state to show.
 use Rattle.std.proofs.Common.{◌≡◌, ℕ, ◌+◌, ◌<◌, ◌==◌, Bool, true, false, not, ◌&&◌, ◌||◌, List, [], ◌∷◌, ◌++◌, length, reverse, Option, Some, None, refl, sym, ap, ◌∙◌, subst, cond, arith, length-append}
-use Rattle.std.specs.Option.{option_map}
+use Rattle.std.specs.Option.{option_map, option_map_or, option_and_then}
 use Rattle.std.specs.Ordering.{nat_cmp, is_eq, ordering_then}
 use Rattle.std.specs.BTreeMap.{get, is_at, BTreeMap}
 use Rattle.std.specs.BTreeSet.{contains}
@@ -20,7 +20,7 @@ use Rattle.disk_history.specs.declared.writes.Write.{Write}
 use Rattle.disk_history.specs.declared.event.HistEvent.TheVariants.{WriteStart}
 use Rattle.disk_history.specs.Ledger.{Item, Disk, WriteRequest, Ledger, Open, ledger_after, changed_at, with_item, has_block}
 use Rattle.disk_history.specs.Legal.{has_begun_to_write, has_place}
-use Rattle.disk_history.specs.CheckerState.{fate_in, fate_of, stray_of, is_answer, place_cmp, items_from, items_by, shown_disk, has_block_in, newest_in, ShowsRequest, AreWithin, IsLinked, IsWithin, IsWritten, WritesOne}
+use Rattle.disk_history.specs.CheckerState.{fate_of, stray_of, is_answer, place_cmp, items_from, items_by, shown_disk, has_block_in, ShowsRequest, AreWithin, IsLinked, IsWithin, IsWritten, WritesOne}
 use Rattle.disk_history.specs.CheckerLedger.{ShowsAll}
 use Rattle.disk_history.proofs.ItemLemmas.{items_from-older, within_more}
 use Rattle.disk_history.proofs.ShownLemmas.{unanswered_fate, ended_shown, stray_shown}
@@ -38,12 +38,13 @@ same_fates : (requests begun : Requests) (req : ℕ) (stray : Bool) → is_answe
     → ((q : ℕ) → get nat_cmp begun.states q ≡ cond (is_at (nat_cmp req) q) (Some (record { stray = stray; fate = Unanswered })) (get nat_cmp requests.states q))
     → (fate_of begun) ≡ (fate_of requests)
 same_fates requests begun req stray unanswered states =
-    fun_ext (λ q. ap fate_in (states q ∙ ap (λ b. cond b (Some state) (get nat_cmp requests.states q)) (is_at-turned req q)) ∙ parts q (q == req) refl)
+    fun_ext (λ q. ap (λ (found : Option RequestState). option_map_or (λ (state : RequestState). state.fate) found Unanswered)
+    (states q ∙ ap (λ b. cond b (Some state) (get nat_cmp requests.states q)) (is_at-turned req q)) ∙ parts q (q == req) refl)
   where
     state : RequestState
     state = record { stray = stray; fate = Unanswered }
 
-    parts : (q : ℕ) (b : Bool) → (q == req) ≡ b → fate_in (cond b (Some state) (get nat_cmp requests.states q)) ≡ fate_of requests q
+    parts : (q : ℕ) (b : Bool) → (q == req) ≡ b → option_map_or (λ (state : RequestState). state.fate) (cond b (Some state) (get nat_cmp requests.states q)) Unanswered ≡ fate_of requests q
     parts q true e = sym (unanswered_fate (fate_of requests req) unanswered) ∙ ap (fate_of requests) (sym (eqb-true q req e))
     parts q false e = refl
 
@@ -217,7 +218,7 @@ disk_written : (fates : ℕ → Fate) (disks written : BTreeMap ℕ DiskState) (
     → ((q : ℕ) → AreWithin (get nat_cmp disks q) (length writes))
     → WritesOne found disks written disk block (length writes)
     → fates write.req ≡ Unanswered
-    → items_from fates (reverse writes) write.earlier ≡ items_from fates (reverse writes) (newest_in found block)
+    → items_from fates (reverse writes) write.earlier ≡ items_from fates (reverse writes) (option_and_then (λ (state : DiskState). get nat_cmp state.newest block) found)
     → (let item : Item = record { request = Some write.req; bytes = write.bytes.now; coded = write.coded; mark = Open } in
     (q : ℕ) → changed_at disk (option_map (with_item block item) (ledger.disks disk)) ledger.disks q
     ≡ option_map (shown_disk fates (writes ++ write ∷ [])) (get nat_cmp written q))
@@ -264,7 +265,7 @@ pub shows-begin : (requests begun : Requests) (disks written : BTreeMap ℕ Disk
     → has_block_in (get nat_cmp disks place.disk) place.block ≡ true
     → is_answer (fate_of requests place.req) ≡ false
     → IsWithin write.earlier (length writes)
-    → items_from (fate_of requests) (reverse writes) write.earlier ≡ items_from (fate_of requests) (reverse writes) (newest_in (get nat_cmp disks place.disk) place.block)
+    → items_from (fate_of requests) (reverse writes) write.earlier ≡ items_from (fate_of requests) (reverse writes) (option_and_then (λ (state : DiskState). get nat_cmp state.newest place.block) (get nat_cmp disks place.disk))
     → WritesOne (get nat_cmp disks place.disk) disks written place.disk place.block (length writes)
     → ((q : ℕ) → get nat_cmp begun.states q ≡ cond (is_at (nat_cmp place.req) q) (Some (record { stray = stray_of requests place.req || false; fate = Unanswered })) (get nat_cmp requests.states q))
     → ((other : Place) → contains place_cmp begun.places other ≡ cond (is_at (place_cmp place) other) true (contains place_cmp requests.places other))
@@ -299,7 +300,7 @@ shows-begin requests begun disks written writes ledger place write shows own the
 pub shows-begin-told : (requests begun : Requests) (disks written : BTreeMap ℕ DiskState) (writes slice pushed : List Write) (count : ℕ) (newest : Option ℕ)
     (ledger : Ledger) (place : Place) (write : Write)
     → slice ≡ writes → pushed ≡ writes ++ write ∷ [] → count ≡ length slice
-    → newest ≡ newest_in (get nat_cmp disks place.disk) place.block
+    → newest ≡ option_and_then (λ (state : DiskState). get nat_cmp state.newest place.block) (get nat_cmp disks place.disk)
     → ShowsAll requests disks writes ledger
     → write.req ≡ place.req
     → has_block_in (get nat_cmp disks place.disk) place.block ≡ true
@@ -315,14 +316,14 @@ shows-begin-told requests begun disks written writes slice pushed count newest l
     (shows-begin requests begun disks written writes ledger place write shows own there unanswered
     (subst (λ (all : List Write). IsWithin write.earlier (length all)) slice_is earlier)
     (subst (λ (all : List Write). items_from (fate_of requests) (reverse all) write.earlier
-    ≡ items_from (fate_of requests) (reverse all) (newest_in (get nat_cmp disks place.disk) place.block)) slice_is
+    ≡ items_from (fate_of requests) (reverse all) (option_and_then (λ (state : DiskState). get nat_cmp state.newest place.block) (get nat_cmp disks place.disk))) slice_is
     (same ∙ ap (λ (at : Option ℕ). items_from (fate_of requests) (reverse slice) at) newest_is))
     (subst (λ n. WritesOne (get nat_cmp disks place.disk) disks written place.disk place.block n) (count_is ∙ ap (λ (all : List Write). length all) slice_is) one)
     states places)
 
 -- the tests that the code makes are those of the ledger
 pub may_start_told : (count : ℕ) (found : Option RequestState) (request : WriteRequest) (disk block : ℕ) (had : Bool) → count ≡ 512
-    → ShowsRequest found request → is_answer (fate_in found) ≡ false → has_place request disk block ≡ had → had ≡ false
+    → ShowsRequest found request → is_answer (option_map_or (λ (state : RequestState). state.fate) found Unanswered) ≡ false → has_place request disk block ≡ had → had ≡ false
     → true ≡ (count == 512 && not request.ended && not (has_place request disk block))
 may_start_told count found request disk block had long shown unanswered same new =
     ap (λ b. not b) (sym (same ∙ new))

@@ -1,5 +1,6 @@
 -- Items of blocks: what one more item changes, and how the writes' links lead to them.
 use Rattle.std.proofs.Common.{◌≡◌, ℕ, ◌+◌, ◌<◌, ◌≤◌, ◌≢◌, ◌==◌, Bool, true, false, not, ◌&&◌, ◌||◌, List, [], ◌∷◌, ◌++◌, map, filter, length, reverse, get_or, Option, Some, None, refl, sym, ap, ◌∙◌, subst, cond, arith}
+use Rattle.std.specs.Option.{option_map_or}
 use Rattle.std.specs.Prelude.{unwrap_or, replicate}
 use Rattle.std.proofs.Math.Bool.{or-false}
 use Rattle.std.specs.Str.{bytes_eq}
@@ -16,7 +17,7 @@ use Rattle.disk_history.specs.declared.requests.Fate.TheVariants.{Unanswered, Do
 use Rattle.disk_history.specs.declared.writes.Write.{Write}
 use Rattle.disk_history.specs.Ledger.{Mark, Open, Acknowledged, Lost, Item, zeros_item, is_item_of, item_with_mark}
 use Rattle.disk_history.specs.Legal.{is_acknowledged, is_writer_lost, standing}
-use Rattle.disk_history.specs.CheckerState.{items_by, is_place, items_from, IsWithin, IsLinked, may_give, says_of}
+use Rattle.disk_history.specs.CheckerState.{items_by, items_from, IsWithin, IsLinked, may_give, says_of}
 
 -- how many steps a walk from a place has at most
 abbrev pub steps_left : Option ℕ → ℕ
@@ -286,7 +287,7 @@ pub items_from-turned : (fates turned : ℕ → Fate) (change : List Item → Li
     → (writes : List Write) (newest : Option ℕ) → items_from turned writes newest ≡ change (items_from fates writes newest)
 items_from-turned fates turned change append zeros each [] newest = sym zeros
 items_from-turned fates turned change append zeros each (write ∷ older) newest =
-    go (is_place newest (length older))
+    go (option_map_or (λ place. place == length older) newest false)
     (items_from-turned fates turned change append zeros each older write.earlier)
     (items_from-turned fates turned change append zeros each older newest)
   where

@@ -1,6 +1,6 @@
 -- What each entry into the checker's state leaves it to show.
 use Rattle.std.proofs.Common.{◌≡◌, ℕ, ◌==◌, Bool, true, false, not, ◌&&◌, List, [], ◌∷◌, length, reverse, Option, Some, None, refl, sym, ap, ◌∙◌, subst, cond}
-use Rattle.std.specs.Option.{option_map}
+use Rattle.std.specs.Option.{option_map, option_map_or}
 use Rattle.std.specs.Ordering.{nat_cmp}
 use Rattle.std.specs.BTreeMap.{get, is_at, BTreeMap}
 use Rattle.std.specs.BTreeSet.{contains}
@@ -16,7 +16,7 @@ use Rattle.disk_history.specs.declared.disks.DiskState.{DiskState}
 use Rattle.disk_history.specs.declared.writes.Write.{Write}
 use Rattle.disk_history.specs.Ledger.{Item, Disk, WriteRequest, Ledger, zeros_item, changed_at, with_items, with_ended_request}
 use Rattle.disk_history.specs.Legal.{has_begun_to_write, has_place}
-use Rattle.disk_history.specs.CheckerState.{fate_in, fate_of, stray_in, stray_of, is_answer, may_end_in, place_cmp, items_from, items_by, shown_disk, ShowsRequest, AreWithin, IsWithin}
+use Rattle.disk_history.specs.CheckerState.{fate_of, stray_of, is_answer, may_end_in, place_cmp, items_from, items_by, shown_disk, ShowsRequest, AreWithin, IsWithin}
 use Rattle.disk_history.specs.CheckerLedger.{ShowsAll}
 use Rattle.disk_history.proofs.ItemLemmas.{Turns, items_from-none, items_from-turned}
 
@@ -63,7 +63,7 @@ pub unanswered_fate : (fate : Fate) → is_answer fate ≡ false → fate ≡ Un
 unanswered_fate Unanswered e = refl
 unanswered_fate fate e = absurd (true≢false e)
 
-unanswered_in : (found : Option RequestState) → may_end_in found ≡ true → fate_in found ≡ Unanswered
+unanswered_in : (found : Option RequestState) → may_end_in found ≡ true → option_map_or (λ (state : RequestState). state.fate) found Unanswered ≡ Unanswered
 unanswered_in None e = refl
 unanswered_in (Some state) e = unanswered_fate state.fate (not-true (is_answer state.fate) e)
 
@@ -72,9 +72,10 @@ fate_of-end : (requests ended : Requests) (req : ℕ) (state : RequestState)
     → ((q : ℕ) → get nat_cmp ended.states q ≡ cond (is_at (nat_cmp req) q) (Some state) (get nat_cmp requests.states q))
     → (q : ℕ) → fate_of ended q ≡ cond (q == req) state.fate (fate_of requests q)
 fate_of-end requests ended req state states q =
-    ap fate_in (states q ∙ ap (λ b. cond b (Some state) (get nat_cmp requests.states q)) (is_at-turned req q)) ∙ parts (q == req)
+    ap (λ (found : Option RequestState). option_map_or (λ (state : RequestState). state.fate) found Unanswered)
+    (states q ∙ ap (λ b. cond b (Some state) (get nat_cmp requests.states q)) (is_at-turned req q)) ∙ parts (q == req)
   where
-    parts : (b : Bool) → fate_in (cond b (Some state) (get nat_cmp requests.states q)) ≡ cond b state.fate (fate_of requests q)
+    parts : (b : Bool) → option_map_or (λ (state : RequestState). state.fate) (cond b (Some state) (get nat_cmp requests.states q)) Unanswered ≡ cond b state.fate (fate_of requests q)
     parts true = refl
     parts false = refl
 
@@ -91,11 +92,11 @@ turned_disk fates turned change writes same (Some state) =
     λ i. Some (record { blocks = state.blocks; items = items i; deleted = state.deleted })
 
 -- what a request's state says of the ledger's
-pub ended_shown : (found : Option RequestState) (request : WriteRequest) → ShowsRequest found request → request.ended ≡ is_answer (fate_in found)
+pub ended_shown : (found : Option RequestState) (request : WriteRequest) → ShowsRequest found request → request.ended ≡ is_answer (option_map_or (λ (state : RequestState). state.fate) found Unanswered)
 ended_shown None request shown = shown.2
 ended_shown (Some state) request shown = shown.2
 
-pub stray_shown : (found : Option RequestState) (request : WriteRequest) → ShowsRequest found request → request.stray ≡ stray_in found
+pub stray_shown : (found : Option RequestState) (request : WriteRequest) → ShowsRequest found request → request.stray ≡ option_map_or (λ (state : RequestState). state.stray) found false
 stray_shown None request shown = shown.1
 stray_shown (Some state) request shown = shown.1
 
@@ -111,9 +112,9 @@ may_end_shown (Some state) request shown =
     ap (λ b. not b) (sym shown.2) ∙ ap (λ b. b && not request.ended) (sym shown.0)
 
 pub may_be_done_shown : (found : Option RequestState) (request : WriteRequest) → ShowsRequest found request
-    → (may_end_in found && not (stray_in found)) ≡ (has_begun_to_write request && not request.ended && not request.stray)
+    → (may_end_in found && not (option_map_or (λ (state : RequestState). state.stray) found false)) ≡ (has_begun_to_write request && not request.ended && not request.stray)
 may_be_done_shown found request shown =
-    ap (λ b. b && not (stray_in found)) (may_end_shown found request shown)
+    ap (λ b. b && not (option_map_or (λ (state : RequestState). state.stray) found false)) (may_end_shown found request shown)
     ∙ ap (λ b. has_begun_to_write request && not request.ended && not b) (sym (stray_shown found request shown))
 
 pub shows-end : (requests ended : Requests) (disks : BTreeMap ℕ DiskState) (writes : List Write) (ledger : Ledger) (req : ℕ) (fate : Fate)
@@ -174,7 +175,7 @@ pub may_end_told : (found : Option RequestState) (request : WriteRequest) → Sh
     → true ≡ (has_begun_to_write request && not request.ended)
 may_end_told found request shown e = sym e ∙ may_end_shown found request shown
 
-pub may_be_done_told : (found : Option RequestState) (request : WriteRequest) → ShowsRequest found request → may_end_in found ≡ true → stray_in found ≡ false
+pub may_be_done_told : (found : Option RequestState) (request : WriteRequest) → ShowsRequest found request → may_end_in found ≡ true → option_map_or (λ (state : RequestState). state.stray) found false ≡ false
     → true ≡ (has_begun_to_write request && not request.ended && not request.stray)
 may_be_done_told found request shown e straight =
-    ap (λ b. not b) (sym straight) ∙ ap (λ b. b && not (stray_in found)) (sym e) ∙ may_be_done_shown found request shown
+    ap (λ b. not b) (sym straight) ∙ ap (λ b. b && not (option_map_or (λ (state : RequestState). state.stray) found false)) (sym e) ∙ may_be_done_shown found request shown

@@ -1,7 +1,7 @@
 -- A legal history's ledger has what the events tell: so each read is of the last acknowledged write or a later one.
 use Rattle.std.proofs.Common.{◌≡◌, ℕ, ◌<◌, ◌==◌, ◌⊎◌, inl, inr, Bool, true, false, not, ◌&&◌, ◌||◌, List, [], ◌∷◌, ◌++◌, map, filter, length, Option, Some, None, refl, sym, ap, ◌∙◌, subst, cond, rules, append_assoc, ◌↔◌}
 use Rattle.std.specs.Prelude.{replicate, nat_lt, IsSome, is_some, is_none}
-use Rattle.std.specs.Option.{option_and_then, option_map}
+use Rattle.std.specs.Option.{option_and_then, option_map, option_map_or}
 use Rattle.std.specs.Str.{bytes_eq}
 use Rattle.std.specs.List.{list_any}
 use Rattle.std.proofs.Math.Bool.{or-false, or-true, and-true, and-false}
@@ -18,7 +18,7 @@ use Rattle.disk_history.specs.declared.requests.Fate.{Fate}
 use Rattle.disk_history.specs.declared.requests.Fate.TheVariants.{Unanswered, Done, Refused, Abandoned}
 use Rattle.disk_history.specs.declared.writes.Write.{Write}
 use Rattle.disk_history.specs.Ledger.{Mark, Item, Disk, WriteRequest, Ledger, Open, Acknowledged, Lost, empty_ledger, zeros_item, is_item_of, item_with_mark, ledger_after, changed_at, with_items, with_item, has_block}
-use Rattle.disk_history.specs.Legal.{IsLegal, is_live_disk, is_writer_lost, is_torn, has_place, may_follow, may_read, ledger_from, standing}
+use Rattle.disk_history.specs.Legal.{IsLegal, is_writer_lost, is_torn, has_place, may_follow, may_read, ledger_from, standing}
 use Rattle.disk_history.specs.CheckerState.{is_answer, items_by}
 use Rattle.disk_history.specs.ReadableBytes.{BlockWrite, blocks_after, block_count_of, writes_after, writes_of, is_acknowledgement, is_refusal_event, is_lost_writer, is_delete, was_done, was_refused, was_lost, was_deleted, NoneDone, IsLastOrLater, IsReadable, IsTornBlock, MayBeRead}
 use Rattle.disk_history.specs.Changes.{blocks_in}
@@ -169,7 +169,7 @@ tells_copy events ledger old new tells may = record {
     items q true = tells_kept tells.fates (writes_of events old) false (ledger.disks old) (tells.items old)
     items q false = tells.items q
 
-live_some : (found : Option Disk) → is_live_disk found ≡ true → is_some found ≡ true
+live_some : (found : Option Disk) → option_map_or (λ (disk : Disk). not disk.deleted) found false ≡ true → is_some found ≡ true
 live_some None e = absurd (false≢true e)
 live_some (Some disk) e = refl
 

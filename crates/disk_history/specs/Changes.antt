@@ -1,6 +1,6 @@
 -- What one event may change.
 use Rattle.std.specs.Prelude.{ℕ, Bool, false, List, [], Option, Some, None}
-use Rattle.std.specs.Option.{option_map}
+use Rattle.std.specs.Option.{option_map, option_map_or}
 use Rattle.disk_history.specs.declared.event.HistEvent.{HistEvent}
 use Rattle.disk_history.specs.declared.event.HistEvent.TheVariants.{Create, Copy, Delete, WriteStart, WriteDone, WriteRefused, WriterLost, Read}
 use Rattle.disk_history.specs.Ledger.{Item, Disk}
@@ -40,8 +40,7 @@ named_request (Read disk block bytes) = None
 
 -- the items of a block, or none where the disk isn't there
 abbrev pub items_in : Option Disk → ℕ → List Item
-items_in None block = []
-items_in (Some disk) block = disk.items block
+items_in found block = option_map_or (λ (disk : Disk). disk.items block) found []
 
 -- how many blocks a disk has, if it is there
 abbrev pub blocks_in : Option Disk → Option ℕ
@@ -49,5 +48,4 @@ blocks_in found = option_map (λ disk. disk.blocks) found
 
 -- whether a disk is there and deleted
 abbrev pub is_deleted : Option Disk → Bool
-is_deleted None = false
-is_deleted (Some disk) = disk.deleted
+is_deleted found = option_map_or (λ (disk : Disk). disk.deleted) found false

@@ -1,6 +1,6 @@
 -- What the checker keeps, and what it shows of the ledger.
 use Rattle.std.specs.Prelude.{◌≡◌, ℕ, ◌==◌, ◌<◌, Bool, true, false, not, ◌||◌, List, [], ◌∷◌, ◌++◌, length, reverse, Option, Some, None, nat_lt, if◌then◌else◌}
-use Rattle.std.specs.Option.{option_map}
+use Rattle.std.specs.Option.{option_map, option_map_or}
 use Rattle.std.specs.Ordering.{nat_cmp, ordering_then}
 use Rattle.std.specs.declared.cmp.Ordering.{Ordering}
 use Rattle.std.specs.Str.{bytes_eq}
@@ -16,14 +16,9 @@ use Rattle.disk_history.specs.declared.disks.DiskState.{DiskState}
 use Rattle.disk_history.specs.Ledger.{Open, Acknowledged, Lost, Item, Disk, WriteRequest, zeros_item}
 use Rattle.disk_history.specs.Legal.{standing, is_torn, has_begun_to_write}
 
--- what became of a request, by its state; one that hasn't begun is unanswered
-abbrev pub fate_in : Option RequestState → Fate
-fate_in None = Unanswered
-fate_in (Some state) = state.fate
-
--- what became of each request
+-- what became of each request; one that hasn't begun is unanswered
 abbrev pub fate_of : Requests → ℕ → Fate
-fate_of requests req = fate_in (get nat_cmp requests.states req)
+fate_of requests req = option_map_or (λ (state : RequestState). state.fate) (get nat_cmp requests.states req) Unanswered
 
 -- whether a request has ended
 abbrev pub is_answer : Fate → Bool
@@ -34,8 +29,7 @@ is_answer Abandoned = true
 
 -- whether a request has begun and not ended, by its state
 abbrev pub may_end_in : Option RequestState → Bool
-may_end_in None = false
-may_end_in (Some state) = not (is_answer state.fate)
+may_end_in found = option_map_or (λ (state : RequestState). not (is_answer state.fate)) found false
 
 -- the item of a write by what became of its request; a refused write is none
 abbrev pub items_by : Fate → Write → List Item
@@ -44,16 +38,11 @@ items_by Done write = record { request = Some write.req; bytes = write.bytes.now
 items_by Refused write = []
 items_by Abandoned write = record { request = Some write.req; bytes = write.bytes.now; coded = write.coded; mark = Lost } ∷ []
 
--- whether a place is the number
-abbrev pub is_place : Option ℕ → ℕ → Bool
-is_place None number = false
-is_place (Some place) number = place == number
-
 -- the items of a block, by the place of its newest write; of all writes, the newest is given first
 abbrev pub items_from : (ℕ → Fate) → List Write → Option ℕ → List Item
 items_from fates [] newest = zeros_item ∷ []
 items_from fates (write ∷ older) newest =
-    if is_place newest (length older)
+    if option_map_or (λ place. place == length older) newest false
     then items_from fates older write.earlier ++ items_by (fates write.req) write
     else items_from fates older newest
 
@@ -79,31 +68,16 @@ says_of Refused is_same coded = None
 says_of Abandoned is_same coded = if is_same || coded then Some true else None
 
 -- whether a block of the request wasn't there
-abbrev pub stray_in : Option RequestState → Bool
-stray_in None = false
-stray_in (Some state) = state.stray
-
 abbrev pub stray_of : Requests → ℕ → Bool
-stray_of requests req = stray_in (get nat_cmp requests.states req)
+stray_of requests req = option_map_or (λ (state : RequestState). state.stray) (get nat_cmp requests.states req) false
 
 -- by request, then by disk, then by block
 abbrev pub place_cmp : Place → Place → Ordering
 place_cmp a b = ordering_then (nat_cmp a.req b.req) (ordering_then (nat_cmp a.disk b.disk) (nat_cmp a.block b.block))
 
--- whether a disk is there, and not deleted
-abbrev pub is_live_disk_state : Option DiskState → Bool
-is_live_disk_state None = false
-is_live_disk_state (Some state) = not state.deleted
-
 -- whether a disk is there and has the block
 abbrev pub has_block_in : Option DiskState → ℕ → Bool
-has_block_in None block = false
-has_block_in (Some state) block = nat_lt block state.blocks
-
--- the place of a block's newest write
-abbrev pub newest_in : Option DiskState → ℕ → Option ℕ
-newest_in None block = None
-newest_in (Some state) block = get nat_cmp state.newest block
+has_block_in found block = option_map_or (λ (state : DiskState). nat_lt block state.blocks) found false
 
 -- one disk deleted, and no other changed
 abbrev pub DeletesOne : BTreeMap ℕ DiskState → BTreeMap ℕ DiskState → ℕ → Type 0

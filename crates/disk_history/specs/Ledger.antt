@@ -1,6 +1,6 @@
 -- What a history says of disks: for each block the writes that count, in order, and what became of each request.
 use Rattle.std.specs.Prelude.{ℕ, ◌==◌, Bool, true, false, not, ◌||◌, List, [], ◌∷◌, ◌++◌, map, filter, Option, Some, None, nat_lt, if◌then◌else◌}
-use Rattle.std.specs.Option.{option_map}
+use Rattle.std.specs.Option.{option_map, option_map_or}
 use Rattle.object_id.specs.declared.limits.TheConstants.{BLOCK_BYTES}
 use Rattle.object_id.specs.Fields.{zeros}
 use Rattle.disk_history.specs.declared.event.HistEvent.{HistEvent}
@@ -50,11 +50,7 @@ zeros_item = record { request = None; bytes = zeros BLOCK_BYTES; coded = false; 
 
 -- whether the item is one of the request's
 abbrev pub is_item_of : ℕ → Item → Bool
-is_item_of req item = is_number item.request
-  where
-    is_number : Option ℕ → Bool
-    is_number None = false
-    is_number (Some number) = number == req
+is_item_of req item = option_map_or (λ number. number == req) item.request false
 
 -- the item, marked where it is one of the request's
 abbrev pub item_with_mark : Mark → ℕ → Item → Item
@@ -66,8 +62,7 @@ with_items change disks number = option_map (λ (disk : Disk). record disk { ite
 
 -- whether the disk has the block
 abbrev pub has_block : Option Disk → ℕ → Bool
-has_block None block = false
-has_block (Some disk) block = nat_lt block disk.blocks
+has_block found block = option_map_or (λ (disk : Disk). nat_lt block disk.blocks) found false
 
 -- the request, ended
 abbrev pub with_ended_request : ℕ → (ℕ → WriteRequest) → ℕ → WriteRequest

@@ -1,6 +1,6 @@
 -- Which histories are legal.
 use Rattle.std.specs.Prelude.{ℕ, ◌==◌, ◌<◌, ◌+◌, Bool, true, false, not, ◌&&◌, ◌||◌, List, [], ◌∷◌, ◌++◌, length, take, fold, Option, Some, None, IsSome, is_some, is_none, if◌then◌else◌}
-use Rattle.std.specs.Option.{option_and_then}
+use Rattle.std.specs.Option.{option_and_then, option_map_or}
 use Rattle.std.specs.Str.{bytes_eq}
 use Rattle.std.specs.List.{list_any}
 use Rattle.object_id.specs.declared.limits.TheConstants.{BLOCK_BYTES}
@@ -34,11 +34,6 @@ standing items = fold (λ kept item. if is_acknowledged item then item ∷ [] el
 abbrev pub is_torn : List Item → Bool
 is_torn items = list_any (λ item. item.coded && is_writer_lost item) (standing items)
 
--- whether a disk is there, and not deleted
-abbrev pub is_live_disk : Option Disk → Bool
-is_live_disk None = false
-is_live_disk (Some disk) = not disk.deleted
-
 -- a read of a live disk gives bytes that stand in the block's items, unless the block is torn
 abbrev pub may_read : Option Disk → ℕ → List ℕ → Bool
 may_read None block bytes = false
@@ -61,7 +56,7 @@ has_place request disk block = list_any (λ place. place.0 == disk && place.1 ==
 abbrev pub may_follow : Ledger → HistEvent → Bool
 may_follow ledger (Create disk blocks) = is_none (ledger.disks disk)
 may_follow ledger (Copy old new) = is_some (ledger.disks old) && is_none (ledger.disks new)
-may_follow ledger (Delete disk) = is_live_disk (ledger.disks disk)
+may_follow ledger (Delete number) = option_map_or (λ (disk : Disk). not disk.deleted) (ledger.disks number) false
 may_follow ledger (WriteStart req disk block coded bytes) =
     length bytes == BLOCK_BYTES && not (ledger.requests req).ended && not (has_place (ledger.requests req) disk block)
 may_follow ledger (WriteDone req) =

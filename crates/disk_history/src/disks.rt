@@ -1,8 +1,9 @@
 //! Disks: which there are, and for each of their blocks the place of its newest write.
-ghost use Rattle.std.specs.Prelude.{◌≡◌, false, [], IsSome, IfOk, OnOk};
+ghost use Rattle.std.specs.Prelude.{◌≡◌, false, not, [], IsSome, IfOk, OnOk};
+ghost use Rattle.std.specs.Option.{option_and_then, option_map_or};
 ghost use Rattle.std.specs.Ordering.{nat_cmp};
 ghost use Rattle.std.specs.BTreeMap.{get};
-ghost use Rattle.disk_history.specs.CheckerState.{has_block_in, is_live_disk_state, newest_in, DeletesOne, WritesOne};
+ghost use Rattle.disk_history.specs.CheckerState.{has_block_in, DeletesOne, WritesOne};
 ghost use Rattle.std.specs.Bool.{OnTrue};
 
 use object_id::NoMemory;
@@ -65,7 +66,7 @@ pub fn has_block(disks: &Disks, disk: u32, block: u64) -> bool
 
 /// The place of the newest write of a block, if it has one.
 pub fn newest(disks: &Disks, disk: u32, block: u64) -> Option<usize>
-    ensures { result ≡ newest_in (get nat_cmp disks.now disk) block }
+    ensures { result ≡ option_and_then (λ state. get nat_cmp state.newest block) (get nat_cmp disks.now disk) }
 {
     match disks.get(&disk) {
         Some(state) => state.newest(block),
@@ -75,7 +76,7 @@ pub fn newest(disks: &Disks, disk: u32, block: u64) -> Option<usize>
 
 /// Deletes a live disk, and says whether it was one.
 pub fn delete(disks: &mut Disks, disk: u32) -> bool
-    ensures live { result ≡ is_live_disk_state (get nat_cmp disks.old disk) }
+    ensures live { result ≡ option_map_or (λ state. not state.deleted) (get nat_cmp disks.old disk) false }
     ensures deleted { OnTrue result (DeletesOne disks.old disks.new disk) }
 {
     match disks.get_mut(&disk) {

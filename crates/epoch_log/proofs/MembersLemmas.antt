@@ -10,6 +10,7 @@ use Rattle.object_id.specs.declared.entry.Entry.TheVariants.{Format, Join, Leave
 use Rattle.object_id.specs.Node.{IsWeight}
 use Rattle.epoch_log.specs.Members.{is_member_node, is_member, members_with, members_reweighted, members_after, node_numbers, HaveWeights, AreMembers}
 use Rattle.epoch_log.specs.Epochs.{begins_epoch, epoch_of, members_in}
+use Rattle.object_id.specs.declared.limits.TheConstants.{EPOCH_MAX}
 use Rattle.epoch_log.specs.Appending.{FitsMembers, MayAppend, MayOpen, AreAppended, IsLog}
 use Rattle.epoch_log.proofs.EpochLemmas.{members_in-append, members_in-begun, epoch_of-append}
 
@@ -279,3 +280,19 @@ IsLog-prefix (Format members ∷ rest) later some log =
     ((log.0, parts.0), parts.1)
 IsLog-prefix (Join node zone vnodes ∷ rest) later some log = absurd log
 IsLog-prefix entries later some log = absurd log
+
+AreAppended-epochs : (before later : List Entry) → epoch_of before ≤ EPOCH_MAX → AreAppended before later → epoch_of (before ++ later) ≤ EPOCH_MAX
+AreAppended-epochs before [] most are = subst (λ (all : List Entry). epoch_of all ≤ EPOCH_MAX) (sym (append-nil before)) most
+AreAppended-epochs before (entry ∷ later) most are =
+    subst (λ (all : List Entry). epoch_of all ≤ EPOCH_MAX) (append_assoc before (entry ∷ []) later)
+    (AreAppended-epochs (before ++ entry ∷ []) later (one_more (begins_epoch entry) (epoch_of-append before (entry ∷ []))) are.1)
+  where
+    one_more : (b : Bool) → epoch_of (before ++ entry ∷ []) ≡ epoch_of before + length (cond b (entry ∷ []) []) → epoch_of (before ++ entry ∷ []) ≤ EPOCH_MAX
+    one_more true is = let below : epoch_of before < EPOCH_MAX = are.0.room in omega arith
+    one_more false is = omega arith
+
+-- epochs are numbers of 32 bits
+pub IsLog-epochs : (entries : List Entry) → IsLog entries → epoch_of entries ≤ EPOCH_MAX
+IsLog-epochs entries log =
+    let opens = IsLog-opens entries log in
+    subst (λ (all : List Entry). epoch_of all ≤ EPOCH_MAX) (sym opens.2) (AreAppended-epochs (Format opens.0 ∷ []) opens.1 (omega arith) opens.4)

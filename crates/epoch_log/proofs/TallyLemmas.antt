@@ -1,11 +1,13 @@
 -- One entry more, kind by kind, and what it does to the tally.
-use Rattle.std.proofs.Common.{◌≡◌, ◌≢◌, ◌⊎◌, inl, inr, ℕ, suc, ◌+◌, ◌-◌, ◌^◌, ◌<◌, ◌≤◌, ◌==◌, ◌&&◌, ◌||◌, nat_lt, not, Bool, true, false, cond, List, [], ◌∷◌, ◌++◌, length, get_or, set, take, filter, fold, Some, None, All, refl, ap, sym, ◌∙◌, subst, arith}
+use Rattle.std.proofs.Common.{◌≡◌, ◌≢◌, ◌⊎◌, inl, inr, ℕ, suc, ◌+◌, ◌-◌, ◌<◌, ◌≤◌, ◌==◌, ◌&&◌, ◌||◌, nat_lt, not, Bool, true, false, cond, List, [], ◌∷◌, ◌++◌, length, get_or, set, take, filter, fold, Some, None, refl, ap, sym, ◌∙◌, subst, arith}
 use Rattle.std.specs.List.{list_any}
 use Rattle.std.specs.Ordering.{nat_cmp, is_eq}
-use Rattle.std.specs.BTreeSet.{BTreeSet}
+use Rattle.std.specs.Cmp.{unsigned_tied, tied_then}
+use Rattle.std.specs.BTreeMap.{is_at}
+use Rattle.std.specs.BTreeSet.{BTreeSet, contains}
 use Rattle.std.proofs.lemmas.Bool.{eq-eqb, ne_eqb, le-ltb, and_right, cases_eq, cases_lt}
 use Rattle.std.proofs.lemmas.List.{take_all, take-append-le, append-nil, get_or_append_left, get_or_push, length_push, length-set, get_or-set_same, get_or-set_other}
-use Rattle.std.proofs.lemmas.List.Elements.{filter-append, All-head, All-tail, filter_agree}
+use Rattle.std.proofs.lemmas.List.Elements.{filter-append, filter_agree}
 use Rattle.std.proofs.lemmas.List.Folds.{list_any-append}
 use Rattle.std.proofs.Math.Bool.{or-false}
 use Rattle.std.specs.Cmp.{nat_eq_equiv}
@@ -17,13 +19,13 @@ use Rattle.object_id.specs.declared.entry.Entry.TheVariants.{Format, Recovered}
 use Rattle.epoch_log.specs.declared.epoch_record.EpochRecord.{EpochRecord}
 use Rattle.epoch_log.specs.declared.epoch_record.Mark.{Mark}
 use Rattle.epoch_log.specs.declared.tally.Tally.{Tally}
-use Rattle.epoch_log.specs.Members.{is_member_node, members_without, members_after, node_numbers}
+use Rattle.epoch_log.specs.Members.{is_member_node, members_without, members_after}
 use Rattle.epoch_log.specs.Epochs.{begins_epoch, epoch_of, initial_members, members_in, recovers, recovery_of, has_recovered, missing_in, is_settled, greatest, settled_of}
 use Rattle.epoch_log.specs.Appending.{MayAppend, IsLog}
-use Rattle.epoch_log.specs.Tally.{IsTally, AreMarks, mark_of, term_in, new_term, lacking, early_key, is_early}
+use Rattle.epoch_log.specs.Tally.{IsTally, AreMarks, mark_of, term_in, new_term, lacking, early_cmp, is_early}
 use Rattle.epoch_log.proofs.GreatestLemmas.{greatest-same, greatest-one}
 use Rattle.epoch_log.proofs.EpochLemmas.{initial_members-append, epoch_of-append, members_in-append, members_in-begun, missing_in-same, missing_in-append, is_settled-append, settled_of-begun}
-use Rattle.epoch_log.proofs.MembersLemmas.{IsLog-some, IsLog-push, IsLog-members}
+use Rattle.epoch_log.proofs.MembersLemmas.{IsLog-some}
 
 -- what `next_members` says of an entry, by its answer
 pub next-Some : {X : Type 0} (b : Bool) (x y : X) → Some y ≡ cond b (Some x) None → (b ≡ true) × (y ≡ x)
@@ -111,19 +113,9 @@ tally-other entries entry tally log stays none t =
     record {
       epochs = t.epochs ∙ sym epochs;
       terms = λ k d within. t.terms k d within ∙ sym (same (k + 1));
-      early = λ epoch node above small. t.early epoch node (omega arith) small ∙ sym (has_recovered-kept entries entry epoch node (none-recovers entry none epoch node));
+      early = λ epoch node above. t.early epoch node (omega arith) ∙ sym (has_recovered-kept entries entry epoch node (none-recovers entry none epoch node));
       settled = t.settled ∙ sym (settled_of-kept entries entry stays (λ epoch _ _. is_settled-same entries (entries ++ entry ∷ []) epoch (same epoch)));
     }
-
--- two tests that agree on the nodes of members filter them alike
-filter-nodes : (p q : ℕ → Bool) (members : List Member) → All (λ node. node < 64) (node_numbers members) → ((node : ℕ) → node < 64 → p node ≡ q node)
-    → filter (λ (member : Member). p member.node.0) members ≡ filter (λ (member : Member). q member.node.0) members
-filter-nodes p q [] small same = refl
-filter-nodes p q (member ∷ members) small same =
-    ap (λ b. cond b (member ∷ filter (λ (m : Member). p m.node.0) members) (filter (λ (m : Member). p m.node.0) members))
-    (same member.node.0 (All-head (λ node. node < 64) member.node.0 (node_numbers members) small))
-    ∙ ap (λ rest. cond (q member.node.0) (member ∷ rest) rest)
-    (filter-nodes p q members (All-tail (λ node. node < 64) member.node.0 (node_numbers members) small) same)
 
 -- an entry that begins an epoch
 pub tally-begins_epoch : (entries : List Entry) (entry : Entry) (old new : Tally) (members : List Member) → IsLog entries → MayAppend entries entry
@@ -143,13 +135,10 @@ tally-begins_epoch entries entry old new members log may starts t made terms set
     = λ epoch begun. term_in-same entries later epoch (members_in-append entries (entry ∷ []) epoch some begun) (kept epoch) in
     let next : count + 1 ≡ epoch_of entries + 1 = ap (λ n. n + 1) t.epochs in
     let theirs : members_in later (count + 1) ≡ members = ap (members_in later) next ∙ members_in-begun entries entry some starts ∙ sym made in
-    let small : All (λ node. node < 64) (node_numbers members)
-    = subst (λ (ms : List Member). All (λ node. node < 64) (node_numbers ms)) theirs
-    ((IsLog-members later (count + 1) (IsLog-push entries entry log may) (omega (arith, t.epochs))).0).nodes in
-    let recovered : (node : ℕ) → node < 64 → not (is_early old.early (count + 1) node) ≡ not (has_recovered later (count + 1) node)
-    = λ node below. ap not (t.early (count + 1) node (omega (arith, t.epochs)) (omega arith) ∙ sym (kept (count + 1) node)) in
+    let recovered : (member : Member) → not (is_early old.early (count + 1) member.node.0) ≡ not (has_recovered later (count + 1) member.node.0)
+    = λ member. ap not (t.early (count + 1) member.node.0 (omega (arith, t.epochs)) ∙ sym (kept (count + 1) member.node.0)) in
     let missing : filter (λ (m : Member). not (is_early old.early (count + 1) m.node.0)) members ≡ missing_in later (count + 1)
-    = filter-nodes (λ node. not (is_early old.early (count + 1) node)) (λ node. not (has_recovered later (count + 1) node)) members small recovered
+    = filter_agree (λ (m : Member). not (is_early old.early (count + 1) m.node.0)) (λ m. not (has_recovered later (count + 1) m.node.0)) recovered members
     ∙ sym (ap (filter (λ (m : Member). not (has_recovered later (count + 1) m.node.0))) theirs) in
     let fresh : new_term old.early (count + 1) members ≡ term_in later (count + 1)
     = λ i. record { members = sym theirs i; missing = missing i } in
@@ -159,8 +148,7 @@ tally-begins_epoch entries entry old new members log may starts t made terms set
       terms = subst (λ (all : List EpochRecord). (k : ℕ) (d : EpochRecord) → k < length all → get_or all k d ≡ term_in later (k + 1)) (sym terms)
           (each-push (λ k. term_in later (k + 1)) old.terms.items (new_term old.early (count + 1) members)
           (λ k d within. t.terms k d within ∙ sym (same (k + 1) (omega (arith, t.epochs)))) fresh);
-      early = λ epoch node above below.
-          ap (λ set. is_early set epoch node) early ∙ t.early epoch node (omega arith) below ∙ sym (kept epoch node);
+      early = λ epoch node above. ap (λ set. is_early set epoch node) early ∙ t.early epoch node (omega arith) ∙ sym (kept epoch node);
       settled = settled ∙ newest (sym missing) (omega (arith, t.epochs, settled_of-begun entries)) t.settled grown t.epochs
           (λ epoch _ begun. is_settled-same entries later epoch (same epoch begun));
     }
@@ -188,10 +176,30 @@ tally-begins_epoch entries entry old new members log may starts t made terms set
         ∙ ap (λ g. cond (length kept == 0) (suc (epoch_of entries)) g) below
         ∙ ap (λ n. cond (length kept == 0) n old.settled.0) (sym next))
 
+-- one node more that recovered before the epoch began
+pub is_early-insert : (old new : BTreeSet (Epoch × NodeId)) (epoch : Epoch) (node : NodeId)
+    → ((key : Epoch × NodeId) → contains early_cmp new key ≡ cond (is_at (early_cmp (epoch, node)) key) true (contains early_cmp old key))
+    → (of by : ℕ) → is_early new of by ≡ (is_early old of by || (epoch.0 == of && node.0 == by))
+unfolding is_early
+is_early-insert old new epoch node is of by =
+    is (record { 0 = of }, record { 0 = by })
+    ∙ ap (λ b. cond b true (is_early old of by)) here ∙ turned (epoch.0 == of && node.0 == by) (is_early old of by)
+  where
+    here : is_at (early_cmp (epoch, node)) (record { 0 = of }, record { 0 = by }) ≡ (epoch.0 == of && node.0 == by)
+    here =
+        sym (tied_then (nat_cmp epoch.0 of) (nat_cmp node.0 by))
+        ∙ ap (λ b. b && is_eq (nat_cmp node.0 by)) (unsigned_tied epoch.0 of) ∙ ap (λ b. epoch.0 == of && b) (unsigned_tied node.0 by)
+
+    turned : (b a : Bool) → cond b true a ≡ (a || b)
+    turned true true = refl
+    turned true false = refl
+    turned false true = refl
+    turned false false = refl
+
 -- a `Recovered` of an epoch that has not begun
 pub tally-early : (entries : List Entry) (node : NodeId) (epoch : Epoch) (old new : Tally) → IsLog entries → IsTally entries old
     → (1 ≤ epoch.0 → length old.terms.items < epoch.0)
-    → ((of by : ℕ) → by < 2 ^ 32 → is_early new.early of by ≡ (is_early old.early of by || (epoch.0 == of && node.0 == by)))
+    → ((of by : ℕ) → is_early new.early of by ≡ (is_early old.early of by || (epoch.0 == of && node.0 == by)))
     → new.terms.items ≡ old.terms.items → new.settled.0 ≡ old.settled.0 → IsTally (entries ++ Recovered node epoch ∷ []) new
 tally-early entries node epoch old new log t ahead early terms settled =
     let some : 1 ≤ length entries = IsLog-some entries log in
@@ -205,8 +213,8 @@ tally-early entries node epoch old new log t ahead early terms settled =
       epochs = ap length terms ∙ t.epochs ∙ sym epochs;
       terms = subst (λ (all : List EpochRecord). (k : ℕ) (d : EpochRecord) → k < length all → get_or all k d ≡ term_in later (k + 1)) (sym terms)
           (λ k d within. t.terms k d within ∙ sym (same (k + 1) (omega arith) (omega (arith, t.epochs))));
-      early = λ of by above small.
-          early of by small ∙ ap (λ b. b || (epoch.0 == of && node.0 == by)) (t.early of by (omega arith) small) ∙ sym (has_recovered-push entries entry of by);
+      early = λ of by above.
+          early of by ∙ ap (λ b. b || (epoch.0 == of && node.0 == by)) (t.early of by (omega arith)) ∙ sym (has_recovered-push entries entry of by);
       settled = settled ∙ t.settled ∙ sym (settled_of-kept entries entry refl (λ of first begun. is_settled-same entries later of (same of first begun)));
     }
   where
@@ -249,8 +257,8 @@ tally-recovers entries node epoch old new log t first begun terms settled early 
             ∙ get_or-set_other old.terms.items (epoch.0 - 1) k (lacking node.0 (get_or old.terms.items (epoch.0 - 1) d)) e apart
             ∙ t.terms k e (omega arith) ∙ sym (others (k + 1) (λ is. apart (omega arith))))
       ];
-      early = λ of by above small.
-          ap (λ (set : BTreeSet ℕ). is_early set of by) early ∙ t.early of by (omega arith) small
+      early = λ of by above.
+          ap (λ (set : BTreeSet (Epoch × NodeId)). is_early set of by) early ∙ t.early of by (omega arith)
           ∙ sym (has_recovered-kept entries entry of by (ap (λ b. b && node.0 == by) (ne_eqb epoch.0 of (λ is. omega (arith, t.epochs)))));
       settled = settled d ∙ newest (now d) t.settled epochs (omega (arith, t.epochs)) (settled_of-begun entries).0
           (λ of apart. is_settled-same entries later of (others of apart))
@@ -306,6 +314,7 @@ filter-all (member ∷ members) = ap (λ rest. member ∷ rest) (filter-all memb
 -- the first entry
 pub tally-new : (members : List Member) (tally : Tally) → tally.terms.items ≡ record { members = members; missing = members } ∷ []
     → tally.early.keys ≡ [] → tally.settled.0 ≡ 1 → IsTally (Format members ∷ []) tally
+unfolding is_early
 tally-new members tally terms early settled =
     let first : term_in (Format members ∷ []) 1 ≡ record { members = members; missing = members }
     = λ i. record { members = members; missing = filter-all members i } in
@@ -313,7 +322,7 @@ tally-new members tally terms early settled =
       epochs = ap length terms;
       terms = subst (λ (all : List EpochRecord). (k : ℕ) (d : EpochRecord) → k < length all → get_or all k d ≡ term_in (Format members ∷ []) (k + 1)) (sym terms)
           (each-push (λ k. term_in (Format members ∷ []) (k + 1)) [] (record { members = members; missing = members }) (λ k d within. absurd (omega arith)) (sym first));
-      early = λ epoch node _ _. ap (list_any (λ key. is_eq (nat_cmp (early_key epoch node) key))) early;
+      early = λ epoch node _. ap (list_any (is_at (early_cmp (record { 0 = epoch }, record { 0 = node })))) early;
       settled = settled;
     }
 

@@ -1,7 +1,10 @@
--- What a log keeps beside its entries, so that no question scans them, and what each of it is of the entries.
-use Rattle.std.specs.Prelude.{◌≡◌, ℕ, ◌+◌, ◌*◌, ◌^◌, ◌<◌, Bool, not, List, length, take, filter, slice_index_or}
-use Rattle.std.specs.Ordering.{nat_cmp}
+-- What is kept beside the entries of a log, so that no question scans them, and what each of it is of the entries.
+use Rattle.std.specs.Prelude.{◌≡◌, ℕ, ◌+◌, ◌<◌, Bool, not, List, length, take, filter, slice_index_or}
+use Rattle.std.specs.declared.cmp.Ordering.{Ordering}
+use Rattle.std.specs.Ordering.{nat_cmp, ordering_then}
 use Rattle.std.specs.BTreeSet.{BTreeSet, contains}
+use Rattle.object_id.specs.declared.node.NodeId.{NodeId}
+use Rattle.object_id.specs.declared.node.Epoch.{Epoch}
 use Rattle.object_id.specs.declared.entry.Member.{Member}
 use Rattle.object_id.specs.declared.entry.Entry.{Entry}
 use Rattle.epoch_log.specs.declared.epoch_record.EpochRecord.{EpochRecord}
@@ -14,24 +17,23 @@ use Rattle.epoch_log.specs.Epochs.{epoch_of, members_in, missing_in, has_recover
 abbrev pub term_in : List Entry → ℕ → EpochRecord
 term_in entries epoch = record { members = members_in entries epoch; missing = missing_in entries epoch }
 
--- the number that stands for a node and an epoch
-abbrev pub early_key : ℕ → ℕ → ℕ
-early_key epoch node = epoch * 2 ^ 32 + node
+-- by epoch, then by node
+abbrev pub early_cmp : Epoch × NodeId → Epoch × NodeId → Ordering
+early_cmp (epoch, node) (other, by) = ordering_then (nat_cmp epoch.0 other.0) (nat_cmp node.0 by.0)
 
 -- whether the node recovered in the epoch before that began
-abbrev pub is_early : BTreeSet ℕ → ℕ → ℕ → Bool
-is_early early epoch node = contains nat_cmp early (early_key epoch node)
+unfoldable pub is_early : BTreeSet (Epoch × NodeId) → ℕ → ℕ → Bool
+is_early early epoch node = contains early_cmp early (record { 0 = epoch }, record { 0 = node })
 
 -- each epoch that has begun has its term; an entry that came before its epoch is kept aside
 pub record IsTally (entries : List Entry) (tally : Tally) : Type 0 where
   pub epochs : length tally.terms.items ≡ epoch_of entries
   pub terms : (k : ℕ) (d : EpochRecord) → k < length tally.terms.items → slice_index_or tally.terms.items k d ≡ term_in entries (k + 1)
-  pub early : (epoch node : ℕ) → epoch_of entries < epoch → node < 2 ^ 32
-      → is_early tally.early epoch node ≡ has_recovered entries epoch node
+  pub early : (epoch node : ℕ) → epoch_of entries < epoch → is_early tally.early epoch node ≡ has_recovered entries epoch node
   pub settled : tally.settled.0 ≡ settled_of entries
 
 -- the term of a new epoch, with those missing that did not recover early
-abbrev pub new_term : BTreeSet ℕ → ℕ → List Member → EpochRecord
+abbrev pub new_term : BTreeSet (Epoch × NodeId) → ℕ → List Member → EpochRecord
 new_term early epoch members = record {
   members = members;
   missing = filter (λ (member : Member). not (is_early early epoch member.node.0)) members;

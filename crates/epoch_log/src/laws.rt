@@ -7,7 +7,7 @@ ghost use Rattle.epoch_log.specs.Members.{AreMembers, HaveWeights};
 ghost use Rattle.epoch_log.specs.Epochs.{begins_epoch, epoch_of, epoch_at, settled_of, settled_at, is_settled, members_in};
 ghost use Rattle.epoch_log.specs.Appending.{MayAppend, AreAppended, IsLog};
 
-use object_id::NODES_MAX;
+use object_id::{EPOCH_MAX, NODES_MAX};
 
 /// What later entries leave as it was, at every place before them and for every epoch that had begun.
 pub fn later_entries_change_nothing()
@@ -61,6 +61,8 @@ pub fn log_epochs()
     // Each has a weight that there may be.
     ensures weights { (entries : List Entry) (epoch : ℕ) → IsLog entries → epoch ≤ epoch_of entries
         → HaveWeights (members_in entries epoch) }
+    // Epochs are numbers of 32 bits.
+    ensures epochs { (entries : List Entry) → IsLog entries → epoch_of entries ≤ EPOCH_MAX }
     // A log goes on with each entry that may stand there.
     ensures push { (entries : List Entry) (entry : Entry) → IsLog entries → MayAppend entries entry → IsLog (entries ++ entry ∷ []) }
     // So it does with several, each of which may stand there in its turn; and what a log begins with is a log.

@@ -4,8 +4,9 @@
 //! next epoch. An epoch is settled where each of its members has put `Recovered` of it. A [`Log`] is seen as the list of
 //! its entries, and every answer is a function of the entries before the place that is asked (`specs/Epochs.antt`).
 //!
-//! No question scans the log: it keeps the members of each epoch with those still missing, and for each place the epoch
-//! and the settled epoch there (`specs/Tally.antt` says what these are of the entries).
+//! No question scans the log: beside the entries stands a [`Tally`], the members of each epoch with those still missing, and for each
+//! place the epoch and the settled epoch there (`specs/Tally.antt` says what these are of the entries). Who keeps the entries elsewhere
+//! takes the tally alone.
 //! The crate stands on `object_id`, whose entry types it hands on.
 #![tactic(auto)]
 
@@ -24,3 +25,4 @@ pub use laws::{
 };
 pub use log::{EntryList, Log};
 pub use object_id::{Cause, Entry, Origin, VdiSpec};
+pub use tally::Tally;

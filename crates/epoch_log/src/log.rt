@@ -4,10 +4,10 @@ ghost use Rattle.epoch_log.specs.Members.{AreMembers, HaveWeights};
 ghost use Rattle.epoch_log.specs.Epochs.{epoch_of, epoch_at, settled_at, members_in};
 ghost use Rattle.epoch_log.specs.Appending.{MayOpen, MayAppend, IsLog};
 
-use crate::appending::{may_follow, may_open};
+use crate::appending::may_open;
 use crate::epoch_record::Mark;
 use crate::tally::Tally;
-use object_id::{EPOCH_MAX, Entry, Epoch, Items, Member, MemberList, NODES_MAX, NoMemory};
+use object_id::{Entry, Epoch, Items, Member, MemberList, NODES_MAX, NoMemory};
 use std::alloc::Global;
 use std::marker::Model;
 
@@ -50,14 +50,14 @@ fn fill(members: &[Member], out: &mut [Member; NODES_MAX as usize]) -> usize
 }
 
 impl Log {
-    /// Whether these members may open a log: what `new` asks of them.
+    /// Whether these members may open a log: what `new` asks of them. Costs the members.
     pub fn may_open(members: &[Member]) -> bool
         ensures { IsTrue result ↔ MayOpen members.now }
     {
         may_open(members)
     }
 
-    /// A log of its first entry, `Format` of the opening members.
+    /// A log of its first entry, `Format` of the opening members. Costs the members.
     pub fn new(alloc: Global, members: &[Member]) -> Result<Log, NoMemory>
         requires { MayOpen members.now }
         ensures { IfOk result (λ log. log ≡ Entry.Format members.now ∷ []) }
@@ -80,16 +80,14 @@ impl Log {
         })
     }
 
-    /// Whether an entry may stand next: what `append` asks of it.
+    /// Whether an entry may stand next: what `append` asks of it. Costs a look at the newest members.
     pub fn may_append(&self, entry: &Entry) -> bool
         ensures { IsTrue result ↔ MayAppend self.now entry.now }
     {
-        let newest = self.tally.terms.len();
-        newest < EPOCH_MAX as usize
-            && may_follow(self.tally.terms[newest - 1].members.as_slice(), entry)
+        self.tally.may_count(self.entries.as_slice(), entry)
     }
 
-    /// Adds an entry at the end. Without memory the log stays, and the entry is dropped.
+    /// Adds an entry at the end. Without memory the log stays, and the entry is dropped. Costs what [`Tally::count`] costs.
     pub fn append(&mut self, entry: Entry) -> Result<(), NoMemory>
         requires { MayAppend self.old entry }
         ensures ok { OnOk result (self.new ≡ self.old ++ entry ∷ []) }
@@ -105,13 +103,22 @@ impl Log {
         Ok(())
     }
 
-    /// The entry at a place, from 0; `None` past the end.
+    /// The entries, in order. Costs nothing.
+    pub fn entries(&self) -> &[Entry]
+        ensures value { result.now ≡ self.now }
+        ensures log { IsLog result.now }
+    {
+        self.entries.as_slice()
+    }
+
+    /// The entry at a place, from 0; `None` past the end. Costs nothing.
     pub fn entry(&self, place: usize) -> Option<&Entry>
         ensures { option_copied result ≡ slice_get self.now place }
     {
         self.entries.as_slice().get(place)
     }
 
+    /// How many entries there are. Costs nothing.
     pub fn len(&self) -> usize
         ensures count { result ≡ length self.now }
         // A log has its first entry.
@@ -121,7 +128,7 @@ impl Log {
         self.entries.len()
     }
 
-    /// The newest epoch of the entries before a place.
+    /// The newest epoch of the entries before a place. Costs nothing.
     pub fn epoch_at(&self, place: usize) -> Epoch
         requires { (1 ≤ place) × (place ≤ length self.now) }
         ensures { result.0 ≡ epoch_at self.now place }
@@ -129,7 +136,7 @@ impl Log {
         self.marks[place - 1].epoch
     }
 
-    /// The settled epoch of the entries before a place.
+    /// The settled epoch of the entries before a place. Costs nothing.
     pub fn settled_at(&self, place: usize) -> Epoch
         requires { (1 ≤ place) × (place ≤ length self.now) }
         ensures { result.0 ≡ settled_at self.now place }
@@ -138,7 +145,7 @@ impl Log {
     }
 
     /// Fills the first places of `out` with the members of an epoch that has begun, in ascending number, and answers
-    /// how many they are.
+    /// how many they are. Costs these members.
     pub fn members(&self, epoch: Epoch, out: &mut [Member; NODES_MAX as usize]) -> usize
         requires { (1 ≤ epoch.0) × (epoch.0 ≤ epoch_of self.now) }
         ensures count { result ≡ length (members_in self.now epoch.0) }
@@ -148,9 +155,6 @@ impl Log {
         ensures members { AreMembers (members_in self.now epoch.0) }
         ensures weights { HaveWeights (members_in self.now epoch.0) }
     {
-        fill(
-            self.tally.terms[epoch.0 as usize - 1].members.as_slice(),
-            out,
-        )
+        fill(self.tally.members(self.entries.as_slice(), epoch), out)
     }
 }

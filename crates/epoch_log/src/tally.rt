@@ -2,31 +2,26 @@ ghost use Rattle.std.specs.Prelude.{◌≡◌, ◌↔◌, ℕ, ◌+◌, ◌-◌,
 ghost use Rattle.object_id.specs.declared.entry.Member.{Member};
 ghost use Rattle.epoch_log.specs.declared.epoch_record.EpochRecord.{EpochRecord};
 ghost use Rattle.epoch_log.specs.Members.{members_after};
-ghost use Rattle.epoch_log.specs.Epochs.{begins_epoch, recovery_of as recovered_by, epoch_of, members_in};
+ghost use Rattle.epoch_log.specs.Epochs.{begins_epoch, recovery_of as recovered_by, epoch_of, settled_of, members_in};
 ghost use Rattle.epoch_log.specs.Appending.{MayAppend, IsLog};
-ghost use Rattle.epoch_log.specs.Tally.{IsTally, mark_of, new_term, lacking, is_early, early_key};
+ghost use Rattle.epoch_log.specs.Tally.{IsTally, mark_of, new_term, lacking, is_early as was_early};
 
+use crate::appending::may_follow;
 use crate::epoch_record::{EpochRecord, Mark};
 use crate::roster::Roster;
-use object_id::{Entry, Epoch, Member, NoMemory, NodeId};
+use object_id::{EPOCH_MAX, Entry, Epoch, Member, NoMemory, NodeId};
 use std::alloc::Global;
 use std::collections::BTreeSet;
 
-/// What the entries so far come to.
+/// What the entries of a log come to: the newest epoch, the settled one and the members of each, without the entries. A [`crate::Log`]
+/// keeps both; who has the entries elsewhere counts each here before it is put to the others.
 #[derive(Drop)]
 pub struct Tally {
     /// The epochs that have begun, in order.
-    pub terms: Vec<EpochRecord>,
-    /// Each `Recovered` whose epoch had not begun, by epoch and node.
-    pub early: BTreeSet<u64>,
-    pub settled: Epoch,
-}
-
-/// The number that stands for a node and an epoch.
-fn key_of(epoch: Epoch, node: NodeId) -> u64
-    ensures { result ≡ early_key epoch.0 node.0 }
-{
-    u64::from(epoch.0) * 0x1_0000_0000 + u64::from(node.0)
+    terms: Vec<EpochRecord>,
+    /// Each `Recovered` whose epoch had not begun.
+    early: BTreeSet<(Epoch, NodeId)>,
+    settled: Epoch,
 }
 
 /// The node and the epoch of a `Recovered`.
@@ -39,19 +34,26 @@ fn recovery_of(entry: &Entry) -> Option<(NodeId, Epoch)>
     }
 }
 
+#[tactic(auto, unfolding(crate::specs::Tally::is_early))]
+fn is_early(early: &BTreeSet<(Epoch, NodeId)>, epoch: Epoch, node: NodeId) -> bool
+    ensures { result ≡ was_early early.now epoch.0 node.0 }
+{
+    early.contains(&(epoch, node))
+}
+
 /// Those of the members that did not recover in the epoch before it began.
 fn not_early(
     alloc: Global,
     members: &[Member],
-    early: &BTreeSet<u64>,
+    early: &BTreeSet<(Epoch, NodeId)>,
     epoch: Epoch,
 ) -> Result<Vec<Member>, NoMemory>
     ensures { IfOk result (λ missing. missing.items
-        ≡ filter (λ (member : Member). not (is_early early.now epoch.0 member.node.0)) members.now) }
+        ≡ filter (λ (member : Member). not (was_early early.now epoch.0 member.node.0)) members.now) }
 {
     let mut missing = Vec::new(alloc);
     for member in members {
-        if !early.contains(&key_of(epoch, member.node)) {
+        if !is_early(early, epoch, member.node) {
             missing.push(*member)?;
         }
     }
@@ -59,12 +61,16 @@ fn not_early(
 }
 
 /// Keeps a `Recovered` whose epoch has not begun. Without memory nothing changes.
-fn keep_early(early: &mut BTreeSet<u64>, epoch: Epoch, node: NodeId) -> Result<(), NoMemory>
-    ensures ok { OnOk result ((of by : ℕ) → by < 2 ^ 32
-        → is_early early.new of by ≡ (is_early early.old of by || (epoch.0 == of && node.0 == by))) }
+fn keep_early(
+    early: &mut BTreeSet<(Epoch, NodeId)>,
+    epoch: Epoch,
+    node: NodeId,
+) -> Result<(), NoMemory>
+    ensures ok { OnOk result ((of by : ℕ)
+        → was_early early.new of by ≡ (was_early early.old of by || (epoch.0 == of && node.0 == by))) }
     ensures err { OnErr result (early.new ≡ early.old) }
 {
-    early.insert(key_of(epoch, node))?;
+    early.insert((epoch, node))?;
     Ok(())
 }
 
@@ -116,7 +122,7 @@ fn settle(terms: &mut Vec<EpochRecord>, settled: Epoch, node: NodeId, epoch: Epo
 }
 
 impl Tally {
-    /// What the first entry of a log comes to.
+    /// What the first entry of a log, `Format` of these members, comes to. Costs the members.
     pub fn new(alloc: Global, members: &[Member]) -> Result<Tally, NoMemory>
         ensures { IfOk result (λ tally. IsTally (Entry.Format members.now ∷ []) tally) }
     {
@@ -132,15 +138,51 @@ impl Tally {
         })
     }
 
-    /// What holds after the entries so far.
-    pub fn mark(&self, before: &[Entry]) -> Mark
+    /// The newest epoch. Costs nothing: `before` is for the contract alone, here and in the other questions.
+    pub fn epoch(&self, before: &[Entry]) -> Epoch
+        requires log { IsLog before.now }
         requires tally { IsTally before.now self.now }
-        requires room { epoch_of before.now < 2 ^ 32 }
+        ensures { result.0 ≡ epoch_of before.now }
+    {
+        Epoch(self.terms.len() as u32)
+    }
+
+    /// The settled epoch. Costs nothing.
+    pub fn settled(&self, before: &[Entry]) -> Epoch
+        requires { IsTally before.now self.now }
+        ensures { result.0 ≡ settled_of before.now }
+    {
+        self.settled
+    }
+
+    /// The members of an epoch that has begun, in ascending number. Costs nothing.
+    pub fn members(&self, before: &[Entry], epoch: Epoch) -> &[Member]
+        requires tally { IsTally before.now self.now }
+        requires begun { (1 ≤ epoch.0) × (epoch.0 ≤ epoch_of before.now) }
+        ensures { result.now ≡ members_in before.now epoch.0 }
+    {
+        self.terms[epoch.0 as usize - 1].members.as_slice()
+    }
+
+    /// Whether an entry may stand next: what `count` asks of it. Costs a look at the newest members.
+    pub fn may_count(&self, before: &[Entry], entry: &Entry) -> bool
+        requires log { IsLog before.now }
+        requires tally { IsTally before.now self.now }
+        ensures { IsTrue result ↔ MayAppend before.now entry.now }
+    {
+        let newest = self.terms.len();
+        newest < EPOCH_MAX as usize && may_follow(self.terms[newest - 1].members.as_slice(), entry)
+    }
+
+    /// What holds after the entries so far.
+    pub(crate) fn mark(&self, before: &[Entry]) -> Mark
+        requires log { IsLog before.now }
+        requires tally { IsTally before.now self.now }
         ensures { result ≡ mark_of before.now }
     {
         Mark {
-            epoch: Epoch(self.terms.len() as u32),
-            settled: self.settled,
+            epoch: self.epoch(before),
+            settled: self.settled(before),
         }
     }
 
@@ -189,7 +231,9 @@ impl Tally {
         Ok(())
     }
 
-    /// Counts an entry after those before it. Without memory the tally is still theirs.
+    /// Counts an entry after those before it. Without memory the tally is still theirs. An entry that begins an epoch costs the
+    /// members, each with the logarithm of the `Recovered` that came before their epoch; a `Recovered` costs a look at those missing in
+    /// its epoch, or that logarithm; any other entry costs nothing.
     pub fn count(&mut self, alloc: Global, before: &[Entry], entry: &Entry) -> Result<(), NoMemory>
         requires log { IsLog before.now }
         requires tally { IsTally before.now self.old }

@@ -1,6 +1,7 @@
 //! Logs whose answers come from outside, and what no clause says.
 
 use crate::log::{EntryList, Log};
+use crate::tally::Tally;
 use object_id::{Bytes, Entry, Epoch, Member, NoMemory, NodeId, Origin, Policy, VdiSpec, Vid};
 use std::alloc::Global;
 use std::test::Fail;
@@ -387,5 +388,40 @@ fn reads_a_long_log(rt: HostRuntime) -> Result<(), Fail> {
     // Three members are asked for 99,999 times. Epoch 1 is settled after each of its 99 entries. Each later epoch has three
     // entries after which the one before it is the settled one, and 97 after which it is itself: 100 times its number, less 3.
     assert_eq!(rt; asked, 299_997 + 99 + 100 * 500_499 - 3 * 999);
+    Ok(())
+}
+
+// A tally is told the entries that the log reads, and answers as the log does.
+#[test]
+fn counts_without_the_entries(rt: HostRuntime) -> Result<(), Fail> {
+    let alloc = rt.alloc();
+    let members = opening(alloc, b"ab")?;
+    if !Log::may_open(members.as_slice()) {
+        return Ok(assert!(rt; false, "two members may open a log"));
+    }
+    let mut log = Log::new(alloc, members.as_slice())?;
+    let mut tally = Tally::new(alloc, members.as_slice())?;
+    let leave = Entry::Leave { node: NodeId(0) };
+    assert!(rt; tally.may_count(log.entries(), &leave));
+    tally.count(alloc, log.entries(), &leave)?;
+    log.append(leave)?;
+    assert_eq!(rt;
+        (tally.epoch(log.entries()), tally.settled(log.entries())),
+        (Epoch(2), Epoch(1))
+    );
+    let recovered = Entry::Recovered {
+        node: NodeId(1),
+        epoch: Epoch(2),
+    };
+    assert!(rt; tally.may_count(log.entries(), &recovered));
+    tally.count(alloc, log.entries(), &recovered)?;
+    log.append(recovered)?;
+    assert_eq!(rt;
+        (tally.epoch(log.entries()), tally.settled(log.entries())),
+        (Epoch(2), Epoch(2))
+    );
+    assert_eq!(rt; tally.members(log.entries(), Epoch(2)).len(), 1);
+    assert_eq!(rt; tally.members(log.entries(), Epoch(1)).len(), 2);
+    assert!(rt; !tally.may_count(log.entries(), &Entry::Leave { node: NodeId(0) }));
     Ok(())
 }

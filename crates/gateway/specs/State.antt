@@ -5,6 +5,7 @@ use Rattle.std.specs.List.{find, list_any, list_all}
 use Rattle.std.specs.Ordering.{nat_cmp}
 use Rattle.std.specs.FinMap as tree
 use Rattle.std.specs.FinSet as set
+use Rattle.object_id.specs.declared.limits.TheConstants.{NODES_MAX}
 use Rattle.object_id.specs.declared.node.Epoch.{Epoch}
 use Rattle.object_id.specs.declared.node.NodeId.{NodeId}
 use Rattle.vnode_table.specs.Epochs.{EpochMembers, is_entered}
@@ -112,7 +113,7 @@ open_numbers gateway =
 -- what an attempt needs to begin: an epoch that was entered, and numbers above those of all open attempts
 pub record MaySend (gateway : Gateway) (epochs : List EpochMembers) (first : ℕ) (epoch : Epoch) : Type 0 where
   pub entered : IsTrue (is_entered epochs epoch.0)
-  pub room : first ≤ 2 ^ 32 - 64
+  pub room : first ≤ 2 ^ 32 - NODES_MAX
   pub numbers : IsTrue (list_all (λ number. nat_lt number first) (open_numbers gateway))
 
 -- what a start needs besides: a work that meets its conditions, of a request with none open

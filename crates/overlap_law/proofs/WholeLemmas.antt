@@ -5,6 +5,7 @@ use Rattle.std.specs.Option.{option_map, option_and_then, option_map_or}
 use Rattle.std.specs.FinMap as tree
 use Rattle.std.proofs.lemmas.List.{length-map}
 use Rattle.object_id.specs.declared.node.NodeId.{NodeId}
+use Rattle.peer_proto.specs.declared.say.PeerRsp.{PeerRsp}
 use Rattle.peer_proto.specs.declared.work.ObjWork.{ObjWork}
 use Rattle.cluster_script.specs.declared.statement.Statement.{Statement}
 use Rattle.cluster_script.specs.Sessions.{ScriptSession, session_numbered}
@@ -19,7 +20,7 @@ use Rattle.sheep_world.specs.declared.name.MessageName.{MessageName}
 use Rattle.sheep_world.specs.World as worlds
 use Rattle.sheep_world.specs.World.{Packet, Host, World, host_at, message_at}
 use Rattle.sheep_world.specs.Step.{EventOutcome, step}
-use Rattle.overlap_law.specs.Attempts.{MessageFate, Flying, Doomed, AttemptRecord, has_message, fates_with, attempt_with_fate, attempts_with_fate, fate_by_answer, beginning, is_first, beginning_with, attempt_begun_with, numbers_given, attempts_begun_by}
+use Rattle.overlap_law.specs.Attempts.{MessageFate, Flying, Doomed, AttemptRecord, has_message, fates_with, attempt_with_fate, attempts_with_fate, fate_of_say, beginning, is_first, beginning_with, attempt_begun_with, numbers_given, attempts_begun_by}
 use Rattle.overlap_law.specs.BegunAttempts.{attempts_begun_in, attempts_begun, attempts_after_delivery, attempts_after}
 use Rattle.overlap_law.specs.Past.{MomentWithPast, past_after_event, moment_after, run_on, first_moment, run_with_past}
 
@@ -108,7 +109,7 @@ attempts_after_delivery-have : (packet : Option Packet) (name : MessageName) (ol
     → HaveFates (attempts_after_delivery packet name old new attempts)
 attempts_after_delivery-have None name old new attempts have = have
 attempts_after_delivery-have (Some (worlds.Request to bytes)) name old new attempts have =
-    attempts_with_fate-have (fate_by_answer new.outputs.say) name.sender name.number attempts have
+    attempts_with_fate-have (option_map_or (λ (rsp : PeerRsp). fate_of_say rsp.say) new.outputs.say Flying) name.sender name.number attempts have
 attempts_after_delivery-have (Some (worlds.Reply from bytes)) name old new attempts have =
     both-have attempts (attempts_begun name.sender.0 old new) have (attempts_begun-have name.sender.0 old new)
 

@@ -83,11 +83,6 @@ fate_of_say (says.Row row) = Doomed
 fate_of_say says.NoRow = Doomed
 fate_of_say (says.Refused refusal) = Doomed
 
--- a message that isn't answered flies on
-abbrev pub fate_by_answer : Option PeerRsp → MessageFate
-fate_by_answer None = Flying
-fate_by_answer (Some rsp) = fate_of_say rsp.say
-
 -- the nodes that messages go to
 abbrev pub receivers : List Message → List NodeId
 receivers messages = map (λ (message : Message). message.node) messages

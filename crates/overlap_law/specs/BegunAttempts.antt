@@ -3,11 +3,12 @@ use Rattle.std.specs.Prelude.{ℕ, List, [], ◌++◌, Option, Some, None}
 use Rattle.std.specs.Option.{option_map_or}
 use Rattle.cluster_script.specs.declared.statement.Statement.{Statement}
 use Rattle.cluster_script.specs.Sessions.{ScriptSession, session_numbered}
+use Rattle.peer_proto.specs.declared.say.PeerRsp.{PeerRsp}
 use Rattle.sheep_node.specs.declared.event.Event.{Event}
 use Rattle.sheep_node.specs.declared.event.Event.TheVariants.{Guest, Deliver, LoseRequest, LoseReply, LogNext, Put, RecoverTick, RetryTick, Lost, Leave, Join, Reweight, Back, Phase}
 use Rattle.sheep_world.specs.declared.name.MessageName.{MessageName}
 use Rattle.sheep_world.specs.World.{Packet, Request, Reply, Host, World, host_at, message_at}
-use Rattle.overlap_law.specs.Attempts.{AttemptRecord, Doomed, attempts_with_fate, fate_by_answer, attempts_begun_by}
+use Rattle.overlap_law.specs.Attempts.{AttemptRecord, Flying, Doomed, fate_of_say, attempts_with_fate, attempts_begun_by}
 
 -- the attempts that the step of a node between two worlds began
 abbrev pub attempts_begun_in : Option Host → Option Host → List AttemptRecord
@@ -24,7 +25,7 @@ attempts_begun node old new = attempts_begun_in (host_at node old) (host_at node
 abbrev pub attempts_after_delivery : Option Packet → MessageName → World → World → List AttemptRecord → List AttemptRecord
 attempts_after_delivery None name old new attempts = attempts
 attempts_after_delivery (Some (Request to bytes)) name old new attempts =
-    attempts_with_fate (fate_by_answer new.outputs.say) name.sender name.number attempts
+    attempts_with_fate (option_map_or (λ (rsp : PeerRsp). fate_of_say rsp.say) new.outputs.say Flying) name.sender name.number attempts
 attempts_after_delivery (Some (Reply from bytes)) name old new attempts = attempts ++ attempts_begun name.sender.0 old new
 
 -- the attempts after an event, which leads from one world to another

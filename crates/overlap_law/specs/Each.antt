@@ -56,8 +56,7 @@ has_reached hosts epoch node = nat_le epoch (option_map_or (λ (host : Host). ho
 
 -- the last epoch that a row covers, at a node of an epoch: an open row covers that one
 abbrev pub end_of_row : ℕ → Option Epoch → ℕ
-end_of_row epoch None = epoch
-end_of_row epoch (Some to) = to.0
+end_of_row epoch to = option_map_or (λ (last : Epoch). last.0) to epoch
 
 -- whether a row covers a level, at a node of an epoch
 abbrev pub row_covers : ℕ → ℕ → SeenRow → Bool
@@ -69,8 +68,8 @@ has_row_at epoch rows oid level = list_any (row_covers epoch level) (rows_of row
 
 -- whether a node has a row of the object that covers the level
 abbrev pub holds_level : Option Host → ℕ → ℕ → Bool
-holds_level None oid level = false
-holds_level (Some host) oid level = has_row_at host.node.peer.epoch host.node.peer.rows oid level
+holds_level found oid level =
+    option_map_or (λ (host : Host). has_row_at host.node.peer.epoch host.node.peer.rows oid level) found false
 
 -- what the disk of an id was made with
 abbrev pub spec_in : List Effect → ℕ → Option VdiSpec

@@ -1,5 +1,6 @@
 -- Where in the log an id was reserved, given to its writer and published, and where an incarnation of a node left: by epochs.
 use Rattle.std.specs.Prelude.{ℕ, ◌+◌, ◌-◌, ◌==◌, Bool, false, List, length, map, fold, zip, Option, Some, None, slice_get, if◌then◌else◌}
+use Rattle.std.specs.Option.{option_map_or}
 use Rattle.std.specs.List.{filter_map, range_with_len}
 use Rattle.object_id.specs.declared.entry.Entry.{Entry}
 use Rattle.epoch_log.specs.Epochs.{epoch_at}
@@ -66,14 +67,13 @@ published_in log vid = last_epoch (publishes vid) log
 abbrev pub reserver : Reservation → Holder
 reserver reservation = record { node = reservation.by; session = reservation.session }
 
--- the session with the reservation, if one stands, or else the holder
-abbrev pub writer_by : Option Reservation → Option Holder → Option Holder
-writer_by None holder = holder
-writer_by (Some reservation) holder = Some (reserver reservation)
-
--- who may write the objects of an id: the session that holds it or has its standing reservation
+-- who may write the objects of an id: the session that has its standing reservation, or else the one that holds it
 unfoldable pub writer_of : List Effect → ℕ → Option Holder
-writer_of effects vid = writer_by (reservation_on (record { 0 = vid }) (reservations_of effects)) (holder_of effects vid)
+writer_of effects vid =
+    option_map_or
+    (λ (reservation : Reservation). Some (reserver reservation))
+    (reservation_on (record { 0 = vid }) (reservations_of effects))
+    (holder_of effects vid)
 
 -- the epoch of an effect that is the node's `Leave`
 abbrev pub leave_epoch_of : ℕ → ℕ → Effect → Option ℕ

@@ -1,5 +1,6 @@
 -- What a work is about, and which works there may be.
-use Rattle.std.specs.Prelude.{ℕ, ◌+◌, ◌^◌, ◌≤◌, List, length}
+use Rattle.std.specs.Prelude.{ℕ, ◌+◌, ◌≤◌, List, length}
+use Rattle.object_id.specs.declared.limits.TheConstants.{OBJECT_BYTES_MAX}
 use Rattle.object_id.specs.declared.oid.Kind.{Kind}
 use Rattle.object_id.specs.declared.policy.Policy.{Policy}
 use Rattle.object_id.specs.Oid.{kind_of}
@@ -26,13 +27,13 @@ policy_of (ReadAll oid policy size) = policy
 abbrev pub AreAligned : Policy → Kind → ℕ → ℕ → Type 0
 AreAligned policy kind offset long = IsAligned policy kind offset × IsAligned policy kind long
 
--- what a work must meet: a create's piece ends inside the object, any other work inside the longest object, 2^24 bytes
+-- what a work must meet: a create's piece ends inside the object, any other work inside the longest object
 abbrev pub IsWork : ObjWork → Type 0
 IsWork (Create oid policy size offset bytes) =
     IsPolicy policy × (offset + length bytes ≤ size) × AreAligned policy (kind_of oid) offset (length bytes)
     × IsAligned policy (kind_of oid) size
 IsWork (Write oid policy offset bytes) =
-    IsPolicy policy × (offset + length bytes ≤ 2 ^ 24) × AreAligned policy (kind_of oid) offset (length bytes)
+    IsPolicy policy × (offset + length bytes ≤ OBJECT_BYTES_MAX) × AreAligned policy (kind_of oid) offset (length bytes)
 IsWork (Read oid policy offset size) =
-    IsPolicy policy × (offset + size ≤ 2 ^ 24) × AreAligned policy (kind_of oid) offset size
-IsWork (ReadAll oid policy size) = IsPolicy policy × (size ≤ 2 ^ 24) × IsAligned policy (kind_of oid) size
+    IsPolicy policy × (offset + size ≤ OBJECT_BYTES_MAX) × AreAligned policy (kind_of oid) offset size
+IsWork (ReadAll oid policy size) = IsPolicy policy × (size ≤ OBJECT_BYTES_MAX) × IsAligned policy (kind_of oid) size

@@ -1,5 +1,6 @@
 -- Nothing is searched before each other member has named its objects.
 use Rattle.std.proofs.Common.{◌≡◌, ℕ, ◌==◌, Bool, true, false, cond, List, [], ◌∷◌, length, Option, None, Some, refl, ap, sym, subst, ◌∙◌, arith}
+use Rattle.std.specs.Option.{option_map_or}
 use Rattle.std.specs.List.{list_any}
 use Rattle.std.proofs.lemmas.Bool.{ne_eqb}
 use Rattle.proof_tools.proofs.Booleans.{cond_either}
@@ -12,8 +13,8 @@ use Rattle.peer_proto.specs.declared.say.PeerSay.TheVariants as says
 use Rattle.recovery.specs.Shown.{shown_with_pending}
 use Rattle.recovery.specs.State.{Message, Search, RecoveryState, is_listed, message_of, still_on, search_on}
 use Rattle.recovery.specs.Level.{level_over, is_of_search, searching}
-use Rattle.recovery.specs.Tick.{next_search, with_messages, searching_on, tick_messages, state_after_tick}
-use Rattle.recovery.specs.Steps.{to_recover, when_listed, at_start, recovery_from_epoch, without_unanswered, search_after_answer, after_list, after_read, after_ask, after_message, message_end}
+use Rattle.recovery.specs.Tick.{next_search, with_messages, tick_messages, state_after_tick}
+use Rattle.recovery.specs.Steps.{to_recover, when_listed, at_start, recovery_from_epoch, without_unanswered, search_after_answer, after_list, after_read, after_ask, message_end}
 use Rattle.recovery.specs.Frame.{WaitsForLists}
 use Rattle.recovery.proofs.StepLemmas.{judged_each}
 
@@ -29,7 +30,7 @@ searching_lists search state =
     (record state { recovery = record state.recovery { search = Some search } }) (level_over search state)
     refl (judged_each (SameLists state) search state refl (λ index bytes. refl) refl (λ level. refl))
 
-searching_on_lists : (search : Option Search) (state : RecoveryState) → SameLists state (searching_on search state)
+searching_on_lists : (search : Option Search) (state : RecoveryState) → SameLists state (option_map_or (λ (search : Search). searching search state) search state)
 searching_on_lists None state = refl
 searching_on_lists (Some search) state = searching_lists search state
 
@@ -63,9 +64,9 @@ unfolding state_after_tick
 tick_waits first state waits = by_list (is_listed state.recovery) refl
   where
     by_list : (b : Bool) → is_listed state.recovery ≡ b
-        → WaitsForLists (cond b (searching_on (next_search state) (with_messages (tick_messages first state) state)) (with_messages (tick_messages first state) state))
+        → WaitsForLists (cond b (option_map_or (λ (search : Search). searching search (with_messages (tick_messages first state) state)) (next_search state) (with_messages (tick_messages first state) state)) (with_messages (tick_messages first state) state))
     by_list true listed =
-        finished_waits state (searching_on (next_search state) (with_messages (tick_messages first state) state)) listed
+        finished_waits state (option_map_or (λ (search : Search). searching search (with_messages (tick_messages first state) state)) (next_search state) (with_messages (tick_messages first state) state)) listed
         (searching_on_lists (next_search state) (with_messages (tick_messages first state) state))
     by_list false unlisted = waits
 
@@ -99,7 +100,7 @@ after_ask_waits (asks.RecoverRead oid level) from said state waits = after_read_
 after_ask_waits ask from said state waits = waits
 
 after_message_waits : (message : Option Message) (said : Option PeerSay) (state : RecoveryState) → WaitsForLists state
-    → WaitsForLists (after_message message said state)
+    → WaitsForLists (option_map_or (λ (message : Message). after_ask message.request.ask message.to said state) message state)
 after_message_waits None said state waits = waits
 after_message_waits (Some message) said state waits = after_ask_waits message.request.ask message.to said state waits
 

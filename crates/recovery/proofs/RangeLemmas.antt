@@ -34,9 +34,9 @@ use Rattle.peer_proto.specs.Ask.{IsPeerAsk, IsPeerReq}
 use Rattle.peer_proto.specs.Header.{IsEpoch}
 use Rattle.recovery.specs.Shown.{live_policy, first_in, is_pending_object, is_to_recover, shown_with_pending}
 use Rattle.recovery.specs.State.{Message, Search, Recovery, RecoveryState, search_at, still_on, search_on, is_listed, is_finished, all_unanswered, can_tick, message_of, MayBegin, MayTick}
-use Rattle.recovery.specs.Level.{with_part_found, with_object_missing, to_ask, one_lower, level_without_part, own_index, own_part, rows_found, are_enough, level_over_of, level_over, is_of_search, searching}
-use Rattle.recovery.specs.Tick.{request_message, messages_to, lists_asked, asked_of, level_asked, or_next, next_search, level_messages, tick_messages, tick_sends, searching_on, with_messages, state_after_tick}
-use Rattle.recovery.specs.Steps.{to_recover, when_listed, at_start, recovery_from_epoch, without_unanswered, with_list_of, search_after_answer, after_list, after_read, after_ask, after_message, message_end}
+use Rattle.recovery.specs.Level.{with_part_found, with_object_missing, to_ask, one_lower, level_without_part, own_index, own_part, rows_found, are_enough, level_over_by, level_over, is_of_search, searching}
+use Rattle.recovery.specs.Tick.{request_message, messages_to, lists_asked, asked_of, level_asked, or_next, next_search, level_messages, tick_messages, tick_sends, with_messages, state_after_tick}
+use Rattle.recovery.specs.Steps.{to_recover, when_listed, at_start, recovery_from_epoch, without_unanswered, with_list_of, search_after_answer, after_list, after_read, after_ask, message_end}
 use Rattle.recovery.specs.Range.{IsSearchInRange, IsInRange, NamesIds}
 use Rattle.recovery.proofs.StepLemmas.{numbers_of_tick}
 
@@ -276,7 +276,7 @@ judged_range : (search : Search) (state : RecoveryState) → IsSearchInRange sea
 unfolding level_over
 judged_range search state fine range = of_policy (live_policy state.shown search.oid)
   where
-    of_policy : (policy : Option Policy) → IsInRange (level_over_of policy search state)
+    of_policy : (policy : Option Policy) → IsInRange (option_map_or (λ (policy : Policy). level_over_by policy search (rows_found state policy search) state) policy state)
     of_policy None = range
     of_policy (Some policy) =
         let rows = rows_found state policy search in
@@ -294,7 +294,7 @@ searching_range search state fine range =
     (record state { recovery = record state.recovery { search = Some search } }) (level_over search state)
     (with_search (Some search) state fine range) (judged_range search state fine range)
 
-searching_on_range : (search : Option Search) (state : RecoveryState) → IsFine search → IsInRange state → IsInRange (searching_on search state)
+searching_on_range : (search : Option Search) (state : RecoveryState) → IsFine search → IsInRange state → IsInRange (option_map_or (λ (search : Search). searching search state) search state)
 searching_on_range None state fine range = range
 searching_on_range (Some search) state fine range = searching_range search state fine range
 
@@ -306,7 +306,7 @@ unfolding state_after_tick
 ticked_in_range first state may range =
     let sent = with_messages_range (tick_messages first state) state range in
     cond_either IsInRange (is_listed state.recovery)
-    (searching_on (next_search state) (with_messages (tick_messages first state) state))
+    (option_map_or (λ (search : Search). searching search (with_messages (tick_messages first state) state)) (next_search state) (with_messages (tick_messages first state) state))
     (with_messages (tick_messages first state) state)
     (searching_on_range (next_search state) (with_messages (tick_messages first state) state) (next_search_fine state range may.work) sent)
     sent
@@ -406,7 +406,7 @@ after_ask_range (asks.RecoverRead oid level) from said state ids range =
 after_ask_range ask from said state ids range = range
 
 after_message_range : (message : Option Message) (said : Option PeerSay) (state : RecoveryState) → IfSome said NamesIds → IsInRange state
-    → IsInRange (after_message message said state)
+    → IsInRange (option_map_or (λ (message : Message). after_ask message.request.ask message.to said state) message state)
 after_message_range None said state ids range = range
 after_message_range (Some message) said state ids range = after_ask_range message.request.ask message.to said state ids range
 

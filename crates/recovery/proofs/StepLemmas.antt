@@ -20,10 +20,10 @@ use Rattle.peer_proto.specs.declared.say.Refusal.{Refusal}
 use Rattle.object_store.specs.Store.{create_in}
 use Rattle.recovery.specs.Shown.{live_policy, is_pending_object, shown_with_pending}
 use Rattle.recovery.specs.State.{Message, Search, Recovery, RecoveryState, search_at, is_missing, is_listed, all_unanswered, message_of, still_on, search_on}
-use Rattle.recovery.specs.Level.{with_part_found, with_object_missing, to_ask, one_lower, level_without_part, own_index, own_part, rows_found, are_enough, level_over_of, level_over, is_of_search, searching}
-use Rattle.recovery.specs.Tick.{messages_to, lists_asked, level_asked, level_messages, asked_of, next_search, with_messages, searching_on, tick_messages, state_after_tick}
+use Rattle.recovery.specs.Level.{with_part_found, with_object_missing, to_ask, one_lower, level_without_part, own_index, own_part, rows_found, are_enough, level_over_by, level_over, is_of_search, searching}
+use Rattle.recovery.specs.Tick.{messages_to, lists_asked, level_asked, level_messages, asked_of, next_search, with_messages, tick_messages, state_after_tick}
 use Rattle.recovery.specs.Frame.{frame}
-use Rattle.recovery.specs.Steps.{to_recover, when_listed, at_start, recovery_from_epoch, without_unanswered, search_after_answer, after_list, after_read, after_ask, after_message, message_end}
+use Rattle.recovery.specs.Steps.{to_recover, when_listed, at_start, recovery_from_epoch, without_unanswered, search_after_answer, after_list, after_read, after_ask, message_end}
 
 -- a level comes to a found row, a missing object, or a level to ask
 pub judged_each : (P : RecoveryState → Type 0) (search : Search) (state : RecoveryState) → P state
@@ -32,7 +32,7 @@ pub judged_each : (P : RecoveryState → Type 0) (search : Search) (state : Reco
 unfolding level_over
 judged_each P search state same there gone again = of_policy (live_policy state.shown search.oid)
   where
-    of_policy : (policy : Option Policy) → P (level_over_of policy search state)
+    of_policy : (policy : Option Policy) → P (option_map_or (λ (policy : Policy). level_over_by policy search (rows_found state policy search) state) policy state)
     of_policy None = same
     of_policy (Some policy) =
         cond_either P (are_enough policy (kind_of search.oid) (rows_found state policy search))
@@ -89,12 +89,12 @@ pub frame_of_tick : (first : ℕ) (state : RecoveryState) → frame (state_after
 unfolding state_after_tick
 frame_of_tick first state =
     cond_either (SameFrame (with_messages (tick_messages first state) state)) (is_listed state.recovery)
-    (searching_on (next_search state) (with_messages (tick_messages first state) state))
+    (option_map_or (λ (search : Search). searching search (with_messages (tick_messages first state) state)) (next_search state) (with_messages (tick_messages first state) state))
     (with_messages (tick_messages first state) state)
     (of_search (next_search state)) refl
   where
     of_search : (search : Option Search) → SameFrame (with_messages (tick_messages first state) state)
-        (searching_on search (with_messages (tick_messages first state) state))
+        (option_map_or (λ (search : Search). searching search (with_messages (tick_messages first state) state)) search (with_messages (tick_messages first state) state))
     of_search None = refl
     of_search (Some search) = searching_frame search (with_messages (tick_messages first state) state)
 
@@ -122,7 +122,7 @@ after_ask_frame asks.List from said state = after_list_frame from said state
 after_ask_frame (asks.RecoverRead oid level) from said state = after_read_frame oid from said (search_on state) state
 after_ask_frame ask from said state = refl
 
-after_message_frame : (message : Option Message) (said : Option PeerSay) (state : RecoveryState) → SameFrame state (after_message message said state)
+after_message_frame : (message : Option Message) (said : Option PeerSay) (state : RecoveryState) → SameFrame state (option_map_or (λ (message : Message). after_ask message.request.ask message.to said state) message state)
 after_message_frame None said state = refl
 after_message_frame (Some message) said state = after_ask_frame message.request.ask message.to said state
 
@@ -146,7 +146,7 @@ end_of_list : (number : ℕ) (said : Option PeerSay) (state : RecoveryState) (me
     → message_of number state.recovery.unanswered ≡ Some message → message.request.ask ≡ asks.List
     → message_end number said state ≡ after_list message.to said (without_unanswered number state)
 end_of_list number said state message there ask =
-    ap (λ (m : Option Message). after_message m said (without_unanswered number state)) there
+    ap (λ (m : Option Message). option_map_or (λ (message : Message). after_ask message.request.ask message.to said (without_unanswered number state)) m (without_unanswered number state)) there
     ∙ ap (λ (a : PeerAsk). after_ask a message.to said (without_unanswered number state)) ask
 
 pub refused_lists_are_not_named : (number : ℕ) (refusal : Refusal) (state : RecoveryState) (message : Message)
@@ -158,7 +158,7 @@ refused_lists_are_not_named number refusal state message there ask =
 
 pub end_of_older : (number : ℕ) (said : Option PeerSay) (state : RecoveryState) → message_of number state.recovery.unanswered ≡ None
     → message_end number said state ≡ without_unanswered number state
-end_of_older number said state none = ap (λ (m : Option Message). after_message m said (without_unanswered number state)) none
+end_of_older number said state none = ap (λ (m : Option Message). option_map_or (λ (message : Message). after_ask message.request.ask message.to said (without_unanswered number state)) m (without_unanswered number state)) none
 
 -- the search of an object that isn't pending doesn't go on
 read_of_ended : (oid : ℕ) (from : NodeId) (said : Option PeerSay) (state : RecoveryState) (pending : Option (List ℕ)) (search : Option Search)
@@ -183,7 +183,7 @@ pub end_of_ended : (number : ℕ) (said : Option PeerSay) (state : RecoveryState
     → is_pending_object oid state.shown.pending ≡ false
     → message_end number said state ≡ without_unanswered number state
 end_of_ended number said state message oid level there ask gone =
-    ap (λ (m : Option Message). after_message m said (without_unanswered number state)) there
+    ap (λ (m : Option Message). option_map_or (λ (message : Message). after_ask message.request.ask message.to said (without_unanswered number state)) m (without_unanswered number state)) there
     ∙ ap (λ (a : PeerAsk). after_ask a message.to said (without_unanswered number state)) ask
     ∙ read_of_ended oid message.to said (without_unanswered number state) state.shown.pending state.recovery.search gone
 
@@ -209,7 +209,7 @@ unfolding level_over
 search_after_level policy search state next is now =
     of_rows (own_index policy search state) (own_part policy search (rows_found state policy search) state)
     (are_enough policy (kind_of search.oid) (rows_found state policy search))
-    (sym (ap (λ (p : Option Policy). (level_over_of p search state).recovery.search) is) ∙ now)
+    (sym (ap (λ (p : Option Policy). (option_map_or (λ (policy : Policy). level_over_by policy search (rows_found state policy search) state) p state).recovery.search) is) ∙ now)
   where
     -- the search that a level asks next is this one
     this_one : (level : ℕ) → Some (search_at search.oid level) ≡ Some next → next ≡ search_at search.oid level
@@ -268,7 +268,7 @@ missing_of_level search state oid = of_policy (live_policy state.shown search.oi
     of_rows index bytes true now = inl now
     of_rows index bytes false now = of_again search.again refl now
 
-    of_policy : (policy : Option Policy) → is_missing oid (level_over_of policy search state).recovery ≡ true → Missed search state oid
+    of_policy : (policy : Option Policy) → is_missing oid (option_map_or (λ (policy : Policy). level_over_by policy search (rows_found state policy search) state) policy state).recovery ≡ true → Missed search state oid
     of_policy None now = inl now
     of_policy (Some policy) now =
         of_rows (own_index policy search state) (own_part policy search (rows_found state policy search) state)

@@ -1,5 +1,6 @@
 -- The steps of a recovery beside its tick: it begins, and a message of it is answered or lost.
 use Rattle.std.specs.Prelude.{ℕ, ◌==◌, true, not, List, [], ◌∷◌, ◌++◌, filter, Option, None, Some, if◌then◌else◌}
+use Rattle.std.specs.Option.{option_map_or}
 use Rattle.std.specs.FinMap as tree
 use Rattle.object_id.specs.declared.node.NodeId.{NodeId}
 use Rattle.object_store.specs.declared.row.RowCopy.{RowCopy}
@@ -105,14 +106,13 @@ after_ask (asks.Read key offset size) from said state = state
 after_ask asks.List from said state = after_list from said state
 after_ask (asks.RecoverRead oid level) from said state = after_read oid from said (search_on state) state
 
--- of a message of this recovery; of one of an older recovery nothing comes
-abbrev pub after_message : Option Message → Option PeerSay → RecoveryState → RecoveryState
-after_message None said state = state
-after_message (Some message) said state = after_ask message.request.ask message.to said state
-
--- a message has ended, answered or lost
+-- a message has ended, answered or lost; of one of an older recovery nothing comes
 abbrev pub message_end : ℕ → Option PeerSay → RecoveryState → RecoveryState
-message_end number said state = after_message (message_of number state.recovery.unanswered) said (without_unanswered number state)
+message_end number said state =
+    option_map_or
+    (λ (message : Message). after_ask message.request.ask message.to said (without_unanswered number state))
+    (message_of number state.recovery.unanswered)
+    (without_unanswered number state)
 
 -- a message is answered
 unfoldable pub recovery_on_reply : PeerRsp → RecoveryState → RecoveryState

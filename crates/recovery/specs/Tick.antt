@@ -67,19 +67,17 @@ tick_messages first state =
 unfoldable pub tick_sends : ℕ → RecoveryState → List (NodeId × PeerReq)
 tick_sends first state = map (λ (message : Message). (message.to, message.request)) (tick_messages first state)
 
--- the search, if there is one, goes on
-abbrev pub searching_on : Option Search → RecoveryState → RecoveryState
-searching_on None state = state
-searching_on (Some search) state = searching search state
-
 -- these messages are unanswered too
 abbrev pub with_messages : List Message → RecoveryState → RecoveryState
 with_messages messages state =
     record state { recovery = record state.recovery { unanswered = state.recovery.unanswered ++ messages } }
 
--- a tick sends its messages; where a level has none to ask, it is over at once
+-- a tick sends its messages, and the search, if there is one, goes on; where a level has none to ask, it is over at once
 unfoldable pub state_after_tick : ℕ → RecoveryState → RecoveryState
 state_after_tick first state =
     if is_listed state.recovery
-    then searching_on (next_search state) (with_messages (tick_messages first state) state)
+    then option_map_or
+    (λ (search : Search). searching search (with_messages (tick_messages first state) state))
+    (next_search state)
+    (with_messages (tick_messages first state) state)
     else with_messages (tick_messages first state) state

@@ -7,7 +7,7 @@ use Rattle.cluster_script.specs.declared.statement.Statement.{Statement}
 use Rattle.cluster_script.specs.OneDisk.{IsOneDiskScript}
 use Rattle.cluster_script.specs.OneDiskLines.{one_disk_script_in}
 use Rattle.sheep.specs.declared.answer.Answer.{Answer}
-use Rattle.sheep.specs.declared.answer.TheConstants.{INPUT_BYTES_MAX}
+use Rattle.object_id.specs.declared.limits.TheConstants.{INPUT_BYTES_MAX}
 use Rattle.sheep.specs.declared.mode.Mode.{Mode}
 use Rattle.sheep.specs.declared.status.Status.TheVariants as statuses
 use Rattle.sheep.specs.Answer.{AnswersCall, Reads, ReadsAll, RunsScript, NamesBadLine, ReadsTooMuch, MakesLegalHistory, answer_to, script_answer, bad_words_text, too_long_text}

@@ -7,7 +7,7 @@ use Rattle.cluster_script.specs.Causes.{number_of_cause}
 use Rattle.cluster_script.specs.OneDiskLines.{one_disk_script_in}
 use Rattle.disk_history.specs.Legal.{IsLegal}
 use Rattle.sheep.specs.declared.answer.Answer.{Answer}
-use Rattle.sheep.specs.declared.answer.TheConstants.{INPUT_BYTES_MAX}
+use Rattle.object_id.specs.declared.limits.TheConstants.{INPUT_BYTES_MAX}
 use Rattle.sheep.specs.declared.mode.Mode.{Mode}
 use Rattle.sheep.specs.declared.status.Status.TheVariants as statuses
 use Rattle.sheep.specs.Report.{printed_text}

@@ -1,7 +1,7 @@
 -- What the blocks of the one disk hold after the statements of a script.
 use Rattle.std.specs.Prelude.{ℕ, ◌+◌, ◌-◌, ◌/◌, Bool, ◌&&◌, List, fold, replicate, nat_le, nat_lt, Option, Some, None, unwrap_or, if◌then◌else◌}
 use Rattle.std.specs.List.{range_with_len}
-use Rattle.cluster_script.specs.declared.limits.TheConstants.{BLOCK}
+use Rattle.object_id.specs.declared.limits.TheConstants.{BLOCK_BYTES}
 use Rattle.cluster_script.specs.declared.statement.Pattern.{Pattern}
 use Rattle.cluster_script.specs.declared.statement.Statement.{Statement}
 use Rattle.cluster_script.specs.declared.statement.Statement.TheVariants.{Write}
@@ -18,18 +18,18 @@ ends_inside_disk size offset length = nat_le (offset + length) size
 
 -- the blocks of a piece, in order
 abbrev pub piece_blocks : ℕ → ℕ → List ℕ
-piece_blocks offset length = range_with_len (offset / BLOCK) (length / BLOCK)
+piece_blocks offset length = range_with_len (offset / BLOCK_BYTES) (length / BLOCK_BYTES)
 
 -- whether a block is one of a piece's
 abbrev pub covers_block : ℕ → ℕ → ℕ → Bool
-covers_block offset length block = nat_le (offset / BLOCK) block && nat_lt block (offset / BLOCK + length / BLOCK)
+covers_block offset length block = nat_le (offset / BLOCK_BYTES) block && nat_lt block (offset / BLOCK_BYTES + length / BLOCK_BYTES)
 
 abbrev pub zero_block : List ℕ
-zero_block = replicate BLOCK 0
+zero_block = replicate BLOCK_BYTES 0
 
 -- what a write with this pattern from an offset on gives a block
 unfoldable pub block_of : Pattern → ℕ → ℕ → List ℕ
-block_of pattern offset block = replicate BLOCK (byte_of pattern (block - offset / BLOCK))
+block_of pattern offset block = replicate BLOCK_BYTES (byte_of pattern (block - offset / BLOCK_BYTES))
 
 -- what a statement lays on a block of a disk of this size: a write does, where it ends inside the disk and covers the block
 abbrev pub laid_on : ℕ → ℕ → Statement → Option (List ℕ)

@@ -1,7 +1,7 @@
 -- The history that a script's run makes.
 use Rattle.std.specs.Prelude.{ℕ, ◌/◌, false, List, [], ◌∷◌, ◌++◌, map, if◌then◌else◌}
 use Rattle.object_id.specs.Hash.{own_vid}
-use Rattle.cluster_script.specs.declared.limits.TheConstants.{BLOCK}
+use Rattle.object_id.specs.declared.limits.TheConstants.{BLOCK_BYTES}
 use Rattle.cluster_script.specs.declared.statement.Statement.{Statement}
 use Rattle.cluster_script.specs.declared.statement.Statement.TheVariants.{Create, Read, Write}
 use Rattle.cluster_script.specs.Statements.{disk_name}
@@ -17,7 +17,7 @@ vid_after before = own_vid (unwrap_or (disk_name before) [])
 
 -- what a statement adds to the history: a disk, the writes and the end of a write request, or the blocks of a read
 abbrev pub events_after : List Statement → Statement → List HistEvent
-events_after before (Create session policy shift name size) = events.Create (own_vid name) (size / BLOCK) ∷ []
+events_after before (Create session policy shift name size) = events.Create (own_vid name) (size / BLOCK_BYTES) ∷ []
 events_after before (Read session offset length) =
     if ends_inside_disk (size_after before) offset length
     then map (λ block. events.Read (vid_after before) block (block_after (size_after before) before block)) (piece_blocks offset length)

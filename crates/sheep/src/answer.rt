@@ -9,12 +9,9 @@ use crate::report::report;
 use crate::runs::push_decimal;
 use crate::status::Status;
 use cluster_script::{LineCause, ScriptFault, parse};
-use object_id::{Bytes, NoMemory};
+use object_id::{Bytes, INPUT_BYTES_MAX, NoMemory};
 use sheep_base::{ReadStop, Source, read_all};
 use std::alloc::Global;
-
-/// The most bytes that an input may have.
-pub const INPUT_BYTES_MAX: usize = 16_777_216;
 
 /// What a call is to write, and the status that it then ends with.
 #[derive(Drop)]

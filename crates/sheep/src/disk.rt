@@ -6,12 +6,12 @@ ghost use Rattle.sheep.specs.Stored.{stored_block, size_next, Holds};
 
 use crate::runs::push_runs;
 use cluster_script::{Pattern, Statement};
-use object_id::{Bytes, NoMemory};
+use object_id::{BLOCK_BYTES, Bytes, NoMemory};
 use std::alloc::Global;
 use std::collections::BTreeMap;
 
-/// The unit of a disk, in bytes.
-const BLOCK_BYTES: u64 = 512;
+/// A block's length, of the width of offsets.
+const BLOCK: u64 = BLOCK_BYTES as u64;
 
 /// What the line of a request that is done says, and that of a piece that ends past the disk.
 const OK: &[u8] = b" ok";
@@ -58,10 +58,13 @@ fn fill(
     ensures { OnOk result ((block : ℕ) → stored_block blocks.new block
         ≡ (if covers_block offset length block then block_of pattern offset block else stored_block blocks.old block)) }
 {
-    let first = offset / BLOCK_BYTES;
-    for block in first..first + u64::from(length) / BLOCK_BYTES {
+    let first = offset / BLOCK;
+    for block in first..first + u64::from(length) / BLOCK {
         let byte = byte_of(pattern, block - first);
-        blocks.insert(block, Bytes::from_slice(alloc, &[byte; 512])?)?;
+        blocks.insert(
+            block,
+            Bytes::from_slice(alloc, &[byte; BLOCK_BYTES as usize])?,
+        )?;
     }
     Ok(())
 }
@@ -72,7 +75,7 @@ fn push_block(bytes: &mut Vec<u8>, blocks: &Blocks, block: u64) -> Result<(), No
 {
     match blocks.get(&block) {
         Some(stored) => bytes.extend_from_slice(stored.as_slice())?,
-        None => bytes.extend_from_slice(&[0; 512])?,
+        None => bytes.extend_from_slice(&[0; BLOCK_BYTES as usize])?,
     }
     Ok(())
 }
@@ -82,9 +85,9 @@ fn piece(alloc: Global, blocks: &Blocks, offset: u64, length: u32) -> Result<Vec
     requires { offset + length < 2 ^ 64 }
     ensures { IfOk result (λ bytes. bytes.items ≡ flat_map (stored_block blocks.now) (piece_blocks offset length)) }
 {
-    let first = offset / BLOCK_BYTES;
+    let first = offset / BLOCK;
     let mut bytes = Vec::new(alloc);
-    for block in first..first + u64::from(length) / BLOCK_BYTES {
+    for block in first..first + u64::from(length) / BLOCK {
         push_block(&mut bytes, blocks, block)?;
     }
     Ok(bytes)

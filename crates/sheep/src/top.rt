@@ -3,7 +3,7 @@ ghost use Rattle.cluster_script.specs.OneDiskLines.{one_disk_script_in};
 ghost use Rattle.sheep_base.specs.Fault.{Rose};
 ghost use Rattle.sheep_base.specs.Sink.{Gains};
 ghost use Rattle.sheep.specs.declared.answer.Answer.{Answer as Ended};
-ghost use Rattle.sheep.specs.declared.answer.TheConstants.{INPUT_BYTES_MAX};
+ghost use Rattle.object_id.specs.declared.limits.TheConstants.{INPUT_BYTES_MAX};
 ghost use Rattle.sheep.specs.Mode.{mode_asked_for};
 ghost use Rattle.sheep.specs.Answer.{AnswersCall, RunsScript, NamesBadLine, ReadsTooMuch, TakesAtMost, bad_words_text, too_long_text};
 

@@ -161,7 +161,7 @@ module _ (input : Input) (old node : Node) (sound : IsSoundStep input node) (bel
       (gone_asks input old below lined.node.me lined.node.gateway.works lined.node.sends lined.outputs.sends req (tree.get lined.node.gateway.works req) refl
       (comes_asks so_far session req asked lined comes asks)
       (turns_denied input old (tree.get lined.node.gateway.works req) (comes_idle so_far session req asked lined comes both.0)))
-  change_keeps_asks so_far next (changes.Strays req work gateway there none) both asks = absurd (never_alone req work so_far there none both.0)
+  change_keeps_asks so_far next (changes.Strays req work gateway there none apart) both asks = absurd (never_alone req work so_far there none both.0)
   change_keeps_asks so_far next (changes.Lines session req work moved steps waits) both asks = steps_asks so_far session req (ToWork work) moved steps asks
   change_keeps_asks so_far next (changes.Appends session req entry moved steps) both asks = steps_asks so_far session req (ToEntry entry) moved steps asks
   change_keeps_asks so_far next (changes.Replies session req reply moved steps) both asks =

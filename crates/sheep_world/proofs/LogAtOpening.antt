@@ -8,8 +8,8 @@ use Rattle.std.proofs.lemmas.Bool.{eqb-true, eqb-false, ltb-true, ltb-false, or_
 use Rattle.std.proofs.lemmas.List.Elements.{All-nil, All-cons}
 use Rattle.object_id.specs.declared.entry.Member.{Member}
 use Rattle.object_id.specs.Node.{IsNode, IsWeight}
+use Rattle.object_id.specs.declared.limits.TheConstants.{NODES_DEFAULT, VNODES_DEFAULT}
 use Rattle.epoch_log.specs.Members.{is_member_node, node_numbers, HaveWeights, is_member}
-use Rattle.cluster_script.specs.declared.limits.TheConstants.{NODES_DEFAULT, VNODES_DEFAULT}
 use Rattle.cluster_script.specs.declared.statement.Statement.{Statement}
 use Rattle.cluster_script.specs.declared.statement.Statement.TheVariants.{Cluster, Vnodes}
 use Rattle.cluster_script.specs.Language.{MayStand, EachMayStand, IsScript}

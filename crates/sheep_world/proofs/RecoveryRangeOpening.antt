@@ -21,7 +21,7 @@ use Rattle.vnode_table.specs.Epochs.{members_at}
 use Rattle.vnode_table.specs.Targets.{targets_in}
 use Rattle.vdi_directory.specs.Effects.{header_of}
 use Rattle.vdi_directory.specs.Decisions.{log_effects}
-use Rattle.cluster_script.specs.declared.limits.TheConstants.{NODES_DEFAULT}
+use Rattle.object_id.specs.declared.limits.TheConstants.{NODES_DEFAULT}
 use Rattle.cluster_script.specs.declared.statement.Statement.{Statement}
 use Rattle.cluster_script.specs.declared.statement.Statement.TheVariants.{Cluster}
 use Rattle.cluster_script.specs.Language.{MayStand, EachMayStand, IsScript}

@@ -7,7 +7,7 @@ use Rattle.std.specs.Option.{option_map_or}
 use Rattle.std.specs.FinMap as tree
 use Rattle.std.proofs.lemmas.List.Folds.{list_any-append}
 use Rattle.std.proofs.lemmas.Bool.{eqb-true, eqb-false, ltb-true, ltb-false}
-use Rattle.cluster_script.specs.declared.limits.TheConstants.{NODES_DEFAULT}
+use Rattle.object_id.specs.declared.limits.TheConstants.{NODES_DEFAULT}
 use Rattle.cluster_script.specs.declared.statement.Statement.{Statement}
 use Rattle.cluster_script.specs.declared.statement.Statement.TheVariants.{Cluster, Fail, Join, Reweight, Back}
 use Rattle.cluster_script.specs.Language.{MayStand, EachMayStand, IsScript}

@@ -1,5 +1,5 @@
 -- What is found of an epoch, and what one more epoch changes.
-use Rattle.std.proofs.Common.{◌≡◌, ◌≢◌, ℕ, Bool, true, false, cond, List, [], ◌∷◌, ◌++◌, reverse, find, Option, Some, None, Bor, is_some, option_copied, IsTrue, refl, sym, ap, ap₂, ◌∙◌, arith}
+use Rattle.std.proofs.Common.{◌≡◌, ◌≢◌, ℕ, Bool, true, false, cond, List, [], ◌∷◌, ◌++◌, reverse, find, Option, Some, None, Bor, is_some, option_copied, IsTrue, refl, sym, ap, ap₂, ◌∙◌}
 use Rattle.std.specs.Prelude.{◌==◌, ◌||◌}
 use Rattle.std.proofs.lemmas.List.{reverse-append}
 use Rattle.std.proofs.lemmas.Bool.{ne_eqb, eq-eqb}
@@ -11,46 +11,42 @@ use Rattle.hash_ring.specs.Circle.{hash_of_object}
 use Rattle.hash_ring.specs.Placement.{targets_of}
 use Rattle.vnode_table.specs.Targets.{targets_in}
 use Rattle.vnode_table.specs.Epochs.{EpochMembers, is_entered, members_at}
-
-abbrev pub is_at : ℕ → EpochMembers → Bool
-is_at epoch term = term.epoch == epoch
+use Rattle.vnode_table.specs.Places.{is_of}
 
 -- an epoch was entered exactly where its term is found
-pub is_some-find : (terms : List EpochMembers) (epoch : ℕ) → is_some (find (is_at epoch) terms) ≡ is_entered terms epoch
+pub is_some-find : (terms : List EpochMembers) (epoch : ℕ) → is_some (find (is_of epoch) terms) ≡ is_entered terms epoch
 is_some-find [] epoch = refl
 is_some-find (t ∷ ts) epoch = go (t.epoch == epoch) (is_some-find ts epoch)
   where
-    go : (b : Bool) → is_some (find (is_at epoch) ts) ≡ is_entered ts epoch
-        → is_some (cond b (Some t) (find (is_at epoch) ts)) ≡ (b || is_entered ts epoch)
+    go : (b : Bool) → is_some (find (is_of epoch) ts) ≡ is_entered ts epoch
+        → is_some (cond b (Some t) (find (is_of epoch) ts)) ≡ (b || is_entered ts epoch)
     go true e = refl
     go false e = e
 
--- the same of what a search by reference answers, in terms that stand the other way round
-pub is_some-found : (found : Option (Bor EpochMembers)) (terms epochs : List EpochMembers) (epoch : ℕ)
-    → option_copied found ≡ find (is_at epoch) (reverse terms) → reverse terms ≡ epochs → is_some found ≡ is_entered epochs epoch
-is_some-found found terms epochs epoch e turned =
-    copied found ∙ ap is_some (e ∙ ap (find (is_at epoch)) turned) ∙ is_some-find epochs epoch
+-- the same of what a search by reference answers
+pub is_some-found : (found : Option (Bor EpochMembers)) (epochs : List EpochMembers) (epoch : ℕ)
+    → option_copied found ≡ find (is_of epoch) epochs → is_some found ≡ is_entered epochs epoch
+is_some-found found epochs epoch e = copied found ∙ ap is_some e ∙ is_some-find epochs epoch
   where
     copied : (f : Option (Bor EpochMembers)) → is_some f ≡ is_some (option_copied f)
     copied None = refl
     copied (Some x) = refl
 
 -- its members are then those of the term
-pub members_at-find : (terms : List EpochMembers) (epoch : ℕ) (term : EpochMembers) → find (is_at epoch) terms ≡ Some term
+pub members_at-find : (terms : List EpochMembers) (epoch : ℕ) (term : EpochMembers) → find (is_of epoch) terms ≡ Some term
     → members_at terms epoch ≡ term.members
 members_at-find [] epoch term e = cc
 members_at-find (t ∷ ts) epoch term e = go (t.epoch == epoch) e (λ f. members_at-find ts epoch term f)
   where
-    go : (b : Bool) → cond b (Some t) (find (is_at epoch) ts) ≡ Some term
-        → (find (is_at epoch) ts ≡ Some term → members_at ts epoch ≡ term.members)
+    go : (b : Bool) → cond b (Some t) (find (is_of epoch) ts) ≡ Some term
+        → (find (is_of epoch) ts ≡ Some term → members_at ts epoch ≡ term.members)
         → cond b t.members (members_at ts epoch) ≡ term.members
     go true f ih = let same : t ≡ term = cc in ap (λ (u : EpochMembers). u.members) same
     go false f ih = ih f
 
-pub members_at-found : (found : Bor EpochMembers) (terms epochs : List EpochMembers) (epoch : ℕ)
-    → Some found.now ≡ find (is_at epoch) (reverse terms) → reverse terms ≡ epochs → found.now.members ≡ members_at epochs epoch
-members_at-found found terms epochs epoch e turned =
-    sym (members_at-find epochs epoch found.now (sym (e ∙ ap (find (is_at epoch)) turned)))
+pub members_at-found : (found : Bor EpochMembers) (epochs : List EpochMembers) (epoch : ℕ)
+    → Some found.now ≡ find (is_of epoch) epochs → found.now.members ≡ members_at epochs epoch
+members_at-found found epochs epoch e = sym (members_at-find epochs epoch found.now (sym e))
 
 -- the targets by these members, hash and number are those of the object in the epoch
 pub targets_in-parts : (epochs : List EpochMembers) (epoch oid : ℕ) (policy : Policy) (members : List Member) (hash wanted : ℕ)

@@ -1,4 +1,4 @@
-ghost use Rattle.std.specs.Prelude.{◌≡◌, ◌==◌, ℕ, ◌≤◌, length, take, drop, IfOk};
+ghost use Rattle.std.specs.Prelude.{◌≡◌, ℕ, ◌≤◌, length, take, drop, IfOk};
 ghost use Rattle.hash_ring.specs.Placement.{AreWeighted, targets_of};
 
 use hash_ring::Ring;
@@ -28,6 +28,7 @@ impl Model for EpochRing {
 }
 
 impl EpochRing {
+    /// Costs the sorting of the members' virtual nodes.
     pub fn new(alloc: Global, epoch: Epoch, members: &[Member]) -> Result<EpochRing, NoMemory>
         requires { AreWeighted members.now }
         ensures { IfOk result (λ term. term ≡ record { epoch = epoch.0; members = members.now }) }
@@ -37,13 +38,6 @@ impl EpochRing {
             members: MemberList::from_vec(Vec::from_slice(alloc, members)?),
             ring: Ring::build(alloc, members)?,
         })
-    }
-
-    /// Whether this is the epoch's.
-    pub fn is_of(&self, epoch: Epoch) -> bool
-        ensures { result ≡ (self.now.epoch == epoch.0) }
-    {
-        self.epoch == epoch
     }
 
     /// The first `n` targets of an object of this hash. The rest of `out` stays.

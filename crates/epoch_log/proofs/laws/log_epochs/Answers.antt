@@ -1,4 +1,4 @@
-use Rattle.epoch_log.proofs.MembersLemmas.{IsLog-members, IsLog-weights, IsLog-push, IsLog-append, IsLog-prefix}
+use Rattle.epoch_log.proofs.MembersLemmas.{IsLog-members, IsLog-weights, IsLog-epochs, IsLog-push, IsLog-append, IsLog-prefix}
 use Rattle.epoch_log.proofs.laws.log_epochs.Goals as goal
 
 pub returns-clause-members : goal.returns-clause-members
@@ -15,3 +15,6 @@ returns-clause-append c = IsLog-append
 
 pub returns-clause-prefix : goal.returns-clause-prefix
 returns-clause-prefix c = IsLog-prefix
+
+pub returns-clause-epochs : goal.returns-clause-epochs
+returns-clause-epochs c = IsLog-epochs

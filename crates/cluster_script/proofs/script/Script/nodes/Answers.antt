@@ -1,5 +1,5 @@
 use Rattle.std.proofs.Common.{◌∙◌, rules, tests}
-use Rattle.cluster_script.specs.declared.limits.TheConstants.{NODES_DEFAULT}
+use Rattle.object_id.specs.declared.limits.TheConstants.{NODES_DEFAULT}
 use Rattle.cluster_script.specs.Settings.{nodes_set}
 use Rattle.cluster_script.proofs.SettingLemmas.{setting_of-found}
 use Rattle.cluster_script.proofs.script.Script.nodes.Goals as goal

@@ -1,9 +1,10 @@
 -- The end is told to each item of the request.
 use Rattle.std.proofs.Common.{◌≡◌, true, false, refl, sym, ◌∙◌}
+use Rattle.std.specs.Option.{option_map_or}
 use Rattle.std.specs.Ordering.{nat_cmp}
 use Rattle.std.specs.BTreeMap.{get}
 use Rattle.disk_history.specs.declared.requests.Fate.TheVariants.{Done}
-use Rattle.disk_history.specs.CheckerState.{may_end_in, stray_in}
+use Rattle.disk_history.specs.CheckerState.{may_end_in}
 use Rattle.disk_history.proofs.ItemLemmas.{done_turns}
 use Rattle.disk_history.proofs.ShownLemmas.{shows-end, may_be_done_told}
 use Rattle.disk_history.proofs.checker_state.CheckerState.write_done.Goals as goal
@@ -11,7 +12,7 @@ use Rattle.disk_history.proofs.checker_state.CheckerState.write_done.Goals as go
 pub returns : goal.returns
 returns c =
     let may : may_end_in (get nat_cmp c.args.self.now.requests.states c.args.req) ≡ true = sym c.may_end.ensures ∙ c.if-not-may_end.false in
-    let straight : stray_in (get nat_cmp c.args.self.now.requests.states c.args.req) ≡ false = sym c.is_stray.ensures ∙ c.if-is_stray.false in
+    let straight : option_map_or (λ state. state.stray) (get nat_cmp c.args.self.now.requests.states c.args.req) false ≡ false = sym c.is_stray.ensures ∙ c.if-is_stray.false in
     λ ledger shows. (
       may_be_done_told (get nat_cmp c.args.self.now.requests.states c.args.req) (ledger.requests c.args.req) (shows.of_request c.args.req) may straight,
       λ legal. shows-end c.args.self.now.requests c.end.new.self c.args.self.now.disks c.args.self.now.writes.items ledger c.args.req Done _

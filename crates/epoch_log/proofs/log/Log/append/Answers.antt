@@ -6,6 +6,14 @@ use Rattle.epoch_log.proofs.MembersLemmas.{IsLog-push}
 use Rattle.epoch_log.proofs.TallyLemmas.{marks-push}
 use Rattle.epoch_log.proofs.log.Log.append.Goals as goal
 
+pub mark-requires-clause-log : goal.mark-requires-clause-log
+mark-requires-clause-log c =
+    let before : List Entry = c.self.inside.entries.items in
+    let may : MayAppend before c.args.entry = subst (λ (all : List Entry). MayAppend all c.args.entry) (sym c.self.view_is) c.requires in
+    subst IsLog
+    (sym (c.as_slice-2.ensures.value ∙ c.push_reserved.ensures.items ∙ ap (λ (all : List Entry). all ++ c.args.entry ∷ []) c.reserve.ensures.items))
+    (IsLog-push before c.args.entry c.self.invariant.0 may)
+
 pub invariant_of-self-2 : goal.invariant_of-self-2
 invariant_of-self-2 c =
     let before : List Entry = c.self.inside.entries.items in
