@@ -10,6 +10,7 @@ pub mod MessageNumbers
 pub mod NumberChanges
 pub mod OwnEntryChanges
 pub mod QueueChanges
+pub mod QueueLengths
 pub mod RequestChanges
 pub mod PeerLog
 pub mod StepEffects

@@ -20,7 +20,7 @@ use Rattle.object_id.specs.declared.policy.Policy.TheVariants.{Copies, Coded}
 use Rattle.object_id.specs.declared.limits.TheConstants.{BLOCK_BYTES, SHIFT_MIN, SHIFT_MAX, OBJECTS_MAX, NAME_BYTES_MAX}
 use Rattle.object_id.specs.declared.limits.TheConstants.{COPIES_MAX, PARITY_MAX, NODES_MAX, VNODES_MAX, EPOCH_MAX}
 use Rattle.object_id.specs.Policy.{is_width, IsPolicy}
-use Rattle.object_id.specs.Spec.{IsSpec, IsName, IsOrigin}
+use Rattle.object_id.specs.Spec.{IsSpec, IsName, IsTag, IsOrigin}
 use Rattle.object_id.specs.Node.{IsNode, IsWeight}
 use Rattle.object_id.specs.Same.{is_same_entry}
 use Rattle.object_id.proofs.SameLemmas.{entries_decided}
@@ -35,7 +35,7 @@ use Rattle.object_store.specs.Store.{SeenRow, open_row}
 use Rattle.peer_service.specs.State.{Peer}
 use Rattle.peer_service.specs.Serve.{EndsInside, MayServe, ends_inside, may_serve}
 use Rattle.guest_driver.specs.Pieces.{is_ask}
-use Rattle.vdi_ops.specs.Entries.{IsOptionalTag, IsVdiAsk}
+use Rattle.vdi_ops.specs.Entries.{IsVdiAsk}
 use Rattle.sheep_node.specs.declared.ask.Ask.{Ask}
 use Rattle.sheep_node.specs.declared.ask.Ask.TheVariants as asks
 use Rattle.sheep_node.specs.declared.input.Input.{Input}
@@ -94,12 +94,12 @@ ascending (first ∷ later) =
 
 -- ---- names, and what disks may be made with and from
 
-name_tested : (name : List ℕ) → Decides (tests.is_name name) (IsName name)
+name_tested : (name : List ℕ) → Decides (tests.is_name_or_tag name) (IsName name)
 name_tested name =
     all_three (at_most 1 (length name)) (at_most (length name) NAME_BYTES_MAX)
     (each (λ (byte : ℕ). byte ≢ 0) (λ (byte : ℕ). not (byte == 0)) (λ byte. Decides-not (byte == 0) (Decides-eqb byte 0)) name)
 
-tag_tested : (tag : Option (List ℕ)) → Decides (tests.is_optional_tag tag) (IsOptionalTag tag)
+tag_tested : (tag : Option (List ℕ)) → Decides (tests.is_tag tag) (IsTag tag)
 tag_tested None = always
 tag_tested (Some tag) = name_tested tag
 
@@ -137,7 +137,7 @@ guest_ask_tested (asks.Vdi ask) = vdi_ask_tested ask
 guest_ask_tested (asks.Object work) = never
 guest_ask_tested (asks.Entry entry) = never
 
-guest_tested : (req session : ℕ) (ask : Ask) (node : Node) → Decides (tests.may_guest req session ask node) (MayGuest req session ask node)
+guest_tested : (req session : ℕ) (ask : Ask) (node : Node) → Decides (tests.may_take_ask req session ask node) (MayGuest req session ask node)
 guest_tested req session ask node =
     said_as (λ holds. record { room = holds.0; number = holds.1.0; member = holds.1.1.0; asked = holds.1.1.1 })
     (λ may. (may.room, (may.number, (may.member, may.asked))))
@@ -179,11 +179,11 @@ first_tested : (entry : Entry) → Decides (tests.may_be_first entry) (MayBeFirs
 first_tested (Format opening) = open_tested opening
 first_tested _ = never
 
-pub read_tested : (entries : List Entry) (entry : Entry) → Decides (tests.may_read entries entry) (MayRead entries entry)
+pub read_tested : (entries : List Entry) (entry : Entry) → Decides (tests.may_read_entry entries entry) (MayRead entries entry)
 read_tested [] entry = first_tested entry
 read_tested (first ∷ later) entry = append_tested (first ∷ later) entry
 
-all_read_tested : (before later : List Entry) → Decides (tests.may_read_all before later) (MayReadAll before later)
+all_read_tested : (before later : List Entry) → Decides (tests.may_read_entries before later) (MayReadAll before later)
 all_read_tested before [] = always
 all_read_tested before (entry ∷ later) = both (read_tested before entry) (all_read_tested (before ++ entry ∷ []) later)
 
@@ -221,7 +221,7 @@ rest_tested P test decided (first ∷ own) (entry ∷ entries) =
           absurd (cc (never)),
     )
 
-pub back_tested : (entries : List Entry) (node : Node) → Decides (tests.may_come_back entries node) (MayComeBack entries node)
+pub back_tested : (entries : List Entry) (node : Node) → Decides (tests.may_come_back_with entries node) (MayComeBack entries node)
 back_tested entries node =
     said_as (λ holds. record {
       later = holds.0.0;
@@ -232,7 +232,7 @@ back_tested entries node =
       member = holds.1.1.1;
     })
     (λ may. ((may.later, may.goes_on, may.read), (may.above_1, (may.above_own, may.member))))
-    (both (rest_tested (MayReadAll node.peer.entries) (tests.may_read_all node.peer.entries) (all_read_tested node.peer.entries) node.peer.entries entries)
+    (both (rest_tested (MayReadAll node.peer.entries) (tests.may_read_entries node.peer.entries) (all_read_tested node.peer.entries) node.peer.entries entries)
     (both (Decides-ltb 1 (epoch_of entries))
     (both (Decides-ltb node.peer.epoch (epoch_of entries)) (itself (is_member node.me.0 (members_in entries (epoch_of entries)))))))
 

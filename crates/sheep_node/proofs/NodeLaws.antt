@@ -9,6 +9,7 @@ use Rattle.sheep_node.specs.NodeInvariant.{IsSoundNode}
 use Rattle.sheep_node.proofs.NumberChanges.{one_work_at_opening, one_work_stays}
 use Rattle.sheep_node.proofs.OwnEntryChanges.{own_entries_at_opening, own_entries_stay}
 use Rattle.sheep_node.proofs.QueueChanges.{none_queued, queues_stay}
+use Rattle.sheep_node.proofs.QueueLengths.{queues_short_at_opening, queues_stay_short}
 use Rattle.sheep_node.proofs.LogLaws.{opening_follows, step_follows}
 use Rattle.sheep_node.proofs.StepResults.{none_due_at_opening, step_not_due}
 
@@ -17,6 +18,7 @@ IsSoundNode-initial me tries = record {
   one_work = one_work_at_opening me tries;
   own_entries = own_entries_at_opening me tries;
   queues = none_queued;
+  short_queues = queues_short_at_opening me tries;
   by_the_log = opening_follows me tries;
   none_due = none_due_at_opening me tries;
 }
@@ -26,6 +28,7 @@ IsSoundNode-step input node may is = record {
   one_work = one_work_stays input node may is.one_work;
   own_entries = own_entries_stay input node is.own_entries;
   queues = queues_stay input node may is.one_work is.queues;
+  short_queues = queues_stay_short input node may is.short_queues;
   by_the_log = step_follows input node may is.by_the_log;
   none_due = step_not_due input node;
 }

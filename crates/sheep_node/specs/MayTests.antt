@@ -1,5 +1,6 @@
--- The tests of what an input must meet: each is true exactly if the fact of the same words holds.
-use Rattle.std.specs.Prelude.{ℕ, ◌*◌, ◌^◌, ◌%◌, ◌==◌, nat_le, nat_lt, Bool, true, false, not, ◌&&◌, List, [], ◌∷◌, ◌++◌, length, Option, Some, None, if◌then◌else◌}
+-- The tests of what an input must meet: each is true exactly if the fact that it tests holds.
+use Rattle.std.specs.Prelude.{ℕ, ◌*◌, ◌^◌, ◌%◌, ◌==◌, nat_le, nat_lt, Bool, true, false, not, ◌&&◌, List, []}
+use Rattle.std.specs.Prelude.{◌∷◌, ◌++◌, length, Option, Some, None, if◌then◌else◌}
 use Rattle.std.specs.List.{list_all}
 use Rattle.std.specs.Option.{option_map_or}
 use Rattle.std.specs.FinMap as tree
@@ -32,11 +33,11 @@ use Rattle.sheep_node.specs.May.{has_numbers, has_entry_to_put, may_tick, has_wo
 
 -- names, and what disks may be made with and from
 
-abbrev pub is_name : List ℕ → Bool
-is_name name = nat_le 1 (length name) && (nat_le (length name) NAME_BYTES_MAX && list_all (λ (byte : ℕ). not (byte == 0)) name)
+abbrev pub is_name_or_tag : List ℕ → Bool
+is_name_or_tag name = nat_le 1 (length name) && (nat_le (length name) NAME_BYTES_MAX && list_all (λ (byte : ℕ). not (byte == 0)) name)
 
-abbrev pub is_optional_tag : Option (List ℕ) → Bool
-is_optional_tag tag = option_map_or is_name tag true
+abbrev pub is_tag : Option (List ℕ) → Bool
+is_tag tag = option_map_or is_name_or_tag tag true
 
 abbrev pub is_policy : Policy → Bool
 is_policy (Copies copies) = nat_le 1 copies && nat_le copies COPIES_MAX
@@ -50,18 +51,18 @@ is_spec spec =
 
 abbrev pub is_origin : Origin → Bool
 is_origin (Fresh spec) = is_spec spec
-is_origin (SnapshotOf tag) = is_name tag
-is_origin (CloneOf base tag) = is_name base && is_name tag
+is_origin (SnapshotOf tag) = is_name_or_tag tag
+is_origin (CloneOf base tag) = is_name_or_tag base && is_name_or_tag tag
 
 -- what a guest may ask
 
 abbrev pub is_vdi_ask : VdiAsk → Bool
-is_vdi_ask (Create name spec) = is_name name && is_spec spec
-is_vdi_ask (Attach name tag) = is_name name && is_optional_tag tag
+is_vdi_ask (Create name spec) = is_name_or_tag name && is_spec spec
+is_vdi_ask (Attach name tag) = is_name_or_tag name && is_tag tag
 is_vdi_ask Close = true
-is_vdi_ask (Snapshot tag) = is_name tag
-is_vdi_ask (Clone base tag name) = is_name base && (is_name tag && is_name name)
-is_vdi_ask (Delete name tag) = is_name name && is_optional_tag tag
+is_vdi_ask (Snapshot tag) = is_name_or_tag tag
+is_vdi_ask (Clone base tag name) = is_name_or_tag base && (is_name_or_tag tag && is_name_or_tag name)
+is_vdi_ask (Delete name tag) = is_name_or_tag name && is_tag tag
 is_vdi_ask Check = true
 
 abbrev pub is_guest_ask : Ask → Bool
@@ -70,8 +71,8 @@ is_guest_ask (asks.Vdi ask) = is_vdi_ask ask
 is_guest_ask (asks.Object work) = false
 is_guest_ask (asks.Entry entry) = false
 
-abbrev pub may_guest : ℕ → ℕ → Ask → Node → Bool
-may_guest req session ask node =
+abbrev pub may_take_ask : ℕ → ℕ → Ask → Node → Bool
+may_take_ask req session ask node =
     has_room_for ask (session_at session node)
     && (not (tree.contains_key node.requests req) && (is_epoch_member node && is_guest_ask ask))
 
@@ -94,7 +95,7 @@ may_open members =
     && list_all (λ (member : Member). is_weight member.vnodes) members)
 
 abbrev pub is_reservable : Entry → Bool
-is_reservable (Reserve by session name origin) = is_name name && is_origin origin
+is_reservable (Reserve by session name origin) = is_name_or_tag name && is_origin origin
 is_reservable _ = true
 
 abbrev pub fits_members : List Member → Entry → Bool
@@ -112,13 +113,13 @@ abbrev pub may_be_first : Entry → Bool
 may_be_first (Format opening) = may_open opening
 may_be_first _ = false
 
-abbrev pub may_read : List Entry → Entry → Bool
-may_read [] entry = may_be_first entry
-may_read (first ∷ later) entry = may_append (first ∷ later) entry
+abbrev pub may_read_entry : List Entry → Entry → Bool
+may_read_entry [] entry = may_be_first entry
+may_read_entry (first ∷ later) entry = may_append (first ∷ later) entry
 
-abbrev pub may_read_all : List Entry → List Entry → Bool
-may_read_all before [] = true
-may_read_all before (entry ∷ later) = may_read before entry && may_read_all (before ++ entry ∷ []) later
+abbrev pub may_read_entries : List Entry → List Entry → Bool
+may_read_entries before [] = true
+may_read_entries before (entry ∷ later) = may_read_entry before entry && may_read_entries (before ++ entry ∷ []) later
 
 -- what is left of a list of entries behind these, if it begins with them
 abbrev pub rest_behind : List Entry → List Entry → Option (List Entry)
@@ -126,24 +127,24 @@ rest_behind [] entries = Some entries
 rest_behind (own ∷ later) [] = None
 rest_behind (own ∷ later) (first ∷ rest) = if is_same_entry own first then rest_behind later rest else None
 
-abbrev pub may_come_back : List Entry → Node → Bool
-may_come_back entries node =
-    option_map_or (may_read_all node.peer.entries) (rest_behind node.peer.entries entries) false
+abbrev pub may_come_back_with : List Entry → Node → Bool
+may_come_back_with entries node =
+    option_map_or (may_read_entries node.peer.entries) (rest_behind node.peer.entries entries) false
     && (nat_lt 1 (epoch_of entries)
     && (nat_lt node.peer.epoch (epoch_of entries) && is_member node.me.0 (members_in entries (epoch_of entries))))
 
 -- what an input must meet, and the numbers that are left
 
 abbrev pub meets : Input → Node → Bool
-meets (inputs.Guest req session ask) node = may_guest req session ask node
+meets (inputs.Guest req session ask) node = may_take_ask req session ask node
 meets (inputs.Request request) node = may_serve node.peer request.ask
 meets (inputs.Reply rsp) node = fits_node rsp node
 meets (inputs.Lost number) node = node_awaits number node
-meets (inputs.LogEntry entry) node = may_read node.peer.entries entry
+meets (inputs.LogEntry entry) node = may_read_entry node.peer.entries entry
 meets inputs.Put node = has_entry_to_put node
 meets inputs.RecoverTick node = may_tick node
 meets inputs.RetryTick node = has_work_to_retry node
-meets (inputs.Back entries) node = may_come_back entries node
+meets (inputs.Back entries) node = may_come_back_with entries node
 
 abbrev pub may : Input → Node → Bool
 may input node = has_numbers node && meets input node

@@ -1,9 +1,10 @@
--- A session's queue has exactly its reads and writes without reply.
-use Rattle.std.specs.Prelude.{◌≡◌, ℕ, ◌==◌, ◌&&◌, Bool, true, false, List, Contains, Option, unwrap_or}
+-- A session's queue has exactly its reads and writes without reply, and no more than there may be at once.
+use Rattle.std.specs.Prelude.{◌≡◌, ℕ, ◌≤◌, length, ◌==◌, ◌&&◌, Bool, true, false, List, Contains, Option, unwrap_or}
 use Rattle.std.specs.Ordering.{nat_cmp}
 use Rattle.std.specs.Option.{option_map_or}
 use Rattle.std.specs.FinMap as tree
 use Rattle.gateway_queue.specs.declared.queue.Queued.{Queued}
+use Rattle.sheep_node.specs.declared.limits.TheConstants.{REQUESTS_AT_ONCE}
 use Rattle.sheep_node.specs.State.{Request, Session, Node, new_session}
 use Rattle.sheep_node.specs.May.{is_disk_course}
 
@@ -27,6 +28,13 @@ IsQueued req queue = (one : Queued) × Contains queue one × (one.req ≡ req)
 pub record AreDiskRequests (requests : tree.FinMap nat_cmp Request) (sessions : tree.FinMap nat_cmp Session) : Type 0 where
   pub there : (number req : ℕ) → IsQueued req (queue_in number sessions) → is_disk_request_of number (tree.get requests req) ≡ true
   pub has : (number req : ℕ) → is_disk_request_of number (tree.get requests req) ≡ true → IsQueued req (queue_in number sessions)
+
+-- none of the queues has more than may be without reply at once
+abbrev pub HaveShortQueues : tree.FinMap nat_cmp Session → Type 0
+HaveShortQueues sessions = (number : ℕ) → length (queue_in number sessions) ≤ REQUESTS_AT_ONCE
+
+abbrev pub QueuesAreShort : Node → Type 0
+QueuesAreShort node = HaveShortQueues node.sessions
 
 -- a node's queues have its reads and writes without reply
 abbrev pub QueuesAreDiskRequests : Node → Type 0

@@ -27,13 +27,13 @@ ghost use Rattle.sheep_node.specs.StepState.{StepState, at_first};
 ghost use Rattle.sheep_node.specs.NodeInvariant.{IsSoundNode};
 ghost use Rattle.sheep_node.specs.OneWork.{HasOneWorkPerRequest};
 ghost use Rattle.sheep_node.specs.OwnEntries.{HasOnlyOwnEntries};
-ghost use Rattle.sheep_node.specs.SessionQueues.{QueuesAreDiskRequests};
+ghost use Rattle.sheep_node.specs.SessionQueues.{QueuesAreDiskRequests, QueuesAreShort};
 ghost use Rattle.sheep_node.specs.Changes.{input_received, Leads};
 ghost use Rattle.sheep_node.specs.AwaitedEntry.{waits_for_entry};
 ghost use Rattle.sheep_node.specs.RequestWorks.{work_begun, course_refused};
 ghost use Rattle.sheep_node.specs.Courses.{disk_after};
 ghost use Rattle.sheep_node.specs.May.{IsGuestAsk, MayRead, MayComeBack, May};
-ghost use Rattle.sheep_node.specs.MayTests.{is_guest_ask, may_read, may_come_back, may};
+ghost use Rattle.sheep_node.specs.MayTests.{is_guest_ask, may_read_entry, may_come_back_with, may};
 ghost use Rattle.sheep_node.specs.Step.{is_due, recovered_put, node_step};
 ghost use Rattle.sheep_node.specs.StepFacts.{read_after, may_begin_recovery, only_reply, said_on, put_on, Ascend, IsByTheLog};
 
@@ -145,7 +145,8 @@ pub fn a_create_begins_with_its_reservation()
 {}
 
 /// A node opens as one, and each step that it may take leaves it one: its requests have one work each at most, its entries
-/// are its own, its queues are its reads and writes, it is in the epoch of what it has read, and no `Recovered` is due.
+/// are its own, its queues are its reads and writes, no more than there may be at once, it is in the epoch of what it has read, and no
+/// `Recovered` is due.
 pub fn a_node_stays_one()
     ensures opens { (me : NodeId) (tries : ℕ) → IsSoundNode (initial_node me tries) }
     ensures stays { (input : Input) (node : Node) → May input node → IsSoundNode node → IsSoundNode (node_step input node).node }
@@ -178,6 +179,12 @@ pub fn a_queue_has_the_disk_requests()
         → QueuesAreDiskRequests (node_step input node).node }
 {}
 
+/// A session has no more reads and writes without reply than it may have at once: so a node opens, and so it stays at each step.
+pub fn a_queue_is_short()
+    ensures opens { (me : NodeId) (tries : ℕ) → QueuesAreShort (initial_node me tries) }
+    ensures stays { (input : Input) (node : Node) → May input node → QueuesAreShort node → QueuesAreShort (node_step input node).node }
+{}
+
 /// A node's requests are those that it had, and the guest's request that it steps on.
 pub fn requests_come_from_inputs()
     ensures { (input : Input) (node : Node) (req : ℕ) → contains_key (node_step input node).node.requests req ≡ true
@@ -189,6 +196,6 @@ pub fn requests_come_from_inputs()
 pub fn conditions_are_tests()
     ensures may { (input : Input) (node : Node) → IsTrue (may input node) ↔ May input node }
     ensures guest_ask { (ask : Ask) → IsTrue (is_guest_ask ask) ↔ IsGuestAsk ask }
-    ensures read { (entries : List Entry) (entry : Entry) → IsTrue (may_read entries entry) ↔ MayRead entries entry }
-    ensures come_back { (entries : List Entry) (node : Node) → IsTrue (may_come_back entries node) ↔ MayComeBack entries node }
+    ensures read { (entries : List Entry) (entry : Entry) → IsTrue (may_read_entry entries entry) ↔ MayRead entries entry }
+    ensures come_back { (entries : List Entry) (node : Node) → IsTrue (may_come_back_with entries node) ↔ MayComeBack entries node }
 {}

@@ -12,7 +12,7 @@
 //! is known where it happens (`specs/Changes.antt`). So what holds of a node and is kept by each of these holds from its
 //! opening on (`proofs/StepChain.antt`: `kept_by_chain`): each request has one work at most (`specs/OneWork.antt`), the
 //! entries that it puts are its own (`specs/OwnEntries.antt`), and a session's queue is its reads and writes
-//! (`specs/SessionQueues.antt`).
+//! (`specs/SessionQueues.antt`), no more than there may be at once.
 //!
 //! The laws of `laws.rt` say this, and what holds of every step: its sends are numbered upwards, so no two of a node are
 //! numbered alike; what it has read comes from the log alone, and its epochs and their members are those of what it has
@@ -35,9 +35,9 @@ pub use input::Input;
 pub use laws::{
     a_create_begins_with_its_reservation, a_decision_is_on_the_entry_wanted,
     a_node_is_where_its_entries_have_it, a_node_puts_its_own_entries, a_node_stays_one,
-    a_queue_has_the_disk_requests, a_refused_work_gives_its_id_back, a_request_has_one_work,
-    a_step_is_a_chain_of_changes, a_touched_work_is_not_refused, conditions_are_tests,
-    only_the_log_is_read, other_epochs_are_refused, outputs_are_as_the_input,
+    a_queue_has_the_disk_requests, a_queue_is_short, a_refused_work_gives_its_id_back,
+    a_request_has_one_work, a_step_is_a_chain_of_changes, a_touched_work_is_not_refused,
+    conditions_are_tests, only_the_log_is_read, other_epochs_are_refused, outputs_are_as_the_input,
     recovered_is_put_once, requests_come_from_inputs, sends_are_numbered,
     what_a_command_leaves_open, what_is_put_leaves_the_outbox,
 };

@@ -1,0 +1,207 @@
+-- A session never has more reads and writes without reply than it may have at once.
+use Rattle.std.proofs.Common.{◌≡◌, ◌≢◌, ℕ, suc, ◌+◌, ◌-◌, ◌≤◌, nat_le, not, Bool, true, false, cond, List, [], ◌∷◌, ◌++◌, length, Option, Some, None, is_none, unwrap_or, refl, ap, sym, subst, ◌∙◌, arith, ⊎_elim}
+use Rattle.std.specs.Ordering.{nat_cmp}
+use Rattle.std.specs.FinMap as tree
+use Rattle.std.proofs.lemmas.Bool.{and_parts, cases_eq, leb-true}
+use Rattle.std.proofs.lemmas.List.{length-append}
+use Rattle.proof_tools.proofs.Booleans.{cond_either}
+use Rattle.proof_tools.proofs.FiniteMaps.{get-insert_other, get-insert_same}
+use Rattle.object_id.specs.declared.cause.Cause.{Cause}
+use Rattle.object_id.specs.declared.cause.Cause.TheVariants.{Halt}
+use Rattle.object_id.specs.declared.entry.Entry.{Entry}
+use Rattle.object_id.specs.declared.node.NodeId.{NodeId}
+use Rattle.peer_proto.specs.declared.guest.DiskAsk.{DiskAsk}
+use Rattle.peer_proto.specs.declared.guest.GuestRsp.{GuestRsp}
+use Rattle.peer_proto.specs.declared.guest.GuestRsp.TheVariants.{Refused}
+use Rattle.gateway.specs.declared.message.Status.{Status}
+use Rattle.gateway.specs.Work.{zones_for}
+use Rattle.gateway.specs.State as gateways
+use Rattle.gateway.specs.State.{Work}
+use Rattle.gateway_queue.specs.declared.queue.Queued.{Queued}
+use Rattle.gateway_queue.specs.Queue.{has_request_number, queue_without}
+use Rattle.guest_driver.specs.declared.disk.Disk.{Disk}
+use Rattle.guest_driver.specs.Driver.{DriverStep, begin_driver}
+use Rattle.guest_driver.specs.InodeQueue.{queue_with_open, queue_with_waiting, queue_after_end}
+use Rattle.recovery.specs.Steps as recovery_steps
+use Rattle.vdi_ops.specs.Op.{OpStep, disk_change}
+use Rattle.vdi_ops.specs.declared.end.OpEnd.{OpEnd}
+use Rattle.vdi_ops.specs.Steps.{on_refusal}
+use Rattle.sheep_node.specs.declared.ask.Ask.TheVariants as asks
+use Rattle.sheep_node.specs.declared.input.Input.{Input}
+use Rattle.sheep_node.specs.declared.input.Input.TheVariants as inputs
+use Rattle.sheep_node.specs.declared.limits.TheConstants.{REQUESTS_AT_ONCE}
+use Rattle.sheep_node.specs.State.{Course, Waiting, Driving, Commanding, Request, Session, Node, new_session, session_at, initial_node}
+use Rattle.sheep_node.specs.RecoveryView.{recovery_state_of}
+use Rattle.sheep_node.specs.StepState.{StepState, at_first, with_optional_entry, session_in, request_ended}
+use Rattle.sheep_node.specs.RequestWorks.{command_refused, course_refused, request_refused}
+use Rattle.sheep_node.specs.Courses.{after_driver_step, disk_after, after_command_step}
+use Rattle.sheep_node.specs.Guests.{queued_as}
+use Rattle.sheep_node.specs.LogReading.{entry_read, on_back}
+use Rattle.sheep_node.specs.Step.{on_request, recovery_stepped, on_put, on_recover_tick, node_step}
+use Rattle.sheep_node.specs.May.{May}
+use Rattle.sheep_node.specs.SessionQueues.{HaveShortQueues, QueuesAreShort}
+use Rattle.sheep_node.specs.Changes as changes
+use Rattle.sheep_node.specs.Changes.{Outcome, ToWork, ToEntry, ToReply, Arrival, RequestSteps, DiskBegins, DiskGoesOn, CommandBegins, CommandGoesOn, CommandDecided, WorkIsNext, AtOnce, InTurn, Again, AgainAlone, input_received, Change}
+use Rattle.sheep_node.proofs.OneWorkParts.{Sessions}
+use Rattle.sheep_node.proofs.StepChain.{kept_by_chain, step_chain}
+
+abbrev pub QueuesAreShortIn : StepState → Type 0
+QueuesAreShortIn so_far = HaveShortQueues so_far.node.sessions
+
+-- a session among others
+session_short : (sessions : Sessions) (number : ℕ) (session : Session) → length session.queue ≤ REQUESTS_AT_ONCE → HaveShortQueues sessions
+    → HaveShortQueues (tree.insert sessions number session)
+session_short sessions number session short all q = ⊎_elim
+    (λ (own : q ≡ number).
+    subst (λ (o : Option Session). length (unwrap_or o new_session).queue ≤ REQUESTS_AT_ONCE)
+    (sym (ap (tree.get (tree.insert sessions number session)) own ∙ get-insert_same sessions number session)) short)
+    (λ (other : q ≢ number).
+    subst (λ (o : Option Session). length (unwrap_or o new_session).queue ≤ REQUESTS_AT_ONCE)
+    (sym (get-insert_other sessions number session q other)) (all q))
+    (cases_eq q number)
+
+-- fewer are left
+left_short : (req : ℕ) (queue : List Queued) → length (queue_without req queue) ≤ length queue
+left_short req [] = omega arith
+left_short req (first ∷ later) = by_tie (not (has_request_number req first)) (left_short req later)
+  where
+    by_tie : (b : Bool) → length (queue_without req later) ≤ length later
+        → length (cond b (first ∷ queue_without req later) (queue_without req later)) ≤ suc (length later)
+    by_tie true rest = omega arith
+    by_tie false rest = omega arith
+
+ended_short : (session req : ℕ) (reply : GuestRsp) (so_far : StepState) → QueuesAreShortIn so_far → QueuesAreShortIn (request_ended session req reply so_far)
+unfolding request_ended
+ended_short session req reply so_far all =
+    let queue = (session_in session so_far).queue in
+    let fewer : length (queue_without req queue) ≤ length queue = left_short req queue in
+    let before : length queue ≤ REQUESTS_AT_ONCE = all session in
+    session_short so_far.node.sessions session (record (session_in session so_far) { queue = queue_without req queue; command = None }) (omega (arith, fewer, before)) all
+
+refused_short : (session req : ℕ) (cause : Cause) (course : Course) (so_far : StepState) → QueuesAreShortIn so_far
+    → QueuesAreShortIn (course_refused session req cause course so_far)
+refused_short session req cause (Waiting ask) so_far all = all
+refused_short session req cause (Driving driver) so_far all = ended_short session req (Refused cause) so_far all
+refused_short session req cause (Commanding op) so_far all = by_end (on_refusal cause op)
+  where
+    by_end : (end : Option OpEnd) → QueuesAreShortIn (command_refused session req end so_far)
+    by_end None = all
+    by_end (Some end) = ended_short session req end.reply (with_optional_entry end.unlock so_far) all
+
+request_refused_short : (req : ℕ) (cause : Cause) (request : Option Request) (so_far : StepState) → QueuesAreShortIn so_far
+    → QueuesAreShortIn (request_refused req cause request so_far)
+request_refused_short req cause None so_far all = all
+request_refused_short req cause (Some request) so_far all = refused_short request.session req cause request.course so_far all
+
+-- a session whose queue stays as it is
+same_short : (session : ℕ) (after : Session) (so_far : StepState) → after.queue ≡ (session_in session so_far).queue → QueuesAreShortIn so_far
+    → HaveShortQueues (tree.insert so_far.node.sessions session after)
+same_short session after so_far same all =
+    session_short so_far.node.sessions session after (subst (λ (queue : List Queued). length queue ≤ REQUESTS_AT_ONCE) (sym same) (all session)) all
+
+freed_short : (session req : ℕ) (work : Work) (status : Status) (so_far : StepState) → QueuesAreShortIn so_far
+    → QueuesAreShortIn (changes.without_ended_work session req work status so_far)
+freed_short session req work status so_far all =
+    same_short session (record (session_in session so_far) { inode_queue = queue_after_end (session_in session so_far).inode_queue work.work }) so_far refl all
+
+driven_short : (session req : ℕ) (disk : Disk) (step : DriverStep) (so_far : StepState) → QueuesAreShortIn so_far
+    → QueuesAreShortIn (after_driver_step session req disk step so_far)
+driven_short session req disk step so_far all =
+    same_short session (record (session_in session so_far) { disk = Some (record disk { inode = step.inode }) }) so_far refl all
+
+command_short : (session req : ℕ) (step : OpStep) (so_far : StepState) → QueuesAreShortIn so_far → QueuesAreShortIn (after_command_step session req step so_far)
+command_short session req step so_far all =
+    same_short session
+    (record (session_in session so_far) { disk = disk_after (disk_change step) (session_in session so_far).disk; command = Some req }) so_far refl all
+
+module _ {input : Input} {node : Node} where
+  steps_short : (so_far : StepState) (session req : ℕ) (next : Outcome) (moved : StepState) → RequestSteps input node so_far session req next moved
+      → QueuesAreShortIn so_far → QueuesAreShortIn moved
+  steps_short so_far session req next moved (DiskBegins ask disk there on may) all = driven_short session req disk (begin_driver disk ask) so_far all
+  steps_short so_far session req next moved (DiskGoesOn number work attempt status bytes driver disk step ends on is) all =
+      driven_short session req disk step (changes.without_ended_work session req work status so_far) (freed_short session req work status so_far all)
+  steps_short so_far session req next moved (CommandBegins ask step arrival is) all = command_short session req step so_far all
+  steps_short so_far session req next moved (CommandGoesOn number work attempt status bytes op step ends is) all =
+      command_short session req step (changes.without_ended_work session req work status so_far) (freed_short session req work status so_far all)
+  steps_short so_far session req next moved (CommandDecided entry op step from read there waits is) all = command_short session req step so_far all
+
+  comes_short : (so_far : StepState) (session req : ℕ) (asked : Work) (lined : StepState) → WorkIsNext input node so_far session req asked lined
+      → QueuesAreShortIn so_far → QueuesAreShortIn lined
+  comes_short so_far session req asked lined (AtOnce work moved steps begins) all =
+      same_short session (record (session_in session moved) { inode_queue = queue_with_open (session_in session moved).inode_queue req work }) moved refl
+      (steps_short so_far session req (ToWork work) moved steps all)
+  comes_short so_far session req asked lined (InTurn work later none is) all =
+      same_short session (record (session_in session so_far) { inode_queue = record { current = Some req; waiting = later } }) so_far refl all
+  comes_short so_far session req asked lined (Again work course from next there request) all = all
+  comes_short so_far session req asked lined (AgainAlone work from next there none) all = all
+
+  -- a read or write that may come finds room
+  room_for : May input node → (so_far : StepState) (session req : ℕ) (ask : DiskAsk) (refusal : Option Cause)
+      → Arrival input node so_far session req (asks.Disk ask) refusal → length (session_in session so_far).queue + 1 ≤ REQUESTS_AT_ONCE
+  room_for may so_far session req ask refusal arrival =
+      let asked = subst (λ (input : Input). May input node) arrival.from may in
+      let at_node = session_at session node in
+      let room : nat_le (length at_node.queue) (REQUESTS_AT_ONCE - 1) ≡ true
+      = (and_parts (is_none at_node.command) (nat_le (length at_node.queue) (REQUESTS_AT_ONCE - 1)) asked.condition.room).1 in
+      let fewer : length at_node.queue ≤ REQUESTS_AT_ONCE - 1 = leb-true (length at_node.queue) (REQUESTS_AT_ONCE - 1) room in
+      let there : length at_node.queue + 1 ≤ REQUESTS_AT_ONCE = omega (arith, fewer) in
+      subst (λ (start : StepState). length (session_in session start).queue + 1 ≤ REQUESTS_AT_ONCE) (sym arrival.first) there
+
+  change_keeps_short : (so_far next : StepState) → Change input node so_far next → May input node → QueuesAreShortIn so_far → QueuesAreShortIn next
+  change_keeps_short so_far next (changes.Marks req number work attempt status learns over) may all = all
+  change_keeps_short so_far next (changes.Fails session req number work attempt status course ends done why) may all = all
+  change_keeps_short so_far next (changes.Stops session req number work attempt status course bytes ends over) may all =
+      freed_short session req work status so_far all
+  change_keeps_short so_far next (changes.Refuses session req number work attempt status course cause ends done why) may all =
+      refused_short session req cause course (changes.without_ended_work session req work status so_far) (freed_short session req work status so_far all)
+  change_keeps_short so_far next (changes.Opens session req asked lined comes short) may all = comes_short so_far session req asked lined comes all
+  change_keeps_short so_far next (changes.Holds session req asked lined comes short touched) may all = comes_short so_far session req asked lined comes all
+  change_keeps_short so_far next (changes.Denies session req asked lined request comes short untouched there own) may all =
+      request_refused_short req (Halt (changes.zones_of_members lined.node) (zones_for asked.work)) request (changes.without_denied_work session req asked lined)
+      (same_short session (record (session_in session lined) { inode_queue = queue_after_end (session_in session lined).inode_queue asked.work }) lined refl
+      (comes_short so_far session req asked lined comes all))
+  change_keeps_short so_far next (changes.Strays req work gateway there none apart) may all = all
+  change_keeps_short so_far next (changes.Lines session req work moved steps waits) may all =
+      same_short session (record (session_in session moved) { inode_queue = queue_with_waiting (session_in session moved).inode_queue req work }) moved refl
+      (steps_short so_far session req (ToWork work) moved steps all)
+  change_keeps_short so_far next (changes.Appends session req entry moved steps) may all = steps_short so_far session req (ToEntry entry) moved steps all
+  change_keeps_short so_far next (changes.Replies session req reply moved steps) may all =
+      ended_short session req reply moved (steps_short so_far session req (ToReply reply) moved steps all)
+  change_keeps_short so_far next (changes.Arrives session req ask disk arrival on) may all =
+      let queue = (session_in session so_far).queue in
+      let one = queued_as disk.inode.spec.shift req ask in
+      session_short so_far.node.sessions session (record (session_in session so_far) { queue = queue ++ one ∷ [] })
+      (subst (λ (n : ℕ). n ≤ REQUESTS_AT_ONCE) (sym (length-append queue (one ∷ []))) (room_for may so_far session req ask None arrival)) all
+  change_keeps_short so_far next (changes.Rejects session req ask cause arrival) may all = all
+  change_keeps_short so_far next (changes.Recovers due) may all = all
+
+none_short : HaveShortQueues tree.empty
+none_short number =
+    subst (λ (o : Option Session). length (unwrap_or o new_session).queue ≤ REQUESTS_AT_ONCE) (sym (tree.get-empty {X = Session} nat_cmp number)) (omega arith)
+
+received_short : (input : Input) (node : Node) → QueuesAreShortIn (at_first node) → QueuesAreShortIn (input_received input (at_first node))
+unfolding entry_read on_request on_recover_tick on_back
+received_short (inputs.Guest req session ask) node all = all
+received_short (inputs.Request request) node all = all
+received_short (inputs.Reply rsp) node all =
+    cond_either QueuesAreShortIn (gateways.gateway_awaits rsp.number node.gateway) (at_first node)
+    (recovery_stepped (recovery_steps.recovery_on_reply rsp (recovery_state_of node)) (at_first node)) all all
+received_short (inputs.Lost number) node all =
+    cond_either QueuesAreShortIn (gateways.gateway_awaits number node.gateway) (at_first node)
+    (recovery_stepped (recovery_steps.recovery_on_loss number (recovery_state_of node)) (at_first node)) all all
+received_short (inputs.LogEntry entry) node all = all
+received_short inputs.Put node all = by_outbox node.outbox
+  where
+    by_outbox : (outbox : List Entry) → QueuesAreShortIn (on_put outbox (at_first node))
+    by_outbox [] = all
+    by_outbox (entry ∷ later) = all
+received_short inputs.RecoverTick node all = all
+received_short inputs.RetryTick node all = all
+received_short (inputs.Back entries) node all = none_short
+
+pub queues_short_at_opening : (me : NodeId) (tries : ℕ) → QueuesAreShort (initial_node me tries)
+queues_short_at_opening me tries = none_short
+
+pub queues_stay_short : (input : Input) (node : Node) → May input node → QueuesAreShort node → QueuesAreShort (node_step input node).node
+queues_stay_short input node may all =
+    kept_by_chain QueuesAreShortIn (λ so_far next change. change_keeps_short so_far next change may) (step_chain input node) (received_short input node all)
