@@ -8,7 +8,7 @@ use Rattle.sheep_world.specs.Step.{EventOutcome, step}
 use Rattle.sheep_world.specs.Run.{Moment, moment_with_made, run_from, initial_moment}
 use Rattle.sheep_world.proofs.RunLaws.{run-append}
 use Rattle.sheep_world.specs.Began.{Began, IsInvariant}
-use Rattle.sheep_world.specs.HostChanges.{EachHost, HostsKeep}
+use Rattle.sheep_world.specs.HostChanges.{HoldsOfEachHost, HostsKeep}
 use Rattle.sheep_world.proofs.HostChangeLaws.{each_kept, each_opens}
 
 module _ (statements : List Statement) where
@@ -58,14 +58,14 @@ module _ (statements : List Statement) (I : World → Type 0) (invariant : IsInv
 
 -- what is kept of each host holds of each host of each such world, where what it needs of worlds holds there
 pub each_where : (statements : List Statement) (I : World → Type 0) (P : World → ℕ → Host → Type 0)
-    → ((world : World) → Began statements world → I world) → HostsKeep statements I P → (world : World) → Began statements world → EachHost P world
+    → ((world : World) → Began statements world → I world) → HostsKeep statements I P → (world : World) → Began statements world → HoldsOfEachHost P world
 each_where statements I P holds kept =
-    by_induction statements (EachHost P) (record {
+    by_induction statements (HoldsOfEachHost P) (record {
       opens = each_opens statements I P kept;
       keeps = λ event world made began is each. each_kept statements I P kept event world made is (holds world began) each;
     })
 
 -- where it needs nothing
 pub each_began : (statements : List Statement) (P : World → ℕ → Host → Type 0) → HostsKeep statements (λ (world : World). Unit {0}) P
-    → (world : World) → Began statements world → EachHost P world
+    → (world : World) → Began statements world → HoldsOfEachHost P world
 each_began statements P kept = each_where statements (λ (world : World). Unit {0}) P (λ world began. tt) kept

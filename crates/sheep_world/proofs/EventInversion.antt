@@ -493,7 +493,7 @@ module _ (statements : List Statement) (world : World) (made : EventOutcome) (no
       ap (λ (o : Option Host). log_handed statements node.0 (back_with o)) there
       ∙ steps_at statements node.0 (inputs.Back (log_after_return statements node.0 world)) (revived_host host) (back_with (Some host)) (get-insert_same world.hosts node.0 (revived_host host))
       ∙ ap (λ (hosts : tree.FinMap nat_cmp Host). record (world_after_return statements node.0 host world) { hosts = hosts })
-      (insert-insert world.hosts node.0 (revived_host host) (causes.with_node (revived_host host) (node_step (inputs.Back (log_after_return statements node.0 world)) host.node).node))
+      (insert-insert world.hosts node.0 (revived_host host) (causes.host_with_node (revived_host host) (node_step (inputs.Back (log_after_return statements node.0 world)) host.node).node))
 
   happens_back : Made_by (may_come_back node.0 world) (only (came_back statements node.0 world)) made → EventKind statements (events.Back node) world made
   happens_back (may, is) =

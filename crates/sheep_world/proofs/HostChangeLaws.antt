@@ -13,7 +13,7 @@ use Rattle.sheep_world.specs.Step.{EventOutcome, step}
 use Rattle.sheep_world.proofs.WireAtOpening.{opening_found}
 use Rattle.sheep_world.specs.NodeCauses.{world_after_cause}
 use Rattle.sheep_world.specs.EventKinds.{log_after_return, world_after_return, EventKind, NodeStep, UntoldLoss, UnreadDelivery, NodeLoss, NodeLeave, NodeReweight, NodeJoin, NodeReturn, PhaseEnd}
-use Rattle.sheep_world.specs.HostChanges.{host_after_step, host_after_return, joined_host, HostChange, Stays, Steps, IsLost, ComesBack, Joins, EachHost, HostsKeep, NodesKeep}
+use Rattle.sheep_world.specs.HostChanges.{host_after_step, host_after_return, joined_host, HostChange, Stays, Steps, IsLost, ComesBack, Joins, HoldsOfEachHost, HostsKeep, NodesKeep}
 use Rattle.sheep_world.proofs.EventInversion.{happens}
 
 module _ (statements : List Statement) (event : Event) (world : World) (made : EventOutcome) (q : ℕ) (host : Host) where
@@ -63,7 +63,7 @@ module _ (statements : List Statement) (event : Event) (world : World) (made : E
   became (PhaseEnd h) got = same_hosts (ap (λ (m : EventOutcome). m.world.hosts) (sym h.made_so)) got
 
 module _ (statements : List Statement) (I : World → Type 0) (P : World → ℕ → Host → Type 0) (kept : HostsKeep statements I P) where
-  by_change : (event : Event) (world : World) (made : EventOutcome) → EventKind statements event world made → I world → EachHost P world
+  by_change : (event : Event) (world : World) (made : EventOutcome) → EventKind statements event world made → I world → HoldsOfEachHost P world
       → (q : ℕ) (host : Host) → HostChange statements world made.world q host → P made.world q host
   by_change event world made h i each q host (Stays there) = kept.stays event world made h i q host (each q host there)
   by_change event world made h i each q host (Steps s) =
@@ -79,14 +79,14 @@ module _ (statements : List Statement) (I : World → Type 0) (P : World → ℕ
       subst (P made.world q) j.host_so (kept.stays event world made h i q (joined_host statements q) (kept.joins world q i j.control))
 
   -- each event keeps it of each host
-  pub each_kept : (event : Event) (world : World) (made : EventOutcome) → step statements event world ≡ Some made → I world → EachHost P world
-      → EachHost P made.world
+  pub each_kept : (event : Event) (world : World) (made : EventOutcome) → step statements event world ≡ Some made → I world → HoldsOfEachHost P world
+      → HoldsOfEachHost P made.world
   each_kept event world made is i each q host got =
       let h = happens statements event world made is in
       by_change event world made h i each q host (became statements event world made q host h got)
 
   -- and so it is at first
-  pub each_opens : EachHost P (initial_world statements)
+  pub each_opens : HoldsOfEachHost P (initial_world statements)
   unfolding initial_world
   each_opens q host got =
       let (member, own, is) = opening_found statements q host got in

@@ -15,7 +15,7 @@ use Rattle.sheep_node.specs.State.{Node}
 use Rattle.sheep_node.specs.May.{node_awaits, fits_node}
 use Rattle.sheep_world.specs.World.{Packet, Request, Reply, Host, is_host_up}
 use Rattle.sheep_world.specs.WireMatch.{asked_by, own_name, IsReadablePacket, IsNumberGiven, IsInFlight, WireMatchesHosts}
-use Rattle.sheep_world.specs.NodeCauses.{with_node}
+use Rattle.sheep_world.specs.NodeCauses.{host_with_node}
 use Rattle.sheep_node.proofs.MessageNumbers.{Sends, numbers_within}
 use Rattle.sheep_world.proofs.WireAfterSends.{Wire, Asking, packet_of}
 
@@ -172,7 +172,7 @@ module _ (Stays : ℕ → Type 0) (n : ℕ) (host : Host) (node : Node) (sends :
       subst (IsInFlight node send) (sym (moves.kept send.1.number packet got stays))
       (fits_still send packet (matches.given send.1.number packet got) stays way)
 
-  pub sends_match : MatchesHost n (with_node host node) packets
+  pub sends_match : MatchesHost n (host_with_node host node) packets
   sends_match = record {
     numbered = ap (λ (me : NodeId). me.0) asking.me_so ∙ matches.numbered;
     spelled = λ number packet got. ⊎_elim

@@ -28,7 +28,7 @@ use Rattle.sheep_world.specs.Step.{EventOutcome}
 use Rattle.sheep_world.specs.WireMatch.{WireMatchesNodes}
 use Rattle.sheep_world.specs.OneWork.{IsSentInRange}
 use Rattle.sheep_world.specs.HoldsTogether.{IsForHost, RepliesFit, HoldsTogether}
-use Rattle.sheep_world.specs.NodeCauses.{NodeCause, GuestAsks, RequestComes, ReplyComes, LossIsTold, EntryIsRead, EntryIsPut, RecoveryTicks, WorkIsRetried, input_of_cause, IsCause, RequestIsHere, wire_at_cause, is_up_among, wire_after_cause, with_node}
+use Rattle.sheep_world.specs.NodeCauses.{NodeCause, GuestAsks, RequestComes, ReplyComes, LossIsTold, EntryIsRead, EntryIsPut, RecoveryTicks, WorkIsRetried, input_of_cause, IsCause, RequestIsHere, wire_at_cause, is_up_among, wire_after_cause, host_with_node}
 use Rattle.sheep_world.specs.EventKinds.{log_after_return, EventKind, NodeStep, UntoldLoss, UnreadDelivery, NodeLoss, NodeLeave, NodeReweight, NodeJoin, NodeReturn, PhaseEnd}
 use Rattle.sheep_world.specs.HostChanges.{host_after_step, host_after_return, joined_host}
 use Rattle.sheep_world.proofs.ReturningNodes.{no_sender, asked_by-renewed, stepped_renewed}
@@ -168,7 +168,7 @@ module _ (statements : List Statement) (world : World) (n : ℕ) (host : Host) (
       let leaves = leaves_at statements world n host cause caused in
       host_changes world.hosts world.wire (sent_by cause) n each
       (others_stay (StaysAt cause) n host so_far.node so_far.outputs.sends world.wire (wire_at_cause cause world.wire) ready.matches asking leaves)
-      (with_node host so_far.node)
+      (host_with_node host so_far.node)
       (sends_match (StaysAt cause) n host so_far.node so_far.outputs.sends (packets_of world.wire n) (packets_of (sent_by cause) n) ready.up ready.matches asking
       (moves (StaysAt cause) n host so_far.node so_far.outputs.sends world.wire (wire_at_cause cause world.wire) ready.matches asking leaves))
 

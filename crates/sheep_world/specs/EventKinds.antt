@@ -24,7 +24,7 @@ use Rattle.sheep_world.specs.MembershipChanges.{lost_host, without_replies, join
 use Rattle.sheep_world.specs.HistoryAdditions.{writers_lost}
 use Rattle.sheep_world.specs.Enabled.{loss_of}
 use Rattle.sheep_world.specs.Step.{EventOutcome, only}
-use Rattle.sheep_world.specs.NodeCauses.{NodeCause, event_of_cause, IsCause, with_node, world_after_cause, history_of_cause}
+use Rattle.sheep_world.specs.NodeCauses.{NodeCause, event_of_cause, IsCause, with_node, world_after_cause, history_of_cause, host_with_node}
 use Rattle.std.specs.Option.{option_map}
 
 -- what a step of a node makes
@@ -131,7 +131,7 @@ abbrev pub world_after_return : List Statement → ℕ → Host → World → Wo
 world_after_return statements n host world =
     let so_far = node_step (inputs.Back (log_after_return statements n world)) host.node in
     record {
-      hosts = tree.insert world.hosts n (with_node (revived_host host) so_far.node);
+      hosts = tree.insert world.hosts n (host_with_node (revived_host host) so_far.node);
       log = log_after_return statements n world;
       wire = fold wire_with_request world.wire so_far.outputs.sends;
       guests = fold (progress_after_reply statements) world.guests so_far.outputs.replies;

@@ -15,16 +15,16 @@ use Rattle.sheep_world.specs.World.{Host, World, is_host_up, next_control}
 use Rattle.sheep_world.specs.Opening.{initial_host, initial_world, initial_member_node}
 use Rattle.sheep_world.specs.MembershipChanges.{lost_host, revived_host}
 use Rattle.sheep_world.specs.Step.{EventOutcome}
-use Rattle.sheep_world.specs.NodeCauses.{NodeCause, input_of_cause, IsCause, with_node, world_after_cause}
+use Rattle.sheep_world.specs.NodeCauses.{NodeCause, input_of_cause, IsCause, host_with_node, world_after_cause}
 use Rattle.sheep_world.specs.EventKinds.{log_after_return, world_after_return, world_after_join, EventKind}
 
 -- a host once its node made a step
 abbrev pub host_after_step : NodeCause → Host → Host
-host_after_step cause host = with_node host (node_step (input_of_cause cause) host.node).node
+host_after_step cause host = host_with_node host (node_step (input_of_cause cause) host.node).node
 
 -- once its node came back
 abbrev pub host_after_return : List Entry → Host → Host
-host_after_return log host = with_node (revived_host host) (node_step (inputs.Back log) host.node).node
+host_after_return log host = host_with_node (revived_host host) (node_step (inputs.Back log) host.node).node
 
 -- of a node that is new
 abbrev pub joined_host : List Statement → ℕ → Host
@@ -69,8 +69,8 @@ pub data HostChange (statements : List Statement) (world after : World) (n : ℕ
   Joins : HasJoined statements world after n host → HostChange statements world after n host
 
 -- each host of a world is so
-abbrev pub EachHost : (World → ℕ → Host → Type 0) → World → Type 0
-EachHost P world = (n : ℕ) (host : Host) → tree.get world.hosts n ≡ Some host → P world n host
+abbrev pub HoldsOfEachHost : (World → ℕ → Host → Type 0) → World → Type 0
+HoldsOfEachHost P world = (n : ℕ) (host : Host) → tree.get world.hosts n ≡ Some host → P world n host
 
 -- what is kept of each host: it is so in the opening world; what is so stays so while other things happen; and the four changes of a
 -- host keep it. At each an invariant of worlds may be used

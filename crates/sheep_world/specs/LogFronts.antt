@@ -2,7 +2,7 @@
 use Rattle.std.specs.Prelude.{◌≡◌, ℕ, List, ◌++◌}
 use Rattle.object_id.specs.declared.entry.Entry.{Entry}
 use Rattle.sheep_world.specs.World.{Host, World}
-use Rattle.sheep_world.specs.HostChanges.{EachHost}
+use Rattle.sheep_world.specs.HostChanges.{HoldsOfEachHost}
 
 -- entries are the first ones of a log
 pub record IsFront (read log : List Entry) : Type 0 where
@@ -15,4 +15,4 @@ ReadsTheLog world n host = IsFront host.node.peer.entries world.log
 
 -- each node has read the log's first entries
 abbrev pub AllReadTheLog : World → Type 0
-AllReadTheLog world = EachHost ReadsTheLog world
+AllReadTheLog world = HoldsOfEachHost ReadsTheLog world

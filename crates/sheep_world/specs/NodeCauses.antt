@@ -183,14 +183,14 @@ wire_after_cause RecoveryTicks hosts node wire = wire
 wire_after_cause WorkIsRetried hosts node wire = wire
 
 -- a host with the node as it is then
-abbrev pub with_node : Host → Node → Host
-with_node host node = record host { node = node }
+abbrev pub host_with_node : Host → Node → Host
+host_with_node host node = record host { node = node }
 
 -- the world after the step of a node in its host
 abbrev pub world_after_cause : List Statement → ℕ → Host → NodeCause → World → World
 world_after_cause statements n host cause world =
     let so_far = node_step (input_of_cause cause) host.node in
-    let hosts = tree.insert world.hosts n (with_node host so_far.node) in
+    let hosts = tree.insert world.hosts n (host_with_node host so_far.node) in
     record {
       hosts = hosts;
       log = log_after_cause cause world.log;
