@@ -22,7 +22,7 @@ use Rattle.sheep_world.specs.World.{Packet, Host, World, host_at, message_at}
 use Rattle.sheep_world.specs.Opening.{controls_at, losses_at}
 use Rattle.sheep_world.specs.Conditions.{may_lose_node, may_end_phase}
 use Rattle.sheep_world.specs.MembershipChanges.{lost_host, control_taken, host_changed, is_reply_to, without_replies, node_lost, phase_ended}
-use Rattle.sheep_world.specs.HistoryAdditions.{begun_block, block_in, writes_begin, is_write, is_of_incarnation, disk_of, is_lost_write, writers_lost, IsLostWrite, has_begun_to_write}
+use Rattle.sheep_world.specs.HistoryAdditions.{begun_block, block_in, writes_begin, is_write, is_of_incarnation, disk_of, is_lost_write, writers_lost, IsLostWrite, is_writing_request}
 use Rattle.sheep_world.specs.NodeSteps.{at_rest}
 use Rattle.sheep_world.specs.Step.{EventOutcome, only, loss_made, step}
 use Rattle.sheep_world.proofs.EnabledLaws.{looked_up}
@@ -73,9 +73,9 @@ module _ (statements : List Statement) (world : World) (made : EventOutcome) (no
           let (request, among, same) = map-contains (λ (request : ℕ × Statement). WriterLost request.0)
           (filter (is_lost_write statements world node.0 host) (numbered_requests statements)) event lost in
           let (asked, passes) = filter-contains (is_lost_write statements world node.0 host) (numbered_requests statements) request among in
-          let parts = and_parts (has_begun_to_write host.node request && option_map_or (is_of_incarnation statements node.0 host.incarnation) (session_of request.1) false)
+          let parts = and_parts (is_writing_request host.node request && option_map_or (is_of_incarnation statements node.0 host.incarnation) (session_of request.1) false)
           (is_some (disk_of statements request.0 world)) passes in
-          let writes = and_parts (has_begun_to_write host.node request) (option_map_or (is_of_incarnation statements node.0 host.incarnation) (session_of request.1) false) parts.0 in
+          let writes = and_parts (is_writing_request host.node request) (option_map_or (is_of_incarnation statements node.0 host.incarnation) (session_of request.1) false) parts.0 in
           let (number, of, own) = looked_up (is_of_incarnation statements node.0 host.incarnation) (session_of request.1) writes.1 in
           let (session, declared, is_own) = looked_up (λ (of : ScriptSession). of.node == node.0 && of.incarnation == host.incarnation)
           (session_numbered statements number) own in

@@ -48,8 +48,8 @@ abbrev pub next_driven : List Statement → World → Option Event
 next_driven statements world = find (brings_answers world) (enabled_events statements world)
 
 -- the world after an event
-abbrev pub world_after : List Statement → Event → World → World
-world_after statements event world = option_map_or (λ (made : EventOutcome). made.world) (step statements event world) world
+abbrev pub world_with_event : List Statement → Event → World → World
+world_with_event statements event world = option_map_or (λ (made : EventOutcome). made.world) (step statements event world) world
 
 -- the world after so many of them at most, each the first that may happen then, up to the answer
 unfoldable pub world_driven : List Statement → ℕ → World → World
@@ -57,7 +57,7 @@ world_driven statements zero world = world
 world_driven statements (suc turns) world =
     if is_some (answer_of world) then world
     else option_map_or
-    (λ (event : Event). world_driven statements turns (world_after statements event world))
+    (λ (event : Event). world_driven statements turns (world_with_event statements event world))
     (next_driven statements world) world
 
 -- whether there is an answer then

@@ -24,7 +24,7 @@ use Rattle.sheep_world.specs.MembershipChanges.{lost_host, without_replies, join
 use Rattle.sheep_world.specs.HistoryAdditions.{writers_lost}
 use Rattle.sheep_world.specs.Enabled.{loss_of}
 use Rattle.sheep_world.specs.Step.{EventOutcome, only}
-use Rattle.sheep_world.specs.NodeCauses.{NodeCause, event_of_cause, IsCause, with_node, world_after_cause, history_of_cause, host_with_node}
+use Rattle.sheep_world.specs.NodeCauses.{NodeCause, event_of_cause, IsCause, world_after_cause, history_of_cause, host_with_node}
 use Rattle.std.specs.Option.{option_map}
 
 -- what a step of a node makes

@@ -22,6 +22,7 @@ use Rattle.sheep_node.specs.declared.input.Input.{Input}
 use Rattle.sheep_node.specs.State.{Node}
 use Rattle.sheep_node.specs.CheckWrites.{CheckWrite, check_write_on, has_check_written}
 use Rattle.sheep_world.specs.declared.name.MessageName.{MessageName}
+use Rattle.cluster_script.specs.Statements.{is_check}
 
 -- a block's part of bytes, by its place among them
 abbrev pub block_in : List ℕ → ℕ → List ℕ
@@ -153,11 +154,6 @@ abbrev pub check_write_adds : CheckWrite → List HistEvent
 check_write_adds write =
     flat_map (block_checked write) (filter (is_on_disk write) (range_with_len 0 (length write.value / BLOCK_BYTES)))
 
--- whether a statement is a check
-abbrev pub is_check : Statement → Bool
-is_check (lines.Check session) = true
-is_check s = false
-
 -- what it adds, if its request is of the script
 abbrev pub check_write_grown : List Statement → CheckWrite → List HistEvent
 check_write_grown statements write =
@@ -185,13 +181,13 @@ is_of_incarnation statements node incarnation session =
     option_map_or (λ (of : ScriptSession). of.node == node && of.incarnation == incarnation) (session_numbered statements session) false
 
 -- whether a request writes: it is a write, or a check that has come to one
-abbrev pub has_begun_to_write : Node → ℕ × Statement → Bool
-has_begun_to_write node request = is_write request.1 || (is_check request.1 && has_check_written request.0 node)
+abbrev pub is_writing_request : Node → ℕ × Statement → Bool
+is_writing_request node request = is_write request.1 || (is_check request.1 && has_check_written request.0 node)
 
 -- whether a request writes that began on an open disk in this incarnation of a node, and has no reply
 abbrev pub is_lost_write : List Statement → World → ℕ → Host → ℕ × Statement → Bool
 is_lost_write statements world node host request =
-    has_begun_to_write host.node request
+    is_writing_request host.node request
     && option_map_or (is_of_incarnation statements node host.incarnation) (session_of request.1) false
     && is_some (disk_of statements request.0 world)
 
@@ -211,7 +207,7 @@ pub record IsLostWrite (statements : List Statement) (world : World) (node : ℕ
   pub host : Host
   pub there : host_at node world ≡ Some host
   pub asked : Contains (numbered_requests statements) request
-  pub writes : has_begun_to_write host.node request ≡ true
+  pub writes : is_writing_request host.node request ≡ true
   pub number : ℕ
   pub of : session_of request.1 ≡ Some number
   pub session : ScriptSession
