@@ -9,7 +9,8 @@ use Rattle.object_store.specs.Store.{SeenRow, AllRows}
 use Rattle.sheep_node.specs.State.{initial_node}
 use Rattle.sheep_world.specs.Opening.{initial_host}
 use Rattle.dog_report.specs.Words.{spaced_words}
-use Rattle.dog_report.specs.Lists.{row_count, host_words}
+use Rattle.object_store.specs.Store.{row_count}
+use Rattle.dog_report.specs.Lists.{host_words}
 use Rattle.dog_report.specs.Example.{node, member}
 
 no_rows : AllRows
@@ -24,7 +25,7 @@ listed_with rows = spaced_words
     (codes "node" ∷ decimal 3 ∷ codes "vnodes" ∷ decimal 64 ∷ codes "epoch" ∷ decimal 1 ∷ codes "rows" ∷ decimal rows
     ∷ codes "pending" ∷ decimal 0 ∷ [])
 
-no_count : row_count (initial_node (node 3) 8) ≡ 0
+no_count : row_count (initial_node (node 3) 8).peer.rows ≡ 0
 unfolding no_rows
 no_count = ap (λ (entries : List (ℕ × List SeenRow)). sum_by length (map (λ (e : ℕ × List SeenRow). e.1) entries)) no_entries
 

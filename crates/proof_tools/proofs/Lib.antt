@@ -1,4 +1,5 @@
 pub mod Booleans
 pub mod Lists
 pub mod AscendingNumbers
+pub mod AscendingWithout
 pub mod FiniteMaps

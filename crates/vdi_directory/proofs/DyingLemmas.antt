@@ -1,5 +1,5 @@
 -- Which ids an entry makes dead: those that lose their last reference by it.
-use Rattle.std.proofs.Common.{◌≡◌, ◌≢◌, ◌⊎◌, inl, inr, ℕ, ◌+◌, ◌<◌, ◌==◌, ◌||◌, ◌&&◌, not, nat_lt, Bool, true, false, cond, List, [], ◌∷◌, ◌++◌, Option, Some, None, refl, ap, sym, ◌∙◌, subst, arith}
+use Rattle.std.proofs.Common.{◌≡◌, ◌≢◌, ◌⊎◌, inl, inr, ℕ, ◌==◌, ◌||◌, ◌&&◌, not, nat_lt, Bool, true, false, cond, List, [], ◌∷◌, ◌++◌, refl, ap, sym, ◌∙◌, subst, arith}
 use Rattle.std.proofs.lemmas.Bool.{cases_eq, eq-eqb, ne_eqb, lt-ltb, both_ways}
 use Rattle.std.proofs.Math.Bool.{or-false}
 use Rattle.object_id.specs.declared.oid.Vid.{Vid}
@@ -9,17 +9,17 @@ use Rattle.vdi_directory.specs.declared.effect.Effect.TheVariants as effects
 use Rattle.vdi_directory.specs.declared.directory_state.DirectoryState.{DirectoryState}
 use Rattle.vdi_directory.specs.Effects.{grants, is_used}
 use Rattle.vdi_directory.specs.Decisions.{outcome, log_effects}
-use Rattle.vdi_directory.specs.States.{VdiState, Unused, Reserved, Working, Snapshot, Deleted, Freed, state_after, state_of}
-use Rattle.vdi_directory.specs.Sound.{IsSound, IsLawful}
+use Rattle.vdi_directory.specs.States.{VdiState, Reserved, Working, Snapshot, state_after, state_of}
+use Rattle.vdi_directory.specs.Sound.{IsLawful}
 use Rattle.vdi_directory.specs.Dead.{is_gone, IsDead, is_dead}
-use Rattle.vdi_directory.specs.References.{parent_of, own_of, parent_in, count_in, has_vid, AreReferenceCounts, AreLosses, LosesReferences}
+use Rattle.vdi_directory.specs.References.{parent_of, own_of, count_in, has_vid, AreReferenceCounts}
 use Rattle.vdi_directory.specs.DirectoryState.{IsDirectoryState, lost_by, IsDeadList}
 use Rattle.vdi_directory.proofs.StateLemmas.{log_effects-push, is_used-push}
 use Rattle.vdi_directory.proofs.SoundLemmas.{state_of-push}
 use Rattle.vdi_directory.proofs.LawfulLemmas.{lawful-outcome, sound-log_effects}
-use Rattle.vdi_directory.proofs.DeadLemmas.{IsChained, chained, dead-before}
+use Rattle.vdi_directory.proofs.DeadLemmas.{chained, dead-before}
 use Rattle.vdi_directory.proofs.DeadTests.{test-finds-dead}
-use Rattle.vdi_directory.proofs.LineLemmas.{IsLine, line-log_effects}
+use Rattle.vdi_directory.proofs.LineLemmas.{line-log_effects}
 use Rattle.vdi_directory.proofs.UnreferencedLemmas.{dead-unreferenced, unreferenced-dead}
 use Rattle.vdi_directory.proofs.StandLemmas.{reserved-log_effects, unused-unreferenced, frees, counts-freed, counts-kept}
 

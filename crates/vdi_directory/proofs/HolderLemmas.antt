@@ -1,7 +1,7 @@
 -- Who takes a disk from its holder: an effect that frees its lock, makes it a snapshot or frees what its node holds.
-use Rattle.std.proofs.Common.{◌≡◌, ℕ, ◌==◌, ◌&&◌, ◌||◌, Bool, true, false, cond, List, [], ◌∷◌, ◌++◌, Option, Some, None, is_some, Result, Ok, Err, refl, ap, sym, ◌∙◌, subst, append_assoc}
+use Rattle.std.proofs.Common.{◌≡◌, ℕ, ◌==◌, ◌&&◌, Bool, true, false, cond, List, [], ◌∷◌, ◌++◌, Option, Some, None, is_some, Result, Ok, Err, refl, ap, sym, ◌∙◌, append_assoc}
 use Rattle.std.specs.List.{list_any}
-use Rattle.std.proofs.lemmas.Bool.{eqb-true, eq-eqb, ne_eqb, both_ways, and_from, or_parts, cond-true, cond-false}
+use Rattle.std.proofs.lemmas.Bool.{eqb-true, ne_eqb, both_ways, and_from, or_parts, cond-true, cond-false}
 use Rattle.std.proofs.lemmas.List.{append-nil}
 use Rattle.object_id.specs.declared.oid.Vid.{Vid}
 use Rattle.object_id.specs.declared.node.NodeId.{NodeId}
@@ -11,7 +11,7 @@ use Rattle.object_id.specs.declared.entry.VdiSpec.{VdiSpec}
 use Rattle.object_id.specs.declared.entry.Origin.{Origin}
 use Rattle.object_id.specs.declared.entry.Origin.TheVariants.{Fresh, SnapshotOf, CloneOf}
 use Rattle.object_id.specs.declared.entry.Entry.{Entry}
-use Rattle.object_id.specs.declared.entry.Entry.TheVariants.{Format, Join, Leave, Reweight, Recovered, Reserve, Publish, Clone, Snapshot, Delete, Lock, Unlock}
+use Rattle.object_id.specs.declared.entry.Entry.TheVariants.{Leave, Reserve, Publish, Clone, Snapshot, Delete, Lock, Unlock}
 use Rattle.disk_lock.specs.declared.holder.Holder.{Holder}
 use Rattle.vdi_directory.specs.declared.header.Header.{Header}
 use Rattle.vdi_directory.specs.declared.effect.Source.{Source}
@@ -24,8 +24,8 @@ use Rattle.vdi_directory.specs.Vids.{free_id}
 use Rattle.vdi_directory.specs.Names.{is_live_name, snapshot_with_tag}
 use Rattle.vdi_directory.specs.Sources.{is_for, tag_for}
 use Rattle.vdi_directory.specs.Effects.{is_used, header_of, name_of, reservations_of, reservation_on, holder_after, holder_of}
-use Rattle.vdi_directory.specs.Decisions.{nothing, silent_outcome, grant_outcome, refusal_outcome, outcome, happens, log_effects, or_full, grant_of, with_spec, reservation_outcome, reserved_snapshot, reserved_clone, reserve_outcome, publication, replacement, snapshot_outcome, target, deletion, lock, is_held_by, is_reserved_by, is_taken, held_disk}
-use Rattle.vdi_directory.specs.States.{Reserved, Working, state_of}
+use Rattle.vdi_directory.specs.Decisions.{nothing, silent_outcome, grant_outcome, refusal_outcome, outcome, log_effects, or_full, grant_of, with_spec, reservation_outcome, reserved_snapshot, reserved_clone, reserve_outcome, publication, replacement, snapshot_outcome, target, deletion, lock, is_held_by, is_reserved_by, is_taken, held_disk}
+use Rattle.vdi_directory.specs.States.{Reserved, Working}
 use Rattle.vdi_directory.specs.Sound.{IsSound, IsLawful}
 use Rattle.vdi_directory.specs.Holders.{takes_disk, may_take_disk}
 use Rattle.vdi_directory.proofs.StateLemmas.{log_effects-push, holder_of-push}

@@ -1,42 +1,29 @@
 -- The laws of decisions, from what is true of whatever entries did.
-use Rattle.std.proofs.Common.{◌≡◌, ℕ, ◌≤◌, ◌==◌, ◌&&◌, ◌||◌, not, nat_lt, Bool, true, false, cond, List, [], ◌∷◌, ◌++◌, filter, fold, Option, Some, None, is_some, Result, Ok, Err, refl, ap, sym, ◌∙◌, subst, arith, append_assoc}
+use Rattle.std.proofs.Common.{◌≡◌, ℕ, ◌≤◌, ◌==◌, ◌||◌, not, nat_lt, Bool, true, false, cond, List, [], ◌∷◌, ◌++◌, filter, fold, Option, Some, None, refl, ap, sym, ◌∙◌, subst, arith, append_assoc}
 use Rattle.std.specs.List.{list_any}
-use Rattle.std.proofs.lemmas.Bool.{eqb-true, eq-eqb, ne_eqb, both_ways, and_parts, not-true, or_parts, cond_both, cond-false}
+use Rattle.std.proofs.lemmas.Bool.{eqb-true, eq-eqb, ne_eqb, both_ways, not-true, cond_both}
 use Rattle.std.proofs.lemmas.List.{append-nil}
 use Rattle.std.proofs.lemmas.List.Sums.{fold-append}
 use Rattle.std.proofs.Math.Bool.{or-true}
-use Rattle.std.specs.Cmp.{nat_eq_equiv}
 use Rattle.proof_tools.proofs.Booleans.{or_left_comm, cond_same}
 use Rattle.object_id.specs.Oid.{IsVid}
 use Rattle.object_id.specs.declared.oid.Vid.{Vid}
 use Rattle.object_id.specs.declared.node.NodeId.{NodeId}
-use Rattle.object_id.specs.declared.cause.Cause.{Cause}
-use Rattle.object_id.specs.declared.cause.Cause.TheVariants as causes
-use Rattle.object_id.specs.declared.entry.VdiSpec.{VdiSpec}
-use Rattle.object_id.specs.declared.entry.Origin.{Origin}
-use Rattle.object_id.specs.declared.entry.Origin.TheVariants.{Fresh, SnapshotOf, CloneOf}
 use Rattle.object_id.specs.declared.entry.Entry.{Entry}
 use Rattle.object_id.specs.declared.entry.Entry.TheVariants as the_entries
 use Rattle.disk_lock.specs.declared.holder.Holder.{Holder}
 use Rattle.disk_lock.specs.Locks.{is_of_node, without_node}
-use Rattle.vdi_directory.specs.declared.header.Header.{Header}
-use Rattle.vdi_directory.specs.declared.effect.Source.{Source}
-use Rattle.vdi_directory.specs.declared.effect.Source.TheVariants as sources
 use Rattle.vdi_directory.specs.declared.effect.Reservation.{Reservation}
 use Rattle.vdi_directory.specs.declared.effect.Grant.{Grant}
 use Rattle.vdi_directory.specs.declared.effect.Effect.{Effect}
 use Rattle.vdi_directory.specs.declared.effect.Effect.TheVariants as effects
-use Rattle.vdi_directory.specs.declared.decision.Outcome.{Outcome}
-use Rattle.vdi_directory.specs.Vids.{free_id}
-use Rattle.vdi_directory.specs.Names.{is_live_name, snapshot_with_tag}
-use Rattle.vdi_directory.specs.Sources.{is_for, tag_for}
-use Rattle.vdi_directory.specs.Effects.{grants, is_used, header_of, name_of, reservations_of, reservation_on, ids_with, live_after, live_of, holder_after, holder_of}
-use Rattle.vdi_directory.specs.Decisions.{nothing, silent_outcome, grant_outcome, refusal_outcome, outcome, happens, log_effects, or_full, grant_of, with_spec, reservation_outcome, reserved_snapshot, reserved_clone, reserve_outcome, publication, replacement, snapshot_outcome, deletion, lock, target, held_disk, is_held_by, is_reserved_by, is_taken}
+use Rattle.vdi_directory.specs.Effects.{grants, is_used, reservations_of, ids_with, live_after, live_of, holder_of}
+use Rattle.vdi_directory.specs.Decisions.{outcome, happens, log_effects}
 use Rattle.vdi_directory.specs.States.{VdiState, Unused, Reserved, Working, Snapshot as SnapshotState, Deleted, Freed, freed_state, state_after_leave, state_after, state_of, rank, is_live_state}
 use Rattle.vdi_directory.specs.Sound.{In, IsSound, IsLawful}
 use Rattle.vdi_directory.proofs.StateLemmas.{log_effects-none, log_effects-push, is_used-push, reservations_of-push, live_of-push, holder_of-push}
-use Rattle.vdi_directory.proofs.SoundLemmas.{state_of-push, in-filter, other-id}
-use Rattle.vdi_directory.proofs.LawfulLemmas.{lawful-outcome, sound-log_effects, in-find, free-is}
+use Rattle.vdi_directory.proofs.SoundLemmas.{state_of-push, in-filter}
+use Rattle.vdi_directory.proofs.LawfulLemmas.{lawful-outcome, sound-log_effects}
 
 log_effects-append : (entries later : List Entry) → log_effects (entries ++ later) ≡ fold happens (log_effects entries) later
 unfolding log_effects

@@ -4,7 +4,7 @@ use Rattle.std.specs.List.{list_any}
 use Rattle.std.specs.List.Sorted.{IsNonDecreasing}
 use Rattle.std.proofs.lemmas.Bool.{le-ltb, lt-ltb, cases_lt, eqb-true, eqb-false, eq-eqb, ne_eqb, or_left, or_right, or_from}
 use Rattle.vdi_directory.specs.declared.effect.Effect.{Effect}
-use Rattle.vdi_directory.specs.declared.effect.Effect.TheVariants.{Nothing, Reserved, Published, Snapped, Deleted, Held, Freed, Withdrawn, Left}
+use Rattle.vdi_directory.specs.declared.effect.Effect.TheVariants.{Published, Snapped, Deleted}
 use Rattle.vdi_directory.specs.Effects.{ids_with, live_after, live_of}
 
 pub ids_with-at : (vid place : ℕ) (live : List ℕ) → place ≤ length live
@@ -117,3 +117,9 @@ module _ (vid place : ℕ) (live : List ℕ) (up : IsNonDecreasing live) (within
   pub has-nothing-low : place ≤ 0 → false ≡ list_any (λ other. other == vid) live
   has-nothing-low none =
       sym (has-none vid live (λ k inside same. (let far : vid < get_or live k 0 = high k 0 (omega (arith, none)) inside in absurd (omega (arith, far, same)))))
+
+  pub is-last : list_any (λ other. other == vid) live ≡ true → (0 < place) × (get_or live (place - 1) 0 ≡ vid)
+  is-last has = elim (cases_lt 0 place) [
+    | inl some ↦ (some, eqb-true (get_or live (place - 1) 0) vid (has-last some ∙ has))
+    | inr none ↦ (let nothing : false ≡ list_any (λ other. other == vid) live = has-nothing-low none in cc)
+  ]

@@ -1,11 +1,7 @@
 -- What locks hold after a grant or a release, by the ids' numbers.
-use Rattle.std.proofs.Common.{◌≡◌, ◌≢◌, ◌⊎◌, inl, inr, ℕ, cond, ◌==◌, Some, None, ap, ◌∙◌, arith}
-use Rattle.std.specs.Ordering.{nat_cmp, eq_by_cmp}
+use Rattle.std.proofs.Common.{◌≡◌, ℕ, cond, ◌==◌, Some, None, ap, ◌∙◌}
 use Rattle.std.specs.Cmp.{nat_cmp_total}
-use Rattle.std.specs.BTreeMap.{is_at}
 use Rattle.std.specs.FinMap as tree
-use Rattle.std.proofs.lemmas.Bool.Decides.{nat_tests}
-use Rattle.std.proofs.lemmas.Bool.{cases_eq}
 use Rattle.proof_tools.proofs.FiniteMaps.{is_at-turned}
 use Rattle.disk_lock.specs.declared.holder.Holder.{Holder}
 use Rattle.disk_lock.specs.Locks.{Holders}

@@ -1,10 +1,10 @@
 -- Which ids lose their last reference.
-use Rattle.std.proofs.Common.{◌≡◌, ◌≢◌, ◌⊎◌, inl, inr, ℕ, ◌+◌, ◌-◌, ◌<◌, ◌≤◌, ◌==◌, ◌||◌, ◌&&◌, nat_lt, Bool, true, false, cond, List, [], ◌∷◌, ◌++◌, Option, Some, None, unwrap_or, refl, ap, sym, ◌∙◌, subst, arith}
+use Rattle.std.proofs.Common.{◌≡◌, ◌≢◌, ◌⊎◌, inl, inr, ℕ, ◌+◌, ◌-◌, ◌<◌, ◌≤◌, ◌==◌, ◌||◌, ◌&&◌, nat_lt, Bool, true, false, cond, List, [], ◌∷◌, ◌++◌, Option, Some, unwrap_or, refl, ap, sym, ◌∙◌, arith}
 use Rattle.std.specs.Ordering.{nat_cmp}
 use Rattle.std.specs.BTreeMap.{BTreeMap, get}
-use Rattle.std.proofs.lemmas.Bool.{cases_eq, eqb-true, eqb-false, eq-eqb, ne_eqb, lt-ltb}
+use Rattle.std.proofs.lemmas.Bool.{cases_eq, eqb-true, eq-eqb, ne_eqb, lt-ltb}
 use Rattle.std.proofs.lemmas.List.Folds.{list_any-append}
-use Rattle.std.proofs.Math.Bool.{or-false, or-true}
+use Rattle.std.proofs.Math.Bool.{or-false}
 use Rattle.object_id.specs.declared.oid.Vid.{Vid}
 use Rattle.object_id.specs.declared.node.NodeId.{NodeId}
 use Rattle.vdi_directory.specs.declared.effect.Effect.{Effect}
@@ -12,7 +12,7 @@ use Rattle.vdi_directory.specs.declared.effect.Effect.TheVariants as effects
 use Rattle.vdi_directory.specs.declared.directory_state.DirectoryState.{DirectoryState}
 use Rattle.vdi_directory.specs.References.{one, child_references, parent_in, count_in, left_in, has_vid, AreLosses}
 use Rattle.vdi_directory.specs.DirectoryState.{lost_by, IsDeadList}
-use Rattle.vdi_directory.proofs.ReferenceLemmas.{one-same, one-other}
+use Rattle.vdi_directory.proofs.ReferenceLemmas.{one-other}
 
 -- one less of an id that has some
 pub left-less : (references old new : BTreeMap ℕ ℕ) (vid : ℕ) → 0 < left_in references old vid

@@ -9,7 +9,7 @@ use Rattle.vdi_directory.specs.declared.effect.Effect.TheVariants as effects
 use Rattle.vdi_directory.specs.Names.{Name, is_same_bytes, name_with_working, name_with_snapshot, name_without}
 use Rattle.vdi_directory.specs.Effects.{grants, name_after, name_of}
 use Rattle.vdi_directory.specs.Decisions.{outcome, log_effects}
-use Rattle.vdi_directory.specs.States.{VdiState, Unused, Reserved, Working, Snapshot, Deleted, Freed, freed_state, state_after_leave, state_after, state_of, owner_of}
+use Rattle.vdi_directory.specs.States.{VdiState, Reserved, Working, Snapshot, Deleted, Freed, freed_state, state_after_leave, state_after, state_of, owner_of}
 use Rattle.vdi_directory.specs.Sound.{In, IsLawful}
 use Rattle.vdi_directory.proofs.NameLemmas.{is-same}
 use Rattle.vdi_directory.proofs.StateLemmas.{log_effects-none, name_of-push}

@@ -4,7 +4,7 @@ use Rattle.std.proofs.lemmas.Bool.{cases_eq, eq-eqb, or_left}
 use Rattle.object_id.specs.declared.oid.Vid.{Vid}
 use Rattle.vdi_directory.specs.declared.effect.Effect.{Effect}
 use Rattle.vdi_directory.specs.Effects.{is_used}
-use Rattle.vdi_directory.specs.States.{VdiState, Unused, Reserved, Working, Snapshot, Deleted, Freed, rank, state_of}
+use Rattle.vdi_directory.specs.States.{VdiState, Reserved, Working, Snapshot, Deleted, Freed, rank, state_of}
 use Rattle.vdi_directory.specs.Chains.{is_above, grant_place}
 use Rattle.vdi_directory.specs.Dead.{is_gone, IsDead}
 use Rattle.vdi_directory.specs.References.{one_if, one, references_by, KEY_COUNT, child_references, AreReferenceCounts, stands, parent_of, own_of}

@@ -1,5 +1,5 @@
 -- What is known of an id stays valid, with entries that may be reserved.
-use Rattle.std.proofs.Common.{◌≡◌, ◌⊎◌, inl, inr, ℕ, suc, ◌+◌, ◌-◌, ◌^◌, ◌≤◌, ◌==◌, ◌&&◌, Bool, true, false, cond, min, List, [], ◌∷◌, ◌++◌, All, Option, Some, None, is_some, Result, Ok, Err, refl, ap, sym, ◌∙◌, not, subst, arith, append_assoc}
+use Rattle.std.proofs.Common.{◌≡◌, ◌⊎◌, inl, inr, ℕ, suc, ◌≤◌, ◌==◌, ◌&&◌, Bool, true, false, cond, List, [], ◌∷◌, ◌++◌, All, Option, Some, None, is_some, Result, Ok, Err, refl, ap, sym, ◌∙◌, not, subst, arith, append_assoc}
 use Rattle.std.specs.Option.{option_map}
 use Rattle.std.proofs.lemmas.Bool.{eqb-true, both_ways}
 use Rattle.std.proofs.lemmas.List.{append-nil}
@@ -20,8 +20,6 @@ use Rattle.vdi_directory.specs.declared.header.Header.{Header}
 use Rattle.vdi_directory.specs.declared.effect.Source.{Source}
 use Rattle.vdi_directory.specs.declared.effect.Source.TheVariants as sources
 use Rattle.vdi_directory.specs.declared.effect.Reservation.{Reservation}
-use Rattle.vdi_directory.specs.declared.effect.Grant.{Grant}
-use Rattle.vdi_directory.specs.declared.effect.Snap.{Snap}
 use Rattle.vdi_directory.specs.declared.effect.Effect.{Effect}
 use Rattle.vdi_directory.specs.declared.effect.Effect.TheVariants as effects
 use Rattle.vdi_directory.specs.declared.decision.Outcome.{Outcome}

@@ -1,5 +1,5 @@
 ghost use Rattle.std.specs.Prelude.{◌≡◌, ◌≤◌, ◌<◌, ℕ, ◌==◌, [], IfOk, OnOk, OnErr, IsSome, vec_len, vec_capacity, if◌then◌else◌};
-ghost use Rattle.std.specs.List.Sorted.{IsNonDecreasing};
+ghost use Rattle.std.specs.List.Sorted.{IsNonDecreasing, IsStrictlyIncreasing};
 ghost use Rattle.vdi_directory.specs.declared.effect.Effect.TheVariants as effects;
 ghost use Rattle.vdi_directory.specs.Vids.{AreRanges};
 ghost use Rattle.vdi_directory.specs.DirectoryState.{IsDirectoryState, AreMade, AreLocksMade, IsFresh, CanMake, lost_by, IsDeadList};
@@ -104,6 +104,7 @@ impl DirectoryState {
 
     fn delete(&mut self, vid: Vid, name: &Bytes)
         requires references { CanMake (effects.Deleted vid name.now) self.old }
+        requires strict { IsStrictlyIncreasing self.old.live.items }
         requires ranges { AreRanges self.old.used.items }
         ensures { AreMade (effects.Deleted vid name.now) self.old self.new }
     {
@@ -176,6 +177,7 @@ impl DirectoryState {
         requires fresh { IsFresh effect self.old }
         requires references { CanMake effect self.old }
         requires sorted { IsNonDecreasing self.old.live.items }
+        requires strict { IsStrictlyIncreasing self.old.live.items }
         requires ranges { AreRanges self.old.used.items }
         ensures ok { OnOk result (AreMade effect self.old self.new) }
         ensures locks { OnOk result (AreLocksMade effect locks.old locks.new) }

@@ -1,6 +1,6 @@
 ghost use Rattle.std.specs.Prelude.{◌≡◌, ℕ, ◌==◌, slice_index_or, ◌<◌, ◌≤◌, not, filter, length, take, drop, ◌∷◌, ◌++◌, vec_len, vec_capacity};
 ghost use Rattle.std.specs.List.{list_any};
-ghost use Rattle.std.specs.List.Sorted.{IsNonDecreasing};
+ghost use Rattle.std.specs.List.Sorted.{IsNonDecreasing, IsStrictlyIncreasing};
 ghost use Rattle.vdi_directory.specs.Effects.{ids_with};
 
 use object_id::Vid;
@@ -36,8 +36,13 @@ pub fn add_id(live: &mut Vec<u32>, vid: Vid)
     let _ = live.insert(place, vid.0);
 }
 
+/// Takes an id out, if it is there.
 pub fn drop_id(live: &mut Vec<u32>, vid: Vid)
+    requires { IsStrictlyIncreasing live.old.items }
     ensures { live.new.items ≡ filter (λ other. not (other == vid.0)) live.old.items }
 {
-    live.retain(|other| *other != vid.0);
+    let place = place_of(live.as_slice(), vid.0);
+    if has_id(live.as_slice(), vid) {
+        live.remove(place - 1);
+    }
 }

@@ -1,7 +1,7 @@
 use Rattle.std.proofs.Common.{ltb, ltb-true, arith, rules}
 use Rattle.std.proofs.lemmas.Bool.{ltb-false}
 use Rattle.std.proofs.lemmas.List.Sorted.{IsPartitionPoint-from_clause, IsPartitionedBy-ltb}
-use Rattle.object_store.proofs.OidLemmas.{IsNonDecreasing-from_strict}
+use Rattle.proof_tools.proofs.AscendingWithout.{IsNonDecreasing-from_strict}
 use Rattle.object_store.proofs.oid_list.place_of.Goals as goal
 
 pub returns-clause-before : goal.returns-clause-before

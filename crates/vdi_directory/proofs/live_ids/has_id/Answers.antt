@@ -1,4 +1,4 @@
-use Rattle.std.proofs.Common.{nat_lt, ap, ◌∙◌}
+use Rattle.std.proofs.Common.{◌∙◌}
 use Rattle.std.proofs.lemmas.Bool.{le-ltb}
 use Rattle.vdi_directory.proofs.LiveLemmas.{has-last, has-nothing-low}
 use Rattle.vdi_directory.proofs.live_ids.has_id.Goals as goal

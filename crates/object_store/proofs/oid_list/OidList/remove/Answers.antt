@@ -1,6 +1,7 @@
 use Rattle.std.proofs.Common.{◌≡◌, ℕ, ◌<◌, List, length, get_or, true, take, drop, filter, not, ◌+◌, ◌++◌, ap, sym, subst, ◌∙◌, ◌==◌}
 use Rattle.std.specs.List.{list_any}
-use Rattle.object_store.proofs.OidLemmas.{found-at, one-goes, none-goes}
+use Rattle.proof_tools.proofs.AscendingWithout.{one-goes, none-goes}
+use Rattle.object_store.proofs.OidLemmas.{found-at}
 use Rattle.object_store.proofs.oid_list.OidList.remove.Goals as goal
 
 pub remove_at-requires : goal.remove_at-requires

@@ -1,7 +1,6 @@
-use Rattle.std.proofs.Common.{◌≡◌, ℕ, suc, ◌∷◌, ◌++◌, List, [], map, length, Option, ap, sym, ◌∙◌, arith}
+use Rattle.std.proofs.Common.{◌≡◌, ℕ, suc, ◌∷◌, ◌++◌, List, map, length, Option, ap, sym, ◌∙◌, arith}
 use Rattle.std.proofs.lemmas.List.{append-nil}
 use Rattle.object_id.specs.declared.oid.Vid.{Vid}
-use Rattle.object_id.specs.declared.entry.Entry.{Entry}
 use Rattle.vdi_directory.specs.Decisions.{log_effects}
 use Rattle.vdi_directory.specs.Chains.{chain_from, chain_of}
 use Rattle.vdi_directory.proofs.LineLemmas.{line-log_effects}

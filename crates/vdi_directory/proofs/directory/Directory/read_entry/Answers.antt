@@ -1,11 +1,12 @@
 use Rattle.std.proofs.Common.{◌≡◌, List, [], ◌∷◌, ◌++◌, ap, sym, subst, ◌∙◌}
-use Rattle.std.specs.List.Sorted.{IsNonDecreasing}
+use Rattle.std.specs.List.Sorted.{IsNonDecreasing, IsStrictlyIncreasing}
 use Rattle.object_id.specs.declared.entry.Entry.{Entry}
 use Rattle.vdi_directory.specs.declared.effect.Effect.{Effect}
 use Rattle.vdi_directory.specs.declared.decision.Outcome.{Outcome}
 use Rattle.vdi_directory.specs.Decisions.{outcome as outcome_of, log_effects}
 use Rattle.vdi_directory.specs.DirectoryState.{IsDirectoryState, AreMade, AreLocksMade, AreLocks, IsFresh, CanMake}
 use Rattle.vdi_directory.proofs.LiveLemmas.{live_of-sorted}
+use Rattle.vdi_directory.proofs.AscentLemmas.{live-ascends}
 use Rattle.vdi_directory.proofs.StateLemmas.{log_effects-push, state-push, locks-push, fresh-outcome}
 use Rattle.vdi_directory.proofs.LawfulLemmas.{lawful-outcome, sound-log_effects}
 use Rattle.vdi_directory.proofs.LineLemmas.{line-log_effects}
@@ -32,6 +33,9 @@ make-requires-clause-references c =
 
 pub make-requires-clause-sorted : goal.make-requires-clause-sorted
 make-requires-clause-sorted c = subst IsNonDecreasing (sym c.self.invariant.live) (live_of-sorted (log_effects c.self.inside.entries.items))
+
+pub make-requires-clause-strict : goal.make-requires-clause-strict
+make-requires-clause-strict c = subst IsStrictlyIncreasing (sym c.self.invariant.live) (live-ascends c.self.inside.entries.items)
 
 pub invariant_of-self-3 : goal.invariant_of-self-3
 invariant_of-self-3 c =

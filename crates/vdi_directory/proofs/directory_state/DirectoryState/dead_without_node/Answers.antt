@@ -1,6 +1,6 @@
-use Rattle.std.proofs.Common.{◌≡◌, ℕ, List, subst}
+use Rattle.std.proofs.Common.{ℕ, List, subst}
 use Rattle.vdi_directory.specs.declared.effect.Reservation.{Reservation}
-use Rattle.vdi_directory.specs.References.{reserved_by, parent_in, count_in, left_in, LosesReferences}
+use Rattle.vdi_directory.specs.References.{reserved_by, parent_in, left_in, LosesReferences}
 use Rattle.vdi_directory.proofs.directory_state.DirectoryState.dead_without_node.Goals as goal
 
 pub returns : goal.returns

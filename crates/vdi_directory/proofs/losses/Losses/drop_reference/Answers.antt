@@ -1,5 +1,4 @@
-use Rattle.std.proofs.Common.{◌≡◌, ℕ, ◌+◌, Option, sym, subst, ap, ◌∙◌, arith}
-use Rattle.std.proofs.lemmas.Bool.{eq-eqb}
+use Rattle.std.proofs.Common.{◌≡◌, ℕ, ◌+◌, Option, sym, subst, arith}
 use Rattle.object_id.specs.declared.oid.Vid.{Vid}
 use Rattle.vdi_directory.specs.References.{one, one_parent_reference, child_references, AreReferenceCounts, parent_in, count_in, left_in}
 use Rattle.vdi_directory.proofs.ReferenceLemmas.{key-below, fewer, fewer-total, referenced-some}
