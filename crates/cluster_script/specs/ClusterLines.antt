@@ -2,7 +2,8 @@
 use Rattle.std.specs.Prelude.{ℕ, ◌+◌, ◌-◌, ◌&&◌, not, nat_le, List, bytes_eq, codes, Option, Result, Ok, Err, if◌then◌else◌}
 use Rattle.std.specs.List.{list_all}
 use Rattle.cluster_script.specs.declared.statement.Statement.{Statement}
-use Rattle.cluster_script.specs.declared.statement.Statement.TheVariants.{Session, Fail, Join, Lose, Settle, ListNodes, ListVdis, ClusterInfo, Dump, Zone, Reweight, Back}
+use Rattle.cluster_script.specs.declared.statement.Statement.TheVariants.{Session, Fail, Join, Lose, Settle, ListNodes, ListVdis}
+use Rattle.cluster_script.specs.declared.statement.Statement.TheVariants.{ClusterInfo, Dump, Zone, Reweight, Back}
 use Rattle.cluster_script.specs.declared.fault.LineCause.{LineCause}
 use Rattle.cluster_script.specs.declared.fault.LineCause.TheVariants as causes
 use Rattle.object_id.specs.declared.limits.TheConstants.{NODES_MAX, VNODES_MAX, SESSIONS_MAX, LOSSES_MAX, ZONES_MAX}

@@ -6,8 +6,12 @@ use Rattle.object_id.specs.Spec.{IsSpec}
 use Rattle.cluster_script.specs.declared.statement.Pattern.{Pattern}
 use Rattle.cluster_script.specs.declared.statement.Pattern.TheVariants as patterns
 use Rattle.cluster_script.specs.declared.statement.Statement.{Statement}
-use Rattle.cluster_script.specs.declared.statement.Statement.TheVariants.{Cluster, Vnodes, Tries, Limit, Session, Create, OpenDisk, Close, Read, Write, Snapshot, Clone, Delete, Fail, Join, Lose, Settle, ListNodes, ListVdis, ClusterInfo, Dump, Zone, Reweight, Back, Check}
-use Rattle.object_id.specs.declared.limits.TheConstants.{NODES_MAX, VNODES_MAX, TRIES_MAX, LIMIT_MAX, SESSIONS_MAX, LOSSES_MAX, REQUESTS_MAX, READ_BYTES_MAX, WRITE_BYTES_MAX}
+use Rattle.cluster_script.specs.declared.statement.Statement.TheVariants.{Cluster, Vnodes, Tries, Limit, Session, Create, OpenDisk, Close}
+use Rattle.cluster_script.specs.declared.statement.Statement.TheVariants.{Read, Write, Snapshot, Clone, Delete, Fail, Join, Lose, Settle}
+use Rattle.cluster_script.specs.declared.statement.Statement.TheVariants.{ListNodes, ListVdis, ClusterInfo, Dump, Zone, Reweight, Back}
+use Rattle.cluster_script.specs.declared.statement.Statement.TheVariants.{Check}
+use Rattle.object_id.specs.declared.limits.TheConstants.{NODES_MAX, VNODES_MAX, TRIES_MAX, LIMIT_MAX, SESSIONS_MAX, LOSSES_MAX}
+use Rattle.object_id.specs.declared.limits.TheConstants.{REQUESTS_MAX, READ_BYTES_MAX, WRITE_BYTES_MAX}
 use Rattle.cluster_script.specs.declared.limits.TheConstants.{CHECKS_MAX}
 use Rattle.cluster_script.specs.Statements.{is_setting, is_cluster, is_session_declared, is_check, is_request, read_bytes, write_bytes, has}
 use Rattle.object_id.specs.Span.{IsSpan}

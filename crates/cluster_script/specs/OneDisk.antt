@@ -1,14 +1,17 @@
 -- Which lists of statements are scripts of one node, one session, and one disk with one copy.
-use Rattle.std.specs.Prelude.{◌≡◌, ◌≢◌, ℕ, ◌+◌, ◌%◌, ◌^◌, ◌<◌, ◌≤◌, true, false, List, [], ◌∷◌, ◌++◌, length, All, Some, None, IsSome, count_by, sum_by, slice_get}
+use Rattle.std.specs.Prelude.{◌≡◌, ◌≢◌, ℕ, ◌+◌, ◌%◌, ◌^◌, ◌<◌, ◌≤◌, true, false, List, [], ◌∷◌, ◌++◌, length, All, Some, None, IsSome}
+use Rattle.std.specs.Prelude.{count_by, sum_by, slice_get}
 use Rattle.object_id.specs.declared.policy.Policy.TheVariants.{Copies}
 use Rattle.object_id.specs.Span.{IsSpan}
 use Rattle.cluster_script.specs.declared.statement.Pattern.{Pattern}
 use Rattle.cluster_script.specs.declared.statement.Pattern.TheVariants.{Fill, Step}
 use Rattle.cluster_script.specs.declared.statement.Statement.{Statement}
 use Rattle.cluster_script.specs.declared.statement.Statement.TheVariants.{Cluster, Session, Create, OpenDisk, Close, Read, Write}
-use Rattle.object_id.specs.declared.limits.TheConstants.{BLOCK_BYTES, NAME_BYTES_MAX, REQUESTS_MAX, READ_BYTES_MAX, WRITE_BYTES_MAX, SHIFT_DEFAULT}
+use Rattle.object_id.specs.declared.limits.TheConstants.{BLOCK_BYTES, NAME_BYTES_MAX, REQUESTS_MAX, READ_BYTES_MAX, WRITE_BYTES_MAX}
+use Rattle.object_id.specs.declared.limits.TheConstants.{SHIFT_DEFAULT}
 use Rattle.cluster_script.specs.declared.limits.TheConstants.{ONE_DISK_SIZE_MAX}
-use Rattle.cluster_script.specs.Statements.{is_cluster, is_session_declared, is_open, is_close, is_request, read_bytes, write_bytes, has, requests_of, disk_name, disk_size}
+use Rattle.cluster_script.specs.Statements.{is_cluster, is_session_declared, is_open, is_close, is_request, read_bytes, write_bytes, has}
+use Rattle.cluster_script.specs.Statements.{requests_of, disk_name, disk_size}
 
 -- 1 to 255 printed bytes without a blank, of which the first isn't `-` (45)
 pub record IsPrintedName (name : List ℕ) : Type 0 where

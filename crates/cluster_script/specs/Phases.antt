@@ -2,7 +2,8 @@
 use Rattle.std.specs.Prelude.{ℕ, ◌+◌, ◌==◌, Bool, true, false, not, List, [], ◌∷◌, filter, count_by, sum_by, unwrap_or, if◌then◌else◌}
 use Rattle.std.specs.List.{list_any, find, range_with_len, position_or_len}
 use Rattle.cluster_script.specs.declared.statement.Statement.{Statement}
-use Rattle.cluster_script.specs.declared.statement.Statement.TheVariants.{Fail, Join, Lose, Settle, ListNodes, ListVdis, ClusterInfo, Dump, Reweight, Back}
+use Rattle.cluster_script.specs.declared.statement.Statement.TheVariants.{Fail, Join, Lose, Settle, ListNodes, ListVdis, ClusterInfo, Dump}
+use Rattle.cluster_script.specs.declared.statement.Statement.TheVariants.{Reweight, Back}
 use Rattle.cluster_script.specs.Statements.{is_setting, is_request}
 
 -- a statement ends its phase

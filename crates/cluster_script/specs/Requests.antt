@@ -1,9 +1,11 @@
 -- The requests of a session, each read after the statements before it.
-use Rattle.std.specs.Prelude.{ℕ, ◌+◌, ◌-◌, ◌*◌, ◌^◌, ◌==◌, Bool, ◌&&◌, nat_le, nat_lt, List, bytes_eq, codes, count_by, sum_by, Option, Some, None, Result, Ok, Err, if◌then◌else◌}
+use Rattle.std.specs.Prelude.{ℕ, ◌+◌, ◌-◌, ◌*◌, ◌^◌, ◌==◌, Bool, ◌&&◌, nat_le, nat_lt, List, bytes_eq, codes, count_by, sum_by, Option}
+use Rattle.std.specs.Prelude.{Some, None, Result, Ok, Err, if◌then◌else◌}
 use Rattle.std.specs.List.{list_any, before_first, after_first}
 use Rattle.object_id.specs.declared.policy.Policy.{Policy}
 use Rattle.object_id.specs.declared.policy.Policy.TheVariants.{Copies, Coded}
-use Rattle.object_id.specs.declared.limits.TheConstants.{SHIFT_MIN, SHIFT_MAX, BLOCK_BYTES, SHIFT_DEFAULT, LENGTH_MAX, REQUESTS_MAX, READ_BYTES_MAX, WRITE_BYTES_MAX, COPIES_MAX, PARITY_MAX, OBJECTS_MAX}
+use Rattle.object_id.specs.declared.limits.TheConstants.{SHIFT_MIN, SHIFT_MAX, BLOCK_BYTES, SHIFT_DEFAULT, LENGTH_MAX, REQUESTS_MAX}
+use Rattle.object_id.specs.declared.limits.TheConstants.{READ_BYTES_MAX, WRITE_BYTES_MAX, COPIES_MAX, PARITY_MAX, OBJECTS_MAX}
 use Rattle.object_id.specs.Policy.{is_width}
 use Rattle.cluster_script.specs.declared.statement.Pattern.{Pattern}
 use Rattle.cluster_script.specs.declared.statement.Pattern.TheVariants.{Fill, Step}

@@ -1,5 +1,6 @@
 -- The lines of a text, the words of a line, and what is read from the front of its words.
-use Rattle.std.specs.Prelude.{ℕ, ◌==◌, Bool, true, false, ◌&&◌, not, nat_le, nat_eq, List, [], ◌∷◌, length, filter, bytes_eq, codes, Result, Ok, Err, if◌then◌else◌}
+use Rattle.std.specs.Prelude.{ℕ, ◌==◌, Bool, true, false, ◌&&◌, not, nat_le, nat_eq, List, [], ◌∷◌, length, filter, bytes_eq, codes, Result}
+use Rattle.std.specs.Prelude.{Ok, Err, if◌then◌else◌}
 use Rattle.std.specs.List.{slice_split, list_all, starts_with}
 use Rattle.cluster_script.specs.declared.fault.LineCause.{LineCause}
 use Rattle.cluster_script.specs.declared.fault.LineCause.TheVariants as causes

@@ -1,7 +1,9 @@
-ghost use Rattle.std.specs.Prelude.{◌≡◌, ◌≤◌, ◌<◌, ◌+◌, ◌^◌, ◌==◌, ◌&&◌, not, false, ◌∷◌, ◌++◌, [], length, count_by, sum_by, Some, IsTrue, OnOk, OnErr};
+ghost use Rattle.std.specs.Prelude.{◌≡◌, ◌≤◌, ◌<◌, ◌+◌, ◌^◌, ◌==◌, ◌&&◌, not, false, ◌∷◌, ◌++◌, [], length, count_by, sum_by, Some, IsTrue};
+ghost use Rattle.std.specs.Prelude.{OnOk, OnErr};
 ghost use Rattle.std.specs.List.{list_all};
 ghost use Rattle.std.specs.Option.{option_copied};
-ghost use Rattle.cluster_script.specs.Statements.{is_setting, is_cluster, is_create, is_open, is_request, read_bytes, write_bytes, has, requests_of, declares, is_session_declared, name_made, disk_name};
+ghost use Rattle.cluster_script.specs.Statements.{is_setting, is_cluster, is_create, is_open, is_request, read_bytes, write_bytes, has};
+ghost use Rattle.cluster_script.specs.Statements.{requests_of, declares, is_session_declared, name_made, disk_name};
 ghost use Rattle.cluster_script.specs.OneDisk.{IsDiskOpen, MayFollow, IsOneDiskScript};
 ghost use Rattle.cluster_script.specs.Requests.{has_room};
 ghost use Rattle.cluster_script.specs.OneDiskRequests.{is_disk_open, is_disk_named};

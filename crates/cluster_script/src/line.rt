@@ -5,7 +5,8 @@ ghost use Rattle.cluster_script.specs.OneDisk.{MayFollow};
 ghost use Rattle.cluster_script.specs.ReadResults.{GivesLine, FailsLine, GivesInMemory};
 ghost use Rattle.cluster_script.specs.Words.{words_of, is_next_word};
 ghost use Rattle.cluster_script.specs.Script.{line_at, IsLineTaken};
-ghost use Rattle.cluster_script.specs.OneDiskLines.{cluster_at, one_disk_session_at, one_disk_asking_session, one_disk_asked_at, one_disk_statement_at};
+ghost use Rattle.cluster_script.specs.OneDiskLines.{cluster_at, one_disk_session_at, one_disk_asking_session, one_disk_asked_at};
+ghost use Rattle.cluster_script.specs.OneDiskLines.{one_disk_statement_at};
 
 use crate::draft::Draft;
 use crate::fault::{LineCause, ReadError};

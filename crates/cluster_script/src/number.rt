@@ -3,7 +3,8 @@ ghost use Rattle.std.specs.List.{list_all};
 ghost use Rattle.std.specs.Char.{is_ascii_digit};
 ghost use Rattle.cluster_script.specs.ReadResults.{GivesLine};
 ghost use Rattle.cluster_script.specs.Words.{words_of};
-ghost use Rattle.cluster_script.specs.Numbers.{is_digits, digits_value, scaled_number as scaled_of, number_of, size_of_word, number_in_range, aligned_number, plain_number_at, blocks_at};
+ghost use Rattle.cluster_script.specs.Numbers.{is_digits, digits_value, scaled_number as scaled_of, number_of, size_of_word};
+ghost use Rattle.cluster_script.specs.Numbers.{number_in_range, aligned_number, plain_number_at, blocks_at};
 
 use crate::fault::LineCause;
 use crate::words::word;

@@ -5,7 +5,8 @@ ghost use Rattle.cluster_script.specs.OneDisk.{MayFollow, IsDiskOpen};
 ghost use Rattle.cluster_script.specs.ReadResults.{GivesLine, GivesInMemory};
 ghost use Rattle.cluster_script.specs.Words.{words_of};
 ghost use Rattle.cluster_script.specs.Requests.{close_request_at, span_at, read_request_at};
-ghost use Rattle.cluster_script.specs.OneDiskRequests.{one_disk_create_at, one_disk_open_at, one_disk_write_at, disk_verb_at, one_disk_verb_at, one_disk_request_at};
+ghost use Rattle.cluster_script.specs.OneDiskRequests.{one_disk_create_at, one_disk_open_at, one_disk_write_at, disk_verb_at};
+ghost use Rattle.cluster_script.specs.OneDiskRequests.{one_disk_verb_at, one_disk_request_at};
 
 use crate::draft::Draft;
 use crate::fault::{LineCause, ReadError};

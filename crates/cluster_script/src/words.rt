@@ -2,7 +2,8 @@ ghost use Rattle.std.specs.Prelude.{◌≡◌, ◌<◌, ◌==◌, ◌∷◌, [],
 ghost use Rattle.std.specs.List.{before_first, after_first, list_all};
 ghost use Rattle.cluster_script.specs.OneDisk.{IsPrintedName};
 ghost use Rattle.cluster_script.specs.ReadResults.{GivesLine};
-ghost use Rattle.cluster_script.specs.Words.{words_of, says_nothing, word_at, keyword_at, end_of_words, is_name_byte, is_name, name_word_at};
+ghost use Rattle.cluster_script.specs.Words.{words_of, says_nothing, word_at, keyword_at, end_of_words, is_name_byte, is_name};
+ghost use Rattle.cluster_script.specs.Words.{name_word_at};
 
 use crate::fault::LineCause;
 use object_id::NAME_BYTES_MAX;

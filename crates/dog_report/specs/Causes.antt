@@ -1,8 +1,12 @@
 -- What a report says of a refusal: the result's number and name, and the details of the cause.
 use Rattle.std.specs.Prelude.{ℕ, List, [], ◌∷◌, codes, decimal}
 use Rattle.object_id.specs.declared.cause.Cause.{Cause}
-use Rattle.object_id.specs.declared.cause.Cause.TheVariants.{VdiLocked, NoVdi, NoTag, NoBaseVdi, VdiExist, Readonly, VdiNotLocked, FullVdi, InvalidParms, Halt, OldEpoch, NewEpoch, Recovery, Link, NoObj}
-use Rattle.sheep_proto.specs.declared.codes.TheConstants.{RESULT_VDI_LOCKED, RESULT_NO_VDI, RESULT_NO_TAG, RESULT_NO_BASE_VDI, RESULT_VDI_EXIST, RESULT_READONLY, RESULT_VDI_NOT_LOCKED, RESULT_FULL_VDI, RESULT_INVALID_PARMS, RESULT_HALT, RESULT_OLD_EPOCH, RESULT_NEW_EPOCH, RESULT_RECOVERY, RESULT_LINK, RESULT_NO_OBJ}
+use Rattle.object_id.specs.declared.cause.Cause.TheVariants.{VdiLocked, NoVdi, NoTag, NoBaseVdi, VdiExist, Readonly, VdiNotLocked, FullVdi}
+use Rattle.object_id.specs.declared.cause.Cause.TheVariants.{InvalidParms, Halt, OldEpoch, NewEpoch, Recovery, Link, NoObj}
+use Rattle.sheep_proto.specs.declared.codes.TheConstants.{RESULT_VDI_LOCKED, RESULT_NO_VDI, RESULT_NO_TAG, RESULT_NO_BASE_VDI}
+use Rattle.sheep_proto.specs.declared.codes.TheConstants.{RESULT_VDI_EXIST, RESULT_READONLY, RESULT_VDI_NOT_LOCKED, RESULT_FULL_VDI}
+use Rattle.sheep_proto.specs.declared.codes.TheConstants.{RESULT_INVALID_PARMS, RESULT_HALT, RESULT_OLD_EPOCH, RESULT_NEW_EPOCH}
+use Rattle.sheep_proto.specs.declared.codes.TheConstants.{RESULT_RECOVERY, RESULT_LINK, RESULT_NO_OBJ}
 use Rattle.dog_report.specs.Words.{Words, hex}
 
 -- the result by which a reply tells the cause

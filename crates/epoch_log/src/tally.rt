@@ -1,4 +1,5 @@
-ghost use Rattle.std.specs.Prelude.{◌≡◌, ◌↔◌, ℕ, ◌+◌, ◌-◌, ◌^◌, ◌<◌, ◌≤◌, ◌==◌, ◌&&◌, ◌||◌, nat_lt, List, [], ◌∷◌, ◌++◌, length, filter, not, slice_set, slice_index_or, Some, None, IfOk, IsTrue, OnOk, OnErr, if◌then◌else◌};
+ghost use Rattle.std.specs.Prelude.{◌≡◌, ◌↔◌, ℕ, ◌+◌, ◌-◌, ◌^◌, ◌<◌, ◌≤◌, ◌==◌, ◌&&◌, ◌||◌, nat_lt, List, [], ◌∷◌, ◌++◌, length, filter};
+ghost use Rattle.std.specs.Prelude.{not, slice_set, slice_index_or, Some, None, IfOk, IsTrue, OnOk, OnErr, if◌then◌else◌};
 ghost use Rattle.object_id.specs.declared.entry.Member.{Member};
 ghost use Rattle.epoch_log.specs.declared.epoch_record.EpochRecord.{EpochRecord};
 ghost use Rattle.epoch_log.specs.Members.{members_after};

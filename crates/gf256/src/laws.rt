@@ -1,4 +1,5 @@
-ghost use Rattle.std.specs.Prelude.{◌≡◌, ◌≢◌, ◌+◌, ◌/◌, ◌*◌, ◌<◌, ◌≤◌, ◌^◌, ◌⊎◌, ℕ, List, ◌++◌, length, map, slice_index, take, drop, replicate, flat_map, slice_index_or, []};
+ghost use Rattle.std.specs.Prelude.{◌≡◌, ◌≢◌, ◌+◌, ◌/◌, ◌*◌, ◌<◌, ◌≤◌, ◌^◌, ◌⊎◌, ℕ, List, ◌++◌, length, map, slice_index, take, drop};
+ghost use Rattle.std.specs.Prelude.{replicate, flat_map, slice_index_or, []};
 ghost use Rattle.std.specs.List.{All};
 ghost use Rattle.object_id.specs.declared.policy.Policy.{Policy};
 ghost use Rattle.object_id.specs.declared.policy.Policy.TheVariants.{Coded};

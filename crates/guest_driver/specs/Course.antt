@@ -8,8 +8,10 @@ use Rattle.peer_proto.specs.declared.work.ObjWork.TheVariants.{Create}
 use Rattle.guest_driver.specs.declared.act.DriverAct.{DriverAct}
 use Rattle.guest_driver.specs.declared.act.DriverAct.TheVariants.{Work, Reply}
 use Rattle.guest_driver.specs.Pieces.{Piece}
-use Rattle.guest_driver.specs.PieceWorks.{Backing, Hole, Own, Inherited, entry_of, backing_of, object_bytes, read_piece, write_piece, create_piece, read_object, create_copy, write_entry, table_with_entry}
-use Rattle.guest_driver.specs.Driver.{DriverStage, InPlace, Fetching, Creating, Entering, Driver, Reads, Writes, Answered, DriverStep, driver_on_done}
+use Rattle.guest_driver.specs.PieceWorks.{Backing, Hole, Own, Inherited, entry_of, backing_of, object_bytes, read_piece, write_piece}
+use Rattle.guest_driver.specs.PieceWorks.{create_piece, read_object, create_copy, write_entry, table_with_entry}
+use Rattle.guest_driver.specs.Driver.{DriverStage, InPlace, Fetching, Creating, Entering, Driver, Reads, Writes, Answered, DriverStep}
+use Rattle.guest_driver.specs.Driver.{driver_on_done}
 
 -- the disk's own object of a piece is created, with some bytes in it
 abbrev pub Creates : Content → Piece → DriverAct → Type 0

@@ -12,7 +12,8 @@ use Rattle.guest_driver.specs.declared.act.DriverAct.{DriverAct}
 use Rattle.guest_driver.specs.declared.act.DriverAct.TheVariants.{Work, Reply}
 use Rattle.guest_driver.specs.declared.disk.Disk.{Disk}
 use Rattle.guest_driver.specs.Pieces.{Piece, pieces}
-use Rattle.guest_driver.specs.PieceWorks.{Backing, Hole, Own, Inherited, entry_of, backing_of, object_bytes, read_piece, write_piece, create_piece, read_object, create_copy, write_entry, table_with_entry}
+use Rattle.guest_driver.specs.PieceWorks.{Backing, Hole, Own, Inherited, entry_of, backing_of, object_bytes, read_piece, write_piece}
+use Rattle.guest_driver.specs.PieceWorks.{create_piece, read_object, create_copy, write_entry, table_with_entry}
 use Rattle.guest_driver.specs.Refusals.{refusal_on}
 
 -- which work a piece of a write waits for

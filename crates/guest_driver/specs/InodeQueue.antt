@@ -1,5 +1,6 @@
 -- The line of a session's works on its disk's inode: one is done at a time, the others wait in the order in which they came.
-use Rattle.std.specs.Prelude.{ℕ, ◌||◌, not, Bool, true, false, List, [], ◌∷◌, ◌++◌, map, option_to_list, Option, Some, None, is_none, if◌then◌else◌}
+use Rattle.std.specs.Prelude.{ℕ, ◌||◌, not, Bool, true, false, List, [], ◌∷◌, ◌++◌, map, option_to_list, Option, Some, None, is_none}
+use Rattle.std.specs.Prelude.{if◌then◌else◌}
 use Rattle.object_id.specs.declared.oid.Kind.{Kind}
 use Rattle.object_id.specs.declared.oid.Kind.TheVariants.{Block, Inode}
 use Rattle.object_id.specs.Oid.{kind_of}

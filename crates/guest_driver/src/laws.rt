@@ -1,5 +1,6 @@
 //! Laws of the definitions, for the proofs of the layers above: each is the contract of a function that does nothing.
-ghost use Rattle.std.specs.Prelude.{◌≡◌, ℕ, ◌+◌, ◌%◌, ◌<◌, ◌≤◌, List, [], ◌∷◌, ◌++◌, length, map, filter, flat_map, All, Some, None, IfSome, IsTrue, is_some};
+ghost use Rattle.std.specs.Prelude.{◌≡◌, ℕ, ◌+◌, ◌%◌, ◌<◌, ◌≤◌, List, [], ◌∷◌, ◌++◌, length, map, filter, flat_map, All, Some, None};
+ghost use Rattle.std.specs.Prelude.{IfSome, IsTrue, is_some};
 ghost use Rattle.object_id.specs.declared.entry.VdiSpec.{VdiSpec};
 ghost use Rattle.object_id.specs.Spec.{objects_of};
 ghost use Rattle.inode.specs.Layout.{Content};
@@ -11,7 +12,8 @@ ghost use Rattle.guest_driver.specs.declared.disk.Disk.{Disk as TheDisk};
 ghost use Rattle.guest_driver.specs.Pieces.{Piece, indexes, pieces, piece_bytes, IsPiece, AreBlocks};
 ghost use Rattle.guest_driver.specs.Driver.{Driver, read_on, write_on, begin_driver, driver_on_done, driver_bytes_wanted};
 ghost use Rattle.guest_driver.specs.Course.{Goes, inode_after, driver_acts_from, has_object, read_act, told_of, write_acts, answers};
-ghost use Rattle.guest_driver.specs.InodeQueue.{InodeQueue, is_on_inode, requests_in, may_open_work, queue_with_waiting, queue_after_end, queue_after_start};
+ghost use Rattle.guest_driver.specs.InodeQueue.{InodeQueue, is_on_inode, requests_in, may_open_work, queue_with_waiting, queue_after_end};
+ghost use Rattle.guest_driver.specs.InodeQueue.{queue_after_start};
 
 use object_id::BLOCK_BYTES;
 

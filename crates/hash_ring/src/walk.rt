@@ -1,4 +1,5 @@
-ghost use Rattle.std.specs.Prelude.{◌≡◌, ℕ, ◌+◌, ◌^◌, ◌<◌, ◌≤◌, ◌==◌, ◌||◌, ◌++◌, false, [], ◌∷◌, length, take, drop, not, All, slice_index_or, if◌then◌else◌};
+ghost use Rattle.std.specs.Prelude.{◌≡◌, ℕ, ◌+◌, ◌^◌, ◌<◌, ◌≤◌, ◌==◌, ◌||◌, ◌++◌, false, [], ◌∷◌, length, take, drop, not, All};
+ghost use Rattle.std.specs.Prelude.{slice_index_or, if◌then◌else◌};
 ghost use Rattle.object_id.specs.declared.node.NodeId.{NodeId};
 ghost use Rattle.object_id.specs.Node.{IsZone};
 ghost use Rattle.hash_ring.specs.Placement.{is_among};

@@ -2,7 +2,8 @@
 ghost use Rattle.std.specs.Prelude.{◌≡◌, ℕ, ◌+◌, ◌*◌, ◌^◌, List, ◌++◌, length};
 ghost use Rattle.object_id.specs.declared.limits.TheConstants.{OBJECTS_MAX};
 ghost use Rattle.inode.specs.declared.layout.TheConstants.{INODE_BYTES, INODE_HEADER_BYTES};
-ghost use Rattle.inode.specs.Layout.{Content, UnreadParts, Fills, IsFieldText, IsContent, SpellsInode, header_bytes, inode_bytes, unread_zeros};
+ghost use Rattle.inode.specs.Layout.{Content, UnreadParts, Fills, IsFieldText, IsContent, SpellsInode, header_bytes, inode_bytes};
+ghost use Rattle.inode.specs.Layout.{unread_zeros};
 
 /// Bytes begin with the spelling of one inode at most, and what `to_bytes` gives begins with that of the inode, whatever
 /// follows it. So reading it gives the inode.

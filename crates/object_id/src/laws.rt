@@ -12,7 +12,8 @@ ghost use Rattle.object_id.specs.Policy.{IsPolicy, wanted_of, need_of};
 ghost use Rattle.object_id.specs.Spec.{IsSpec, objects_of};
 ghost use Rattle.object_id.specs.Same.{is_same_policy, is_same_spec, is_same_tag, is_same_origin, is_same_member, is_same_entry};
 ghost use Rattle.object_id.specs.Piece.{laid_over};
-ghost use Rattle.object_id.specs.Fields.{u8_bytes, u16_bytes, u32_bytes, u64_bytes, numbers_bytes, u8_at, u16_at, u32_at, u64_at, numbers_at, AreBytes, Stands};
+ghost use Rattle.object_id.specs.Fields.{u8_bytes, u16_bytes, u32_bytes, u64_bytes, numbers_bytes, u8_at, u16_at, u32_at, u64_at};
+ghost use Rattle.object_id.specs.Fields.{numbers_at, AreBytes, Stands};
 
 use crate::limits::{
     BLOCK_BYTES, COPIES_MAX, DATA_STRIPS_MAX, EPOCH_MAX, INDEX_MAX, INPUT_BYTES_MAX, LENGTH_MAX,

@@ -1,5 +1,6 @@
 ghost use Rattle.std.specs.Prelude.{◌≡◌, ℕ, ◌<◌, ◌↔◌, IfOk, IsErrOf, IsTrue};
-ghost use Rattle.object_id.specs.Oid.{IsOid, IsVid, HasReservedBit, IsFreeOfReserved, vid_of, index_of, kind_of, inode_number, object_number};
+ghost use Rattle.object_id.specs.Oid.{IsOid, IsVid, HasReservedBit, IsFreeOfReserved, vid_of, index_of, kind_of, inode_number};
+ghost use Rattle.object_id.specs.Oid.{object_number};
 
 use crate::items::Duplicate;
 use crate::limits::{OBJECTS_MAX, VID_MAX};

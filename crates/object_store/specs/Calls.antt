@@ -1,5 +1,6 @@
 -- Lists of calls, and what a store holds after them.
-use Rattle.std.specs.Prelude.{◌≡◌, ◌⊎◌, ℕ, ◌+◌, ◌-◌, Bool, not, ◌&&◌, List, [], ◌∷◌, length, map, fold, Option, None, Some, Result, Err, nat_eq, nat_le, nat_lt, slice_index, if◌then◌else◌}
+use Rattle.std.specs.Prelude.{◌≡◌, ◌⊎◌, ℕ, ◌+◌, ◌-◌, Bool, not, ◌&&◌, List, [], ◌∷◌, length, map, fold, Option, None, Some, Result, Err}
+use Rattle.std.specs.Prelude.{nat_eq, nat_le, nat_lt, slice_index, if◌then◌else◌}
 use Rattle.std.specs.Result.{result_unwrap_or}
 use Rattle.std.specs.List.{range_with_len}
 use Rattle.std.specs.FinMap as tree

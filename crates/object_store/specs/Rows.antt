@@ -1,6 +1,7 @@
 -- The rows of one object, in the order in which they were made. A row's bytes are of any type, so that the words
 -- serve rows as they are seen and rows as a store keeps them.
-use Rattle.std.specs.Prelude.{◌≡◌, ℕ, ◌-◌, ◌<◌, ◌≤◌, Bool, true, false, not, ◌&&◌, List, [], ◌∷◌, ◌++◌, map, filter, fold, Option, None, Some, is_some, nat_eq, nat_lt, nat_le, if◌then◌else◌}
+use Rattle.std.specs.Prelude.{◌≡◌, ℕ, ◌-◌, ◌<◌, ◌≤◌, Bool, true, false, not, ◌&&◌, List, [], ◌∷◌, ◌++◌, map, filter, fold, Option, None}
+use Rattle.std.specs.Prelude.{Some, is_some, nat_eq, nat_lt, nat_le, if◌then◌else◌}
 use Rattle.std.specs.List.{find, list_any, AllByRecursion}
 use Rattle.object_id.specs.Oid.{vid_of}
 use Rattle.object_id.specs.declared.node.Epoch.{Epoch}

@@ -7,7 +7,8 @@ ghost use Rattle.object_store.specs.Rows.{closed_all, advanced, purged, without_
 ghost use Rattle.object_id.specs.Fields.{zeros};
 ghost use Rattle.object_store.specs.Bytes.{trimmed_bytes};
 ghost use Rattle.object_store.specs.declared.row.RowCopy.{RowCopy};
-ghost use Rattle.object_store.specs.Store.{AllRows, SeenRow, copy_of, row_bytes, rows_of, create_at, write_at, read_at, each, OpenUpTo, OpenBelow};
+ghost use Rattle.object_store.specs.Store.{AllRows, SeenRow, copy_of, row_bytes, rows_of, create_at, write_at, read_at, each, OpenUpTo};
+ghost use Rattle.object_store.specs.Store.{OpenBelow};
 ghost use Rattle.object_store.specs.Calls.{Call, rows_step, rows_after, story_of, read_story, touches, Has};
 
 /// No open row is from an epoch above the node's: the calls of a node keep the conditions of the later ones.

@@ -2,7 +2,8 @@ ghost use Rattle.std.specs.Prelude.{◌≡◌, ℕ, ◌≤◌, ◌<◌, length, 
 ghost use Rattle.std.specs.FinMap as tree;
 ghost use Rattle.object_store.specs.declared.key.Key.{Key};
 ghost use Rattle.object_store.specs.Rows.{OpenFrom, closed_all, advanced, purged, without_disk};
-ghost use Rattle.object_store.specs.Store.{AllRows, rows_of, create_at, piece_there, write_at, read_at, copy_at, summary_at, row_count, each, OpenUpTo, OpenBelow};
+ghost use Rattle.object_store.specs.Store.{AllRows, rows_of, create_at, piece_there, write_at, read_at, copy_at, summary_at, row_count};
+ghost use Rattle.object_store.specs.Store.{each, OpenUpTo, OpenBelow};
 ghost use Rattle.object_store.specs.Answers.{Makes, MakesSurely, KeepsRoom, KeepsOtherRoom};
 
 use crate::fault::StoreFault;

@@ -7,7 +7,8 @@ use Rattle.object_id.specs.Oid.{kind_of}
 use Rattle.gf256.specs.Part.{part, is_in_strips}
 use Rattle.peer_proto.specs.Work.{policy_of}
 use Rattle.overlap_law.specs.Attempts.{AttemptRecord}
-use Rattle.overlap_law.specs.Words.{Hosts, is_made, is_doomed, covers_unit, unit_bytes, row_bytes_at, unit_part_by, laid_over_in_order, base_of, own_base_of, later_on, is_quiet}
+use Rattle.overlap_law.specs.Words.{Hosts, is_made, is_doomed, covers_unit, unit_bytes, row_bytes_at, unit_part_by, laid_over_in_order}
+use Rattle.overlap_law.specs.Words.{base_of, own_base_of, later_on, is_quiet}
 use Rattle.overlap_law.specs.Each.{EachHost, EachAttempt, EachRowOf, end_of_row}
 
 -- what the made attempts come to at a unit: the part at an index of their bytes, laid over each other in order

@@ -7,7 +7,8 @@ use Rattle.epoch_log.specs.Epochs.{epoch_at}
 use Rattle.disk_lock.specs.declared.holder.Holder.{Holder}
 use Rattle.vdi_directory.specs.declared.effect.Reservation.{Reservation}
 use Rattle.vdi_directory.specs.declared.effect.Effect.{Effect}
-use Rattle.vdi_directory.specs.declared.effect.Effect.TheVariants.{Nothing, Reserved, Published, Snapped, Deleted, Held, Freed, Withdrawn, Left}
+use Rattle.vdi_directory.specs.declared.effect.Effect.TheVariants.{Nothing, Reserved, Published, Snapped, Deleted, Held, Freed, Withdrawn}
+use Rattle.vdi_directory.specs.declared.effect.Effect.TheVariants.{Left}
 use Rattle.vdi_directory.specs.Effects.{grants, reservations_of, reservation_on, holder_of}
 use Rattle.vdi_directory.specs.Decisions.{log_effects}
 

@@ -10,17 +10,26 @@ use Rattle.overlap_law.specs.Words.{Hosts}
 use Rattle.overlap_law.specs.Past.{FinishedList}
 use Rattle.overlap_law.specs.Each.{Placing}
 use Rattle.overlap_law.specs.Packets.{Wire}
-use Rattle.overlap_law.specs.Flight.{NumbersAreSent, PacketsAreAwaited, NoReplyGoesToTheLost, RequestsAreOfThePast, RepliesAreOfTheirEpoch, FatesAreTold, TheGoneAreFenced}
-use Rattle.overlap_law.specs.Fates.{FatesAreOfTheWire, AttemptsAreOfIncarnations, ServersReachedTheEpoch, AttemptsAreShaped, AttemptsAreWhole, IdsAreKnown, AttemptsAreOrdered, CreatesComeFirst}
-use Rattle.overlap_law.specs.OpenWorks.{OpenAttemptsAreLatest, WorksKnowTheirFates, ServedRequestsAreTouched, LosersAreTouched, RefusedRequestsAreMute}
+use Rattle.overlap_law.specs.Flight.{NumbersAreSent, PacketsAreAwaited, NoReplyGoesToTheLost, RequestsAreOfThePast, RepliesAreOfTheirEpoch}
+use Rattle.overlap_law.specs.Flight.{FatesAreTold, TheGoneAreFenced}
+use Rattle.overlap_law.specs.Fates.{FatesAreOfTheWire, AttemptsAreOfIncarnations, ServersReachedTheEpoch, AttemptsAreShaped}
+use Rattle.overlap_law.specs.Fates.{AttemptsAreWhole, IdsAreKnown, AttemptsAreOrdered, CreatesComeFirst}
+use Rattle.overlap_law.specs.OpenWorks.{OpenAttemptsAreLatest, WorksKnowTheirFates, ServedRequestsAreTouched, LosersAreTouched}
+use Rattle.overlap_law.specs.OpenWorks.{RefusedRequestsAreMute}
 use Rattle.overlap_law.specs.Writers.{OnlyTheWriterWrites, ThereIsOneWriter}
 use Rattle.overlap_law.specs.Sessions.{WorksAreApart, OpenDisksAreHeld, ReadsAreLast}
-use Rattle.overlap_law.specs.NodeEpochs.{TheUpAreMembers, TheUpHaveStayed, LeaversAreBeyond, NodesHaveRead, RecoveriesArePresent, AnswerersHaveCome, TheRecoveredHaveAll, TheUnfinishedAreUnsettled, SettledIsRead, TheSettledHaveRecovered}
-use Rattle.overlap_law.specs.Rows.{RowsHaveEnds, OneRowIsOpen, RowsAreApart, RowsAreWhole, RowsAreAtTargets, RowsAreBegun, ServedRowsStay, RecoveredRowsAreKept, AttemptsAreCarried}
+use Rattle.overlap_law.specs.NodeEpochs.{TheUpAreMembers, TheUpHaveStayed, LeaversAreBeyond, NodesHaveRead, RecoveriesArePresent}
+use Rattle.overlap_law.specs.NodeEpochs.{AnswerersHaveCome, TheRecoveredHaveAll, TheUnfinishedAreUnsettled, SettledIsRead}
+use Rattle.overlap_law.specs.NodeEpochs.{TheSettledHaveRecovered}
+use Rattle.overlap_law.specs.Rows.{RowsHaveEnds, OneRowIsOpen, RowsAreApart, RowsAreWhole, RowsAreAtTargets, RowsAreBegun, ServedRowsStay}
+use Rattle.overlap_law.specs.Rows.{RecoveredRowsAreKept, AttemptsAreCarried}
 use Rattle.overlap_law.specs.Since.{RowsAreSince, CopiesAreOfAttempts}
-use Rattle.overlap_law.specs.Lists.{ListsComeFirst, TellersHaveCome, ListsAreWhole, ListsAreComplete, PendingIsLacked, WhatIsNotPendingIsThere}
-use Rattle.overlap_law.specs.Searches.{SearchesAreOfTheFirst, LevelsAreAsked, ToldRowsAreTrue, ToldRowsAreSince, NoRowIsTrue, PassedLevelsLackRows, TheMadeIsNotMissing, ToldCopiesAreOfAttempts}
-use Rattle.overlap_law.specs.Tables.{EntriesAreMade, OwnEntriesAreMade, TablesAreOfTheChain, PublishedInodesAreMade, TablesAreTheInodes, SnapshotsAreFrozen, TablesAreMade}
+use Rattle.overlap_law.specs.Lists.{ListsComeFirst, TellersHaveCome, ListsAreWhole, ListsAreComplete, PendingIsLacked}
+use Rattle.overlap_law.specs.Lists.{WhatIsNotPendingIsThere}
+use Rattle.overlap_law.specs.Searches.{SearchesAreOfTheFirst, LevelsAreAsked, ToldRowsAreTrue, ToldRowsAreSince, NoRowIsTrue}
+use Rattle.overlap_law.specs.Searches.{PassedLevelsLackRows, TheMadeIsNotMissing, ToldCopiesAreOfAttempts}
+use Rattle.overlap_law.specs.Tables.{EntriesAreMade, OwnEntriesAreMade, TablesAreOfTheChain, PublishedInodesAreMade, TablesAreTheInodes}
+use Rattle.overlap_law.specs.Tables.{SnapshotsAreFrozen, TablesAreMade}
 use Rattle.overlap_law.specs.WrittenBlocks.{BlocksAreWritten, StripsAreSound}
 use Rattle.overlap_law.specs.Drafts.{ReservedInodesAreDrawn, WhatIsPublishedIsCreated}
 use Rattle.overlap_law.specs.ToDo.{WorksNameWhatIsMade, WorksMayBeMade}

@@ -59,8 +59,8 @@ abbrev pub NoObjects : List Statement → Type 0
 NoObjects script = IsScript script → (events : List Event) (before : MomentWithPast) (event : Event) (made : EventOutcome)
     → run_with_past script events ≡ Some before → step script event before.world ≡ Some made → NoObjectIsMissing script before made
 
--- the disk that a request's work is for, by its object: of a read or write the session's open one, of a command that of the inode, of a check
--- the one that it checks; a client without a script may ask for objects that were never made
+-- the disk that a request's work is for, by its object: of a read or write the session's open one, of a command that of the inode, of
+-- a check the one that it checks; a client without a script may ask for objects that were never made
 abbrev pub disk_for : Option Disk → ℕ → Course → Option ℕ
 disk_for opened oid (Waiting ask) = None
 disk_for opened oid (Driving driver) = option_map (λ (disk : Disk). disk.inode.vid) opened

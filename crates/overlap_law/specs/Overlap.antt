@@ -11,7 +11,8 @@ use Rattle.overlap_law.specs.Facts.{MeetsFacts}
 use Rattle.overlap_law.specs.Headline.{IsLegalWhereAvailable, RefusedHaveNoItems, RefusedMakeNothing, ledger_of}
 use Rattle.overlap_law.specs.NoObjects.{NothingIsLacked, NoObjectIsMissing}
 use Rattle.overlap_law.specs.RequestsOfScript.{RequestsAreTheScripts, AttemptsAreTheScripts, TheRefusedAreAnswered, JoinsAreNew}
-use Rattle.overlap_law.specs.Groups.{FlightIsKept, AttemptsAreKept, WritersAreKept, TermsAreKept, RowsAreKept, SearchesAreKept, TablesAreKept, WrittenIsKept, PiecesAreKept, CoursesAreKept}
+use Rattle.overlap_law.specs.Groups.{FlightIsKept, AttemptsAreKept, WritersAreKept, TermsAreKept, RowsAreKept, SearchesAreKept}
+use Rattle.overlap_law.specs.Groups.{TablesAreKept, WrittenIsKept, PiecesAreKept, CoursesAreKept}
 
 -- the whole: the groups, and that the replies so far are legal and refused requests change nothing
 pub record Overlap (moment : MomentWithPast) : Type 0 where

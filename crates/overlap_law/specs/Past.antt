@@ -11,7 +11,7 @@ use Rattle.sheep_world.specs.Step.{EventOutcome, step}
 use Rattle.sheep_world.specs.Run as runs
 use Rattle.sheep_world.specs.Incarnations.{EndedIncarnation, incarnations_after}
 use Rattle.overlap_law.specs.BegunAttempts.{attempts_after}
-use Rattle.overlap_law.specs.PastWords.{lost_by, refused_in, listed_by, is_counted, unavailable_at}
+use Rattle.overlap_law.specs.PastWords.{messages_lost_by, refused_in, listed_by, is_counted, unavailable_at}
 pub use Rattle.overlap_law.specs.Attempts.{MessageFate, Flying, Served, Doomed, AttemptRecord}
 pub use Rattle.overlap_law.specs.PastWords.{FinishedList, counts}
 
@@ -42,7 +42,7 @@ abbrev pub past_after : Event → World → EventOutcome → List AttemptRecord 
 past_after event old made attempts ended past = record {
   attempts = attempts;
   refused = past.refused ++ refused_in made.world.outputs.replies;
-  lost = past.lost ++ lost_by event;
+  lost = past.lost ++ messages_lost_by event;
   listed = past.listed ++ listed_by old made.world;
   ended = ended;
   unavailable = past.unavailable ++ unavailable_at ended made.world attempts past.unavailable;

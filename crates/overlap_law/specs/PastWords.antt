@@ -10,7 +10,8 @@ use Rattle.peer_proto.specs.declared.guest.GuestRsp.{GuestRsp}
 use Rattle.peer_proto.specs.declared.guest.GuestRsp.TheVariants as replies
 use Rattle.recovery.specs.State.{Recovery, is_listed}
 use Rattle.sheep_node.specs.declared.event.Event.{Event}
-use Rattle.sheep_node.specs.declared.event.Event.TheVariants.{Guest, Deliver, LoseRequest, LoseReply, LogNext, Put, RecoverTick, RetryTick, Lost, Leave, Join, Reweight, Back, Phase}
+use Rattle.sheep_node.specs.declared.event.Event.TheVariants.{Guest, Deliver, LoseRequest, LoseReply, LogNext, Put, RecoverTick, RetryTick}
+use Rattle.sheep_node.specs.declared.event.Event.TheVariants.{Lost, Leave, Join, Reweight, Back, Phase}
 use Rattle.sheep_world.specs.declared.name.MessageName.{MessageName}
 use Rattle.sheep_world.specs.World.{Host, World, host_at}
 use Rattle.sheep_world.specs.Incarnations.{EndedIncarnation, counts_for}
@@ -24,21 +25,21 @@ pub record FinishedList : Type 0 where
   pub own : List ℕ
 
 -- the messages that an event loses, or whose replies it does
-abbrev pub lost_by : Event → List MessageName
-lost_by (Guest session) = []
-lost_by (Deliver node number) = []
-lost_by (LoseRequest node number) = record { sender = node; number = number } ∷ []
-lost_by (LoseReply node number) = record { sender = node; number = number } ∷ []
-lost_by (LogNext node) = []
-lost_by (Put node) = []
-lost_by (RecoverTick node) = []
-lost_by (RetryTick node) = []
-lost_by (Lost node) = []
-lost_by (Leave node) = []
-lost_by (Join node) = []
-lost_by (Reweight node) = []
-lost_by (Back node) = []
-lost_by Phase = []
+abbrev pub messages_lost_by : Event → List MessageName
+messages_lost_by (Guest session) = []
+messages_lost_by (Deliver node number) = []
+messages_lost_by (LoseRequest node number) = record { sender = node; number = number } ∷ []
+messages_lost_by (LoseReply node number) = record { sender = node; number = number } ∷ []
+messages_lost_by (LogNext node) = []
+messages_lost_by (Put node) = []
+messages_lost_by (RecoverTick node) = []
+messages_lost_by (RetryTick node) = []
+messages_lost_by (Lost node) = []
+messages_lost_by (Leave node) = []
+messages_lost_by (Join node) = []
+messages_lost_by (Reweight node) = []
+messages_lost_by (Back node) = []
+messages_lost_by Phase = []
 
 -- whether a reply to a guest refuses
 abbrev pub is_refusal : GuestRsp → Bool

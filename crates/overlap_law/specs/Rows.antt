@@ -15,7 +15,8 @@ use Rattle.vdi_directory.specs.declared.effect.Effect.{Effect}
 use Rattle.peer_service.specs.State.{row_size}
 use Rattle.overlap_law.specs.Attempts.{AttemptRecord, object_of}
 use Rattle.overlap_law.specs.Words.{Hosts, has_entered, has_finished, is_dying, is_made, is_doomed, has_served}
-use Rattle.overlap_law.specs.Each.{Placing, EachHost, EachAttempt, EachRow, end_of_row, row_covers, has_row_at, spec_in, policy_in, index_of_part}
+use Rattle.overlap_law.specs.Each.{Placing, EachHost, EachAttempt, EachRow, end_of_row, row_covers, has_row_at, spec_in, policy_in}
+use Rattle.overlap_law.specs.Each.{index_of_part}
 use Rattle.overlap_law.specs.Holders.{creates}
 
 -- a row begins no later than it ends

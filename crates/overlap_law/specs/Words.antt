@@ -1,10 +1,12 @@
 -- The words over attempts: made, mute and doomed, the base of an object, and which of its units are quiet.
-use Rattle.std.specs.Prelude.{ℕ, ◌==◌, Bool, true, false, not, ◌&&◌, ◌||◌, List, [], ◌∷◌, ◌++◌, length, filter, fold, Option, None, if◌then◌else◌}
+use Rattle.std.specs.Prelude.{ℕ, ◌==◌, Bool, true, false, not, ◌&&◌, ◌||◌, List, [], ◌∷◌, ◌++◌, length, filter, fold, Option, None}
+use Rattle.std.specs.Prelude.{if◌then◌else◌}
 use Rattle.std.specs.List.{list_any, list_all, last_or}
 use Rattle.object_id.specs.declared.node.NodeId.{NodeId}
 use Rattle.overlap_law.specs.Attempts.{MessageFate, Flying, Served, Doomed, AttemptRecord}
 pub use Rattle.overlap_law.specs.Reached.{Hosts, has_come, is_beyond, has_entered, has_finished, is_dying}
-pub use Rattle.overlap_law.specs.Units.{unit_start, unit_size, unit_end, unit_of, unit_bytes, row_bytes_at, covers_unit, covering, laid_over_in_order, bytes_by, unit_part_by}
+pub use Rattle.overlap_law.specs.Units.{unit_start, unit_size, unit_end, unit_of, unit_bytes, row_bytes_at, covers_unit, covering}
+pub use Rattle.overlap_law.specs.Units.{laid_over_in_order, bytes_by, unit_part_by}
 
 -- whether the target of a message has served it
 abbrev pub is_served : MessageFate → Bool

@@ -12,7 +12,8 @@ ghost use Rattle.sheep_node.specs.Step.{is_due};
 ghost use Rattle.sheep_world.specs.Run.{run};
 ghost use Rattle.sheep_world.specs.World.{Host};
 ghost use Rattle.overlap_law.specs.Attempts.{MessageFate, Flying, Served, AttemptRecord, has_message, attempt_with_fate};
-ghost use Rattle.overlap_law.specs.Words.{Hosts, is_beyond, is_made, is_doomed, has_served, unit_start, unit_end, covers_unit, base_of, own_base_of};
+ghost use Rattle.overlap_law.specs.Words.{Hosts, is_beyond, is_made, is_doomed, has_served, unit_start, unit_end, covers_unit, base_of};
+ghost use Rattle.overlap_law.specs.Words.{own_base_of};
 ghost use Rattle.overlap_law.specs.Headline.{OtherEpochsChangeNothing};
 ghost use Rattle.overlap_law.specs.Past.{MomentWithPast, run_with_past, without_past};
 

@@ -1,5 +1,6 @@
 -- Replies: the bytes of each, and which bytes are no reply.
-use Rattle.std.specs.Prelude.{◌≡◌, ℕ, ◌-◌, ◌%◌, ◌^◌, ◌<◌, ◌≤◌, ◌==◌, nat_lt, nat_le, Bool, false, not, ◌&&◌, ◌||◌, List, [], ◌++◌, length, drop, Option, Some, None, Result, Err, slice_index, All, if◌then◌else◌}
+use Rattle.std.specs.Prelude.{◌≡◌, ℕ, ◌-◌, ◌%◌, ◌^◌, ◌<◌, ◌≤◌, ◌==◌, nat_lt, nat_le, Bool, false, not, ◌&&◌, ◌||◌, List, [], ◌++◌, length}
+use Rattle.std.specs.Prelude.{drop, Option, Some, None, Result, Err, slice_index, All, if◌then◌else◌}
 use Rattle.std.specs.List.Sorted.{IsStrictlyIncreasing}
 use Rattle.object_id.specs.declared.limits.TheConstants.{INDEX_MAX}
 use Rattle.object_id.specs.declared.node.Epoch.{Epoch}

@@ -1,6 +1,7 @@
 ghost use Rattle.std.specs.Prelude.{◌≡◌, ◌≤◌, length};
 ghost use Rattle.sheep_proto.specs.Headers.{common_at};
-ghost use Rattle.peer_proto.specs.Ask.{ask_body, ask_head, ask_head_bytes, ask_head_at, head_with, is_ask_head, has_no_piece, has_fields, fits_ask};
+ghost use Rattle.peer_proto.specs.Ask.{ask_body, ask_head, ask_head_bytes, ask_head_at, head_with, is_ask_head, has_no_piece, has_fields};
+ghost use Rattle.peer_proto.specs.Ask.{fits_ask};
 
 use crate::ask::{PeerAsk, PeerReq};
 use crate::ids::is_oid;

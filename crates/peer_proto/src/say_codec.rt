@@ -1,6 +1,7 @@
 ghost use Rattle.std.specs.Prelude.{◌≡◌, ◌++◌, true, Ok, OnOk, IfOk};
 ghost use Rattle.peer_proto.specs.Header.{AnswersBytes};
-ghost use Rattle.peer_proto.specs.Say.{form_of, say_body, say_head_at, say_bytes, refusal_of, to_epoch, peer_say_of, peer_reply_of, reply_in, say_in, fits_say, IsPeerRsp};
+ghost use Rattle.peer_proto.specs.Say.{form_of, say_body, say_head_at, say_bytes, refusal_of, to_epoch, peer_say_of, peer_reply_of};
+ghost use Rattle.peer_proto.specs.Say.{reply_in, say_in, fits_say, IsPeerRsp};
 
 use crate::fault::PeerFault;
 use crate::header::header_in;

@@ -1,6 +1,8 @@
 ghost use Rattle.std.specs.Prelude.{◌≡◌, ◌%◌, ◌^◌, ◌≤◌, length};
 ghost use Rattle.sheep_proto.specs.Headers.{common_at};
-ghost use Rattle.peer_proto.specs.Say.{form_byte, form_opcode, form_of, refusal_result, to_number, ends_in_zero, say_form, say_result, say_row, say_body, say_head, say_head_bytes, say_head_at, is_say_head, has_no_row, fits_row_head, is_refusal_result, has_form, fits_say, no_row};
+ghost use Rattle.peer_proto.specs.Say.{form_byte, form_opcode, form_of, refusal_result, to_number, ends_in_zero, say_form, say_result};
+ghost use Rattle.peer_proto.specs.Say.{say_row, say_body, say_head, say_head_bytes, say_head_at, is_say_head, has_no_row, fits_row_head};
+ghost use Rattle.peer_proto.specs.Say.{is_refusal_result, has_form, fits_say, no_row};
 
 use crate::ids::{ID_BYTES, are_id_bytes};
 use crate::opcode::Opcode;

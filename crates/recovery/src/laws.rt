@@ -1,5 +1,6 @@
 //! Laws of the definitions, for the proofs of the layers above: each is the contract of a function that does nothing.
-ghost use Rattle.std.specs.Prelude.{◌≡◌, ◌≢◌, ◌↔◌, ◌⊎◌, Contains, ℕ, ◌-◌, ◌<◌, ◌≤◌, true, false, List, [], ◌∷◌, length, take, map, Option, Some, None, ◌^◌, All};
+ghost use Rattle.std.specs.Prelude.{◌≡◌, ◌≢◌, ◌↔◌, ◌⊎◌, Contains, ℕ, ◌-◌, ◌<◌, ◌≤◌, true, false, List, [], ◌∷◌, length, take, map, Option};
+ghost use Rattle.std.specs.Prelude.{Some, None, ◌^◌, All};
 ghost use Rattle.std.specs.FinMap as tree;
 ghost use Rattle.std.specs.Option.{IfSome};
 ghost use Rattle.std.specs.List.Sorted.{IsStrictlyIncreasing};
@@ -24,14 +25,17 @@ ghost use Rattle.peer_proto.specs.declared.say.PeerSay.{PeerSay};
 ghost use Rattle.peer_proto.specs.declared.say.PeerSay.TheVariants as says;
 ghost use Rattle.peer_proto.specs.declared.say.Refusal.{Refusal};
 ghost use Rattle.recovery.specs.Shown.{NodeView, live_policy, index_in, own_row, with_row, is_pending_object, is_to_recover};
-ghost use Rattle.recovery.specs.State.{Message, Search, RecoveryState, search_at, is_finished, is_missing, all_unanswered, message_of, MayBegin, MayTick};
-ghost use Rattle.recovery.specs.Level.{row_of_target, by_index, rows_taken, indexes_of, part_from_rows, own_index, rows_found, are_enough, level_over, is_of_search, searching};
+ghost use Rattle.recovery.specs.State.{Message, Search, RecoveryState, search_at, is_finished, is_missing, all_unanswered, message_of};
+ghost use Rattle.recovery.specs.State.{MayBegin, MayTick};
+ghost use Rattle.recovery.specs.Level.{row_of_target, by_index, rows_taken, indexes_of, part_from_rows, own_index, rows_found, are_enough};
+ghost use Rattle.recovery.specs.Level.{level_over, is_of_search, searching};
 ghost use Rattle.recovery.specs.Tick.{with_messages, tick_messages, tick_sends, state_after_tick};
 ghost use Rattle.recovery.specs.Frame.{frame, WaitsForLists};
 ghost use Rattle.recovery.specs.Steps.{to_recover, recovery_from_epoch, without_unanswered, search_after_answer, message_end};
 ghost use Rattle.peer_proto.specs.Ask.{IsPeerReq};
 ghost use Rattle.recovery.specs.Range.{IsInRange, NamesIds};
-ghost use Rattle.recovery.specs.Example.{object, request, in_epoch_3, with_object_named, with_object_pending, found_at_both, with_level_half_answered, heard_of_none, none_at_all};
+ghost use Rattle.recovery.specs.Example.{object, request, in_epoch_3, with_object_named, with_object_pending, found_at_both};
+ghost use Rattle.recovery.specs.Example.{with_level_half_answered, heard_of_none, none_at_all};
 
 /// Once each other member has named its objects, pending are, in ascending order, those of the named objects and of the
 /// node's own that it has to recover.

@@ -1,7 +1,8 @@
 ghost use Rattle.std.specs.Prelude.{◌≡◌, ◌≤◌, is_some, IfOk, OnOk, OnErr};
 ghost use Rattle.std.specs.FinMap as tree;
 ghost use Rattle.object_store.specs.Store.{open_row};
-ghost use Rattle.recovery.specs.Shown.{NodeView, TargetsOf, live_policy, first_in, is_pending_object, own_row, shown_with_unfinished_list, shown_with_pending, shown_without_pending, with_row, IsUpTo};
+ghost use Rattle.recovery.specs.Shown.{NodeView, TargetsOf, live_policy, first_in, is_pending_object, own_row, shown_with_unfinished_list};
+ghost use Rattle.recovery.specs.Shown.{shown_with_pending, shown_without_pending, with_row, IsUpTo};
 
 use object_id::{Epoch, NoMemory, NodeId, Oid, Policy, TARGETS_MAX};
 use object_store::{Key, OidList, RowCopy};

@@ -1,5 +1,6 @@
 -- What the program answers: with which status it ends, and what it writes.
-use Rattle.std.specs.Prelude.{◌≡◌, ℕ, ◌+◌, ◌≤◌, List, [], ◌++◌, length, nat_lt, codes, decimal, Option, None, Some, Result, Ok, Err, if◌then◌else◌}
+use Rattle.std.specs.Prelude.{◌≡◌, ℕ, ◌+◌, ◌≤◌, List, [], ◌++◌, length, nat_lt, codes, decimal, Option, None, Some, Result, Ok, Err}
+use Rattle.std.specs.Prelude.{if◌then◌else◌}
 use Rattle.std.specs.Io.KnownBytes.{Consumes, IsAtEnd}
 use Rattle.cluster_script.specs.declared.fault.LineCause.{LineCause}
 use Rattle.cluster_script.specs.declared.statement.Statement.{Statement}

@@ -1,5 +1,6 @@
 -- What the blocks of the one disk hold after the statements of a script.
-use Rattle.std.specs.Prelude.{ℕ, ◌+◌, ◌-◌, ◌/◌, Bool, ◌&&◌, List, fold, replicate, nat_le, nat_lt, Option, Some, None, unwrap_or, if◌then◌else◌}
+use Rattle.std.specs.Prelude.{ℕ, ◌+◌, ◌-◌, ◌/◌, Bool, ◌&&◌, List, fold, replicate, nat_le, nat_lt, Option, Some, None, unwrap_or}
+use Rattle.std.specs.Prelude.{if◌then◌else◌}
 use Rattle.std.specs.List.{range_with_len}
 use Rattle.object_id.specs.declared.limits.TheConstants.{BLOCK_BYTES}
 use Rattle.cluster_script.specs.declared.statement.Pattern.{Pattern}

@@ -1,6 +1,7 @@
 -- A node's step by elementary changes: each is one effect on the node and the outputs, with what is known where it happens. Every
 -- step is a chain of these, so what each of them keeps every step keeps.
-use Rattle.std.specs.Prelude.{◌≡◌, ◌≢◌, ℕ, ◌+◌, nat_lt, Bool, true, false, ◌++◌, List, [], ◌∷◌, map, Option, Some, None, if◌then◌else◌, not, IsTrue}
+use Rattle.std.specs.Prelude.{◌≡◌, ◌≢◌, ℕ, ◌+◌, nat_lt, Bool, true, false, ◌++◌, List, [], ◌∷◌, map, Option, Some, None, if◌then◌else◌, not}
+use Rattle.std.specs.Prelude.{IsTrue}
 use Rattle.std.specs.FinMap as tree
 use Rattle.object_id.specs.declared.cause.Cause.{Cause}
 use Rattle.object_id.specs.declared.cause.Cause.TheVariants.{Halt}
@@ -39,7 +40,8 @@ use Rattle.vdi_ops.specs.Steps.{begin_command, op_on_done, on_decision}
 use Rattle.recovery.specs.Steps as recovery_steps
 use Rattle.sheep_node.specs.State.{Course, Waiting, Driving, Commanding, Request, Node, Checking, DoingWork, AwaitingDecision}
 use Rattle.sheep_node.specs.RecoveryView.{recovery_state_of}
-use Rattle.sheep_node.specs.StepState.{StepState, at_first, with_node, with_sends, with_guest_reply, with_outbox_entry, with_gateway, with_sole_request}
+use Rattle.sheep_node.specs.StepState.{StepState, at_first, with_node, with_sends, with_guest_reply, with_outbox_entry, with_gateway}
+use Rattle.sheep_node.specs.StepState.{with_sole_request}
 use Rattle.sheep_node.specs.StepState.{with_session, session_in, with_inode_queue, with_course, request_ended}
 use Rattle.sheep_node.specs.RequestWorks.{course_refused, request_refused, queue_left}
 use Rattle.sheep_node.specs.Courses.{after_driver_step, inode_open, after_command_step, work_reply, decision_reply}

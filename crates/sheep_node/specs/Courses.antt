@@ -25,7 +25,8 @@ use Rattle.vdi_ops.specs.Op as ops
 use Rattle.vdi_ops.specs.Op.{DiskChange, Stays, Opens, Closes, disk_change}
 use Rattle.vdi_ops.specs.Steps.{on_decision, op_on_done}
 use Rattle.sheep_node.specs.State.{Course, Waiting, Driving, Commanding, Checking, DoingWork, AwaitingDecision}
-use Rattle.sheep_node.specs.StepState.{StepState, with_outbox_entry, with_session, session_in, with_disk, with_course, with_sole_request, request_ended}
+use Rattle.sheep_node.specs.StepState.{StepState, with_outbox_entry, with_session, session_in, with_disk, with_course, with_sole_request}
+use Rattle.sheep_node.specs.StepState.{request_ended}
 use Rattle.sheep_node.specs.RequestWorks.{work_asked}
 
 -- a driver's act: a work is come to, or the request ends

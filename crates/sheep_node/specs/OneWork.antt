@@ -10,7 +10,8 @@ use Rattle.gateway.specs.State.{Work, is_awaited_in}
 use Rattle.recovery.specs.State as recoveries
 use Rattle.guest_driver.specs.InodeQueue as lines
 use Rattle.vdi_ops.specs.Op.{entry_wanted}
-use Rattle.sheep_node.specs.State.{Course, Waiting, Driving, Commanding, Checking, DoingWork, AwaitingDecision, Request, Session, Node, new_session}
+use Rattle.sheep_node.specs.State.{Course, Waiting, Driving, Commanding, Checking, DoingWork, AwaitingDecision, Request, Session, Node}
+use Rattle.sheep_node.specs.State.{new_session}
 
 -- whether a request may have a work: a read or write that began, or another request that waits for no entry
 abbrev pub may_work : Course → Bool

@@ -1,5 +1,6 @@
 //! Laws of a step, for the proofs of the layers above: each is the contract of a function that does nothing.
-ghost use Rattle.std.specs.Prelude.{◌≡◌, ◌⊎◌, ℕ, Bool, ◌+◌, ◌<◌, true, false, List, [], ◌∷◌, ◌++◌, length, Option, Some, None, IsTrue, ◌↔◌, All};
+ghost use Rattle.std.specs.Prelude.{◌≡◌, ◌⊎◌, ℕ, Bool, ◌+◌, ◌<◌, true, false, List, [], ◌∷◌, ◌++◌, length, Option, Some, None, IsTrue, ◌↔◌};
+ghost use Rattle.std.specs.Prelude.{All};
 ghost use Rattle.std.specs.FinMap.{contains_key};
 ghost use Rattle.object_id.specs.declared.cause.Cause.{Cause};
 ghost use Rattle.object_id.specs.declared.node.NodeId.{NodeId};
@@ -131,7 +132,8 @@ pub fn a_decision_is_on_the_entry_wanted()
 pub fn a_client_is_told_what_its_ask_came_to()
     ensures waits { (entry wanted : Entry) → (waits_for_entry entry (AwaitingDecision wanted) ≡ true) ↔ (wanted ≡ entry) }
     ensures decided { (session req : ℕ) (wanted : Entry) (decision : Decision) (so_far : StepState)
-        → course_decided session req decision (AwaitingDecision wanted) so_far ≡ request_ended session req (decision_reply decision) so_far }
+        → course_decided session req decision (AwaitingDecision wanted) so_far
+        ≡ request_ended session req (decision_reply decision) so_far }
     ensures read { (session req oid offset size : ℕ) (policy : Policy) (bytes : List ℕ) (so_far : StepState)
         → course_went_on session req bytes (DoingWork (Read oid policy offset size)) so_far
         ≡ request_ended session req (Piece bytes) so_far }

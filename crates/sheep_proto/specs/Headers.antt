@@ -3,7 +3,8 @@ use Rattle.std.specs.Prelude.{ℕ, ◌^◌, ◌<◌, ◌==◌, ◌||◌, nat_lt,
 use Rattle.object_id.specs.Fields.{u8_bytes, u16_bytes, u32_bytes, u8_at, u16_at, u32_at}
 use Rattle.sheep_proto.specs.declared.common.Common.{Common}
 use Rattle.sheep_proto.specs.declared.common.TheConstants.{HEADER_BYTES, VERSION}
-use Rattle.sheep_proto.specs.declared.codes.TheConstants.{CREATE_AND_WRITE_OBJ, READ_OBJ, WRITE_OBJ, NEW_VDI, LOCK_VDI, RELEASE_VDI, GET_VDI_INFO, FLUSH_VDI, DEL_VDI}
+use Rattle.sheep_proto.specs.declared.codes.TheConstants.{CREATE_AND_WRITE_OBJ, READ_OBJ, WRITE_OBJ, NEW_VDI, LOCK_VDI, RELEASE_VDI}
+use Rattle.sheep_proto.specs.declared.codes.TheConstants.{GET_VDI_INFO, FLUSH_VDI, DEL_VDI}
 use Rattle.sheep_proto.specs.declared.fault.HeaderFault.{HeaderFault}
 use Rattle.sheep_proto.specs.declared.fault.HeaderFault.TheVariants.{ShortHeader, VerMismatch}
 

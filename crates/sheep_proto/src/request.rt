@@ -1,7 +1,8 @@
 ghost use Rattle.std.specs.Prelude.{◌≡◌, ◌<◌, ◌≤◌, ◌^◌, IfOk, IsTrue, length};
 ghost use Rattle.object_id.specs.Fields.{zeros};
 ghost use Rattle.sheep_proto.specs.Headers.{common_at, is_object_opcode, is_vdi_opcode};
-ghost use Rattle.sheep_proto.specs.Requests.{obj_bytes, vdi_bytes, request_bytes, reserved_of, obj_at, vdi_at, request_in_bytes, SpellsRequest, IsRequest};
+ghost use Rattle.sheep_proto.specs.Requests.{obj_bytes, vdi_bytes, request_bytes, reserved_of, obj_at, vdi_at, request_in_bytes};
+ghost use Rattle.sheep_proto.specs.Requests.{SpellsRequest, IsRequest};
 
 use crate::codes::{
     CREATE_AND_WRITE_OBJ, DEL_VDI, FLUSH_VDI, GET_VDI_INFO, LOCK_VDI, NEW_VDI, READ_OBJ,

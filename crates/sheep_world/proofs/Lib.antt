@@ -39,3 +39,4 @@ pub mod RangeAtEvents
 pub mod TogetherInRuns
 pub mod EnabledParts
 pub mod EventEffects
+mod ClientLaws

@@ -13,7 +13,9 @@ use Rattle.sheep_node.specs.State.{Node}
 use Rattle.sheep_node.specs.May as nodes
 use Rattle.sheep_node.specs.LogReading as reading
 use Rattle.sheep_world.specs.declared.name.MessageName.{MessageName}
-use Rattle.sheep_world.specs.World.{Packet, Request, Reply, Host, StartedRequest, SessionProgress, World, host_at, is_host_up, is_up, is_up_with, is_lost, is_newest_member, message_at, receiver_of, has_lost_end, has_end, progress_at, next_control}
+use Rattle.sheep_world.specs.World.{Packet, Request, Reply, Host, StartedRequest, SessionProgress, World, host_at, is_host_up, is_up}
+use Rattle.sheep_world.specs.World.{is_up_with, is_lost, is_newest_member, message_at, receiver_of, has_lost_end, has_end, progress_at}
+use Rattle.sheep_world.specs.World.{next_control}
 
 -- whether a host's node is up in the incarnation that a session belongs to, and a member by what it has read
 abbrev pub serves : ScriptSession → Host → Bool

@@ -1,5 +1,6 @@
 -- The events that may happen in a world, in the order in which a schedule draws them.
-use Rattle.std.specs.Prelude.{ℕ, ◌-◌, ◌==◌, nat_lt, Bool, List, [], ◌∷◌, ◌++◌, length, map, flat_map, filter, sum_by, Option, None, slice_get, if◌then◌else◌}
+use Rattle.std.specs.Prelude.{ℕ, ◌-◌, ◌==◌, nat_lt, Bool, List, [], ◌∷◌, ◌++◌, length, map, flat_map, filter, sum_by, Option, None}
+use Rattle.std.specs.Prelude.{slice_get, if◌then◌else◌}
 use Rattle.std.specs.Option.{option_map_or}
 use Rattle.std.specs.FinMap as tree
 use Rattle.cluster_script.specs.declared.statement.Statement.{Statement}
@@ -9,7 +10,8 @@ use Rattle.sheep_node.specs.declared.event.Event.{Event}
 use Rattle.sheep_node.specs.declared.event.Event.TheVariants as events
 use Rattle.sheep_world.specs.declared.name.MessageName.{MessageName}
 use Rattle.sheep_world.specs.World.{Packet, Request, Reply, World, next_control}
-use Rattle.sheep_world.specs.Conditions.{may_guest, may_deliver, may_lose_request, may_lose_reply, may_log_next, may_put, may_recover, may_retry, may_lose_node, may_leave, may_join, may_reweight, may_come_back, may_end_phase}
+use Rattle.sheep_world.specs.Conditions.{may_guest, may_deliver, may_lose_request, may_lose_reply, may_log_next, may_put, may_recover}
+use Rattle.sheep_world.specs.Conditions.{may_retry, may_lose_node, may_leave, may_join, may_reweight, may_come_back, may_end_phase}
 
 -- whether an event may happen
 unfoldable pub is_enabled : List Statement → World → Event → Bool

@@ -15,7 +15,8 @@ use Rattle.sheep_node.specs.declared.input.Input.TheVariants as inputs
 use Rattle.sheep_node.specs.State as nodes
 use Rattle.sheep_node.specs.Step.{node_step}
 use Rattle.sheep_world.specs.declared.name.MessageName.{MessageName}
-use Rattle.sheep_world.specs.World.{Packet, Request, Reply, Host, World, host_at, is_host_up, is_up, is_newest_member, message_at, next_control}
+use Rattle.sheep_world.specs.World.{Packet, Request, Reply, Host, World, host_at, is_host_up, is_up, is_newest_member, message_at}
+use Rattle.sheep_world.specs.World.{next_control}
 use Rattle.sheep_world.specs.Conditions.{may_go, has_end_in_wire, may_end_phase}
 use Rattle.sheep_world.specs.Opening.{initial_host, with_phase}
 use Rattle.sheep_world.specs.Messages.{losses_after_loss}

@@ -3,7 +3,8 @@ use Rattle.std.specs.Prelude.{IsTrue}
 use Rattle.peer_service.specs.Serve.{MayServe}
 use Rattle.sheep_node.specs.State.{Node, session_at}
 use Rattle.sheep_node.specs.May.{has_room_for, IsGuestAsk, MayRead}
-use Rattle.sheep_world.specs.NodeCauses.{NodeCause, GuestAsks, RequestComes, ReplyComes, LossIsTold, EntryIsRead, EntryIsPut, RecoveryTicks, WorkIsRetried}
+use Rattle.sheep_world.specs.NodeCauses.{NodeCause, GuestAsks, RequestComes, ReplyComes, LossIsTold, EntryIsRead, EntryIsPut, RecoveryTicks}
+use Rattle.sheep_world.specs.NodeCauses.{WorkIsRetried}
 
 -- what a node must meet beside what was found: room for a guest's request, which asks what it may; a peer's request that may be served;
 -- an entry that may be read

@@ -11,7 +11,8 @@ use Rattle.sheep_node.specs.declared.input.Input.{Input}
 use Rattle.sheep_node.specs.StepState.{StepState}
 use Rattle.sheep_node.specs.Step.{node_step}
 use Rattle.sheep_world.specs.declared.name.MessageName.{MessageName}
-use Rattle.sheep_world.specs.World.{name_cmp, Packet, Request, Host, StartedRequest, SessionProgress, World, host_at, no_progress, ClientAsk}
+use Rattle.sheep_world.specs.World.{name_cmp, Packet, Request, Host, StartedRequest, SessionProgress, World, host_at, no_progress}
+use Rattle.sheep_world.specs.World.{ClientAsk}
 use Rattle.sheep_world.specs.Opening.{no_outputs}
 use Rattle.sheep_world.specs.Asking.{session_asking}
 use Rattle.std.specs.Option.{option_map, option_or}

@@ -5,7 +5,8 @@ use Rattle.disk_history.specs.declared.event.HistEvent.{HistEvent}
 use Rattle.sheep_node.specs.declared.event.Event.{Event}
 use Rattle.sheep_node.specs.declared.event.Event.TheVariants as events
 use Rattle.sheep_world.specs.World.{World}
-use Rattle.sheep_world.specs.Conditions.{may_guest, may_deliver, may_lose_request, may_lose_reply, may_log_next, may_put, may_recover, may_retry, may_lose_node, may_leave, may_join, may_reweight, may_come_back, may_end_phase}
+use Rattle.sheep_world.specs.Conditions.{may_guest, may_deliver, may_lose_request, may_lose_reply, may_log_next, may_put, may_recover}
+use Rattle.sheep_world.specs.Conditions.{may_retry, may_lose_node, may_leave, may_join, may_reweight, may_come_back, may_end_phase}
 use Rattle.sheep_world.specs.Effects.{guest_begun, guest_effect, log_next_effect, put_effect, recover_tick_effect, retry_tick_effect}
 use Rattle.sheep_world.specs.Messages.{message_delivered, message_lost}
 use Rattle.sheep_world.specs.MembershipChanges.{node_lost, node_left, node_joined, node_reweighted, came_back, phase_ended}

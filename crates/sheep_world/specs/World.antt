@@ -48,7 +48,8 @@ pub record ClientAsk : Type 0 where
   pub reply : Option GuestRsp
 
 -- the cluster: its nodes by number, the log, the messages in the wire, the sessions by number, the place of the present
--- phase, its controls that aren't taken, how many messages may still be lost, and a client's last ask; and the input and outputs of the last step
+-- phase, its controls that aren't taken, how many messages may still be lost, and a client's last ask; and the input and
+-- outputs of the last step
 pub record World : Type 0 where
   pub hosts : tree.FinMap nat_cmp Host
   pub log : List Entry

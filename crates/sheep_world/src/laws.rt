@@ -1,5 +1,6 @@
 //! Laws of the definitions, for the proofs of the layers above: each is the contract of a function that does nothing.
-ghost use Rattle.std.specs.Prelude.{◌≡◌, ◌≢◌, ◌+◌, ◌/◌, map, flat_map, cond, ◌<◌, ℕ, true, false, List, [], ◌∷◌, ◌++◌, Contains, length, slice_get, Some, None, Ok, is_some};
+ghost use Rattle.std.specs.Prelude.{◌≡◌, ◌≢◌, ◌+◌, ◌/◌, map, flat_map, cond, ◌<◌, ℕ, true, false, List, [], ◌∷◌, ◌++◌, Contains, length};
+ghost use Rattle.std.specs.Prelude.{slice_get, Some, None, Ok, is_some, Bool, Option};
 ghost use Rattle.object_id.specs.declared.node.NodeId.{NodeId};
 ghost use Rattle.object_id.specs.declared.entry.Entry.{Entry};
 ghost use Rattle.object_id.specs.declared.entry.Entry.TheVariants as entries;
@@ -9,7 +10,7 @@ ghost use Rattle.cluster_script.specs.Language.{IsScript};
 ghost use Rattle.peer_proto.specs.declared.say.PeerRsp.{PeerRsp};
 ghost use Rattle.peer_proto.specs.Say.{say_in};
 ghost use Rattle.disk_history.specs.declared.event.HistEvent.{HistEvent};
-ghost use Rattle.disk_history.specs.declared.event.HistEvent.TheVariants.{WriterLost};
+ghost use Rattle.disk_history.specs.declared.event.HistEvent.TheVariants.{WriterLost, WriteStart, Read};
 ghost use Rattle.guest_driver.specs.declared.disk.Disk.{Disk};
 ghost use Rattle.object_id.specs.declared.limits.TheConstants.{BLOCK_BYTES};
 ghost use Rattle.std.specs.List.{range_with_len};
@@ -23,7 +24,7 @@ ghost use Rattle.sheep_world.specs.World.{Host, World, host_at, is_host_up, mess
 ghost use Rattle.sheep_world.specs.Opening.{initial_world, controls_at, losses_at};
 ghost use Rattle.sheep_world.specs.Asking.{input_of, session_asking};
 ghost use Rattle.sheep_world.specs.MembershipChanges.{last_weight, is_reply_to};
-ghost use Rattle.sheep_world.specs.HistoryAdditions.{begun_block, writes_begin, IsLostWrite};
+ghost use Rattle.sheep_world.specs.HistoryAdditions.{begun_block, writes_begin, IsLostWrite, check_write_adds};
 ghost use Rattle.sheep_world.specs.Granted.{entry_adds};
 ghost use Rattle.sheep_world.specs.Meets.{MeetsBeside};
 ghost use Rattle.sheep_world.specs.Incarnations.{incarnation_in};
@@ -36,12 +37,16 @@ ghost use Rattle.sheep_world.specs.Began.{Began};
 ghost use Rattle.sheep_world.specs.LogFronts.{AllReadTheLog};
 ghost use Rattle.sheep_world.specs.ControlsToCome.{ControlsFit};
 ghost use Rattle.sheep_world.specs.LogHolds.{MayGrow, LogHolds};
-ghost use Rattle.sheep_world.specs.Run.{Moment, run_from};
+ghost use Rattle.sheep_world.specs.Run.{Moment, run_from, run};
 ghost use Rattle.sheep_world.specs.Enabled.{is_enabled, enabled_events, enabled_parts, enabled_count, enabled_at};
 ghost use Rattle.sheep_world.specs.WireMatch.{WireMatchesNodes};
 ghost use Rattle.sheep_world.specs.Ranges.{RecoveriesAreInRange, tells_recovery};
 ghost use Rattle.sheep_world.specs.BegunRequests.{RequestsWereBegun};
 ghost use Rattle.sheep_world.specs.OneWork.{NodesHaveOneWorkPerRequest, IsSentInRange, IsNewRequest};
+ghost use Rattle.sheep_world.specs.RunsWithAsks.{Happens, Asks, next_move, run_with_asks};
+ghost use Rattle.sheep_world.specs.ClientAsks.{answer_of};
+ghost use Rattle.sheep_world.specs.ClientSteps.{brings_answers, next_driven, world_driven};
+ghost use Rattle.sheep_node.specs.CheckWrites.{CheckWrite};
 
 /// An event makes something exactly where it may happen.
 pub fn what_may_happen_is_made()
@@ -208,4 +213,30 @@ pub fn lives_worked_out()
 /// In the opening world of a small script its session's request may begin, and nothing else may happen.
 pub fn a_small_world_worked_out()
     ensures { enabled_events small_script (initial_world small_script) ≡ events.Guest 1 ∷ [] }
+{}
+
+/// A run of events is a run with asks of these events; an ask adds nothing to the history.
+pub fn asks_stand_between_the_events_of_a_run()
+    ensures events { (statements : List Statement) (events : List Event)
+        → run_with_asks statements (map Happens events) ≡ run statements events }
+    ensures silent { (statements : List Statement) (node : NodeId) (ask : Ask) (moment after : Moment)
+        → next_move statements (Asks node ask) moment ≡ Some after → after.history ≡ moment.history }
+{}
+
+/// What brings an answer is an event that may happen: no session asks, no control is taken, and no message is lost between nodes that are
+/// up. With the answer, or if there is no such event, the world stays.
+pub fn an_answer_is_brought_by_events()
+    ensures next { (statements : List Statement) (world : World) (event : Event) → next_driven statements world ≡ Some event
+        → Contains (enabled_events statements world) event × (brings_answers world event ≡ true) }
+    ensures answered { (statements : List Statement) (turns : ℕ) (world : World) → is_some (answer_of world) ≡ true
+        → world_driven statements turns world ≡ world }
+    ensures still { (statements : List Statement) (turns : ℕ) (world : World) → next_driven statements world ≡ None
+        → world_driven statements turns world ≡ world }
+{}
+
+/// Each block whose write a check begins is one that its disk has, and the history has a read of the same bytes.
+pub fn a_check_reads_what_it_writes()
+    ensures { (write : CheckWrite) (req disk block : ℕ) (coded : Bool) (bytes : List ℕ)
+        → Contains (check_write_adds write) (WriteStart req disk block coded bytes)
+        → (block < write.check.spec.size / BLOCK_BYTES) × Contains (check_write_adds write) (Read disk block bytes) }
 {}

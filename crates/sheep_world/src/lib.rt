@@ -24,12 +24,13 @@ mod name;
 
 pub use fault::ApplyFault;
 pub use laws::{
-    a_history_only_grows, a_lost_node_gets_no_reply, a_phase_brings_its_losses,
-    a_run_is_cut_anywhere, a_small_world_worked_out, a_write_begins_each_block_once,
-    each_event_is_of_a_kind, lives_worked_out, members_make_no_disk, nodes_and_wire_stay_together,
-    nodes_have_read_fronts_of_the_log, nodes_step_on_what_they_may, recoveries_stay_in_range,
-    requests_have_inputs, requests_were_begun, the_controls_to_come_fit,
-    the_enabled_list_has_what_may_happen, the_enabled_list_is_in_parts, the_log_holds,
-    what_may_happen_is_made,
+    a_check_reads_what_it_writes, a_history_only_grows, a_lost_node_gets_no_reply,
+    a_phase_brings_its_losses, a_run_is_cut_anywhere, a_small_world_worked_out,
+    a_write_begins_each_block_once, an_answer_is_brought_by_events,
+    asks_stand_between_the_events_of_a_run, each_event_is_of_a_kind, lives_worked_out,
+    members_make_no_disk, nodes_and_wire_stay_together, nodes_have_read_fronts_of_the_log,
+    nodes_step_on_what_they_may, recoveries_stay_in_range, requests_have_inputs,
+    requests_were_begun, the_controls_to_come_fit, the_enabled_list_has_what_may_happen,
+    the_enabled_list_is_in_parts, the_log_holds, what_may_happen_is_made,
 };
 pub use name::MessageName;

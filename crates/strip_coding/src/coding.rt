@@ -1,6 +1,7 @@
 //! Encoding and decoding of one block.
 
-ghost use Rattle.std.specs.Prelude.{◌≡◌, ◌↔◌, ◌*◌, ◌+◌, ◌<◌, ◌≤◌, ◌==◌, ℕ, List, length, map, slice_index, IsTrue, IsErr, OnOk, OnErr, position};
+ghost use Rattle.std.specs.Prelude.{◌≡◌, ◌↔◌, ◌*◌, ◌+◌, ◌<◌, ◌≤◌, ◌==◌, ℕ, List, length, map, slice_index, IsTrue, IsErr, OnOk, OnErr};
+ghost use Rattle.std.specs.Prelude.{position};
 ghost use Rattle.std.specs.List.{All};
 ghost use Rattle.object_id.specs.Policy.{is_width};
 ghost use Rattle.gf256.specs.Polynomial.{ArePoints};

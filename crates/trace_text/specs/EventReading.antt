@@ -4,7 +4,8 @@ use Rattle.std.specs.List.{find, slice_split}
 use Rattle.std.specs.Char.{is_ascii_digit}
 use Rattle.std.specs.Str.Parse.{digits_value}
 use Rattle.sheep_node.specs.declared.event.Event.{Event}
-use Rattle.sheep_node.specs.declared.event.Event.TheVariants.{Guest, Deliver, LoseRequest, LoseReply, LogNext, Put, RecoverTick, RetryTick, Lost, Leave, Join, Reweight, Back, Phase}
+use Rattle.sheep_node.specs.declared.event.Event.TheVariants.{Guest, Deliver, LoseRequest, LoseReply, LogNext, Put, RecoverTick, RetryTick}
+use Rattle.sheep_node.specs.declared.event.Event.TheVariants.{Lost, Leave, Join, Reweight, Back, Phase}
 use Rattle.trace_text.specs.Spelling.{event_text}
 
 -- the numbers that an event is named by

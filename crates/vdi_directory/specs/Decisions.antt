@@ -1,5 +1,6 @@
 -- The decision on an entry of the log, and what it changes, as a function of what the entries before it did.
-use Rattle.std.specs.Prelude.{ℕ, ◌==◌, ◌&&◌, ◌||◌, Bool, true, false, List, [], ◌∷◌, ◌++◌, fold, Option, None, Some, Result, Ok, Err, is_some, if◌then◌else◌}
+use Rattle.std.specs.Prelude.{ℕ, ◌==◌, ◌&&◌, ◌||◌, Bool, true, false, List, [], ◌∷◌, ◌++◌, fold, Option, None, Some, Result, Ok, Err}
+use Rattle.std.specs.Prelude.{is_some, if◌then◌else◌}
 use Rattle.std.specs.List.{list_any}
 use Rattle.object_id.specs.declared.oid.Vid.{Vid}
 use Rattle.object_id.specs.declared.node.NodeId.{NodeId}
@@ -9,7 +10,8 @@ use Rattle.object_id.specs.declared.entry.VdiSpec.{VdiSpec}
 use Rattle.object_id.specs.declared.entry.Origin.{Origin}
 use Rattle.object_id.specs.declared.entry.Origin.TheVariants.{Fresh, SnapshotOf, CloneOf}
 use Rattle.object_id.specs.declared.entry.Entry.{Entry}
-use Rattle.object_id.specs.declared.entry.Entry.TheVariants.{Format, Join, Leave, Reweight, Recovered, Reserve, Publish, Clone, Snapshot, Delete, Lock, Unlock}
+use Rattle.object_id.specs.declared.entry.Entry.TheVariants.{Format, Join, Leave, Reweight, Recovered, Reserve, Publish, Clone, Snapshot}
+use Rattle.object_id.specs.declared.entry.Entry.TheVariants.{Delete, Lock, Unlock}
 use Rattle.disk_lock.specs.declared.holder.Holder.{Holder}
 use Rattle.vdi_directory.specs.declared.header.Header.{Header}
 use Rattle.vdi_directory.specs.declared.effect.Source.{Source}

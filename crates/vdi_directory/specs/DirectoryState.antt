@@ -12,9 +12,11 @@ use Rattle.vdi_directory.specs.declared.effect.Effect.TheVariants.{Reserved, Del
 use Rattle.vdi_directory.specs.declared.directory_state.DirectoryState.{DirectoryState}
 use Rattle.vdi_directory.specs.Vids.{is_in, AreRanges}
 use Rattle.vdi_directory.specs.NameRows.{name_in}
-use Rattle.vdi_directory.specs.References.{one, one_parent_reference, reserved_by, parent_of, own_of, parent_in, count_in, AreReferenceCounts, AreLosses, CanLose, LosesReferences, IsReferenced}
+use Rattle.vdi_directory.specs.References.{one, one_parent_reference, reserved_by, parent_of, own_of, parent_in, count_in}
+use Rattle.vdi_directory.specs.References.{AreReferenceCounts, AreLosses, CanLose, LosesReferences, IsReferenced}
 use Rattle.vdi_directory.specs.Known.{AreKnown}
-use Rattle.vdi_directory.specs.Effects.{grants, is_used, header_after, header_of, name_after, name_of, reservations_after, reservations_of, live_after, live_of, holder_after, holder_of}
+use Rattle.vdi_directory.specs.Effects.{grants, is_used, header_after, header_of, name_after, name_of, reservations_after, reservations_of}
+use Rattle.vdi_directory.specs.Effects.{live_after, live_of, holder_after, holder_of}
 
 -- what the state holds, against what happened, and that all of it is valid
 pub record IsDirectoryState (before : List Effect) (state : DirectoryState) : Type 0 where

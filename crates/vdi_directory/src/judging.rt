@@ -4,7 +4,12 @@ ghost use Rattle.std.specs.Prelude.{◌≡◌, ℕ, true, List, IfOk, OnErr, if�
 ghost use Rattle.std.specs.Option.{option_copied};
 ghost use Rattle.vdi_directory.specs.Vids.{free_id as first_free, as_vid};
 ghost use Rattle.vdi_directory.specs.Effects.{is_used, holder_of, reservations_of, reservation_on as the_reservation, name_of};
-ghost use Rattle.vdi_directory.specs.Decisions.{nothing, has_names, silent_outcome, grant_outcome, refusal_outcome, is_held_by, is_reserved_by, is_taken as has_taken, reservation_outcome as the_reserved, held_disk as the_held, reserved_snapshot as the_snapshot, reserved_clone as the_clone, reserve_outcome as the_reserve_outcome, publication, snapshot_outcome as the_replacement, free_disk as the_free, target as the_target, deletion, lock as the_lock, release as the_release, outcome as the_outcome, log_effects};
+ghost use Rattle.vdi_directory.specs.Decisions.{nothing, has_names, silent_outcome, grant_outcome, refusal_outcome, is_held_by};
+ghost use Rattle.vdi_directory.specs.Decisions.{is_reserved_by, is_taken as has_taken, reservation_outcome as the_reserved};
+ghost use Rattle.vdi_directory.specs.Decisions.{held_disk as the_held, reserved_snapshot as the_snapshot, reserved_clone as the_clone};
+ghost use Rattle.vdi_directory.specs.Decisions.{reserve_outcome as the_reserve_outcome, publication, snapshot_outcome as the_replacement};
+ghost use Rattle.vdi_directory.specs.Decisions.{free_disk as the_free, target as the_target, deletion, lock as the_lock};
+ghost use Rattle.vdi_directory.specs.Decisions.{release as the_release, outcome as the_outcome, log_effects};
 ghost use Rattle.vdi_directory.specs.Sources.{is_for, tag_for as for_tag};
 ghost use Rattle.vdi_directory.specs.DirectoryState.{AreLocks};
 

@@ -1,4 +1,5 @@
-ghost use Rattle.std.specs.Prelude.{◌≡◌, ℕ, ◌==◌, slice_index_or, ◌<◌, ◌≤◌, not, filter, length, take, drop, ◌∷◌, ◌++◌, vec_len, vec_capacity};
+ghost use Rattle.std.specs.Prelude.{◌≡◌, ℕ, ◌==◌, slice_index_or, ◌<◌, ◌≤◌, not, filter, length, take, drop, ◌∷◌, ◌++◌, vec_len};
+ghost use Rattle.std.specs.Prelude.{vec_capacity};
 ghost use Rattle.std.specs.List.{list_any};
 ghost use Rattle.std.specs.List.Sorted.{IsNonDecreasing, IsStrictlyIncreasing};
 ghost use Rattle.vdi_directory.specs.Effects.{ids_with};

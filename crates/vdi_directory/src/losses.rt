@@ -2,7 +2,8 @@
 //! so that nothing is changed. Only the ids that lose a reference have a place there.
 ghost use Rattle.std.specs.Prelude.{◌≡◌, ◌+◌, ◌<◌, ◌^◌, ◌==◌, ◌∷◌, ◌++◌, ℕ, List, [], None, IfOk, OnOk, if◌then◌else◌};
 ghost use Rattle.std.specs.BTreeMap.{BTreeMap as Tree};
-ghost use Rattle.vdi_directory.specs.References.{one, one_parent_reference, parent_in, count_in, left_in, reserved_once, reserved_by, CanLose, LosesReferences, AreLosses};
+ghost use Rattle.vdi_directory.specs.References.{one, one_parent_reference, parent_in, count_in, left_in, reserved_once, reserved_by};
+ghost use Rattle.vdi_directory.specs.References.{CanLose, LosesReferences, AreLosses};
 
 use crate::effect::Reservation;
 use crate::header::Header;

@@ -2,7 +2,8 @@ ghost use Rattle.std.specs.Prelude.{◌≡◌, ℕ, OnOk, OnErr};
 ghost use Rattle.std.specs.Option.{option_copied};
 ghost use Rattle.std.specs.FinMap as tree;
 ghost use Rattle.vdi_directory.specs.declared.effect.Effect.TheVariants as effects;
-ghost use Rattle.vdi_directory.specs.Names.{no_disk, is_same_bytes, is_live_name, has_tag, snapshot_with_tag, name_with_working, name_with_snapshot, unless, name_without};
+ghost use Rattle.vdi_directory.specs.Names.{no_disk, is_same_bytes, is_live_name, has_tag, snapshot_with_tag, name_with_working};
+ghost use Rattle.vdi_directory.specs.Names.{name_with_snapshot, unless, name_without};
 ghost use Rattle.vdi_directory.specs.Effects.{holder_after};
 
 use crate::effect::Snap;

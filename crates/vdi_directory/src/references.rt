@@ -4,7 +4,8 @@
 ghost use Rattle.std.specs.Prelude.{◌≡◌, ◌+◌, ◌-◌, ◌<◌, ◌^◌, ◌==◌, ℕ, None, OnOk, IsSome, if◌then◌else◌};
 ghost use Rattle.std.specs.Ordering.{nat_cmp};
 ghost use Rattle.std.specs.BTreeMap.{get};
-ghost use Rattle.vdi_directory.specs.References.{one, one_parent_reference, parent_in, count_in, reserved_once, reserved_by, CanLose, LosesReferences, IsReferenced};
+ghost use Rattle.vdi_directory.specs.References.{one, one_parent_reference, parent_in, count_in, reserved_once, reserved_by, CanLose};
+ghost use Rattle.vdi_directory.specs.References.{LosesReferences, IsReferenced};
 
 use crate::effect::Reservation;
 use crate::header::Header;

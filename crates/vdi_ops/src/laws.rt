@@ -1,5 +1,6 @@
 //! Laws of the definitions, for the proofs of the layers above: each is the contract of a function that does nothing.
-ghost use Rattle.std.specs.Prelude.{◌≡◌, ◌⊎◌, ℕ, ◌+◌, ◌*◌, ◌^◌, ◌<◌, ◌≤◌, ◌==◌, true, false, List, [], ◌∷◌, ◌++◌, length, map, All, Option, Some, None, option_map, IfSome, IsTrue, is_some};
+ghost use Rattle.std.specs.Prelude.{◌≡◌, ◌⊎◌, ℕ, ◌+◌, ◌*◌, ◌^◌, ◌<◌, ◌≤◌, ◌==◌, true, false, List, [], ◌∷◌, ◌++◌, length, map, All, Option};
+ghost use Rattle.std.specs.Prelude.{Some, None, option_map, IfSome, IsTrue, is_some};
 ghost use Rattle.std.specs.List.{list_any};
 ghost use Rattle.object_id.specs.declared.oid.Vid.{Vid};
 ghost use Rattle.object_id.specs.declared.node.NodeId.{NodeId};
@@ -28,7 +29,8 @@ ghost use Rattle.vdi_ops.specs.Entries.{OpenDisk, own_bytes, command_refusal, fi
 ghost use Rattle.vdi_directory.specs.Chains.{chain_of};
 ghost use Rattle.vdi_ops.specs.Tables.{kept_entry, table_in, holes, inode_by};
 ghost use Rattle.vdi_ops.specs.InodeWorks.{written_bytes, written_back, read_inode, create_inode, write_back, write_tag};
-ghost use Rattle.vdi_ops.specs.Op.{Op, Opening, WritingBack, Asked, Working, Publishing, Stays, Opens, Closes, entry_wanted, op_bytes_wanted};
+ghost use Rattle.vdi_ops.specs.Op.{Op, Opening, WritingBack, Asked, Working, Publishing, Stays, Opens, Closes, entry_wanted};
+ghost use Rattle.vdi_ops.specs.Op.{op_bytes_wanted};
 ghost use Rattle.vdi_ops.specs.Op.{IsAwaitedByCommand, disk_change};
 ghost use Rattle.vdi_ops.specs.Steps.{begin_command, on_decision, op_on_done, on_refusal};
 ghost use Rattle.vdi_ops.specs.Course.{Decided, Given, op_acts_from};
@@ -55,7 +57,8 @@ pub fn commands_go_so()
     ensures attach_snapshot { (known : List Effect) (by : NodeId) (session : ℕ) (name tag : List ℕ) (disk : Option Content) (vid : Vid)
         (header : TheHeader) (bytes : List ℕ)
         → header_of known vid.0 ≡ Some header
-        → op_acts_from known disk (begin_command by session (Attach name (Some tag)) disk) (Decided (decisions.Granted vid) ∷ Given bytes ∷ [])
+        → op_acts_from known disk (begin_command by session (Attach name (Some tag)) disk)
+        (Decided (decisions.Granted vid) ∷ Given bytes ∷ [])
         ≡ Append (entries.Lock by session name (Some tag)) ∷ Work (read_inode vid.0 header.spec) ∷ Reply Done ∷ [] }
     ensures close { (known : List Effect) (by : NodeId) (session : ℕ) (disk : Content)
         → op_acts_from known (Some disk) (begin_command by session Close (Some disk)) (Decided decisions.None ∷ [])
