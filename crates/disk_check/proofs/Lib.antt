@@ -3,3 +3,4 @@ mod ValueLemmas
 mod WorkLemmas
 mod CourseLemmas
 mod WorkedCheck
+mod OpLemmas

@@ -1,14 +1,19 @@
 -- What the table gives: the own objects ascend, are as many as their entries, and the entries are of three kinds.
-use Rattle.std.proofs.Common.{◌≡◌, ℕ, zero, suc, ◌+◌, ◌*◌, ◌^◌, ◌<◌, ◌≤◌, ◌==◌, ◌&&◌, not, Bool, true, false, cond, List, [], ◌∷◌, length, get_or, slice_index, map, filter, count_by, All, refl, sym, ap, subst, ◌∙◌, arith}
+use Rattle.std.proofs.Common.{◌≡◌, ℕ, zero, suc, ◌+◌, ◌-◌, ◌*◌, ◌/◌, ◌^◌, ◌<◌, ◌≤◌, ◌==◌, ◌&&◌, not, Bool, true, false, cond, List, [], ◌∷◌, length, get_or, slice_index, map, filter, count_by, All, refl, sym, ap, subst, ◌∙◌, arith}
 use Rattle.std.specs.List.{range_with_len}
 use Rattle.std.specs.List.Sorted.{IsStrictlyIncreasing}
+use Rattle.std.proofs.Math.Nat.{div-lt_iff_lt-mul}
+use Rattle.std.proofs.lemmas.Nat.{pow_pos}
 use Rattle.std.proofs.lemmas.Bool.{cond_both, eqb-true}
 use Rattle.std.proofs.lemmas.List.{length-map, get_or-map}
 use Rattle.std.proofs.lemmas.List.Elements.{All-cons, All-filter}
 use Rattle.std.proofs.lemmas.List.FromFn.{length-range_with_len, get_or-range_with_len, fill_by_all}
 use Rattle.std.proofs.lemmas.List.Kept.{IsStrictlyIncreasing-filter}
 use Rattle.std.proofs.lemmas.List.Sums.{length-filter, sum_by-cons}
+use Rattle.object_id.specs.declared.entry.VdiSpec.{VdiSpec}
+use Rattle.object_id.specs.declared.limits.TheConstants.{OBJECTS_MAX}
 use Rattle.object_id.specs.Oid.{object_number}
+use Rattle.object_id.specs.Spec.{IsSpec, objects_of}
 use Rattle.inode.specs.Layout.{Content}
 use Rattle.disk_check.specs.Table.{own_indexes, inherited_count}
 
@@ -101,3 +106,13 @@ object_numbers-ascend vid xs ascend k within =
   where
     more : (vid m n : ℕ) → m < n → object_number vid m < object_number vid n
     more vid m n below = omega arith
+
+div_most : (size object : ℕ) → 0 < object → size ≤ 2 ^ 20 * object → (size + object - 1) / object ≤ 2 ^ 20
+div_most size object some most =
+    let below : size + object - 1 < (2 ^ 20 + 1) * object = omega (arith, some, most) in
+    let quotient : (size + object - 1) / object < 2 ^ 20 + 1 = (div-lt_iff_lt-mul some).1 below in
+    omega (arith, quotient)
+
+-- a disk has at most so many objects
+pub objects_of-most : (spec : VdiSpec) → IsSpec spec → objects_of spec ≤ OBJECTS_MAX
+objects_of-most spec valid = div_most spec.size (2 ^ spec.shift) (pow_pos spec.shift) valid.size.1

@@ -8,7 +8,12 @@
 #![tactic(auto)]
 
 mod act;
+mod compare;
+mod found;
 mod laws;
+mod op;
+mod stage;
+mod table;
 #[cfg(test)]
 mod tests;
 
@@ -18,3 +23,4 @@ pub use laws::{
     copies_are_compared_with_the_first, objects_that_differ_ascend,
     own_objects_are_those_of_the_table, pieces_of_one_value_agree,
 };
+pub use op::{CheckOp, begin_check};
