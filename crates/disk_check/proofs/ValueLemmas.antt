@@ -10,9 +10,9 @@ use Rattle.object_id.specs.declared.policy.Policy.TheVariants.{Copies, Coded}
 use Rattle.object_id.specs.Policy.{IsPolicy, wanted_of}
 use Rattle.object_id.specs.Fields.{AreBytes}
 use Rattle.gf256.proofs.Points.{range_points, points_to}
-use Rattle.strip_coding.specs.Part.{IsAligned, part, bytes_of_parts, index_at}
-use Rattle.strip_coding.proofs.PartLaws.{bytes_of_parts-part}
-use Rattle.strip_coding.proofs.Widths.{width_most}
+use Rattle.gf256.specs.Part.{IsAligned, part, bytes_of_parts, index_at}
+use Rattle.gf256.proofs.PartLaws.{bytes_of_parts-part}
+use Rattle.gf256.proofs.Widths.{width_most}
 use Rattle.disk_check.specs.Value.{value_of, is_other_piece, differ}
 
 -- what the target at a place keeps of bytes

@@ -14,8 +14,8 @@ use Rattle.object_id.specs.Policy.{IsPolicy, wanted_of}
 use Rattle.object_id.specs.Spec.{IsSpec}
 use Rattle.gf256.specs.Strip.{strip_bytes, block_through}
 use Rattle.gf256.proofs.StripLaws.{length-block_through}
-use Rattle.strip_coding.specs.Part.{IsAligned, part_size, first_part, blocks_through, bytes_of_parts}
-use Rattle.strip_coding.proofs.Widths.{by_cases}
+use Rattle.gf256.specs.Part.{IsAligned, part_size, first_part, blocks_through, bytes_of_parts}
+use Rattle.gf256.proofs.Widths.{by_cases}
 use Rattle.inode.specs.Layout.{Content}
 use Rattle.peer_proto.specs.Work.{IsWork}
 use Rattle.disk_check.specs.Value.{all_bytes, cut_pieces, pieces_in, value_of}

@@ -3,7 +3,7 @@ use Rattle.std.proofs.Common.{◌≡◌, ℕ, List, [], ◌∷◌, ◌++◌, rep
 use Rattle.object_id.specs.declared.policy.Policy.TheVariants.{Copies}
 use Rattle.inode.specs.Layout.{Content}
 use Rattle.peer_proto.specs.declared.work.ObjWork.TheVariants.{Write, ReadAll}
-use Rattle.strip_coding.specs.Part.{part, bytes_of_parts}
+use Rattle.gf256.specs.Part.{part, bytes_of_parts}
 use Rattle.disk_check.specs.declared.act.CheckAct.TheVariants.{Work, Reply}
 use Rattle.disk_check.specs.Value.{cut_pieces}
 use Rattle.disk_check.specs.Check.{begin_check, check_on_done}

@@ -5,7 +5,7 @@ use Rattle.object_id.specs.declared.entry.VdiSpec.{VdiSpec}
 use Rattle.object_id.specs.declared.oid.Kind.TheVariants.{Block}
 use Rattle.object_id.specs.declared.policy.Policy.{Policy}
 use Rattle.object_id.specs.Policy.{wanted_of, need_of}
-use Rattle.strip_coding.specs.Part.{part, part_size, bytes_of_parts, index_at}
+use Rattle.gf256.specs.Part.{part, part_size, bytes_of_parts, index_at}
 
 -- how many bytes a target keeps of an object
 abbrev pub target_bytes : VdiSpec → ℕ

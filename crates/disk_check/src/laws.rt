@@ -8,7 +8,7 @@ ghost use Rattle.object_id.specs.declared.policy.Policy.{Policy};
 ghost use Rattle.object_id.specs.declared.policy.Policy.TheVariants.{Copies};
 ghost use Rattle.object_id.specs.Policy.{IsPolicy, wanted_of};
 ghost use Rattle.object_id.specs.Fields.{AreBytes};
-ghost use Rattle.strip_coding.specs.Part.{IsAligned, part, index_at};
+ghost use Rattle.gf256.specs.Part.{IsAligned, part, index_at};
 ghost use Rattle.inode.specs.Layout.{Content};
 ghost use Rattle.peer_proto.specs.Work.{IsWork};
 ghost use Rattle.object_id.specs.declared.entry.VdiSpec.{VdiSpec};

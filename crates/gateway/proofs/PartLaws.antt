@@ -5,8 +5,8 @@ use Rattle.object_id.specs.declared.policy.Policy.{Policy}
 use Rattle.object_id.specs.Policy.{IsPolicy, need_of}
 use Rattle.object_id.specs.Fields.{AreBytes}
 use Rattle.gf256.specs.Polynomial.{ArePoints}
-use Rattle.strip_coding.specs.Part.{IsAligned, part, bytes_of_parts}
-use Rattle.strip_coding.proofs.PartLaws.{bytes_of_parts-part}
+use Rattle.gf256.specs.Part.{IsAligned, part, bytes_of_parts}
+use Rattle.gf256.proofs.PartLaws.{bytes_of_parts-part}
 use Rattle.gateway.specs.declared.message.Message.{Message}
 use Rattle.gateway.specs.Attempt.{bytes_in, bytes_through}
 

@@ -13,7 +13,7 @@ use Rattle.vnode_table.specs.Targets.{targets_in}
 use Rattle.peer_proto.specs.declared.work.ObjWork.{ObjWork}
 use Rattle.peer_proto.specs.declared.work.ObjWork.TheVariants.{Create, Write, Read, ReadAll}
 use Rattle.gateway.specs.declared.message.Message.{Message}
-use Rattle.strip_coding.specs.Part.{is_in_strips, index_at}
+use Rattle.gf256.specs.Part.{is_in_strips, index_at}
 use Rattle.peer_proto.specs.Work.{oid_of, policy_of}
 use Rattle.gateway.specs.Work.{is_making, read_from, targets_asked, zones_for}
 use Rattle.gateway.specs.Attempt.{message_for, messages_of, send_of}

@@ -17,7 +17,7 @@ use Rattle.gateway.specs.declared.message.Message.{Message}
 use Rattle.gateway.specs.declared.message.Status.{Status}
 use Rattle.gateway.specs.declared.message.Status.TheVariants.{Unanswered, Succeeded, Refused, Lost}
 use Rattle.peer_proto.specs.declared.ask.PeerAsk.TheVariants as asks
-use Rattle.strip_coding.specs.Part.{bytes_of_parts}
+use Rattle.gf256.specs.Part.{bytes_of_parts}
 use Rattle.gateway.specs.Work.{targets_asked, ask_for}
 use Rattle.gateway.specs.Attempt.{is_over, is_done, bytes_given, first_failure}
 use Rattle.gateway.specs.State.{Ended, WaitsForMembers, Work, initial_gateway}

@@ -11,7 +11,7 @@ use Rattle.object_id.specs.declared.oid.Kind.{Kind}
 use Rattle.object_id.specs.declared.policy.Policy.{Policy}
 use Rattle.object_id.specs.Oid.{kind_of}
 use Rattle.object_id.specs.Policy.{need_of}
-use Rattle.strip_coding.specs.Part.{bytes_of_parts, index_at}
+use Rattle.gf256.specs.Part.{bytes_of_parts, index_at}
 use Rattle.peer_proto.specs.declared.work.ObjWork.{ObjWork}
 use Rattle.peer_proto.specs.declared.work.ObjWork.TheVariants.{Create, Write, Read, ReadAll}
 use Rattle.peer_proto.specs.declared.ask.PeerReq.{PeerReq}

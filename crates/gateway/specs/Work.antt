@@ -6,7 +6,7 @@ use Rattle.object_id.specs.declared.oid.Kind.{Kind}
 use Rattle.object_id.specs.declared.policy.Policy.{Policy}
 use Rattle.object_id.specs.Oid.{kind_of}
 use Rattle.object_id.specs.Policy.{wanted_of, need_of}
-use Rattle.strip_coding.specs.Part.{part, part_size, is_in_strips}
+use Rattle.gf256.specs.Part.{part, part_size, is_in_strips}
 use Rattle.peer_proto.specs.declared.work.ObjWork.{ObjWork}
 use Rattle.peer_proto.specs.declared.work.ObjWork.TheVariants.{Create, Write, Read, ReadAll}
 use Rattle.peer_proto.specs.declared.ask.PeerAsk.{PeerAsk}

@@ -10,7 +10,7 @@ ghost use Rattle.object_id.specs.Oid.{kind_of};
 ghost use Rattle.object_id.specs.Policy.{IsPolicy, need_of};
 ghost use Rattle.object_id.specs.Fields.{AreBytes};
 ghost use Rattle.gf256.specs.Polynomial.{ArePoints};
-ghost use Rattle.strip_coding.specs.Part.{IsAligned, part, bytes_of_parts, is_in_strips, index_at};
+ghost use Rattle.gf256.specs.Part.{IsAligned, part, bytes_of_parts, is_in_strips, index_at};
 ghost use Rattle.hash_ring.specs.Placement.{zone_count};
 ghost use Rattle.vnode_table.specs.Epochs.{EpochMembers, members_at};
 ghost use Rattle.peer_proto.specs.declared.work.ObjWork.{ObjWork};

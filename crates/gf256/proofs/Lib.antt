@@ -6,3 +6,5 @@ pub mod Points
 pub mod Polynomial
 pub mod Interpolation
 pub mod StripLaws
+pub mod Widths
+pub mod PartLaws

@@ -1,3 +1,4 @@
 pub mod Field
 pub mod Polynomial
 pub mod Strip
+pub mod Part

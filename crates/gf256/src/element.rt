@@ -79,5 +79,7 @@ mod tests {
         field_laws();
         interpolation_laws();
         strip_laws();
+        part_laws();
+        enough_parts();
     }
 }

@@ -4,7 +4,7 @@ use Rattle.std.specs.List.{list_any}
 use Rattle.object_id.specs.declared.oid.Kind.{Kind}
 use Rattle.object_id.specs.declared.policy.Policy.{Policy}
 use Rattle.object_id.specs.Oid.{kind_of}
-use Rattle.strip_coding.specs.Part.{part, is_in_strips}
+use Rattle.gf256.specs.Part.{part, is_in_strips}
 use Rattle.peer_proto.specs.Work.{policy_of}
 use Rattle.overlap_law.specs.Attempts.{AttemptRecord}
 use Rattle.overlap_law.specs.Words.{Hosts, is_made, is_doomed, covers_unit, unit_bytes, row_bytes_at, unit_part_by, laid_over_in_order, base_of, own_base_of, later_on, is_quiet}

@@ -12,7 +12,7 @@ use Rattle.vdi_directory.specs.declared.header.Header.{Header}
 use Rattle.vdi_directory.specs.declared.effect.Effect.{Effect}
 use Rattle.vdi_directory.specs.Effects.{header_of}
 use Rattle.object_store.specs.Store.{SeenRow, AllRows, rows_of}
-use Rattle.strip_coding.specs.Part.{index_among}
+use Rattle.gf256.specs.Part.{index_among}
 use Rattle.sheep_node.specs.State.{Node}
 use Rattle.sheep_world.specs.World.{Host, is_host_up}
 use Rattle.overlap_law.specs.Attempts.{AttemptRecord}

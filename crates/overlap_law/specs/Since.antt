@@ -5,7 +5,7 @@ use Rattle.object_id.specs.declared.node.NodeId.{NodeId}
 use Rattle.object_id.specs.declared.oid.Kind.{Kind}
 use Rattle.object_id.specs.declared.policy.Policy.{Policy}
 use Rattle.object_id.specs.Oid.{kind_of}
-use Rattle.strip_coding.specs.Part.{is_in_strips}
+use Rattle.gf256.specs.Part.{is_in_strips}
 use Rattle.vdi_directory.specs.declared.effect.Effect.{Effect}
 use Rattle.overlap_law.specs.Attempts.{AttemptRecord, attempts_on}
 use Rattle.overlap_law.specs.Words.{Hosts, is_doomed, is_mute, has_served, covers_unit, unit_part_by, row_bytes_at, unit_end}

@@ -8,7 +8,7 @@ use Rattle.object_id.specs.Oid.{kind_of}
 use Rattle.object_id.specs.Piece.{laid_over}
 use Rattle.object_id.specs.Fields.{zeros}
 use Rattle.object_store.specs.Bytes.{piece_at}
-use Rattle.strip_coding.specs.Part.{part, part_size}
+use Rattle.gf256.specs.Part.{part, part_size}
 use Rattle.inode.specs.declared.layout.TheConstants.{INODE_HEADER_BYTES}
 use Rattle.peer_proto.specs.declared.work.ObjWork.{ObjWork}
 use Rattle.peer_proto.specs.declared.work.ObjWork.TheVariants.{Create, Write, Read, ReadAll}

@@ -9,7 +9,7 @@ use Rattle.object_id.specs.declared.entry.VdiSpec.{VdiSpec}
 use Rattle.object_id.specs.declared.oid.Kind.TheVariants.{Block}
 use Rattle.object_id.specs.Oid.{object_number}
 use Rattle.object_id.specs.Spec.{objects_of}
-use Rattle.strip_coding.specs.Part.{is_in_strips}
+use Rattle.gf256.specs.Part.{is_in_strips}
 use Rattle.disk_history.specs.Ledger.{Item, Disk, Ledger}
 use Rattle.disk_history.specs.Legal.{standing, is_torn}
 use Rattle.vdi_directory.specs.declared.effect.Effect.{Effect}

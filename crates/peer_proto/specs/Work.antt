@@ -5,7 +5,7 @@ use Rattle.object_id.specs.declared.oid.Kind.{Kind}
 use Rattle.object_id.specs.declared.policy.Policy.{Policy}
 use Rattle.object_id.specs.Oid.{kind_of}
 use Rattle.object_id.specs.Policy.{IsPolicy}
-use Rattle.strip_coding.specs.Part.{IsAligned}
+use Rattle.gf256.specs.Part.{IsAligned}
 use Rattle.peer_proto.specs.declared.work.ObjWork.{ObjWork}
 use Rattle.peer_proto.specs.declared.work.ObjWork.TheVariants.{Create, Write, Read, ReadAll}
 

@@ -5,7 +5,7 @@ use Rattle.std.specs.List.{AllByRecursion}
 use Rattle.object_id.specs.declared.node.NodeId.{NodeId}
 use Rattle.object_id.specs.declared.policy.Policy.{Policy}
 use Rattle.object_id.specs.Oid.{kind_of}
-use Rattle.strip_coding.specs.Part.{index_among}
+use Rattle.gf256.specs.Part.{index_among}
 use Rattle.object_store.specs.declared.key.Key.{Key}
 use Rattle.object_store.specs.Rows.{is_open, is_kept, closed, purged}
 use Rattle.object_store.specs.Store.{SeenRow, rows_of, each}

@@ -8,7 +8,7 @@ use Rattle.object_id.specs.declared.oid.Kind.TheVariants.{Block, Inode}
 use Rattle.object_id.specs.declared.policy.Policy.{Policy}
 use Rattle.object_id.specs.declared.entry.VdiSpec.{VdiSpec}
 use Rattle.object_id.specs.declared.entry.Entry.{Entry}
-use Rattle.strip_coding.specs.Part.{part_size}
+use Rattle.gf256.specs.Part.{part_size}
 use Rattle.object_store.specs.Store.{AllRows}
 use Rattle.inode.specs.declared.layout.TheConstants.{INODE_BYTES}
 use Rattle.vdi_directory.specs.declared.header.Header.{Header}

@@ -7,7 +7,7 @@ use Rattle.object_store.specs.Rows.{open_at}
 use Rattle.object_store.specs.Store.{SeenRow, rows_of, create_in}
 use Rattle.object_store.proofs.StoreLaws.{rows_of-empty, rows_of-insert_same}
 use Rattle.object_list.specs.Union.{union}
-use Rattle.strip_coding.specs.Part.{part, bytes_of_parts}
+use Rattle.gf256.specs.Part.{part, bytes_of_parts}
 use Rattle.recovery.specs.Shown.{is_to_recover, shown_with_unfinished_list, shown_with_pending}
 use Rattle.recovery.specs.Level.{level_over}
 use Rattle.recovery.specs.Tick.{tick_messages, state_after_tick}

@@ -8,8 +8,8 @@ use Rattle.object_id.specs.declared.oid.Kind.{Kind}
 use Rattle.object_id.specs.declared.policy.Policy.{Policy}
 use Rattle.object_id.specs.Policy.{IsPolicy, need_of}
 use Rattle.gf256.specs.Polynomial.{ArePoints}
-use Rattle.strip_coding.specs.Part.{IsAligned, part, bytes_of_parts}
-use Rattle.strip_coding.proofs.PartLaws.{bytes_of_parts-part}
+use Rattle.gf256.specs.Part.{IsAligned, part, bytes_of_parts}
+use Rattle.gf256.proofs.PartLaws.{bytes_of_parts-part}
 use Rattle.object_store.specs.declared.row.RowCopy.{RowCopy}
 use Rattle.object_store.specs.declared.key.Key.{Key}
 use Rattle.object_id.specs.Fields.{AreBytes, zeros}

@@ -20,7 +20,7 @@ use Rattle.object_id.specs.declared.policy.Policy.{Policy}
 use Rattle.object_id.specs.declared.policy.Policy.TheVariants.{Copies, Coded}
 use Rattle.object_id.specs.Oid.{IsOid, kind_of}
 use Rattle.object_id.specs.Policy.{IsPolicy, wanted_of}
-use Rattle.strip_coding.proofs.Widths.{by_cases}
+use Rattle.gf256.proofs.Widths.{by_cases}
 use Rattle.object_store.specs.Store.{AllRows, create_in, rows_of}
 use Rattle.object_list.specs.Gathered.{is_same_node, has_node, nodes_without, gathered_with_answer}
 use Rattle.object_list.specs.Union.{union}

@@ -11,7 +11,7 @@ use Rattle.object_store.specs.declared.key.Key.{Key}
 use Rattle.object_store.specs.declared.row.RowCopy.{RowCopy}
 use Rattle.object_store.specs.Rows.{reaches}
 use Rattle.object_store.specs.Store.{AllRows, rows_of, open_row, create_in, copy_at}
-use Rattle.strip_coding.specs.Part.{index_among}
+use Rattle.gf256.specs.Part.{index_among}
 
 -- a node, as its recovery sees it
 pub record NodeView : Type 0 where

@@ -77,7 +77,7 @@ unfoldable pub state_after_tick : ℕ → RecoveryState → RecoveryState
 state_after_tick first state =
     if is_listed state.recovery
     then option_map_or
-        (λ (search : Search). searching search (with_messages (tick_messages first state) state))
-        (next_search state)
-        (with_messages (tick_messages first state) state)
+    (λ (search : Search). searching search (with_messages (tick_messages first state) state))
+    (next_search state)
+    (with_messages (tick_messages first state) state)
     else with_messages (tick_messages first state) state

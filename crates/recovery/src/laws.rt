@@ -13,7 +13,7 @@ ghost use Rattle.object_id.specs.declared.policy.Policy.TheVariants.{Copies, Cod
 ghost use Rattle.object_id.specs.Policy.{IsPolicy, need_of};
 ghost use Rattle.object_id.specs.Fields.{AreBytes};
 ghost use Rattle.gf256.specs.Polynomial.{ArePoints};
-ghost use Rattle.strip_coding.specs.Part.{IsAligned, part};
+ghost use Rattle.gf256.specs.Part.{IsAligned, part};
 ghost use Rattle.object_store.specs.declared.key.Key.{Key};
 ghost use Rattle.object_store.specs.declared.row.RowCopy.{RowCopy};
 ghost use Rattle.object_store.specs.Store.{rows_of, row_bytes};

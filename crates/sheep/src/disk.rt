@@ -61,7 +61,10 @@ fn fill(
     let first = offset / BLOCK;
     for block in first..first + u64::from(length) / BLOCK {
         let byte = byte_of(pattern, block - first);
-        blocks.insert(block, Bytes::from_slice(alloc, &[byte; BLOCK_BYTES as usize])?)?;
+        blocks.insert(
+            block,
+            Bytes::from_slice(alloc, &[byte; BLOCK_BYTES as usize])?,
+        )?;
     }
     Ok(())
 }

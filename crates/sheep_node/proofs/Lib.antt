@@ -17,3 +17,4 @@ pub mod StepResults
 pub mod LogLaws
 mod RefusalLaws
 pub mod NodeLaws
+mod MayTestLaws

@@ -1,11 +1,8 @@
 -- A node opens as one, and stays one at each step that it may take.
 use Rattle.std.proofs.Common.{ℕ}
-use Rattle.std.proofs.Math.Bool.{and-false}
 use Rattle.object_id.specs.declared.node.NodeId.{NodeId}
-use Rattle.recovery.specs.State as recoveries
 use Rattle.sheep_node.specs.declared.input.Input.{Input}
 use Rattle.sheep_node.specs.State.{Node, initial_node}
-use Rattle.sheep_node.specs.RecoveryView.{recovery_state_of}
 use Rattle.sheep_node.specs.Step.{node_step}
 use Rattle.sheep_node.specs.May.{May}
 use Rattle.sheep_node.specs.NodeInvariant.{IsSoundNode}
@@ -13,7 +10,7 @@ use Rattle.sheep_node.proofs.NumberChanges.{one_work_at_opening, one_work_stays}
 use Rattle.sheep_node.proofs.OwnEntryChanges.{own_entries_at_opening, own_entries_stay}
 use Rattle.sheep_node.proofs.QueueChanges.{none_queued, queues_stay}
 use Rattle.sheep_node.proofs.LogLaws.{opening_follows, step_follows}
-use Rattle.sheep_node.proofs.StepResults.{step_not_due}
+use Rattle.sheep_node.proofs.StepResults.{none_due_at_opening, step_not_due}
 
 pub IsSoundNode-initial : (me : NodeId) (tries : ℕ) → IsSoundNode (initial_node me tries)
 IsSoundNode-initial me tries = record {
@@ -21,7 +18,7 @@ IsSoundNode-initial me tries = record {
   own_entries = own_entries_at_opening me tries;
   queues = none_queued;
   by_the_log = opening_follows me tries;
-  none_due = and-false (recoveries.is_finished (recovery_state_of (initial_node me tries)));
+  none_due = none_due_at_opening me tries;
 }
 
 pub IsSoundNode-step : (input : Input) (node : Node) → May input node → IsSoundNode node → IsSoundNode (node_step input node).node

@@ -239,7 +239,7 @@ change_keeps_numbers so_far next (changes.Denies session req asked lined request
     request_refused_numbered req (Halt (changes.zones_of_members lined.node) (works.zones_for asked.work)) request (changes.without_denied_work session req asked lined)
     (fewer lined.node.me lined.node.gateway.me lined.node.gateway.works (tree.remove lined.node.gateway.works req) lined.node.sends lined.node.recovery
     (gone_fewer lined.node.gateway.works req) (comes_numbered so_far session req asked lined comes numbered))
-change_keeps_numbers so_far next (changes.Strays req work gateway there none) sound good numbered = absurd (never_alone req work so_far there none good)
+change_keeps_numbers so_far next (changes.Strays req work gateway there none apart) sound good numbered = absurd (never_alone req work so_far there none good)
 change_keeps_numbers so_far next (changes.Lines session req work moved steps waits) sound good numbered = steps_numbered so_far session req (ToWork work) moved steps numbered
 change_keeps_numbers so_far next (changes.Appends session req entry moved steps) sound good numbered = steps_numbered so_far session req (ToEntry entry) moved steps numbered
 change_keeps_numbers so_far next (changes.Replies session req reply moved steps) sound good numbered =

@@ -114,7 +114,7 @@ command_moved session req step so_far awaited free good =
     let works = so_far.node.gateway.works in
     let request : Request = record { session = session; course = Commanding step.op } in
     let after = record (session_in session so_far) {
-      disk = disk_after (disk_change step.op) (session_in session so_far).disk;
+      disk = disk_after (disk_change step) (session_in session so_far).disk;
       command = Some req;
     } in
     record {
@@ -323,7 +323,7 @@ change_keeps_one_work so_far next (changes.Holds session req asked lined comes s
 change_keeps_one_work so_far next (changes.Denies session req asked lined request comes short untouched there own) sound good =
     let (now, free) = denied_good session req asked lined (comes_free so_far session req asked lined comes sound good) in
     request_refused_good req (Halt (zones_of_members lined.node) (zones_for asked.work)) request (without_denied_work session req asked lined) free now
-change_keeps_one_work so_far next (changes.Strays req work gateway there none) sound good = absurd (never_alone req work so_far there none good)
+change_keeps_one_work so_far next (changes.Strays req work gateway there none apart) sound good = absurd (never_alone req work so_far there none good)
 change_keeps_one_work so_far next (changes.Lines session req work moved steps waits) sound good =
     let m = steps_free so_far session req (ToWork work) moved steps sound good in
     let inode_queue = (session_in session moved).inode_queue in

@@ -2,6 +2,7 @@
 use Rattle.std.proofs.Common.{◌≡◌, ◌≢◌, ℕ, true, false, List, [], ◌∷◌, ◌++◌, All, option_to_list, Option, Some, None, IfSome, refl, sym, ap, subst, ◌∙◌, ⊎_elim}
 use Rattle.std.specs.Ordering.{nat_cmp}
 use Rattle.std.specs.FinMap as tree
+use Rattle.std.specs.Option.{option_map, option_and_then}
 use Rattle.std.proofs.lemmas.List.{append-nil}
 use Rattle.std.proofs.lemmas.List.Elements.{All-nil, All-push, All-tail}
 use Rattle.std.proofs.lemmas.Bool.{cases_eq}
@@ -41,7 +42,7 @@ use Rattle.vdi_ops.specs.Entries.{first_entry}
 use Rattle.vdi_directory.specs.Chains.{chain_of}
 use Rattle.vdi_ops.specs.Op as ops
 use Rattle.vdi_ops.specs.Op.{Task, Opening, WritingBack, Tagging, Copying, Making, OpStage, Asked, Working, Publishing, Answered, Op, IsAwaitedAtOpStage, IsAwaitedByCommand}
-use Rattle.vdi_ops.specs.Steps.{begun_with_entry, begin_command, taken_over, copied_from, step_after_grant, step_after_known_grant, step_after_decision, decided_at, on_decision, task_done, done_at, op_on_done, refused_at, on_refusal}
+use Rattle.vdi_ops.specs.Steps.{first_step, begin_command, tag_step, copy_step, step_after_grant, step_after_decision, decided_at, on_decision, task_done, done_at, op_on_done, refused_at, on_refusal}
 use Rattle.vdi_ops.proofs.StepLemmas.{begin_awaited, done_awaited, decision_awaited}
 use Rattle.sheep_node.specs.declared.input.Input.{Input}
 use Rattle.sheep_node.specs.declared.input.Input.TheVariants as inputs
@@ -74,7 +75,7 @@ first_of by session disk (Clone base tag name) = refl
 first_of by session disk (Delete name tag) = refl
 first_of by session disk Check = tt
 
-begun_of : (by : NodeId) (session : ℕ) (entry : Option Entry) → IfSome entry (IsEntryOf by) → IfSome (begun_with_entry by session entry) (StepOf by)
+begun_of : (by : NodeId) (session : ℕ) (entry : Option Entry) → IfSome entry (IsEntryOf by) → IfSome (option_map (first_step by session) entry) (StepOf by)
 begun_of by session None of = tt
 begun_of by session (Some entry) of = (refl, of)
 
@@ -83,11 +84,11 @@ unfolding begin_command
 begin_of by session ask disk = begun_of by session (first_entry by session disk ask) (first_of by session disk ask)
 
 module _ (me : NodeId) (op : Op) (own : op.by ≡ me) where
-  taken_of : (vid : Vid) (tag : List ℕ) (header : Header) (disk : Option Content) → IfSome (taken_over op vid tag header disk) (StepOf me)
+  taken_of : (vid : Vid) (tag : List ℕ) (header : Header) (disk : Option Content) → IfSome (option_map (tag_step op vid tag header) disk) (StepOf me)
   taken_of vid tag header None = tt
   taken_of vid tag header (Some old) = (own, tt)
 
-  copied_of : (vid : Vid) (chain : List ℕ) (header : Header) (parent : Option Vid) → IfSome (copied_from op vid chain header parent) (StepOf me)
+  copied_of : (vid : Vid) (chain : List ℕ) (header : Header) (parent : Option Vid) → IfSome (option_map (copy_step op vid chain header) parent) (StepOf me)
   copied_of vid chain header None = tt
   copied_of vid chain header (Some parent) = (own, tt)
 
@@ -108,7 +109,7 @@ module _ (me : NodeId) (op : Op) (own : op.by ≡ me) where
   granted_of vid chain disk (entries.Snapshot by old id) header = tt
 
   known_of : (vid : Vid) (chain : List ℕ) (disk : Option Content) (entry : Entry) (header : Option Header)
-      → IfSome (step_after_known_grant op vid chain disk entry header) (StepOf me)
+      → IfSome (option_and_then (step_after_grant op vid chain disk entry) header) (StepOf me)
   known_of vid chain disk entry None = tt
   known_of vid chain disk entry (Some header) = granted_of vid chain disk entry header
 
@@ -298,7 +299,7 @@ module _ (me : NodeId) where
   change_keeps_own_entries so_far next (changes.Denies session req asked lined request comes short untouched there is_own) own =
       request_refused_own req (Halt (changes.zones_of_members lined.node) (zones_for asked.work)) request (changes.without_denied_work session req asked lined) there
       (comes_own so_far session req asked lined comes own)
-  change_keeps_own_entries so_far next (changes.Strays req work gateway there none) own = own
+  change_keeps_own_entries so_far next (changes.Strays req work gateway there none apart) own = own
   change_keeps_own_entries so_far next (changes.Lines session req work moved steps waits) own = (steps_own so_far session req (ToWork work) moved steps own).0
   change_keeps_own_entries so_far next (changes.Appends session req entry moved steps) own =
       let m = steps_own so_far session req (ToEntry entry) moved steps own in

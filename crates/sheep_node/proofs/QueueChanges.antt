@@ -220,7 +220,7 @@ command_took session req step so_far same queued =
       there = get-insert_same so_far.node.requests req request;
       queued = queued_session (tree.insert so_far.node.requests req request) so_far.node.sessions session
           (record (session_in session so_far) {
-            disk = disk_after (disk_change step.op) (session_in session so_far).disk;
+            disk = disk_after (disk_change step) (session_in session so_far).disk;
             command = Some req;
           }) refl
           (queued_course so_far.node.requests so_far.node.sessions req request same queued);
@@ -341,7 +341,7 @@ change_keeps_queues so_far next (changes.Denies session req asked lined request 
     request_refused_queued req (Halt (changes.zones_of_members lined.node) (zones_for asked.work)) request (changes.without_denied_work session req asked lined) there
     (queued_session lined.node.requests lined.node.sessions session (record (session_in session lined) { inode_queue = queue_after_end (session_in session lined).inode_queue asked.work }) refl
     (comes_queued so_far session req asked lined comes sound queued))
-change_keeps_queues so_far next (changes.Strays req work gateway there none) sound queued = queued
+change_keeps_queues so_far next (changes.Strays req work gateway there none apart) sound queued = queued
 change_keeps_queues so_far next (changes.Lines session req work moved steps waits) sound queued =
     queued_session moved.node.requests moved.node.sessions session
     (record (session_in session moved) { inode_queue = lines.queue_with_waiting (session_in session moved).inode_queue req work }) refl

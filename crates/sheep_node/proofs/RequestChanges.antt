@@ -122,7 +122,7 @@ module _ (P : ℕ → Type 0) where
     change_keeps_requests so_far next (changes.Holds session req tried lined comes short touched) all = comes_are so_far session req tried lined comes all
     change_keeps_requests so_far next (changes.Denies session req tried lined request comes short untouched there own) all =
         request_refused_are req (Halt (changes.zones_of_members lined.node) (zones_for tried.work)) request (changes.without_denied_work session req tried lined) (comes_are so_far session req tried lined comes all)
-    change_keeps_requests so_far next (changes.Strays req work gateway there none) all = all
+    change_keeps_requests so_far next (changes.Strays req work gateway there none apart) all = all
     change_keeps_requests so_far next (changes.Lines session req work moved steps waits) all = steps_are so_far session req (ToWork work) moved steps all
     change_keeps_requests so_far next (changes.Appends session req entry moved steps) all = steps_are so_far session req (ToEntry entry) moved steps all
     change_keeps_requests so_far next (changes.Replies session req reply moved steps) all =

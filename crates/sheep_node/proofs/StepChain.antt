@@ -1,12 +1,13 @@
 -- The step of a node is a chain of changes.
-use Rattle.std.proofs.Common.{◌≡◌, ℕ, not, Bool, true, false, cond, List, [], ◌∷◌, fold, Option, Some, None, is_some, is_none, refl, sym, ap, subst, ◌∙◌, ⊎_elim}
+use Rattle.std.proofs.Common.{◌≡◌, ℕ, ◌+◌, not, Bool, true, false, cond, List, [], ◌∷◌, fold, Option, Some, None, is_some, is_none, refl, sym, ap, subst, ◌∙◌, ⊎_elim}
 use Rattle.std.specs.Prelude.{IsTrue}
 use Rattle.std.specs.Ordering.{nat_cmp}
 use Rattle.std.specs.List.{list_any}
 use Rattle.std.specs.FinMap as tree
+use Rattle.std.specs.FinSet.{FinSet}
 use Rattle.std.proofs.lemmas.Bool.{or_cases}
 use Rattle.proof_tools.proofs.Lists.{find-contains}
-use Rattle.proof_tools.proofs.FiniteMaps.{get-entry, get-insert_same}
+use Rattle.proof_tools.proofs.FiniteMaps.{get-entry, get-insert_other, get-insert_same, get-remove_other}
 use Rattle.object_id.specs.declared.cause.Cause.{Cause}
 use Rattle.object_id.specs.declared.cause.Cause.TheVariants.{Halt}
 use Rattle.object_id.specs.declared.node.Epoch.{Epoch}
@@ -273,22 +274,31 @@ module _ (input : Input) (node : Node) (first : StepState) where
 
     -- a work whose request isn't there goes on in the gateway alone
     module _ (req : ℕ) (work : Work) (there : tree.get so_far.node.gateway.works req ≡ Some work) (none : tree.get so_far.node.requests req ≡ None) where
-      stray_walk : (gateway : Gateway) → IsReached input node first (with_gateway gateway so_far)
-      stray_walk gateway = reached_by walk (changes.Strays req work gateway there none)
+      module _ (touched : FinSet nat_cmp) where
+        abbrev gateway : Gateway
+        gateway = record so_far.node.gateway { touched = touched }
 
-      stray_done_walk : (gateway : Gateway) (bytes : List ℕ) → Settled (done_step gateway req work.work bytes)
-      stray_done_walk gateway bytes =
-          subst (λ (o : Option Request). IsReached input node first (work_done work.work req bytes o (with_gateway (without_work req gateway) so_far)))
-          (sym none) (stray_walk (without_work req gateway))
+        gone_walk : IsReached input node first (with_gateway (without_work req gateway) so_far)
+        gone_walk =
+            reached_by walk (changes.Strays req work (without_work req gateway) there none
+            (record { own = refl; others = λ other apart. get-remove_other so_far.node.gateway.works req other apart }))
 
-      stray_refused_walk : (gateway : Gateway) (cause : Cause) → Settled (refusal_step gateway req work.work cause)
-      stray_refused_walk gateway cause =
-          subst (λ (o : Option Request). IsReached input node first (work_refused work.work req cause o (with_gateway (without_work req gateway) so_far)))
-          (sym none) (stray_walk (without_work req gateway))
+        stray_done_walk : (bytes : List ℕ) → Settled (done_step gateway req work.work bytes)
+        stray_done_walk bytes =
+            subst (λ (o : Option Request). IsReached input node first (work_done work.work req bytes o (with_gateway (without_work req gateway) so_far)))
+            (sym none) gone_walk
 
-      stray_failure_walk : (gateway : Gateway) (cause : Option Cause) → Settled (failure_step gateway req work cause)
-      stray_failure_walk gateway None = stray_walk (failure_step gateway req work None).gateway
-      stray_failure_walk gateway (Some cause) = stray_refused_walk gateway cause
+        stray_refused_walk : (cause : Cause) → Settled (refusal_step gateway req work.work cause)
+        stray_refused_walk cause =
+            subst (λ (o : Option Request). IsReached input node first (work_refused work.work req cause o (with_gateway (without_work req gateway) so_far)))
+            (sym none) gone_walk
+
+        stray_failure_walk : (cause : Option Cause) → Settled (failure_step gateway req work cause)
+        stray_failure_walk None =
+            let later : Work = record work { ended = work.ended + 1; stage = Ended } in
+            reached_by walk (changes.Strays req work (with_work req later gateway) there none
+            (record { own = refl; others = λ other apart. get-insert_other so_far.node.gateway.works req later other apart }))
+        stray_failure_walk (Some cause) = stray_refused_walk cause
 
     module _ (number : ℕ) (status : Status) (settled : IsSoundStep input node → is_unanswered status ≡ false) (told : IsTold input number status) (req : ℕ) (work : Work)
         (there : tree.get so_far.node.gateway.works req ≡ Some work) (awaited : is_awaited_in number work ≡ true) where
@@ -313,9 +323,9 @@ module _ (input : Input) (node : Node) (first : StepState) where
             → Settled (cond b (done_step (gateway_with_touch req work status so_far) req work.work (bytes_given work.work (messages_with_status number status attempt.messages)))
             (failure_step (gateway_with_touch req work status so_far) req work (refusal_after_status req number work attempt status so_far)))
         over_walk over None none true is =
-            stray_done_walk req work there none (gateway_with_touch req work status so_far) (bytes_given work.work (messages_with_status number status attempt.messages))
+            stray_done_walk req work there none (gateway_with_touch req work status so_far).touched (bytes_given work.work (messages_with_status number status attempt.messages))
         over_walk over None none false never =
-            stray_failure_walk req work there none (gateway_with_touch req work status so_far) (refusal_after_status req number work attempt status so_far)
+            stray_failure_walk req work there none (gateway_with_touch req work status so_far).touched (refusal_after_status req number work attempt status so_far)
         over_walk over (Some request) got true is =
             done_walk so_far request.session req number work attempt status request.course (ends over request got) walk is
         over_walk over (Some request) got false never =
@@ -393,7 +403,7 @@ module _ (input : Input) (node : Node) (first : StepState) where
             → Settled (attempt_step so_far.node.epochs so_far.node.gateway req asked so_far.node.sends (record { 0 = so_far.node.peer.epoch }))
         by_request req asked next there None none =
             tried_walk 0 req asked (AgainAlone asked from next there none)
-            (λ short untouched. stray_refused_walk req asked there none so_far.node.gateway (Halt (zones_of_members so_far.node) (zones_for asked.work)))
+            (λ short untouched. stray_refused_walk req asked there none so_far.node.gateway.touched (Halt (zones_of_members so_far.node) (zones_for asked.work)))
         by_request req asked next there (Some request) got =
             let again = Again asked request.course from next there got in
             tried_walk request.session req asked again (denied_walk req asked request again got)

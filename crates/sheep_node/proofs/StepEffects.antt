@@ -168,7 +168,7 @@ module _ (first : ℕ) (was_recovered : Bool) (old : Untouched) where
   change_keeps_order so_far next (changes.Denies session req asked lined request comes short untouched there own) s =
       request_refused_in_order req (Halt (zones_of_members lined.node) (zones_for asked.work)) request (without_denied_work session req asked lined)
       (next_in_order so_far session req asked lined comes s)
-  change_keeps_order so_far next (changes.Strays req work gateway there none) s = s
+  change_keeps_order so_far next (changes.Strays req work gateway there none apart) s = s
   change_keeps_order so_far next (changes.Lines session req work moved steps waits) s = steps_in_order so_far session req (ToWork work) moved steps s
   change_keeps_order so_far next (changes.Appends session req entry moved steps) s = steps_in_order so_far session req (ToEntry entry) moved steps s
   change_keeps_order so_far next (changes.Replies session req reply moved steps) s =

@@ -24,16 +24,20 @@ use Rattle.sheep_node.specs.Step.{on_request, on_put, on_input, is_due, with_rec
 use Rattle.sheep_node.specs.StepFacts.{only_reply}
 
 -- a step at whose end nothing is due
-not_due : (so_far : StepState) → is_due so_far.node ≡ false → recovered_put so_far ≡ so_far
+pub not_due : (so_far : StepState) → is_due so_far.node ≡ false → recovered_put so_far ≡ so_far
 unfolding recovered_put
 not_due so_far none = ap (λ (b : Bool). cond b (with_recovered so_far) so_far) none
 
+-- the node as it was, and the refusal
+abbrev pub refused_as : PeerReq → Node → Refusal → StepState
+refused_as request node refusal = record {
+  node = node;
+  outputs = only_reply (record { number = request.number; epoch = record { 0 = node.peer.epoch }; say = Refused refusal });
+}
+
 -- a request that the fence refuses
 fenced_step : (request : PeerReq) (node : Node) (refusal : Refusal) → epoch_refusal node.peer.epoch request.epoch.0 ≡ Some refusal
-    → on_request request (at_first node) ≡ record {
-      node = node;
-      outputs = only_reply (record { number = request.number; epoch = record { 0 = node.peer.epoch }; say = Refused refusal });
-    }
+    → on_request request (at_first node) ≡ refused_as request node refusal
 unfolding on_request peer_step
 fenced_step request node refusal e =
     ap (λ (why : Option Refusal). record {
@@ -46,18 +50,9 @@ fenced_step request node refusal e =
     }) e
 
 refused_step : (request : PeerReq) (node : Node) (refusal : Refusal) → epoch_refusal node.peer.epoch request.epoch.0 ≡ Some refusal
-    → is_due node ≡ false
-    → node_step (inputs.Request request) node ≡ record {
-      node = node;
-      outputs = only_reply (record { number = request.number; epoch = record { 0 = node.peer.epoch }; say = Refused refusal });
-    }
+    → node_step (inputs.Request request) node ≡ recovered_put (refused_as request node refusal)
 unfolding node_step on_input
-refused_step request node refusal e none =
-    ap recovered_put (fenced_step request node refusal e)
-    ∙ not_due (record {
-      node = node;
-      outputs = only_reply (record { number = request.number; epoch = record { 0 = node.peer.epoch }; say = Refused refusal });
-    }) none
+refused_step request node refusal e = ap recovered_put (fenced_step request node refusal e)
 
 older_refusal : (own requested : ℕ) → requested < own → epoch_refusal own requested ≡ Some (OldEpoch (record { 0 = own }))
 older_refusal own requested below =
@@ -71,29 +66,25 @@ newer_refusal own requested above =
     ap (λ (b : Bool). cond b (Some (OldEpoch (record { 0 = own }))) (cond (nat_lt own requested) (Some (NewEpoch (record { 0 = own }))) None)) not_below
     ∙ ap (λ (b : Bool). cond b (Some (NewEpoch (record { 0 = own }))) None) (lt-ltb own requested above)
 
+pub older_answer : (request : PeerReq) (node : Node) → request.epoch.0 < node.peer.epoch
+    → node_step (inputs.Request request) node ≡ recovered_put (refused_as request node (OldEpoch (record { 0 = node.peer.epoch })))
+older_answer request node below =
+    refused_step request node (OldEpoch (record { 0 = node.peer.epoch })) (older_refusal node.peer.epoch request.epoch.0 below)
+
+pub newer_answer : (request : PeerReq) (node : Node) → node.peer.epoch < request.epoch.0
+    → node_step (inputs.Request request) node ≡ recovered_put (refused_as request node (NewEpoch (record { 0 = node.peer.epoch })))
+newer_answer request node above =
+    refused_step request node (NewEpoch (record { 0 = node.peer.epoch })) (newer_refusal node.peer.epoch request.epoch.0 above)
+
 pub older_step : (request : PeerReq) (node : Node) → request.epoch.0 < node.peer.epoch → is_due node ≡ false
-    → node_step (inputs.Request request) node ≡ record {
-      node = node;
-      outputs = only_reply (record {
-        number = request.number;
-        epoch = record { 0 = node.peer.epoch };
-        say = Refused (OldEpoch (record { 0 = node.peer.epoch }));
-      });
-    }
+    → node_step (inputs.Request request) node ≡ refused_as request node (OldEpoch (record { 0 = node.peer.epoch }))
 older_step request node below none =
-    refused_step request node (OldEpoch (record { 0 = node.peer.epoch })) (older_refusal node.peer.epoch request.epoch.0 below) none
+    older_answer request node below ∙ not_due (refused_as request node (OldEpoch (record { 0 = node.peer.epoch }))) none
 
 pub newer_step : (request : PeerReq) (node : Node) → node.peer.epoch < request.epoch.0 → is_due node ≡ false
-    → node_step (inputs.Request request) node ≡ record {
-      node = node;
-      outputs = only_reply (record {
-        number = request.number;
-        epoch = record { 0 = node.peer.epoch };
-        say = Refused (NewEpoch (record { 0 = node.peer.epoch }));
-      });
-    }
+    → node_step (inputs.Request request) node ≡ refused_as request node (NewEpoch (record { 0 = node.peer.epoch }))
 newer_step request node above none =
-    refused_step request node (NewEpoch (record { 0 = node.peer.epoch })) (newer_refusal node.peer.epoch request.epoch.0 above) none
+    newer_answer request node above ∙ not_due (refused_as request node (NewEpoch (record { 0 = node.peer.epoch }))) none
 
 -- the entry that is put
 

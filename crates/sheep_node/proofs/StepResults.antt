@@ -1,7 +1,8 @@
 -- What a step gives, and what it leaves of what its node has read, as the input has it.
-use Rattle.std.proofs.Common.{◌≡◌, ℕ, ◌+◌, ◌&&◌, not, Bool, true, false, cond, List, [], ◌∷◌, length, None, refl, ap, ◌∙◌}
+use Rattle.std.proofs.Common.{◌≡◌, ℕ, ◌+◌, ◌&&◌, not, Bool, true, false, cond, List, [], ◌∷◌, length, slice_get, None, refl, ap, ◌∙◌}
 use Rattle.std.proofs.Math.Bool.{and-false}
 use Rattle.proof_tools.proofs.Booleans.{cond_either}
+use Rattle.object_id.specs.declared.node.NodeId.{NodeId}
 use Rattle.object_id.specs.declared.entry.Entry.{Entry}
 use Rattle.peer_service.specs.State.{Peer}
 use Rattle.gateway.specs.State as gateways
@@ -10,12 +11,12 @@ use Rattle.recovery.specs.State as recoveries
 use Rattle.recovery.specs.Steps as recovery_steps
 use Rattle.sheep_node.specs.declared.input.Input.{Input}
 use Rattle.sheep_node.specs.declared.input.Input.TheVariants as inputs
-use Rattle.sheep_node.specs.State.{Node}
+use Rattle.sheep_node.specs.State.{Node, initial_node}
 use Rattle.sheep_node.specs.RecoveryView.{recovery_state_of}
 use Rattle.sheep_node.specs.StepState.{StepState, at_first}
 use Rattle.sheep_node.specs.LogReading.{entry_read, on_back}
 use Rattle.sheep_node.specs.Step.{on_request, recovery_stepped, on_put, on_recover_tick, on_input, is_due, with_recovered, recovered_put, node_step}
-use Rattle.sheep_node.specs.StepFacts.{read_after, may_begin_recovery, said_on, first_entry_of, put_on, Ascend}
+use Rattle.sheep_node.specs.StepFacts.{read_after, may_begin_recovery, said_on, put_on, Ascend}
 use Rattle.sheep_node.specs.Changes.{input_received}
 use Rattle.sheep_node.proofs.PeerLog.{Log, served_same, entries_reading, entries_back}
 use Rattle.sheep_node.proofs.StepEffects.{Untouched, step_in_order}
@@ -96,7 +97,7 @@ puts_received (inputs.Lost number) node =
 puts_received (inputs.LogEntry entry) node = refl
 puts_received inputs.Put node = by_outbox node.outbox
   where
-    by_outbox : (outbox : List Entry) → (on_put outbox (at_first node)).outputs.put ≡ first_entry_of outbox
+    by_outbox : (outbox : List Entry) → (on_put outbox (at_first node)).outputs.put ≡ slice_get outbox 0
     by_outbox [] = refl
     by_outbox (entry ∷ later) = refl
 puts_received inputs.RecoverTick node = refl
@@ -196,6 +197,10 @@ module _ (input : Input) (node : Node) where
       (step_in_order input node).recovered_stays (recovered_received input node quiet ∙ done)
 
 -- ---- `Recovered`
+
+-- a node opens with none due
+pub none_due_at_opening : (me : NodeId) (tries : ℕ) → is_due (initial_node me tries) ≡ false
+none_due_at_opening me tries = and-false (recoveries.is_finished (recovery_state_of (initial_node me tries)))
 
 put_at_end : (so_far : StepState) (b : Bool) → is_due so_far.node ≡ b → is_due (cond b (with_recovered so_far) so_far).node ≡ false
 put_at_end so_far true due = and-false (recoveries.is_finished (recovery_state_of so_far.node))

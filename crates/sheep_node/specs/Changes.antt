@@ -1,6 +1,6 @@
 -- A node's step by elementary changes: each is one effect on the node and the outputs, with what is known where it happens. Every
 -- step is a chain of these, so what each of them keeps every step keeps.
-use Rattle.std.specs.Prelude.{◌≡◌, ℕ, ◌+◌, nat_lt, Bool, true, false, ◌++◌, List, [], ◌∷◌, map, Option, Some, None, if◌then◌else◌}
+use Rattle.std.specs.Prelude.{◌≡◌, ◌≢◌, ℕ, ◌+◌, nat_lt, Bool, true, false, ◌++◌, List, [], ◌∷◌, map, Option, Some, None, if◌then◌else◌}
 use Rattle.std.specs.FinMap as tree
 use Rattle.object_id.specs.declared.cause.Cause.{Cause}
 use Rattle.object_id.specs.declared.cause.Cause.TheVariants.{Halt}
@@ -163,6 +163,11 @@ IsOfSession session (Some request) = request.session ≡ session
 abbrev pub IsSoundStep : Input → Node → Type 0
 IsSoundStep input node = May input node × HasOneWorkPerRequest node
 
+-- a gateway is as it was, but for the work of one request and for what was touched
+pub record IsApart (req : ℕ) (old new : Gateway) : Type 0 where
+  pub own : new.me ≡ old.me
+  pub others : (other : ℕ) → other ≢ req → tree.get new.works other ≡ tree.get old.works other
+
 -- what happens as a node steps on an input, once that was received
 module _ (input : Input) (node : Node) where
   -- what a message of a request's open attempt has come to is learned
@@ -281,9 +286,11 @@ module _ (input : Input) (node : Node) where
         → tree.get lined.node.requests req ≡ request → (IsSoundStep input node → IsOfSession session request)
         → Change so_far (request_refused req (Halt (zones_of_members lined.node) (zones_for asked.work)) request
         (without_denied_work session req asked lined))
-    -- a work whose request isn't there goes on in the gateway alone; no node whose requests have one work each has such a work
+    -- a work whose request isn't there goes on in the gateway alone, apart from other works; no node whose requests have one work each
+    -- has such a work
     Strays : (req : ℕ) (work : Work) (gateway : Gateway) → tree.get so_far.node.gateway.works req ≡ Some work
-        → tree.get so_far.node.requests req ≡ None → Change so_far (with_gateway gateway so_far)
+        → tree.get so_far.node.requests req ≡ None → IsApart req so_far.node.gateway gateway
+        → Change so_far (with_gateway gateway so_far)
     -- a work waits in its session's line
     Lines : (session req : ℕ) (work : ObjWork) (moved : StepState) → RequestSteps so_far session req (ToWork work) moved
         → may_open_work (session_in session moved).inode_queue work ≡ false

@@ -64,7 +64,7 @@ abbrev pub after_command_step : ℕ → ℕ → ops.OpStep → StepState → Ste
 after_command_step number req step so_far = with_session
     number
     (record (session_in number so_far) {
-      disk = disk_after (disk_change step.op) (session_in number so_far).disk;
+      disk = disk_after (disk_change step) (session_in number so_far).disk;
       command = Some req;
     })
     (with_course number req (Commanding step.op) so_far)

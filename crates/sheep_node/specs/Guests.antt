@@ -1,6 +1,6 @@
 -- A guest's request comes: it is refused on the spot, or waits for its turn and begins.
 use Rattle.std.specs.Prelude.{ℕ, Bool, false, ◌∷◌, [], ◌++◌, Option, Some, None}
-use Rattle.std.specs.Option.{option_map}
+use Rattle.std.specs.Option.{option_map, option_map_or}
 use Rattle.object_id.specs.declared.cause.Cause.{Cause}
 use Rattle.peer_proto.specs.declared.guest.DiskAsk.{DiskAsk}
 use Rattle.peer_proto.specs.declared.guest.GuestRsp.TheVariants.{Refused}
@@ -22,8 +22,7 @@ use Rattle.sheep_node.specs.Waiting.{course_begun}
 
 -- whether a session's disk is deleted, by the entries that the node has read
 abbrev pub is_open_disk_deleted : Peer → Option Disk → Bool
-is_open_disk_deleted peer None = false
-is_open_disk_deleted peer (Some disk) = is_gone (state_of (effects_of peer) disk.inode.vid)
+is_open_disk_deleted peer disk = option_map_or (λ (disk : Disk). is_gone (state_of (effects_of peer) disk.inode.vid)) disk false
 
 -- what a session has open, as a command sees it
 abbrev pub seen_by_command : Option Disk → Option entries.OpenDisk

@@ -9,6 +9,7 @@ pub mod Guests
 pub mod LogReading
 pub mod Step
 pub mod May
+pub mod MayTests
 pub mod StepFacts
 pub mod RecoveryRange
 pub mod OneWork

@@ -1,5 +1,5 @@
 -- What a step leaves and gives, in few words.
-use Rattle.std.specs.Prelude.{◌≡◌, ℕ, ◌≤◌, Bool, true, false, List, [], ◌∷◌, ◌++◌, Option, Some, None}
+use Rattle.std.specs.Prelude.{◌≡◌, ℕ, ◌≤◌, Bool, true, false, List, [], ◌∷◌, ◌++◌, slice_get, Option, Some, None}
 use Rattle.object_id.specs.declared.entry.Entry.{Entry}
 use Rattle.epoch_log.specs.Epochs.{epoch_of, settled_of}
 use Rattle.vnode_table.specs.Epochs.{EpochMembers}
@@ -52,19 +52,14 @@ said_on inputs.RecoverTick node = None
 said_on inputs.RetryTick node = None
 said_on (inputs.Back entries) node = None
 
--- the first entry of an outbox
-abbrev pub first_entry_of : List Entry → Option Entry
-first_entry_of [] = None
-first_entry_of (entry ∷ later) = Some entry
-
--- what a step puts into the log: something only on Put
+-- what a step puts into the log: only on Put something, the outbox's first entry
 abbrev pub put_on : Input → Node → Option Entry
 put_on (inputs.Guest req session ask) node = None
 put_on (inputs.Request request) node = None
 put_on (inputs.Reply rsp) node = None
 put_on (inputs.Lost number) node = None
 put_on (inputs.LogEntry entry) node = None
-put_on inputs.Put node = first_entry_of node.outbox
+put_on inputs.Put node = slice_get node.outbox 0
 put_on inputs.RecoverTick node = None
 put_on inputs.RetryTick node = None
 put_on (inputs.Back entries) node = None

@@ -1,5 +1,5 @@
 //! Laws of a step, for the proofs of the layers above: each is the contract of a function that does nothing.
-ghost use Rattle.std.specs.Prelude.{◌≡◌, ◌⊎◌, ℕ, Bool, ◌+◌, ◌<◌, true, false, List, [], ◌∷◌, ◌++◌, length, Option, Some, None, IsTrue};
+ghost use Rattle.std.specs.Prelude.{◌≡◌, ◌↔◌, ◌⊎◌, ℕ, Bool, ◌+◌, ◌<◌, true, false, List, [], ◌∷◌, ◌++◌, length, Option, Some, None, IsTrue};
 ghost use Rattle.std.specs.FinMap.{contains_key};
 ghost use Rattle.object_id.specs.declared.cause.Cause.{Cause};
 ghost use Rattle.object_id.specs.declared.node.NodeId.{NodeId};
@@ -32,7 +32,8 @@ ghost use Rattle.sheep_node.specs.Changes.{input_received, Leads};
 ghost use Rattle.sheep_node.specs.AwaitedEntry.{waits_for_entry};
 ghost use Rattle.sheep_node.specs.RequestWorks.{work_begun, course_refused};
 ghost use Rattle.sheep_node.specs.Courses.{disk_after};
-ghost use Rattle.sheep_node.specs.May.{May};
+ghost use Rattle.sheep_node.specs.May.{IsGuestAsk, MayRead, MayComeBack, May};
+ghost use Rattle.sheep_node.specs.MayTests.{is_guest_ask, may_read, may_come_back, may};
 ghost use Rattle.sheep_node.specs.Step.{is_due, recovered_put, node_step};
 ghost use Rattle.sheep_node.specs.StepFacts.{read_after, may_begin_recovery, only_reply, said_on, put_on, Ascend, IsByTheLog};
 
@@ -65,37 +66,41 @@ pub fn outputs_are_as_the_input()
     ensures replies { (input : Input) (node : Node) → Ascend (node_step input node).outputs.replies }
 {}
 
-/// A request of another epoch is answered with the node's own, and changes nothing.
+/// A request of another epoch is answered with the node's own, and changes nothing. As in every step a `Recovered` that is due is put,
+/// and none is due once a step was made (`recovered_is_put_once`).
 pub fn other_epochs_are_refused()
-    ensures older { (request : PeerReq) (node : Node) → IsSoundNode node → request.epoch.0 < node.peer.epoch
-        → node_step (inputs.Request request) node ≡ record {
+    ensures older { (request : PeerReq) (node : Node) → request.epoch.0 < node.peer.epoch
+        → node_step (inputs.Request request) node ≡ recovered_put (record {
           node = node;
           outputs = only_reply (record {
             number = request.number;
             epoch = record { 0 = node.peer.epoch };
             say = Refused (OldEpoch (record { 0 = node.peer.epoch }));
           });
-        } }
-    ensures newer { (request : PeerReq) (node : Node) → IsSoundNode node → node.peer.epoch < request.epoch.0
-        → node_step (inputs.Request request) node ≡ record {
+        }) }
+    ensures newer { (request : PeerReq) (node : Node) → node.peer.epoch < request.epoch.0
+        → node_step (inputs.Request request) node ≡ recovered_put (record {
           node = node;
           outputs = only_reply (record {
             number = request.number;
             epoch = record { 0 = node.peer.epoch };
             say = Refused (NewEpoch (record { 0 = node.peer.epoch }));
           });
-        } }
+        }) }
 {}
 
 /// The entry that was put leaves the outbox, and nothing else changes.
 pub fn what_is_put_leaves_the_outbox()
-    ensures { (node : Node) (entry : Entry) (later : List Entry) → IsSoundNode node → node.outbox ≡ entry ∷ later
+    ensures { (node : Node) (entry : Entry) (later : List Entry) → node.outbox ≡ entry ∷ later → is_due node ≡ false
         → (node_step inputs.Put node).node ≡ record node { outbox = later } }
 {}
 
-/// At the end of a step no `Recovered` is due, and none is put twice: once put it stays so, until a recovery begins.
+/// A node opens with no `Recovered` due, and at the end of each step none is due; so a step begins with none due. What isn't due isn't
+/// put, and none is put twice: once put it stays so, until a recovery begins.
 pub fn recovered_is_put_once()
+    ensures opens { (me : NodeId) (tries : ℕ) → is_due (initial_node me tries) ≡ false }
     ensures due { (input : Input) (node : Node) → is_due (node_step input node).node ≡ false }
+    ensures rests { (so_far : StepState) → is_due so_far.node ≡ false → recovered_put so_far ≡ so_far }
     ensures once { (so_far : StepState) → so_far.node.recovered ≡ true → recovered_put so_far ≡ so_far }
     ensures stays { (input : Input) (node : Node) → may_begin_recovery input ≡ false → node.recovered ≡ true
         → (node_step input node).node.recovered ≡ true }
@@ -134,7 +139,7 @@ pub fn a_refused_work_gives_its_id_back()
 
 /// A guest's command begins with its entry in the outbox: a new disk with its reservation.
 pub fn a_create_begins_with_its_reservation()
-    ensures { (req session : ℕ) (name : List ℕ) (spec : VdiSpec) (node : Node) → IsSoundNode node
+    ensures { (req session : ℕ) (name : List ℕ) (spec : VdiSpec) (node : Node) → is_due node ≡ false
         → (node_step (inputs.Guest req session (Vdi (Create name spec))) node).node.outbox
         ≡ node.outbox ++ entries.Reserve node.me session name (Fresh spec) ∷ [] }
 {}
@@ -177,4 +182,13 @@ pub fn a_queue_has_the_disk_requests()
 pub fn requests_come_from_inputs()
     ensures { (input : Input) (node : Node) (req : ℕ) → contains_key (node_step input node).node.requests req ≡ true
         → (contains_key node.requests req ≡ true) ⊎ ((session : ℕ) × (ask : Ask) × (input ≡ inputs.Guest req session ask)) }
+{}
+
+/// Whether a node may step on an input can be tested, and so can the parts of it: what a guest may ask, which entry may be read next,
+/// and with which entries a lost node may come back.
+pub fn conditions_are_tests()
+    ensures may { (input : Input) (node : Node) → IsTrue (may input node) ↔ May input node }
+    ensures guest_ask { (ask : Ask) → IsTrue (is_guest_ask ask) ↔ IsGuestAsk ask }
+    ensures read { (entries : List Entry) (entry : Entry) → IsTrue (may_read entries entry) ↔ MayRead entries entry }
+    ensures come_back { (entries : List Entry) (node : Node) → IsTrue (may_come_back entries node) ↔ MayComeBack entries node }
 {}

@@ -2,16 +2,17 @@
 //!
 //! The crate stands on the parts of a node: `peer_service`, `recovery`, `gateway`, `guest_driver`, `vdi_ops` and
 //! `gateway_queue`. Here stand the inputs and outputs of a step and the events of the cluster as types, and as
-//! definitions what a node is (`specs/State.antt`), its step (`specs/Step.antt`) and when it may step (`specs/May.antt`).
+//! definitions what a node is (`specs/State.antt`), its step (`specs/Step.antt`) and when it may step (`specs/May.antt`; the tests of
+//! that are in `specs/MayTests.antt`).
 //! The step is put together from a guest's request (`specs/Guests.antt`), the works of requests and how requests go on
 //! (`specs/RequestWorks.antt`, `specs/Courses.antt`), what waited (`specs/Waiting.antt`), and reading the log and coming
 //! back (`specs/LogReading.antt`).
 //!
-//! A step that a node may take is what its input changes by itself, and then a chain of elementary changes, each with one
-//! effect and with what is known where it happens (`specs/Changes.antt`). So what holds of a node and is kept by each of
-//! these holds from its opening on (`proofs/StepChain.antt`: `kept_by_chain`): each request has one work at most
-//! (`specs/OneWork.antt`), the entries that it puts are its own (`specs/OwnEntries.antt`), and a session's queue is its
-//! reads and writes (`specs/SessionQueues.antt`).
+//! A step is what its input changes by itself, and then a chain of elementary changes, each with one effect and with what
+//! is known where it happens (`specs/Changes.antt`). So what holds of a node and is kept by each of these holds from its
+//! opening on (`proofs/StepChain.antt`: `kept_by_chain`): each request has one work at most (`specs/OneWork.antt`), the
+//! entries that it puts are its own (`specs/OwnEntries.antt`), and a session's queue is its reads and writes
+//! (`specs/SessionQueues.antt`).
 //!
 //! The laws of `laws.rt` say this, and what holds of every step: its sends are numbered upwards, so no two of a node are
 //! numbered alike; what it has read comes from the log alone, and its epochs and their members are those of what it has
@@ -35,10 +36,10 @@ pub use laws::{
     a_create_begins_with_its_reservation, a_decision_is_on_the_entry_wanted,
     a_node_is_where_its_entries_have_it, a_node_puts_its_own_entries, a_node_stays_one,
     a_queue_has_the_disk_requests, a_refused_work_gives_its_id_back, a_request_has_one_work,
-    a_step_is_a_chain_of_changes, a_touched_work_is_not_refused, only_the_log_is_read,
-    other_epochs_are_refused, outputs_are_as_the_input, recovered_is_put_once,
-    requests_come_from_inputs, sends_are_numbered, what_a_command_leaves_open,
-    what_is_put_leaves_the_outbox,
+    a_step_is_a_chain_of_changes, a_touched_work_is_not_refused, conditions_are_tests,
+    only_the_log_is_read, other_epochs_are_refused, outputs_are_as_the_input,
+    recovered_is_put_once, requests_come_from_inputs, sends_are_numbered,
+    what_a_command_leaves_open, what_is_put_leaves_the_outbox,
 };
 pub use limits::{REQUESTS_AT_ONCE, SENDS_MAX};
 pub use outputs::Outputs;

@@ -14,7 +14,7 @@ use Rattle.disk_history.specs.declared.event.HistEvent.{HistEvent}
 use Rattle.disk_history.specs.declared.event.HistEvent.TheVariants.{WriteStart, WriterLost}
 use Rattle.guest_driver.specs.declared.disk.Disk.{Disk}
 use Rattle.object_id.specs.declared.oid.Kind.TheVariants.{Block}
-use Rattle.strip_coding.specs.Part.{is_in_strips}
+use Rattle.gf256.specs.Part.{is_in_strips}
 use Rattle.proof_tools.proofs.Lists.{Contains-nil, Contains-head, Contains-cons, Contains-cons_cases, filter-contains}
 use Rattle.sheep_node.specs.declared.event.Event.{Event}
 use Rattle.sheep_node.specs.declared.event.Event.TheVariants as events

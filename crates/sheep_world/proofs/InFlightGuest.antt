@@ -67,7 +67,7 @@ command_stepped_good old number req step so_far awaited free good =
     let request : Request = record { session = number; course = Commanding step.op } in
     let course = with_course number req (Commanding step.op) so_far in
     let session = record (session_in number so_far) {
-      disk = disk_after (disk_change step.op) (session_in number so_far).disk;
+      disk = disk_after (disk_change step) (session_in number so_far).disk;
       command = Some req;
     } in
     command_acted_good old number req step.op step.act (after_command_step number req step so_far) awaited

@@ -4,7 +4,7 @@ use Rattle.std.specs.List.{range_with_len}
 use Rattle.std.specs.Option.{option_and_then, option_map_or}
 use Rattle.object_id.specs.declared.limits.TheConstants.{BLOCK_BYTES}
 use Rattle.object_id.specs.declared.oid.Kind.TheVariants.{Block}
-use Rattle.strip_coding.specs.Part.{is_in_strips}
+use Rattle.gf256.specs.Part.{is_in_strips}
 use Rattle.disk_history.specs.declared.event.HistEvent.{HistEvent}
 use Rattle.disk_history.specs.declared.event.HistEvent.TheVariants.{WriteStart, WriteDone, WriteRefused, WriterLost, Read}
 use Rattle.cluster_script.specs.declared.statement.Statement.{Statement}

@@ -13,12 +13,12 @@ use Rattle.gf256.specs.Strip.{lagrange, strip, row, block_through, IsBlock, AreS
 use Rattle.gf256.proofs.StripLaws.{strip_some, length-block_through, block_place, strip-block_through, block_through-strips}
 use Rattle.gf256.proofs.Points.{bytes_of_all, all_of_bytes}
 use Rattle.strip_coding.specs.Choice.{strip_at, distinct_places, chosen_places, HasStrips}
-use Rattle.strip_coding.proofs.Widths.{divides}
+use Rattle.gf256.proofs.Widths.{divides}
 use Rattle.strip_coding.proofs.ChosenLaws.{chosen_points, chosen_within}
 
 -- a strip at a place of the indexes lies within the strips
 
-within_strips : (place count width long : ℕ) → place < count → long ≡ count * width → (place + 1) * width ≤ long
+pub within_strips : (place count width long : ℕ) → place < count → long ≡ count * width → (place + 1) * width ≤ long
 within_strips place count width long h e =
     let fits : place * width + width ≤ count * width = row_fits place width count width h (le_refl width) in
     let product : (place + 1) * width ≡ place * width + width =

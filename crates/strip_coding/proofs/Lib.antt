@@ -1,4 +1,3 @@
-pub mod Widths
 pub mod RowLaws
 pub mod ChoiceLaws
 pub mod Sums
@@ -6,4 +5,4 @@ pub mod CodingLaws
 pub mod InterpolateLaws
 pub mod ChosenLaws
 pub mod DecodeLaws
-pub mod PartLaws
+pub mod BlockByBlock

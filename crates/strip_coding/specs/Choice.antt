@@ -1,7 +1,7 @@
 -- The strips that a block is decoded from: those of the first d distinct indexes.
-use Rattle.std.specs.Prelude.{◌≡◌, ℕ, ◌+◌, ◌*◌, ◌==◌, if◌then◌else◌, List, [], ◌∷◌, ◌++◌, take, drop, slice_index}
+use Rattle.std.specs.Prelude.{◌≡◌, ℕ, ◌+◌, ◌*◌, ◌==◌, if◌then◌else◌, List, [], ◌∷◌, ◌++◌, take, drop, map, slice_index}
 use Rattle.std.specs.List.{All, list_any}
-use Rattle.gf256.specs.Strip.{strip, strip_bytes}
+use Rattle.gf256.specs.Strip.{strip, strip_bytes, block_through}
 
 -- the strip at a place among strips that stand one after another
 abbrev pub strip_at : ℕ → List ℕ → ℕ → List ℕ
@@ -22,6 +22,11 @@ distinct_places indexes = places_after [] 0 indexes
 -- the places of the first d distinct indexes
 abbrev pub chosen_places : ℕ → List ℕ → List ℕ
 chosen_places d indexes = take d (distinct_places indexes)
+
+-- the block through the strips at the chosen places
+abbrev pub chosen_block : ℕ → List ℕ → List ℕ → List ℕ
+chosen_block d indexes strips =
+    block_through d (map (slice_index indexes) (chosen_places d indexes)) (map (strip_at d strips) (chosen_places d indexes))
 
 -- the block's strips at the chosen indexes are those given
 abbrev pub HasStrips : ℕ → List ℕ → List ℕ → List ℕ → Type 0

@@ -4,8 +4,8 @@ ghost use Rattle.std.specs.Prelude.{◌≡◌, ◌↔◌, ◌*◌, ◌+◌, ◌<
 ghost use Rattle.std.specs.List.{All};
 ghost use Rattle.object_id.specs.Policy.{is_width};
 ghost use Rattle.gf256.specs.Polynomial.{ArePoints};
-ghost use Rattle.gf256.specs.Strip.{strip, strip_bytes, IsBlock, lagrange};
-ghost use Rattle.strip_coding.specs.Choice.{distinct_places, HasStrips};
+ghost use Rattle.gf256.specs.Strip.{strip, strip_bytes, IsBlock, lagrange, block_through};
+ghost use Rattle.strip_coding.specs.Choice.{strip_at, distinct_places, chosen_block, HasStrips};
 
 use crate::choice::{MOST_DATA_STRIPS, choose};
 use crate::combine::combine;
@@ -17,6 +17,24 @@ use object_id::{BLOCK_BYTES, TARGETS_MAX};
 /// The places of the data strips in a block.
 const IN_ORDER: [usize; MOST_DATA_STRIPS] = [0, 1, 2, 3, 4, 5, 6, 7, 8, 9, 10, 11, 12, 13, 14, 15];
 
+/// Makes strip `index` of a block of `d` data strips.
+pub fn strip(d: u8, block: &[u8], index: u8, out: &mut [u8])
+    requires width { IsTrue (is_width d) }
+    requires block { length block.now ≡ BLOCK_BYTES }
+    requires index { index < TARGETS_MAX }
+    requires room { length out.old ≡ strip_bytes d }
+    ensures { out.new ≡ strip d block.now index }
+{
+    let d = d as usize;
+    let index = index as usize;
+    let width = out.len();
+    if index < d {
+        out.copy_from_slice(&block[index * width..index * width + width]);
+    } else {
+        combine(parity_row(d, index), &IN_ORDER[..d], block, out);
+    }
+}
+
 /// Makes strip `i` of a block of `d` data strips.
 pub fn encode_block(d: u8, block: &[u8; BLOCK_BYTES as usize], i: u8, out: &mut [u8])
     requires width { IsTrue (is_width d) }
@@ -24,14 +42,7 @@ pub fn encode_block(d: u8, block: &[u8; BLOCK_BYTES as usize], i: u8, out: &mut 
     requires room { length out.old ≡ strip_bytes d }
     ensures { out.new ≡ strip d block.now i }
 {
-    let d = d as usize;
-    let index = i as usize;
-    let width = out.len();
-    if index < d {
-        out.copy_from_slice(&block[index * width..index * width + width]);
-    } else {
-        combine(parity_row(d, index), &IN_ORDER[..d], block, out);
-    }
+    strip(d, block, i, out);
 }
 
 /// Where an index stands among the points.
@@ -63,6 +74,30 @@ fn restore(points: &[u8], places: &[usize], index: u8, strips: &[u8], out: &mut 
     }
 }
 
+/// Makes the block of `d` data strips that has the strips at some places, whose indexes are the points.
+pub fn block(d: usize, points: &[u8], places: &[usize], strips: &[u8], out: &mut [u8])
+    requires width { IsTrue (is_width d) }
+    requires differ { ArePoints points.now }
+    requires points { length points.now ≡ d }
+    requires places { length places.now ≡ d }
+    requires most { d ≤ MOST_DATA_STRIPS }
+    requires within { All (λ place. (place + 1) * strip_bytes d ≤ length strips.now) places.now }
+    requires room { length out.old ≡ BLOCK_BYTES }
+    ensures { out.new ≡ block_through d points.now (map (strip_at d strips.now) places.now) }
+{
+    let width = BLOCK_BYTES as usize / d;
+    for k in 0..d {
+        let start = k * width;
+        restore(
+            points,
+            places,
+            k as u8,
+            strips,
+            &mut out[start..start + width],
+        );
+    }
+}
+
 /// Decodes the block that has the given strips, one strip for each index in their order, at the first `d`
 /// distinct indexes. Refused, with `out` as it was, where there are fewer.
 pub fn decode_block(
@@ -75,6 +110,7 @@ pub fn decode_block(
     requires indexes { All (λ index. index < TARGETS_MAX) indexes.now }
     requires strips { length strips.now ≡ length indexes.now * strip_bytes d }
     ensures few { IsErr result ↔ (length (distinct_places indexes.now) < d) }
+    ensures block { OnOk result (out.new ≡ chosen_block d indexes.now strips.now) }
     ensures strips { OnOk result (HasStrips d indexes.now strips.now out.new) }
     // no other block has these strips
     ensures only { OnOk result ((block : List ℕ) → IsBlock block →
@@ -83,24 +119,20 @@ pub fn decode_block(
 {
     let count = d as usize;
     let choice = choose(count, indexes)?;
-    let width = BLOCK_BYTES as usize / count;
-    for k in 0..count {
-        let start = k * width;
-        restore(
-            &choice.points[..count],
-            &choice.places[..count],
-            k as u8,
-            strips,
-            &mut out[start..start + width],
-        );
-    }
+    block(
+        count,
+        &choice.points[..count],
+        &choice.places[..count],
+        strips,
+        out,
+    );
     Ok(())
 }
 
 #[cfg(test)]
 mod tests {
     use super::*;
-    use crate::laws::{choice_laws, enough_parts, part_laws};
+    use crate::laws::choice_laws;
     use object_id::fnv1a;
 
     /// Bytes without a pattern that coding could keep.
@@ -372,8 +404,6 @@ mod tests {
         let mut decoded = [0; 512];
         assert_eq!(rt; decode_block(16, &indexes, &strips, &mut decoded), Ok(()));
         assert_eq!(rt; decoded, block);
-        part_laws();
-        enough_parts();
         choice_laws();
     }
 }

@@ -3,8 +3,10 @@
 //! A block of d data strips, 2, 4, 8 or 16, has a strip for each index from 0 to 30: the first d are
 //! the block's own bytes in order, and each byte column of the strips is the values of one polynomial
 //! of degree below d at the points that the indexes are. [`encode_block`] makes the strip of an index;
-//! [`decode_block`] gives the one block that has given strips at d different indexes.
-//! The crate stands on `gf256`, where strips are defined, and on `object_id` for policies. It takes no
+//! [`decode_block`] gives the one block that has given strips at d different indexes. The part of an object
+//! under an index has the index's strip of each block, or all bytes of what is kept in whole copies: [`part`]
+//! makes it, and [`bytes_of_parts`] makes the bytes of as many parts as a read needs.
+//! The crate stands on `gf256`, where strips and parts are defined, and on `object_id` for policies. It takes no
 //! memory.
 #![tactic(auto)]
 
@@ -13,8 +15,10 @@ mod coding;
 mod combine;
 mod interpolate;
 mod laws;
+mod parts;
 mod rows;
 
 pub use coding::{decode_block, encode_block};
 pub use gf256::TooFewStrips;
-pub use laws::{choice_laws, enough_parts, part_laws};
+pub use laws::choice_laws;
+pub use parts::{bytes_of_parts, part, part_size};

@@ -543,13 +543,19 @@ fn walks_chains_and_tells_what_dies(rt: HostRuntime) -> Result<(), Fail> {
         return Ok(assert!(rt; false, "not a log"));
     };
     let chain = directory.chain(Vid(0x01_ec8e))?;
-    assert_eq!(rt; chain.as_slice(), [Vid(0x01_ec8d), Vid(0x01_ec8c)].as_slice());
+    assert_eq!(rt;
+        chain.as_slice(),
+        [Vid(0x01_ec8d), Vid(0x01_ec8c)].as_slice()
+    );
     assert_eq!(rt; directory.parent(Vid(0x01_ec8c)), None);
     assert!(rt; directory.is_gone(Vid(0x01_ec8c)) && !directory.dead(Vid(0x01_ec8c)));
     assert!(rt; !directory.is_gone(Vid(0x01_ec8d)) && !directory.is_gone(Vid(0x01_ec8f)));
     let last = entry_of(alloc, b"D01a:u")?;
     let dead = directory.dead_by(&last, &locks)?;
-    assert_eq!(rt; dead.as_slice(), [Vid(0x01_ec8d), Vid(0x01_ec8c)].as_slice());
+    assert_eq!(rt;
+        dead.as_slice(),
+        [Vid(0x01_ec8d), Vid(0x01_ec8c)].as_slice()
+    );
     Ok(())
 }
 

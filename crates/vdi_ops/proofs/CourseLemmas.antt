@@ -1,5 +1,6 @@
 -- How each command goes, from its first entry to its reply.
-use Rattle.std.proofs.Common.{◌≡◌, ℕ, List, [], ◌∷◌, Option, Some, None, refl, sym, subst}
+use Rattle.std.proofs.Common.{◌≡◌, ℕ, List, [], ◌∷◌, Option, Some, None, refl, sym, subst, option_map}
+use Rattle.std.specs.Option.{option_and_then}
 use Rattle.object_id.specs.declared.oid.Vid.{Vid}
 use Rattle.object_id.specs.declared.node.NodeId.{NodeId}
 use Rattle.object_id.specs.declared.cause.Cause.{Cause}
@@ -22,7 +23,7 @@ use Rattle.vdi_directory.specs.Chains.{chain_of}
 use Rattle.vdi_ops.specs.Tables.{table_in, holes, inode_by}
 use Rattle.vdi_ops.specs.InodeWorks.{read_inode, create_inode, write_back, write_tag}
 use Rattle.vdi_ops.specs.Op.{Asked, Op}
-use Rattle.vdi_ops.specs.Steps.{step_after_known_grant, copied_from, begun_with_entry, begin_command, on_decision, op_on_done}
+use Rattle.vdi_ops.specs.Steps.{first_step, copy_step, step_after_grant, begin_command, on_decision, op_on_done}
 use Rattle.vdi_ops.specs.Course.{Decided, Given, op_acts_from}
 
 -- what was asked, and waits for its decision
@@ -39,7 +40,7 @@ create_goes before by session name spec disk vid header last is = subst
     (λ (known : Option Header).
     Append (entries.Reserve by session name (Fresh spec))
     ∷ op_acts_from before disk
-    (step_after_known_grant (asked by session (entries.Reserve by session name (Fresh spec))) vid (chain_of before vid.0) disk (entries.Reserve by session name (Fresh spec)) known)
+    (option_and_then (step_after_grant (asked by session (entries.Reserve by session name (Fresh spec))) vid (chain_of before vid.0) disk (entries.Reserve by session name (Fresh spec))) known)
     (Given [] ∷ Decided last ∷ [])
     ≡ Append (entries.Reserve by session name (Fresh spec)) ∷ Work (create_inode (inode_by header vid.0 (holes header.spec)))
     ∷ Append (entries.Publish by vid) ∷ Reply Done ∷ [])
@@ -55,7 +56,7 @@ attach_goes before by session name disk vid header bytes is = subst
     (λ (known : Option Header).
     Append (entries.Lock by session name None)
     ∷ op_acts_from before disk
-    (step_after_known_grant (asked by session (entries.Lock by session name None)) vid (chain_of before vid.0) disk (entries.Lock by session name None) known)
+    (option_and_then (step_after_grant (asked by session (entries.Lock by session name None)) vid (chain_of before vid.0) disk (entries.Lock by session name None)) known)
     (Given bytes ∷ Given [] ∷ [])
     ≡ Append (entries.Lock by session name None) ∷ Work (read_inode vid.0 header.spec)
     ∷ Work (write_back (inode_by header vid.0 (table_in (vid.0 ∷ chain_of before vid.0) header.spec bytes)) bytes) ∷ Reply Done ∷ [])
@@ -70,7 +71,7 @@ attach_snapshot_goes before by session name tag disk vid header bytes is = subst
     (λ (known : Option Header).
     Append (entries.Lock by session name (Some tag))
     ∷ op_acts_from before disk
-    (step_after_known_grant (asked by session (entries.Lock by session name (Some tag))) vid (chain_of before vid.0) disk (entries.Lock by session name (Some tag)) known)
+    (option_and_then (step_after_grant (asked by session (entries.Lock by session name (Some tag))) vid (chain_of before vid.0) disk (entries.Lock by session name (Some tag))) known)
     (Given bytes ∷ [])
     ≡ Append (entries.Lock by session name (Some tag)) ∷ Work (read_inode vid.0 header.spec) ∷ Reply Done ∷ [])
     (sym is) refl
@@ -91,7 +92,7 @@ snapshot_goes before by session tag disk vid header last is = subst
     (λ (known : Option Header).
     Append (entries.Reserve by session disk.name (SnapshotOf tag))
     ∷ op_acts_from before (Some disk)
-    (step_after_known_grant (asked by session (entries.Reserve by session disk.name (SnapshotOf tag))) vid (chain_of before vid.0) (Some disk) (entries.Reserve by session disk.name (SnapshotOf tag)) known)
+    (option_and_then (step_after_grant (asked by session (entries.Reserve by session disk.name (SnapshotOf tag))) vid (chain_of before vid.0) (Some disk) (entries.Reserve by session disk.name (SnapshotOf tag))) known)
     (Given [] ∷ Given [] ∷ Decided last ∷ [])
     ≡ Append (entries.Reserve by session disk.name (SnapshotOf tag)) ∷ Work (write_tag disk tag)
     ∷ Work (create_inode (inode_by header vid.0 disk.table)) ∷ Append (entries.Snapshot by (record { 0 = disk.vid }) vid) ∷ Reply Done ∷ [])
@@ -108,14 +109,14 @@ clone_goes before by session base tag name disk vid parent header bytes last is 
     subst
     (λ (known : Option Header).
     Append (entries.Reserve by session name (CloneOf base tag))
-    ∷ op_acts_from before disk (step_after_known_grant op vid (chain_of before vid.0) disk (entries.Reserve by session name (CloneOf base tag)) known) (Given bytes ∷ Given [] ∷ Decided last ∷ [])
+    ∷ op_acts_from before disk (option_and_then (step_after_grant op vid (chain_of before vid.0) disk (entries.Reserve by session name (CloneOf base tag))) known) (Given bytes ∷ Given [] ∷ Decided last ∷ [])
     ≡ Append (entries.Reserve by session name (CloneOf base tag)) ∷ Work (read_inode parent.0 header.spec)
     ∷ Work (create_inode (inode_by header vid.0 (table_in (chain_of before vid.0) header.spec bytes))) ∷ Append (entries.Clone by vid) ∷ Reply Done ∷ [])
     (sym is)
     (subst
     (λ (origin : Option Vid).
     Append (entries.Reserve by session name (CloneOf base tag))
-    ∷ op_acts_from before disk (copied_from op vid (chain_of before vid.0) header origin) (Given bytes ∷ Given [] ∷ Decided last ∷ [])
+    ∷ op_acts_from before disk (option_map (copy_step op vid (chain_of before vid.0) header) origin) (Given bytes ∷ Given [] ∷ Decided last ∷ [])
     ≡ Append (entries.Reserve by session name (CloneOf base tag)) ∷ Work (read_inode parent.0 header.spec)
     ∷ Work (create_inode (inode_by header vid.0 (table_in (chain_of before vid.0) header.spec bytes))) ∷ Append (entries.Clone by vid) ∷ Reply Done ∷ [])
     (sym from) refl)
@@ -128,7 +129,7 @@ unfolding asked op_acts_from begin_command on_decision
 delete_goes before by session name tag disk vid header is = subst
     (λ (known : Option Header).
     Append (entries.Delete by session name tag)
-    ∷ op_acts_from before disk (step_after_known_grant (asked by session (entries.Delete by session name tag)) vid (chain_of before vid.0) disk (entries.Delete by session name tag) known) []
+    ∷ op_acts_from before disk (option_and_then (step_after_grant (asked by session (entries.Delete by session name tag)) vid (chain_of before vid.0) disk (entries.Delete by session name tag)) known) []
     ≡ Append (entries.Delete by session name tag) ∷ Reply Done ∷ [])
     (sym is) refl
 
@@ -138,5 +139,5 @@ pub refused_goes : (before : List Effect) (by : NodeId) (session : ℕ) (entry :
     → op_acts_from before disk (begin_command by session ask disk) (Decided (decisions.Refused cause) ∷ []) ≡ Append entry ∷ Reply (Refused cause) ∷ []
 unfolding op_acts_from begin_command on_decision
 refused_goes before by session entry ask disk cause is = subst
-    (λ (first : Option Entry). op_acts_from before disk (begun_with_entry by session first) (Decided (decisions.Refused cause) ∷ []) ≡ Append entry ∷ Reply (Refused cause) ∷ [])
+    (λ (first : Option Entry). op_acts_from before disk (option_map (first_step by session) first) (Decided (decisions.Refused cause) ∷ []) ≡ Append entry ∷ Reply (Refused cause) ∷ [])
     (sym is) refl

@@ -1,5 +1,6 @@
 -- The act of each step of a command is what it then waits for.
-use Rattle.std.proofs.Common.{◌≡◌, ℕ, true, false, List, Option, Some, None, refl, sym, is_some, IfSome}
+use Rattle.std.proofs.Common.{◌≡◌, ℕ, true, false, List, Option, Some, None, refl, sym, is_some, option_map, IfSome}
+use Rattle.std.specs.Option.{option_and_then}
 use Rattle.std.proofs.lemmas.Option.{same_Some}
 use Rattle.object_id.specs.declared.oid.Vid.{Vid}
 use Rattle.object_id.specs.declared.node.NodeId.{NodeId}
@@ -18,12 +19,12 @@ use Rattle.vdi_directory.specs.Effects.{header_of}
 use Rattle.vdi_ops.specs.Entries.{first_entry}
 use Rattle.vdi_directory.specs.Chains.{chain_of}
 use Rattle.vdi_ops.specs.Tables.{table_in, holes, inode_by}
-use Rattle.vdi_ops.specs.TaskWorks.{IsCreated}
+use Rattle.vdi_ops.specs.TaskWorks.{IsInodeCreated}
 use Rattle.vdi_ops.specs.InodeWorks.{read_inode, create_inode, write_back, write_tag}
 use Rattle.vdi_ops.specs.Op.{Task, Opening, WritingBack, Tagging, Copying, Making, OpStage, Asked, Working, Publishing, Answered, Op, op_stage_bytes, op_bytes_wanted, entry_wanted_at, entry_wanted, IsAwaitedByCommand}
-use Rattle.vdi_ops.specs.Steps.{begun_with_entry, begin_command, taken_over, copied_from, step_after_grant, step_after_known_grant, step_after_decision, decided_at, on_decision, task_done, done_at, op_on_done, refused_at, on_refusal}
+use Rattle.vdi_ops.specs.Steps.{first_step, begin_command, tag_step, copy_step, step_after_grant, step_after_decision, decided_at, on_decision, task_done, done_at, op_on_done, refused_at, on_refusal}
 
-begun_awaited : (by : NodeId) (session : ℕ) (entry : Option Entry) → IfSome (begun_with_entry by session entry) IsAwaitedByCommand
+begun_awaited : (by : NodeId) (session : ℕ) (entry : Option Entry) → IfSome (option_map (first_step by session) entry) IsAwaitedByCommand
 begun_awaited by session None = tt
 begun_awaited by session (Some entry) = refl
 
@@ -32,19 +33,19 @@ unfolding begin_command
 begin_awaited by session ask disk = begun_awaited by session (first_entry by session disk ask)
 
 taken_awaited : (op : Op) (vid : Vid) (tag : List ℕ) (header : Header) (disk : Option Content)
-    → IfSome (taken_over op vid tag header disk) IsAwaitedByCommand
+    → IfSome (option_map (tag_step op vid tag header) disk) IsAwaitedByCommand
 taken_awaited op vid tag header None = tt
 taken_awaited op vid tag header (Some old) =
     (write_tag old tag, refl, record { inode = old; tag = tag; same = refl; table = refl; work_of = refl })
 
 copied_awaited : (op : Op) (vid : Vid) (chain : List ℕ) (header : Header) (parent : Option Vid) → header.parent ≡ parent
-    → IfSome (copied_from op vid chain header parent) IsAwaitedByCommand
+    → IfSome (option_map (copy_step op vid chain header) parent) IsAwaitedByCommand
 copied_awaited op vid chain header None is = tt
 copied_awaited op vid chain header (Some parent) is =
     (read_inode parent.0 header.spec, refl, record { vid = parent; there = is; work_of = refl })
 
 -- an inode that isn't the session's is created
-made_apart : (inode : Content) → IsCreated None (create_inode inode)
+made_apart : (inode : Content) → IsInodeCreated None (create_inode inode)
 made_apart inode = record { inode = inode; work_of = refl; same = λ content is. absurd (cc (is)) }
 
 granted_awaited : (op : Op) (vid : Vid) (chain : List ℕ) (disk : Option Content) (entry : Entry) (header : Header)
@@ -66,7 +67,7 @@ granted_awaited op vid chain disk (Clone by id) header = tt
 granted_awaited op vid chain disk (Snapshot by old id) header = tt
 
 known_awaited : (op : Op) (vid : Vid) (chain : List ℕ) (disk : Option Content) (entry : Entry) (header : Option Header)
-    → IfSome (step_after_known_grant op vid chain disk entry header) IsAwaitedByCommand
+    → IfSome (option_and_then (step_after_grant op vid chain disk entry) header) IsAwaitedByCommand
 known_awaited op vid chain disk entry None = tt
 known_awaited op vid chain disk entry (Some header) = granted_awaited op vid chain disk entry header
 

@@ -7,25 +7,20 @@ use Rattle.object_id.specs.declared.cause.Cause.TheVariants.{Readonly, VdiNotLoc
 use Rattle.object_id.specs.declared.entry.Origin.TheVariants.{Fresh, SnapshotOf, CloneOf}
 use Rattle.object_id.specs.declared.entry.Entry.{Entry}
 use Rattle.object_id.specs.declared.entry.Entry.TheVariants as entries
-use Rattle.object_id.specs.Spec.{IsSpec, IsName}
+use Rattle.object_id.specs.Spec.{IsSpec, IsName, IsTag}
 use Rattle.inode.specs.Layout.{Content}
 use Rattle.peer_proto.specs.declared.guest.VdiAsk.{VdiAsk}
 use Rattle.peer_proto.specs.declared.guest.VdiAsk.TheVariants.{Create, Attach, Close, Snapshot, Clone, Delete, Check}
 use Rattle.vdi_ops.specs.declared.limits.TheConstants.{CHECKED_BYTES_MAX}
 
--- a tag, where there is one, is as a name may be
-abbrev pub IsOptionalTag : Option (List ℕ) → Type 0
-IsOptionalTag None = Unit {0}
-IsOptionalTag (Some tag) = IsName tag
-
 -- what a command may ask: its names and tags are such, and a new disk may be made so
 abbrev pub IsVdiAsk : VdiAsk → Type 0
 IsVdiAsk (Create name spec) = IsName name × IsSpec spec
-IsVdiAsk (Attach name tag) = IsName name × IsOptionalTag tag
+IsVdiAsk (Attach name tag) = IsName name × IsTag tag
 IsVdiAsk Close = Unit {0}
 IsVdiAsk (Snapshot tag) = IsName tag
 IsVdiAsk (Clone base tag name) = IsName base × IsName tag × IsName name
-IsVdiAsk (Delete name tag) = IsName name × IsOptionalTag tag
+IsVdiAsk (Delete name tag) = IsName name × IsTag tag
 IsVdiAsk Check = Unit {0}
 
 -- the open disk decides at once: its inode, and whether it is a snapshot

@@ -1,6 +1,5 @@
 -- A command on disks: what it waits for, and what it has come to.
 use Rattle.std.specs.Prelude.{◌≡◌, ℕ, Bool, List, Option, Some, None}
-use Rattle.std.specs.Option.{option_map}
 use Rattle.object_id.specs.declared.oid.Vid.{Vid}
 use Rattle.object_id.specs.declared.node.NodeId.{NodeId}
 use Rattle.object_id.specs.declared.entry.Entry.{Entry}
@@ -11,7 +10,7 @@ use Rattle.vdi_directory.specs.declared.header.Header.{Header}
 use Rattle.vdi_ops.specs.declared.act.OpAct.{OpAct}
 use Rattle.vdi_ops.specs.declared.act.OpAct.TheVariants.{Append, Work, Reply}
 use Rattle.vdi_ops.specs.InodeWorks.{written_bytes, read_inode}
-use Rattle.vdi_ops.specs.TaskWorks.{IsWrittenBack, IsTagged, IsBaseRead, IsCreated}
+use Rattle.vdi_ops.specs.TaskWorks.{IsWrittenBack, IsTagWritten, IsBaseRead, IsInodeCreated}
 
 -- the work that a command waits for, on the way to what it was granted
 pub data Task : Type 0 where
@@ -64,9 +63,9 @@ disk_change_at (Working vid task) = Stays
 disk_change_at (Publishing entry opened) = Stays
 disk_change_at (Answered change) = change
 
--- what a command leaves of what its session has open
-abbrev pub disk_change : Op → DiskChange
-disk_change op = disk_change_at op.stage
+-- what a step of a command leaves of what its session has open
+abbrev pub disk_change : OpStep → DiskChange
+disk_change step = disk_change_at step.op.stage
 
 -- the entry that is waited for
 abbrev pub entry_wanted_at : OpStage → Option Entry
@@ -102,9 +101,9 @@ op_bytes_wanted op = op_stage_bytes op.stage
 abbrev pub IsWorkOfTask : Vid → Task → ObjWork → Type 0
 IsWorkOfTask vid (Opening snapshot ids header) work = work ≡ read_inode vid.0 header.spec
 IsWorkOfTask vid (WritingBack inode) work = IsWrittenBack inode work
-IsWorkOfTask vid (Tagging old inode) work = IsTagged old inode work
+IsWorkOfTask vid (Tagging old inode) work = IsTagWritten old inode work
 IsWorkOfTask vid (Copying ids header) work = IsBaseRead header.parent header work
-IsWorkOfTask vid (Making entry opened) work = IsCreated opened work
+IsWorkOfTask vid (Making entry opened) work = IsInodeCreated opened work
 
 -- the act is what is waited for: that entry was put, that work was begun, or else the reply was given
 abbrev pub IsAwaitedAtOpStage : OpAct → OpStage → Type 0
@@ -116,7 +115,3 @@ IsAwaitedAtOpStage act (Answered change) = (reply : GuestRsp) × (act ≡ Reply 
 -- a step's act is what the command then waits for
 abbrev pub IsAwaitedByCommand : OpStep → Type 0
 IsAwaitedByCommand step = IsAwaitedAtOpStage step.act step.op.stage
-
--- what the command of a step, if there is one, leaves of what its session has open
-abbrev pub change_of : Option OpStep → Option DiskChange
-change_of step = option_map (λ (step : OpStep). disk_change step.op) step

@@ -1,5 +1,6 @@
 -- The steps of a command, from the request to the reply, by entries and works.
-use Rattle.std.specs.Prelude.{ℕ, true, false, List, ◌∷◌, Option, Some, None, is_some}
+use Rattle.std.specs.Prelude.{ℕ, true, false, List, ◌∷◌, Option, Some, None, is_some, option_map}
+use Rattle.std.specs.Option.{option_map_or, option_and_then}
 use Rattle.object_id.specs.declared.oid.Vid.{Vid}
 use Rattle.object_id.specs.declared.node.NodeId.{NodeId}
 use Rattle.object_id.specs.declared.cause.Cause.{Cause}
@@ -37,27 +38,23 @@ works op vid task work = record { op = record op { stage = Working vid task }; a
 abbrev pub replies : Op → GuestRsp → DiskChange → OpStep
 replies op reply change = record { op = record op { stage = Answered change }; act = Reply reply }
 
--- a command begins with this entry
-abbrev pub begun_with_entry : NodeId → ℕ → Option Entry → Option OpStep
-begun_with_entry by session None = None
-begun_with_entry by session (Some entry) =
-    Some (record { op = record { by = by; session = session; stage = Asked entry }; act = Append entry })
+-- a command's first step: this entry is put, and the command waits for its decision
+abbrev pub first_step : NodeId → ℕ → Entry → OpStep
+first_step by session entry = record { op = record { by = by; session = session; stage = Asked entry }; act = Append entry }
 
 -- a command begins with its first entry; none where it is about the open disk, and there is none, and for a check, which has
 -- steps of its own
 unfoldable pub begin_command : NodeId → ℕ → VdiAsk → Option Content → Option OpStep
-begin_command by session ask disk = begun_with_entry by session (first_entry by session disk ask)
+begin_command by session ask disk = option_map (first_step by session) (first_entry by session disk ask)
 
--- the granted id of a snapshot takes the open disk's place, with its table
-abbrev pub taken_over : Op → Vid → List ℕ → Header → Option Content → Option OpStep
-taken_over op vid tag header None = None
-taken_over op vid tag header (Some old) =
-    Some (works op vid (Tagging (record { 0 = old.vid }) (inode_by header vid.0 old.table)) (write_tag old tag))
+-- a snapshot's tag is written to the open disk's inode; the granted id is to take its place, with its table
+abbrev pub tag_step : Op → Vid → List ℕ → Header → Content → OpStep
+tag_step op vid tag header old =
+    works op vid (Tagging (record { 0 = old.vid }) (inode_by header vid.0 old.table)) (write_tag old tag)
 
 -- a clone reads the inode of its parent
-abbrev pub copied_from : Op → Vid → List ℕ → Header → Option Vid → Option OpStep
-copied_from op vid chain header None = None
-copied_from op vid chain header (Some parent) = Some (works op vid (Copying chain header) (read_inode parent.0 header.spec))
+abbrev pub copy_step : Op → Vid → List ℕ → Header → Vid → OpStep
+copy_step op vid chain header parent = works op vid (Copying chain header) (read_inode parent.0 header.spec)
 
 -- what a command leaves open that is granted nothing: a close leaves none
 abbrev pub change_without_grant : Entry → DiskChange
@@ -72,37 +69,29 @@ step_after_grant op vid chain disk (entries.Reserve by session name (Fresh spec)
     vid
     (Making (entries.Publish op.by vid) None)
     (create_inode (inode_by header vid.0 (holes header.spec))))
-step_after_grant op vid chain disk (entries.Reserve by session name (SnapshotOf tag)) header = taken_over op vid tag header disk
+step_after_grant op vid chain disk (entries.Reserve by session name (SnapshotOf tag)) header = option_map (tag_step op vid tag header) disk
 step_after_grant op vid chain disk (entries.Reserve by session name (CloneOf base tag)) header =
-    copied_from op vid chain header header.parent
+    option_map (copy_step op vid chain header) header.parent
 step_after_grant op vid chain disk (entries.Lock by session name tag) header =
     Some (works op vid (Opening (is_some tag) (vid.0 ∷ chain) header) (read_inode vid.0 header.spec))
 step_after_grant op vid chain disk (entries.Unlock by session id) header = Some (replies op Done Closes)
 step_after_grant op vid chain disk (entries.Delete by session name tag) header = Some (replies op Done Stays)
 step_after_grant op vid chain disk _ header = None
 
--- what was granted is known to the directory
-abbrev pub step_after_known_grant : Op → Vid → List ℕ → Option Content → Entry → Option Header → Option OpStep
-step_after_known_grant op vid chain disk entry None = None
-step_after_known_grant op vid chain disk entry (Some header) = step_after_grant op vid chain disk entry header
-
--- a command's first entry is decided: it is refused, or goes on with what it was granted; an unlock grants nothing
+-- a command's first entry is decided: it is refused, or goes on with what it was granted, which the directory knows; an unlock
+-- grants nothing
 abbrev pub step_after_decision : List Effect → Option Content → Op → Entry → Decision → Option OpStep
 step_after_decision known disk op entry decisions.None = Some (replies op Done (change_without_grant entry))
 step_after_decision known disk op entry (decisions.Granted vid) =
-    step_after_known_grant op vid (chain_of known vid.0) disk entry (header_of known vid.0)
+    option_and_then (step_after_grant op vid (chain_of known vid.0) disk entry) (header_of known vid.0)
 step_after_decision known disk op entry (decisions.Refused cause) = Some (replies op (Refused cause) (change_without_grant entry))
 
--- an inode that a command opened is that of a disk
-abbrev pub change_by_opened : Option Content → DiskChange
-change_by_opened None = Stays
-change_by_opened (Some inode) = Opens false inode
-
--- an entry is decided, by what the command waits for: its last entry is only awaited
+-- an entry is decided, by what the command waits for: its last entry is only awaited, and an inode that is then open is that
+-- of a disk
 abbrev pub decided_at : List Effect → Option Content → Decision → Op → OpStage → Option OpStep
 decided_at known disk decision op (Asked entry) = step_after_decision known disk op entry decision
 decided_at known disk decision op (Working vid task) = None
-decided_at known disk decision op (Publishing entry opened) = Some (replies op Done (change_by_opened opened))
+decided_at known disk decision op (Publishing entry opened) = Some (replies op Done (option_map_or (Opens false) opened Stays))
 decided_at known disk decision op (Answered change) = None
 
 -- the node has read the entry that the command waits for, and the directory decided it. What the entries did is known, this

@@ -15,7 +15,7 @@ pub record IsWrittenBack (inode : Content) (work : ObjWork) : Type 0 where
   pub table : inode.table ≡ table_in ids inode.spec bytes
 
 -- a disk's inode gets a tag; the one that is to take its place has its table
-pub record IsTagged (old : Vid) (draft : Content) (work : ObjWork) : Type 0 where
+pub record IsTagWritten (old : Vid) (draft : Content) (work : ObjWork) : Type 0 where
   pub inode : Content
   pub tag : List ℕ
   pub same : inode.vid ≡ old.0
@@ -29,7 +29,7 @@ pub record IsBaseRead (parent : Option Vid) (header : Header) (work : ObjWork) :
   pub work_of : work ≡ read_inode vid.0 header.spec
 
 -- an inode is created: the one that the session then has open, if it has one by that
-pub record IsCreated (opened : Option Content) (work : ObjWork) : Type 0 where
+pub record IsInodeCreated (opened : Option Content) (work : ObjWork) : Type 0 where
   pub inode : Content
   pub work_of : work ≡ create_inode inode
   pub same : (content : Content) → opened ≡ Some content → content ≡ inode

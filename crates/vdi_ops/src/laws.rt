@@ -1,5 +1,5 @@
 //! Laws of the definitions, for the proofs of the layers above: each is the contract of a function that does nothing.
-ghost use Rattle.std.specs.Prelude.{◌≡◌, ◌⊎◌, ℕ, ◌+◌, ◌*◌, ◌^◌, ◌<◌, ◌≤◌, ◌==◌, true, false, List, [], ◌∷◌, length, map, All, Option, Some, None, IfSome, IsTrue, is_some};
+ghost use Rattle.std.specs.Prelude.{◌≡◌, ◌⊎◌, ℕ, ◌+◌, ◌*◌, ◌^◌, ◌<◌, ◌≤◌, ◌==◌, true, false, List, [], ◌∷◌, length, map, All, Option, Some, None, option_map, IfSome, IsTrue, is_some};
 ghost use Rattle.std.specs.List.{list_any};
 ghost use Rattle.object_id.specs.declared.oid.Vid.{Vid};
 ghost use Rattle.object_id.specs.declared.node.NodeId.{NodeId};
@@ -26,7 +26,7 @@ ghost use Rattle.vdi_directory.specs.Chains.{chain_of};
 ghost use Rattle.vdi_ops.specs.Tables.{kept_entry, table_in, holes, inode_by};
 ghost use Rattle.vdi_ops.specs.InodeWorks.{written_bytes, written_back, read_inode, create_inode, write_back, write_tag};
 ghost use Rattle.vdi_ops.specs.Op.{Op, Opening, WritingBack, Asked, Working, Publishing, Stays, Opens, Closes, entry_wanted, op_bytes_wanted};
-ghost use Rattle.vdi_ops.specs.Op.{IsAwaitedByCommand, change_of};
+ghost use Rattle.vdi_ops.specs.Op.{IsAwaitedByCommand, disk_change};
 ghost use Rattle.vdi_ops.specs.Steps.{begin_command, on_decision, op_on_done, on_refusal};
 ghost use Rattle.vdi_ops.specs.Course.{Decided, Given, op_acts_from};
 
@@ -105,18 +105,18 @@ pub fn checks_are_refused_so()
 /// made; an opening of a snapshot the one that it read; a close nothing. The others leave it as it was.
 pub fn what_becomes_of_the_open_disk()
     ensures attach { (bytes : List ℕ) (op : Op) (vid : Vid) (inode : Content) → op.stage ≡ Working vid (WritingBack inode)
-        → change_of (op_on_done bytes op) ≡ Some (Opens false inode) }
+        → option_map disk_change (op_on_done bytes op) ≡ Some (Opens false inode) }
     ensures attach_snapshot { (bytes : List ℕ) (op : Op) (vid : Vid) (ids : List ℕ) (header : TheHeader)
         → op.stage ≡ Working vid (Opening true ids header)
-        → change_of (op_on_done bytes op) ≡ Some (Opens true (inode_by header vid.0 (table_in ids header.spec bytes))) }
+        → option_map disk_change (op_on_done bytes op) ≡ Some (Opens true (inode_by header vid.0 (table_in ids header.spec bytes))) }
     ensures snapshot { (known : List Effect) (disk : Option Content) (decision : Decision) (op : Op) (entry : Entry) (inode : Content)
         → op.stage ≡ Publishing entry (Some inode)
-        → change_of (on_decision known disk decision op) ≡ Some (Opens false inode) }
+        → option_map disk_change (on_decision known disk decision op) ≡ Some (Opens false inode) }
     ensures published { (known : List Effect) (disk : Option Content) (decision : Decision) (op : Op) (entry : Entry)
-        → op.stage ≡ Publishing entry None → change_of (on_decision known disk decision op) ≡ Some Stays }
+        → op.stage ≡ Publishing entry None → option_map disk_change (on_decision known disk decision op) ≡ Some Stays }
     ensures close { (known : List Effect) (disk : Option Content) (op : Op) (by : NodeId) (session : ℕ) (vid : Vid)
         → op.stage ≡ Asked (entries.Unlock by session vid)
-        → change_of (on_decision known disk decisions.None op) ≡ Some Closes }
+        → option_map disk_change (on_decision known disk decisions.None op) ≡ Some Closes }
 {}
 
 /// What a command does is what it then waits for: the decision on that entry, that work, or nothing, once it has its reply.

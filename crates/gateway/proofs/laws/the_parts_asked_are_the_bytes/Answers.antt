@@ -1,5 +1,5 @@
 use Rattle.object_id.specs.Oid.{kind_of}
-use Rattle.strip_coding.proofs.PartLaws.{bytes_of_parts-part}
+use Rattle.gf256.proofs.PartLaws.{bytes_of_parts-part}
 use Rattle.gateway.proofs.laws.the_parts_asked_are_the_bytes.Goals as goal
 
 pub returns : goal.returns

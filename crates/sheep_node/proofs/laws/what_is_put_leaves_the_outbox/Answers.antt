@@ -2,4 +2,4 @@ use Rattle.sheep_node.proofs.StepLaws.{left_step}
 use Rattle.sheep_node.proofs.laws.what_is_put_leaves_the_outbox.Goals as goal
 
 pub returns : goal.returns
-returns c = λ node entry later is there. left_step node entry later there is.none_due
+returns c = left_step

@@ -1,5 +1,5 @@
 -- The row is the one at the index in the table of d.
-use Rattle.strip_coding.proofs.Widths.{is_sixteen}
+use Rattle.gf256.proofs.Widths.{is_sixteen}
 use Rattle.strip_coding.proofs.RowLaws.{rows_of_2, rows_of_4, rows_of_8, rows_of_16, row_of}
 use Rattle.strip_coding.proofs.rows.parity_row.Goals as goal
 

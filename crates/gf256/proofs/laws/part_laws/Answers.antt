@@ -1,6 +1,6 @@
 -- The laws are lemmas of PartLaws.
-use Rattle.strip_coding.proofs.PartLaws.{length-part, part_size-add, part_is_bytes, part-zeros, part-append, part-piece, part-laid_over, part_of_block}
-use Rattle.strip_coding.proofs.laws.part_laws.Goals as goal
+use Rattle.gf256.proofs.PartLaws.{length-part, part_size-add, part_is_bytes, part-zeros, part-append, part-piece, part-laid_over, part_of_block, parts_in-laid}
+use Rattle.gf256.proofs.laws.part_laws.Goals as goal
 
 pub returns : goal.returns
 returns c = record {
@@ -12,4 +12,5 @@ returns c = record {
   piece = part-piece;
   over = part-laid_over;
   block = part_of_block;
+  laid = parts_in-laid;
 }

@@ -1,7 +1,7 @@
 -- Parts of objects: their length, the parts of pieces and of bytes with a piece laid over, and that as
 -- many parts as a read needs give the bytes back.
-use Rattle.std.proofs.Common.{◌≡◌, ℕ, zero, suc, ◌+◌, ◌-◌, ◌*◌, ◌/◌, ◌%◌, ◌^◌, ◌<◌, ◌≤◌, List, [], ◌∷◌, ◌++◌, length, get_or, map, take, drop, refl, sym, ap, ap₂, ◌∙◌, subst, arith, append_assoc, append-nil, length-append, length-drop, suc-add, mul_comm, mul_assoc, add-mul, suc-mul, take-append-drop, zero-add, take_all, replicate}
-use Rattle.std.specs.List.{All}
+use Rattle.std.proofs.Common.{◌≡◌, ℕ, zero, suc, ◌+◌, ◌-◌, ◌*◌, ◌/◌, ◌%◌, ◌^◌, ◌<◌, ◌≤◌, List, [], ◌∷◌, ◌++◌, length, get_or, map, take, drop, refl, sym, ap, ap₂, ◌∙◌, subst, arith, append_assoc, append-nil, length-append, length-drop, suc-add, mul_comm, mul_assoc, add-mul, one-mul, suc-mul, take-append-drop, zero-add, take_all, replicate}
+use Rattle.std.specs.List.{All, flat_map, range_with_len}
 use Rattle.std.proofs.lemmas.List.{length-take-le, take_at, drop_at, take-append-le, drop-append-le, nil_from_length, get_or-take, take-replicate, drop-replicate, replicate-append-replicate, length-replicate}
 use Rattle.std.proofs.lemmas.List.Elements.{All-take, All-drop, All-append, All-nil}
 use Rattle.std.proofs.Math.Nat.{zero-mul, mul-div_cancel}
@@ -17,8 +17,8 @@ use Rattle.gf256.specs.Polynomial.{ArePoints}
 use Rattle.gf256.specs.Strip.{strip, block_through, Divides}
 use Rattle.gf256.proofs.StripLaws.{length-strip, strip_is_bytes, strip_some, strip-zeros, block_through-strips}
 use Rattle.gf256.proofs.Points.{bytes_of_all, all_of_bytes}
-use Rattle.strip_coding.specs.Part.{strips_of_blocks, blocks_through, IsAligned, part_size, part, first_part, bytes_of_parts}
-use Rattle.strip_coding.proofs.Widths.{divides}
+use Rattle.gf256.specs.Part.{strips_of_blocks, blocks_through, IsAligned, part_size, part, first_part, parts_in, bytes_of_parts}
+use Rattle.gf256.proofs.Widths.{divides}
 
 -- strips of blocks
 
@@ -97,10 +97,10 @@ blocks_through-strips d (suc blocks) bytes points splits distinct count are e =
 
 -- whole blocks
 
-blocks_of : (n : ℕ) → n % 512 ≡ 0 → n ≡ n / 512 * 512
+pub blocks_of : (n : ℕ) → n % 512 ≡ 0 → n ≡ n / 512 * 512
 blocks_of n e = omega arith
 
-part_of_blocks : (d n : ℕ) → Divides d → n % 512 ≡ 0 → n / d ≡ n / 512 * (512 / d)
+pub part_of_blocks : (d n : ℕ) → Divides d → n % 512 ≡ 0 → n / d ≡ n / 512 * (512 / d)
 part_of_blocks d n splits e =
     let q : ℕ = n / 512 in
     let w : ℕ = 512 / d in
@@ -316,3 +316,21 @@ part-zeros (Coded d p) Block index n is whole =
     ∙ ap (λ m. strips_of_blocks d index (n / 512) (replicate m 0)) (blocks_of n whole)
     ∙ strips_of_zeros d index (n / 512)
     ∙ ap (λ m. replicate m 0) (sym (part_of_blocks d n (divides d is.0) whole))
+
+-- parts that are laid one after another are read back
+laid_from : (size at : ℕ) (front : List ℕ) (parts : List (List ℕ)) → length front ≡ at * size
+    → All (λ part. length part ≡ size) parts
+    → map (λ place. take size (drop (place * size) (front ++ flat_map (λ part. part) parts))) (range_with_len at (length parts)) ≡ parts
+laid_from size at front [] before long = refl
+laid_from size at front (part ∷ parts) before long =
+    let rest : List ℕ = flat_map (λ part. part) parts in
+    let more : length (front ++ part) ≡ (at + 1) * size =
+    length-append front part ∙ ap₂ ◌+◌ before (long 0 [] (omega arith)) ∙ (let e : at * size + size ≡ (at + 1) * size = omega (arith, add-mul at 1 size, one-mul size) in e) in
+    ap₂ ◌∷◌
+    (ap (take size) (drop_at front (part ++ rest) (at * size) before) ∙ take_at part rest size (long 0 [] (omega arith)))
+    (ap (λ bytes. map (λ place. take size (drop (place * size) bytes)) (range_with_len (at + 1) (length parts))) (sym (append_assoc front part rest))
+    ∙ laid_from size (at + 1) (front ++ part) parts more (λ k d l. long (suc k) d (omega arith)))
+
+pub parts_in-laid : (size : ℕ) (parts : List (List ℕ)) → All (λ part. length part ≡ size) parts
+    → parts_in size (length parts) (flat_map (λ part. part) parts) ≡ parts
+parts_in-laid size parts long = laid_from size 0 [] parts (sym (zero-mul size)) long

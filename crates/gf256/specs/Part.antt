@@ -1,6 +1,6 @@
 -- The part of an object that a node keeps under an index.
-use Rattle.std.specs.Prelude.{◌≡◌, ℕ, zero, suc, ◌/◌, ◌%◌, ◌==◌, Bool, true, false, List, [], ◌∷◌, ◌++◌, length, take, drop, map, Option, if◌then◌else◌}
-use Rattle.std.specs.List.{position}
+use Rattle.std.specs.Prelude.{◌≡◌, ℕ, zero, suc, ◌*◌, ◌/◌, ◌%◌, ◌==◌, Bool, true, false, List, [], ◌∷◌, ◌++◌, length, take, drop, map, Option, if◌then◌else◌}
+use Rattle.std.specs.List.{position, range_with_len}
 use Rattle.std.specs.Option.{option_map}
 use Rattle.object_id.specs.declared.limits.TheConstants.{BLOCK_BYTES}
 use Rattle.object_id.specs.declared.node.NodeId.{NodeId}
@@ -45,6 +45,10 @@ part (Coded d p) Inode index bytes = bytes
 abbrev pub first_part : List (List ℕ) → List ℕ
 first_part [] = []
 first_part (x ∷ parts) = x
+
+-- so many parts of equal length, which stand one after another
+abbrev pub parts_in : ℕ → ℕ → List ℕ → List (List ℕ)
+parts_in size count bytes = map (λ place. take size (drop (place * size) bytes)) (range_with_len 0 count)
 
 -- the bytes whose parts at these indexes are these
 unfoldable pub bytes_of_parts : Policy → Kind → List ℕ → List (List ℕ) → List ℕ

@@ -1,5 +1,5 @@
 -- The numbers of data strips: 2, 4, 8 and 16.
-use Rattle.std.proofs.Common.{◌≡◌, ◌≢◌, ℕ, ◌≤◌, ◌⊎◌, Bool, true, false, refl, sym, subst, arith, inl, inr, eqb-true, IsTrue}
+use Rattle.std.proofs.Common.{◌≡◌, ◌≢◌, ℕ, ◌≤◌, ◌⊎◌, refl, sym, subst, arith, inl, inr, eqb-true, IsTrue}
 use Rattle.std.specs.Prelude.{◌==◌, ◌||◌}
 use Rattle.std.proofs.lemmas.Bool.{or_cases}
 use Rattle.object_id.specs.Policy.{is_width}

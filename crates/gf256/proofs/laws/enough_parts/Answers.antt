@@ -1,6 +1,6 @@
 -- The laws are lemmas of PartLaws.
-use Rattle.strip_coding.proofs.PartLaws.{bytes_of_parts-part, same_bytes}
-use Rattle.strip_coding.proofs.laws.enough_parts.Goals as goal
+use Rattle.gf256.proofs.PartLaws.{bytes_of_parts-part, same_bytes}
+use Rattle.gf256.proofs.laws.enough_parts.Goals as goal
 
 pub returns : goal.returns
 returns c = record {

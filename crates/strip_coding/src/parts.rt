@@ -1,0 +1,182 @@
+//! The part of an object's bytes under an index, and the bytes of parts. Whole copies and inodes are their own part; the
+//! part of coded data has the index's strip of each block, in order.
+
+ghost use Rattle.std.specs.Prelude.{◌≡◌, ◌+◌, ◌*◌, ◌/◌, ◌%◌, ◌^◌, ◌<◌, ◌≤◌, length, map, take, IsTrue};
+ghost use Rattle.std.specs.List.{All, range_with_len};
+ghost use Rattle.object_id.specs.Policy.{IsPolicy, is_width, need_of};
+ghost use Rattle.gf256.specs.Polynomial.{ArePoints};
+ghost use Rattle.gf256.specs.Strip.{strip_bytes};
+ghost use Rattle.gf256.specs.Part.{strips_of_blocks, blocks_through, IsAligned, part_size, part, parts_in, bytes_of_parts};
+
+use crate::choice::MOST_DATA_STRIPS;
+use crate::coding::{block, strip};
+use object_id::{BLOCK_BYTES, Kind, Policy, TARGETS_MAX};
+
+/// A block's length, as a length of slices.
+const BLOCK: usize = BLOCK_BYTES as usize;
+
+/// How long the part of so many bytes is, and where in the part an offset of the object is.
+pub fn part_size(policy: Policy, kind: Kind, n: usize) -> usize
+    requires { IsPolicy policy }
+    ensures { result ≡ part_size policy kind n }
+{
+    match policy {
+        Policy::Copies(_) => n,
+        Policy::Coded { d, .. } => match kind {
+            Kind::Block => n / d as usize,
+            Kind::Inode => n,
+        },
+    }
+}
+
+/// Makes the part of some bytes under an index.
+#[tactic(auto, unfolding(gf256::specs::Part::part))]
+pub fn part(policy: Policy, kind: Kind, index: u8, bytes: &[u8], out: &mut [u8])
+    requires policy { IsPolicy policy }
+    requires index { index < TARGETS_MAX }
+    requires whole { IsAligned policy kind (length bytes.now) }
+    requires room { length out.old ≡ part_size policy kind (length bytes.now) }
+    ensures { out.new ≡ part policy kind index bytes.now }
+{
+    match policy {
+        Policy::Copies(_) => out.copy_from_slice(bytes),
+        Policy::Coded { d, .. } => match kind {
+            Kind::Block => strips(d, index, bytes, out),
+            Kind::Inode => out.copy_from_slice(bytes),
+        },
+    }
+}
+
+/// Makes the strip of an index of each block.
+fn strips(d: u8, index: u8, bytes: &[u8], out: &mut [u8])
+    requires width { IsTrue (is_width d) }
+    requires index { index < TARGETS_MAX }
+    requires whole { length bytes.now % BLOCK_BYTES ≡ 0 }
+    requires room { length out.old ≡ length bytes.now / d }
+    ensures { out.new ≡ strips_of_blocks d index (length bytes.now / BLOCK_BYTES) bytes.now }
+{
+    let width = BLOCK / d as usize;
+    for k in 0..bytes.len() / BLOCK {
+        strip(
+            d,
+            &bytes[k * BLOCK..k * BLOCK + BLOCK],
+            index,
+            &mut out[k * width..k * width + width],
+        );
+    }
+}
+
+/// Makes the bytes whose parts are given, as many as a read needs: one part for each of the indexes, in their order, and all
+/// of one length.
+pub fn bytes_of_parts(policy: Policy, kind: Kind, indexes: &[u8], parts: &[u8], out: &mut [u8])
+    requires policy { IsPolicy policy }
+    requires indexes { ArePoints indexes.now }
+    requires enough { length indexes.now ≡ need_of policy kind }
+    requires whole { IsAligned policy kind (length out.old) }
+    requires parts { length parts.now ≡ need_of policy kind * part_size policy kind (length out.old) }
+    ensures { out.new ≡ bytes_of_parts policy kind indexes.now
+        (parts_in (part_size policy kind (length out.old)) (need_of policy kind) parts.now) }
+{
+    match policy {
+        Policy::Copies(_) => out.copy_from_slice(parts),
+        Policy::Coded { d, .. } => match kind {
+            Kind::Block => blocks(d, indexes, parts, out),
+            Kind::Inode => out.copy_from_slice(parts),
+        },
+    }
+}
+
+/// The places of strip `k` of each part among all strips, where each of `d` parts has so many.
+fn places_of(d: usize, strips: usize, k: usize) -> [usize; MOST_DATA_STRIPS]
+    requires most { d ≤ MOST_DATA_STRIPS }
+    requires below { k < strips }
+    requires room { d * strips < 2 ^ 64 }
+    ensures { take d result ≡ map (λ part. part * strips + k) (range_with_len 0 d) }
+{
+    let mut places = [0; MOST_DATA_STRIPS];
+    for part in 0..d {
+        places[part] = part * strips + k;
+    }
+    places
+}
+
+/// Makes each block through its strips, one of each part.
+fn blocks(d: u8, indexes: &[u8], parts: &[u8], out: &mut [u8])
+    requires width { IsTrue (is_width d) }
+    requires indexes { ArePoints indexes.now }
+    requires enough { length indexes.now ≡ d }
+    requires whole { length out.old % BLOCK_BYTES ≡ 0 }
+    requires parts { length parts.now ≡ d * (length out.old / d) }
+    ensures { out.new ≡ blocks_through d indexes.now (length out.old / BLOCK_BYTES) (parts_in (length out.old / d) d parts.now) }
+{
+    let count = d as usize;
+    let blocks = out.len() / BLOCK;
+    for k in 0..blocks {
+        let places = places_of(count, blocks, k);
+        block(
+            count,
+            indexes,
+            &places[..count],
+            parts,
+            &mut out[k * BLOCK..k * BLOCK + BLOCK],
+        );
+    }
+}
+
+#[cfg(test)]
+mod tests {
+    use super::*;
+
+    /// Two blocks: ones in the first half of the first and twos in the other, and a block of zeros.
+    fn two_blocks() -> [u8; 1024] {
+        let mut bytes = [0; 1024];
+        bytes[..256].fill(1);
+        bytes[256..512].fill(2);
+        bytes
+    }
+
+    // One and two are added to seven by 3 * 1 + 2 * 2; zeros to zero.
+    #[test]
+    fn has_a_strip_of_each_block(rt: HostRuntime) {
+        let policy = Policy::Coded { d: 2, p: 1 };
+        let bytes = two_blocks();
+        for (index, byte) in [(0, 1), (1, 2), (2, 7)] {
+            let mut strips = [9; 512];
+            part(policy, Kind::Block, index, &bytes, &mut strips);
+            assert_eq!(rt; &strips[..256], [byte; 256].as_slice(), "index {index}");
+            assert_eq!(rt; &strips[256..], [0; 256].as_slice(), "index {index}");
+        }
+        assert_eq!(rt; part_size(policy, Kind::Block, 1024), 512);
+    }
+
+    // The second data strip comes after the parity strip, and the first data strip is missing.
+    #[test]
+    fn joins_parts_by_their_indexes(rt: HostRuntime) {
+        let policy = Policy::Coded { d: 2, p: 1 };
+        let mut parts = [0; 1024];
+        parts[..256].fill(7);
+        parts[512..768].fill(2);
+        let mut bytes = [9; 1024];
+        bytes_of_parts(policy, Kind::Block, &[2, 1], &parts, &mut bytes);
+        assert_eq!(rt; bytes, two_blocks());
+    }
+
+    // Whole copies and the inodes of coded disks aren't cut.
+    #[test]
+    fn leaves_copies_whole(rt: HostRuntime) {
+        let coded = Policy::Coded { d: 4, p: 2 };
+        for (policy, kind) in [
+            (Policy::Copies(3), Kind::Block),
+            (Policy::Copies(1), Kind::Inode),
+            (coded, Kind::Inode),
+        ] {
+            let mut whole = [0; 5];
+            part(policy, kind, 2, &[3, 1, 4, 1, 5], &mut whole);
+            assert_eq!(rt; whole, [3, 1, 4, 1, 5]);
+            let mut bytes = [0; 5];
+            bytes_of_parts(policy, kind, &[2], &whole, &mut bytes);
+            assert_eq!(rt; bytes, [3, 1, 4, 1, 5]);
+            assert_eq!(rt; part_size(policy, kind, 5), 5);
+        }
+    }
+}
