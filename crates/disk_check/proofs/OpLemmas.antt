@@ -1,6 +1,8 @@
 -- What always holds of a check, and how each step keeps it.
 use Rattle.std.proofs.Common.{◌≡◌, ℕ, zero, suc, ◌+◌, ◌-◌, ◌<◌, ◌≤◌, ◌==◌, not, Bool, true, false, cond, List, [], ◌∷◌, ◌++◌, length, get_or, slice_get, drop, count_by, All, Option, Some, None, IfSome, refl, sym, ap, subst, ◌∙◌, arith}
 use Rattle.std.specs.List.Sorted.{IsStrictlyIncreasing}
+use Rattle.std.proofs.Math.Seq.{drop-cons}
+use Rattle.std.proofs.lemmas.Bool.{eqb-true}
 use Rattle.std.proofs.lemmas.List.Elements.{All-nil, All-cons, All-head, All-tail, All-append}
 use Rattle.std.proofs.lemmas.List.Kept.{AllPairs-from_increasing}
 use Rattle.std.proofs.lemmas.List.Sums.{count_by-le-length}
@@ -14,7 +16,7 @@ use Rattle.disk_check.specs.declared.stage.Stage.{Stage}
 use Rattle.disk_check.specs.declared.stage.Stage.TheVariants as stages
 use Rattle.disk_check.specs.Table.{own_indexes, inherited_count}
 use Rattle.disk_check.specs.Value.{pieces_in}
-use Rattle.disk_check.specs.Check.{CheckStage, Comparing, WritingBack, Answered, Check, CheckStep, with_object, later_of, left_of, IsCheck, check_on, begun_check, begin_check, write_back_step, check_done_at, check_on_done, bytes_at}
+use Rattle.disk_check.specs.Check.{CheckStage, Comparing, WritingBack, Answered, Check, CheckStep, with_object, later_of, left_of, IsCheck, memory_is_taken_at, check_on, begun_check, begin_check, write_back_step, check_done_at, check_on_done, bytes_at}
 use Rattle.disk_check.specs.Stage.{check_stage}
 use Rattle.disk_check.proofs.TableLemmas.{own_indexes-ascend, own_indexes-own, own_indexes-count}
 
@@ -33,16 +35,22 @@ comparing stages.WritingBack index later e = absurd (cc (e))
 comparing stages.Answered index later e = absurd (cc (e))
 
 -- the element at a place is the first of those from there on
-pub drop-front : (xs : List ℕ) (k x : ℕ) → Some x ≡ slice_get xs k → drop k xs ≡ x ∷ drop (k + 1) xs
-drop-front [] k x e = absurd (cc (e))
-drop-front (y ∷ xs) zero x e = grind (arith, e)
-drop-front (y ∷ xs) (suc k) x e = let more : suc k + 1 ≡ suc (k + 1) = omega arith in rw more (drop-front xs k x e)
+pub drop-place : (xs : List ℕ) (k x : ℕ) → k < length xs → x ≡ get_or xs k x → drop k xs ≡ x ∷ drop (k + 1) xs
+drop-place xs k x within e =
+    let more : suc k ≡ k + 1 = omega arith in
+    drop-cons xs k x within ∙ ap (λ y. y ∷ drop (suc k) xs) (sym e) ∙ ap (λ n. x ∷ drop n xs) more
 
-pub drop-none : (xs : List ℕ) (k : ℕ) → None ≡ slice_get xs k → drop k xs ≡ []
-drop-none [] zero e = refl
-drop-none [] (suc k) e = refl
-drop-none (y ∷ xs) zero e = absurd (cc (e))
-drop-none (y ∷ xs) (suc k) e = drop-none xs k e
+empty_list : (xs : List ℕ) (none : Bool) → (length xs == 0) ≡ none → not none ≡ false → xs ≡ []
+empty_list [] none e n = refl
+empty_list (x ∷ xs) true e n = let z : suc (length xs) ≡ 0 = eqb-true _ _ e in absurd (omega (arith, z))
+empty_list (x ∷ xs) false e n = absurd (cc (n))
+
+-- telling takes no memory only if no object differed
+pub none_differed : (found : Checked) (stage : CheckStage) (later : List ℕ) → stage ≡ WritingBack later → later ≡ []
+    → memory_is_taken_at found stage ≡ false → found.differed ≡ []
+none_differed found stage later at none e =
+    empty_list found.differed (length found.differed == 0) refl
+    (ap (memory_is_taken_at found) (sym (at ∙ ap (λ (xs : List ℕ). WritingBack xs) none)) ∙ e)
 
 -- what is left stays the same
 pub with_left : (check : Check) (stage : CheckStage) → left_of stage ≡ left_of check.stage → IsCheck check
@@ -155,12 +163,12 @@ begun-is inode vid spec inherited differed own v s most none e = record {
   ascending = subst IsStrictlyIncreasing (sym e) (own_indexes-ascend inode);
   within = subst (All (λ index. index < OBJECTS_MAX)) (sym e) (λ k d inside. (below (own_indexes-own inode k d inside).0));
   behind = subst (All (λ oid. All (λ index. oid < object_number vid index) own)) (sym none) (All-nil (λ oid. All (λ index. oid < object_number vid index) own));
-  count = subst (λ (xs : List ℕ). length xs ≤ OBJECTS_MAX) (sym e) few;
+  count = subst (λ (xs : List ℕ). 0 + length xs ≤ OBJECTS_MAX) (sym e) few;
 }
   where
     below : {n : ℕ} → n < length inode.table → n < OBJECTS_MAX
     below {n} less = omega (arith, less, most)
-    few : length (own_indexes inode) ≤ OBJECTS_MAX
+    few : 0 + length (own_indexes inode) ≤ OBJECTS_MAX
     few =
         let count : length (own_indexes inode) ≡ count_by (λ entry. entry == inode.vid) inode.table = own_indexes-count inode in
         let some : count_by (λ entry. entry == inode.vid) inode.table ≤ length inode.table = count_by-le-length (λ entry. entry == inode.vid) inode.table in
@@ -177,3 +185,9 @@ pub done-writing : (check : Check) (bytes : List ℕ) (later : List ℕ) → che
     → check_on_done bytes check ≡ Some (check_on check (later_of check.stage))
 unfolding check_on_done
 done-writing check bytes later e = ap (check_done_at bytes check) e ∙ ap (λ (xs : List ℕ). Some (check_on check xs)) (sym (ap later_of e))
+
+pub waits-writing : (stage : Stage) (later : List ℕ) (spec : VdiSpec) (n : ℕ) → ((index : ℕ) → stage ≡ stages.Comparing index → ⊥)
+    → bytes_at spec (check_stage stage later) ≡ Some n → check_stage stage later ≡ WritingBack later
+waits-writing (stages.Comparing index) later spec n other e = absurd (other index refl)
+waits-writing stages.WritingBack later spec n other e = refl
+waits-writing stages.Answered later spec n other e = absurd (cc (e))
