@@ -4,3 +4,4 @@ mod WorkLemmas
 mod CourseLemmas
 mod WorkedCheck
 mod OpLemmas
+mod CompareLemmas

@@ -30,7 +30,7 @@ object_blocks shift wide =
 whole_blocks : (n m : ℕ) → n ≡ 512 * m → n % 512 ≡ 0
 whole_blocks n m e = omega arith
 
-aligned : (policy : Policy) (kind : Kind) (n : ℕ) → n % 512 ≡ 0 → IsAligned policy kind n
+pub aligned : (policy : Policy) (kind : Kind) (n : ℕ) → n % 512 ≡ 0 → IsAligned policy kind n
 aligned (Copies copies) kind n whole = tt
 aligned (Coded d p) Block n whole = whole
 aligned (Coded d p) Inode n whole = tt
@@ -84,11 +84,11 @@ value-length spec bytes is all =
     value_long spec.policy (2 ^ spec.shift) (2 ^ (spec.shift - 9)) bytes is.policy
     (object_blocks spec.shift (omega (arith, is.shift.0))) all
 
-object_whole : (spec : VdiSpec) → IsSpec spec → 2 ^ spec.shift % 512 ≡ 0
+pub object_whole : (spec : VdiSpec) → IsSpec spec → 2 ^ spec.shift % 512 ≡ 0
 object_whole spec is =
     whole_blocks (2 ^ spec.shift) (2 ^ (spec.shift - 9)) (object_blocks spec.shift (omega (arith, is.shift.0)))
 
-object_most : (spec : VdiSpec) → IsSpec spec → 2 ^ spec.shift ≤ OBJECT_BYTES_MAX
+pub object_most : (spec : VdiSpec) → IsSpec spec → 2 ^ spec.shift ≤ OBJECT_BYTES_MAX
 object_most spec is = pow-le-pow_right (omega arith) is.shift.1
 
 pub read_copies-work : (inode : Content) (index : ℕ) → IsSpec inode.spec → IsWork (read_copies (begun_check inode) index)

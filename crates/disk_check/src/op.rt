@@ -126,7 +126,7 @@ impl CheckOp {
     {
         let oid = Oid::object(self.vid, index);
         let value = value_of(alloc, self.spec, bytes)?;
-        let differs = differ(self.spec, value.as_slice(), bytes);
+        let differs = differ(alloc, self.spec, value.as_slice(), bytes)?;
         add_object(&mut self.found, oid, differs)?;
         self.stage = Stage::WritingBack;
         Ok(CheckAct::Work(ObjWork::Write {

@@ -26,5 +26,5 @@ invariant_of-self-2 c =
       spec = c.self.inside.spec;
       found = c.self.inside.found;
       stage = check_stage c.self.inside.stage later;
-    }) c.args.index later c.add_object.new.found c.differ-differs.result at
+    }) c.args.index later c.add_object.new.found c.in_ok-differs.differs at
     (rw (← c.object-oid.ensures) c.in_ok-add_object.ensures.ok) c.self.invariant
