@@ -160,7 +160,7 @@ all_pieces spec value bytes size is whole v s =
     ap (λ size. other_from (is_other_piece policy value) (λ place. take size (drop (place * size) bytes)) 0 (wanted_of policy Block - 0))
     (s ∙ ap (part_size policy Block) long)
     ∙ ap (other_from (is_other_piece policy value)
-        (λ place. take (part_size policy Block (2 ^ spec.shift)) (drop (place * part_size policy Block (2 ^ spec.shift)) bytes)) 0) all
+    (λ place. take (part_size policy Block (2 ^ spec.shift)) (drop (place * part_size policy Block (2 ^ spec.shift)) bytes)) 0) all
     ∙ ap (λ (value : List ℕ). list_any (is_other_piece policy value) (enumerate_from 0 (pieces_in spec bytes))) v
 
 pub found_other : (other : ℕ × List ℕ → Bool) (piece : ℕ → List ℕ) (place count : ℕ) (p : List ℕ) (differs : Bool) → place < count
@@ -186,3 +186,14 @@ pub length-written : (long size : ℕ) (new old : List ℕ) → length new ≡ s
 length-written long size new old n l =
     let whole : length (new ++ drop (length new) old) ≡ length new + length (drop (length new) old) = length-append new (drop (length new) old) in
     length-take-le long (new ++ drop (length new) old) (omega (arith, whole, n, l)) ∙ l
+
+pub all_fit : (spec : VdiSpec) (count size long : ℕ) → IsSpec spec → count ≡ wanted_of spec.policy Block → size ≡ part_size spec.policy Block long
+    → long ≡ 2 ^ spec.shift → count * size < 2 ^ 64
+all_fit spec count size long is n s l =
+    let few : wanted_of spec.policy Block ≤ 31 = wanted-most spec.policy is.policy in
+    let count_most : count ≤ 31 = omega (arith, n, few) in
+    let part_most : part_size spec.policy Block long ≤ long = part_size-most spec.policy long is.policy in
+    let most : 2 ^ spec.shift ≤ 2 ^ 24 = object_most spec is in
+    let size_most : size ≤ 2 ^ 24 = omega (arith, s, part_most, l, most) in
+    let bound : count * size ≤ 31 * 2 ^ 24 = mul-le-mul count_most size_most in
+    omega (arith, bound)

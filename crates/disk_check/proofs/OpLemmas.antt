@@ -168,6 +168,7 @@ begun-is inode vid spec inherited differed own v s most none e = record {
   where
     below : {n : ℕ} → n < length inode.table → n < OBJECTS_MAX
     below {n} less = omega (arith, less, most)
+
     few : 0 + length (own_indexes inode) ≤ OBJECTS_MAX
     few =
         let count : length (own_indexes inode) ≡ count_by (λ entry. entry == inode.vid) inode.table = own_indexes-count inode in

@@ -12,8 +12,9 @@ use std::alloc::Global;
 use strip_coding::{bytes_of_parts, part, part_size};
 
 /// The indexes of the data strips.
-const DATA_INDEXES: [u8; DATA_STRIPS_MAX as usize] =
-    [0, 1, 2, 3, 4, 5, 6, 7, 8, 9, 10, 11, 12, 13, 14, 15];
+const DATA_INDEXES: [u8; DATA_STRIPS_MAX as usize] = [
+    0, 1, 2, 3, 4, 5, 6, 7, 8, 9, 10, 11, 12, 13, 14, 15,
+];
 
 /// How long the objects of a disk are.
 fn object_bytes(spec: VdiSpec) -> usize
@@ -21,6 +22,15 @@ fn object_bytes(spec: VdiSpec) -> usize
     ensures { result ≡ 2 ^ spec.shift }
 {
     1 << spec.shift
+}
+
+/// How many bytes all targets give of an object.
+pub(crate) fn all_bytes(spec: VdiSpec) -> usize
+    requires { IsSpec spec }
+    ensures { result ≡ all_bytes spec }
+{
+    spec.policy.wanted(Kind::Block) as usize
+        * part_size(spec.policy, Kind::Block, object_bytes(spec))
 }
 
 /// Makes the value of an object.

@@ -4,7 +4,7 @@ ghost use Rattle.disk_check.specs.Value.{all_bytes, pieces_in};
 ghost use Rattle.disk_check.specs.Check.{CheckStage, Comparing, WritingBack, later_of, check_on, begin_check, write_back_step, check_on_done, check_bytes_wanted, takes_memory};
 
 use crate::act::CheckAct;
-use crate::compare::{differ, value_of};
+use crate::compare::{all_bytes, differ, value_of};
 use crate::found::{add_object, copy_found};
 use crate::stage::Stage;
 use crate::table::entries_by_owner;
@@ -75,6 +75,17 @@ pub fn begin_check(alloc: Global, inode: &Inode) -> Result<(CheckOp, CheckAct), 
 }
 
 impl CheckOp {
+    /// How many bytes the work gives that the check waits for; `None` if it waits for none. Takes no memory.
+    pub fn bytes_wanted(&self) -> Option<usize>
+        ensures { result ≡ check_bytes_wanted self.now }
+    {
+        match self.stage {
+            Stage::Comparing(_) => Some(all_bytes(self.spec)),
+            Stage::WritingBack => Some(0),
+            Stage::Answered => None,
+        }
+    }
+
     /// Goes on after the work that the check waits for, with the bytes that it gave. Comparing costs one pass over the pieces
     /// and takes the value's bytes; going on to the next own object costs a look-up and takes none; the answer takes a copy of
     /// the ids of the objects that differed. Without memory the check stays as it was.

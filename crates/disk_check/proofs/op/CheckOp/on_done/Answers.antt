@@ -16,11 +16,11 @@ returns-in-Comparing-clause-ok c =
     ap (λ (ck : Check). ck.stage) (sym c.self.view_is) ∙ ap (λ stage. check_stage stage later) c.in-Comparing.is in
     IfOk-weaker c.write_back.result
     (λ act. write_back_step check c.in-Comparing.index (later_of check.stage) (pieces_in check.spec c.as_slice.result.now)
-        ≡ record { check = c.write_back.new.self; act = act })
+    ≡ record { check = c.write_back.new.self; act = act })
     (λ act. check_on_done c.args.done.now.bytes check ≡ Some (record { check = c.write_back.new.self; act = act }))
     (λ act made. done-comparing check c.args.done.now.bytes c.in-Comparing.index later at
-        ∙ ap (λ bytes. Some (write_back_step check c.in-Comparing.index (later_of check.stage) (pieces_in check.spec bytes))) (sym c.as_slice.ensures)
-        ∙ ap (λ (step : CheckStep). Some step) made)
+    ∙ ap (λ bytes. Some (write_back_step check c.in-Comparing.index (later_of check.stage) (pieces_in check.spec bytes))) (sym c.as_slice.ensures)
+    ∙ ap (λ (step : CheckStep). Some step) made)
     c.write_back.ensures.ok
 
 pub returns-in_default : goal.returns-in_default
