@@ -3,3 +3,5 @@ mod ValueLemmas
 pub mod WorkLemmas
 mod CourseLemmas
 mod WorkedCheck
+mod OpLemmas
+mod CompareLemmas

@@ -1,14 +1,19 @@
 -- What the table gives: the own objects ascend, are as many as their entries, and the entries are of three kinds.
-use Rattle.std.proofs.Common.{◌≡◌, ℕ, zero, suc, ◌+◌, ◌*◌, ◌^◌, ◌<◌, ◌≤◌, ◌==◌, ◌&&◌, not, Bool, true, false, cond, List, [], ◌∷◌, length, get_or, slice_index, map, filter, count_by, All, refl, sym, ap, subst, ◌∙◌, arith}
+use Rattle.std.proofs.Common.{◌≡◌, ℕ, zero, suc, ◌+◌, ◌-◌, ◌*◌, ◌/◌, ◌^◌, ◌<◌, ◌≤◌, ◌==◌, ◌&&◌, not, Bool, true, false, cond, List, [], ◌∷◌, ◌++◌, length, take, get_or, slice_index, map, filter, count_by, All, refl, sym, ap, subst, ◌∙◌, append-nil, arith}
 use Rattle.std.specs.List.{range_with_len}
 use Rattle.std.specs.List.Sorted.{IsStrictlyIncreasing}
-use Rattle.std.proofs.lemmas.Bool.{cond_both, eqb-true}
+use Rattle.std.proofs.Math.Nat.{div-lt_iff_lt-mul}
+use Rattle.std.proofs.lemmas.Nat.{pow_pos}
+use Rattle.std.proofs.lemmas.Bool.{cond_both, eqb-true, eq-eqb, ne_eqb}
 use Rattle.std.proofs.lemmas.List.{length-map, get_or-map}
-use Rattle.std.proofs.lemmas.List.Elements.{All-cons, All-filter}
+use Rattle.std.proofs.lemmas.List.Elements.{All-cons, All-filter, filter-append}
 use Rattle.std.proofs.lemmas.List.FromFn.{length-range_with_len, get_or-range_with_len, fill_by_all}
 use Rattle.std.proofs.lemmas.List.Kept.{IsStrictlyIncreasing-filter}
-use Rattle.std.proofs.lemmas.List.Sums.{length-filter, sum_by-cons}
+use Rattle.std.proofs.lemmas.List.Sums.{length-filter, sum_by-cons, count_by_more_yes, count_by_more_no}
+use Rattle.object_id.specs.declared.entry.VdiSpec.{VdiSpec}
+use Rattle.object_id.specs.declared.limits.TheConstants.{OBJECTS_MAX}
 use Rattle.object_id.specs.Oid.{object_number}
+use Rattle.object_id.specs.Spec.{IsSpec, objects_of}
 use Rattle.inode.specs.Layout.{Content}
 use Rattle.disk_check.specs.Table.{own_indexes, inherited_count}
 
@@ -101,3 +106,79 @@ object_numbers-ascend vid xs ascend k within =
   where
     more : (vid m n : ℕ) → m < n → object_number vid m < object_number vid n
     more vid m n below = omega arith
+
+div_most : (size object : ℕ) → 0 < object → size ≤ 2 ^ 20 * object → (size + object - 1) / object ≤ 2 ^ 20
+div_most size object some most =
+    let below : size + object - 1 < (2 ^ 20 + 1) * object = omega (arith, some, most) in
+    let quotient : (size + object - 1) / object < 2 ^ 20 + 1 = (div-lt_iff_lt-mul some).1 below in
+    omega (arith, quotient)
+
+-- a disk has at most so many objects
+pub objects_of-most : (spec : VdiSpec) → IsSpec spec → objects_of spec ≤ OBJECTS_MAX
+objects_of-most spec valid = div_most spec.size (2 ^ spec.shift) (pow_pos spec.shift) valid.size.1
+
+-- ---- one entry more
+
+range-more : (a n j : ℕ) → a + n ≡ j → range_with_len a (n + 1) ≡ range_with_len a n ++ j ∷ []
+range-more a zero j e = ap (λ k. k ∷ []) (omega (arith, e))
+range-more a (suc n) j e =
+    let more : suc n + 1 ≡ suc (n + 1) = omega arith in
+    rw more (ap (λ (xs : List ℕ). a ∷ xs) (range-more (a + 1) n j (omega (arith, e))))
+
+own_more : (vid : ℕ) (table : List ℕ) (k : ℕ) (own : Bool) → (slice_index table k == vid) ≡ own
+    → filter (λ index. slice_index table index == vid) (range_with_len 0 (k + 1))
+    ≡ filter (λ index. slice_index table index == vid) (range_with_len 0 k) ++ cond own (k ∷ []) []
+own_more vid table k own e =
+    ap (filter (λ index. slice_index table index == vid)) (range-more 0 k k (omega arith))
+    ∙ filter-append (λ index. slice_index table index == vid) (range_with_len 0 k) (k ∷ [])
+    ∙ ap (λ b. filter (λ index. slice_index table index == vid) (range_with_len 0 k) ++ cond b (k ∷ []) []) e
+
+-- whether an entry is another disk's
+abbrev pub is_inherited : ℕ → ℕ → Bool
+is_inherited vid entry = not (entry == 0) && not (entry == vid)
+
+-- what was found in the entries up to a place
+pub record FoundUpTo (vid : ℕ) (table : List ℕ) (k : ℕ) (own : List ℕ) (inherited : ℕ) : Type 0 where
+  pub own_is : own ≡ filter (λ index. slice_index table index == vid) (range_with_len 0 k)
+  pub inherited_is : inherited ≡ count_by (is_inherited vid) (take k table)
+
+pub own_entry : (vid : ℕ) (table : List ℕ) (k : ℕ) (own : List ℕ) (inherited : ℕ) → k < length table → slice_index table k ≡ vid
+    → FoundUpTo vid table k own inherited → FoundUpTo vid table (k + 1) (own ++ k ∷ []) inherited
+own_entry vid table k own inherited within e found = record {
+  own_is = ap (λ (xs : List ℕ). xs ++ k ∷ []) found.own_is ∙ sym (own_more vid table k true (eq-eqb (slice_index table k) vid e));
+  inherited_is =
+      found.inherited_is
+      ∙ sym (count_by_more_no (is_inherited vid) table k 0 within (both (slice_index table k == 0) (slice_index table k == vid) (eq-eqb (slice_index table k) vid e)));
+}
+  where
+    both : (a b : Bool) → b ≡ true → (not a && not b) ≡ false
+    both true b e = refl
+    both false true e = refl
+    both false false e = absurd (cc (e))
+
+pub inherited_entry : (vid : ℕ) (table : List ℕ) (k : ℕ) (own : List ℕ) (inherited : ℕ) → k < length table
+    → (slice_index table k ≡ vid → ⊥) → (slice_index table k ≡ 0 → ⊥)
+    → FoundUpTo vid table k own inherited → FoundUpTo vid table (k + 1) own (inherited + 1)
+inherited_entry vid table k own inherited within other some found = record {
+  own_is = found.own_is ∙ sym (own_more vid table k false (ne_eqb (slice_index table k) vid other) ∙ append-nil _);
+  inherited_is =
+      ap (λ n. n + 1) found.inherited_is
+      ∙ sym (count_by_more_yes (is_inherited vid) table k 0 within
+      (both (slice_index table k == 0) (slice_index table k == vid) (ne_eqb (slice_index table k) 0 some) (ne_eqb (slice_index table k) vid other)));
+}
+  where
+    both : (a b : Bool) → a ≡ false → b ≡ false → (not a && not b) ≡ true
+    both true b e f = absurd (cc (e))
+    both false true e f = absurd (cc (f))
+    both false false e f = refl
+
+pub hole_entry : (vid : ℕ) (table : List ℕ) (k : ℕ) (own : List ℕ) (inherited : ℕ) → k < length table
+    → (slice_index table k ≡ vid → ⊥) → slice_index table k ≡ 0
+    → FoundUpTo vid table k own inherited → FoundUpTo vid table (k + 1) own inherited
+hole_entry vid table k own inherited within other none found = record {
+  own_is = found.own_is ∙ sym (own_more vid table k false (ne_eqb (slice_index table k) vid other) ∙ append-nil _);
+  inherited_is =
+      found.inherited_is
+      ∙ sym (count_by_more_no (is_inherited vid) table k 0 within
+      (ap (λ b. not b && not (slice_index table k == vid)) (eq-eqb (slice_index table k) 0 none)));
+}

@@ -1,7 +1,7 @@
 -- The works of a check meet what works must: an own object is read and written whole, and its value is as long as it.
 use Rattle.std.proofs.Common.{◌≡◌, ℕ, zero, suc, ◌+◌, ◌-◌, ◌*◌, ◌/◌, ◌%◌, ◌^◌, ◌≤◌, ◌++◌, List, [], ◌∷◌, length, take, drop, map, refl, sym, ap, ◌∙◌, pow-add, arith}
 use Rattle.std.specs.List.{range_with_len}
-use Rattle.std.proofs.Math.Nat.{pow-le-pow_right}
+use Rattle.std.proofs.Math.Nat.{pow-le-pow_right, zero-mul}
 use Rattle.std.proofs.lemmas.List.{length-append, length-take-le}
 use Rattle.object_id.specs.declared.entry.VdiSpec.{VdiSpec}
 use Rattle.object_id.specs.declared.limits.TheConstants.{OBJECT_BYTES_MAX}
@@ -14,11 +14,11 @@ use Rattle.object_id.specs.Policy.{IsPolicy, wanted_of}
 use Rattle.object_id.specs.Spec.{IsSpec}
 use Rattle.gf256.specs.Strip.{strip_bytes, block_through}
 use Rattle.gf256.proofs.StripLaws.{length-block_through}
-use Rattle.gf256.specs.Part.{IsAligned, part_size, first_part, blocks_through, bytes_of_parts}
+use Rattle.gf256.specs.Part.{IsAligned, part_size, parts_in, first_part, blocks_through, bytes_of_parts}
 use Rattle.gf256.proofs.Widths.{by_cases}
 use Rattle.inode.specs.Layout.{Content}
 use Rattle.peer_proto.specs.Work.{IsWork}
-use Rattle.disk_check.specs.Value.{all_bytes, cut_pieces, pieces_in, value_of}
+use Rattle.disk_check.specs.Value.{all_bytes, pieces_in, value_of}
 use Rattle.disk_check.specs.Check.{begun_check, read_copies, write_value}
 
 -- objects go by whole blocks
@@ -46,11 +46,10 @@ length-blocks_through d points (suc blocks) parts =
     let others : length rest ≡ blocks * 512 = length-blocks_through d points blocks (map (drop (strip_bytes d)) parts) in
     omega (arith, length-append front rest, one, others)
 
-first_cut : (n count size : ℕ) (bytes : List ℕ) → 1 ≤ n → 1 ≤ count → first_part (take n (cut_pieces count size bytes)) ≡ take size bytes
-unfolding cut_pieces
+first_cut : (n count size : ℕ) (bytes : List ℕ) → 1 ≤ n → 1 ≤ count → first_part (take n (parts_in size count bytes)) ≡ take size bytes
 first_cut zero count size bytes some more = absurd (omega arith)
 first_cut (suc n) zero size bytes some more = absurd (omega arith)
-first_cut (suc n) (suc count) size bytes some more = refl
+first_cut (suc n) (suc count) size bytes some more = ap (λ (k : ℕ). take size (drop k bytes)) (zero-mul size)
 
 -- so many bytes are there for one of some pieces
 one_of : (count size long : ℕ) → 1 ≤ count → long ≡ count * size → size ≤ long
@@ -62,14 +61,14 @@ one_of count size long some e =
 -- of coded data the strips of each block give the block
 value_long : (policy : Policy) (n m : ℕ) (bytes : List ℕ) → IsPolicy policy → n ≡ 512 * m
     → length bytes ≡ wanted_of policy Block * part_size policy Block n
-    → length (value_of policy (cut_pieces (wanted_of policy Block) (part_size policy Block n) bytes)) ≡ n
+    → length (value_of policy (parts_in (part_size policy Block n) (wanted_of policy Block) bytes)) ≡ n
 unfolding bytes_of_parts
 value_long (Copies copies) n m bytes is blocks all =
     ap length (first_cut 1 copies n bytes (omega arith) is.0)
     ∙ length-take-le n bytes (one_of copies n (length bytes) is.0 all)
 value_long (Coded d p) n m bytes is blocks all =
     let some : 1 ≤ d = by_cases (λ d. 1 ≤ d) (omega arith) (omega arith) (omega arith) (omega arith) d is.0 in
-    let pieces : List (List ℕ) = take d (cut_pieces (d + p) (n / d) bytes) in
+    let pieces : List (List ℕ) = take d (parts_in (n / d) (d + p) bytes) in
     let first : length (first_part pieces) ≡ n / d =
     ap length (first_cut d (d + p) (n / d) bytes some (omega (arith, some)))
     ∙ length-take-le (n / d) bytes (one_of (d + p) (n / d) (length bytes) (omega (arith, some)) all) in

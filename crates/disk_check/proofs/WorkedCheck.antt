@@ -5,7 +5,6 @@ use Rattle.inode.specs.Layout.{Content}
 use Rattle.peer_proto.specs.declared.work.ObjWork.TheVariants.{Write, ReadAll}
 use Rattle.gf256.specs.Part.{part, bytes_of_parts}
 use Rattle.disk_check.specs.declared.act.CheckAct.TheVariants.{Work, Reply}
-use Rattle.disk_check.specs.Value.{cut_pieces}
 use Rattle.disk_check.specs.Check.{begin_check, check_on_done}
 use Rattle.disk_check.specs.Course.{check_acts_from}
 
@@ -24,5 +23,5 @@ one_object = record {
 the_first_is_written_back : check_acts_from (Some (begin_check one_object)) ((replicate 4096 1 ++ replicate 4096 2) ∷ [] ∷ [])
     ≡ Work (ReadAll 4294967296 (Copies 2) 4096) ∷ Work (Write 4294967296 (Copies 2) 0 (replicate 4096 1))
     ∷ Reply (record { objects = 1; inherited = 0; differed = 4294967296 ∷ [] }) ∷ []
-unfolding one_object check_acts_from begin_check check_on_done cut_pieces part bytes_of_parts
+unfolding one_object check_acts_from begin_check check_on_done part bytes_of_parts
 the_first_is_written_back = refl

@@ -1,7 +1,10 @@
 -- A check: where it is, and its steps, from the first own object to the answer, by two works on each.
-use Rattle.std.specs.Prelude.{ℕ, ◌+◌, ◌^◌, Bool, List, [], ◌∷◌, ◌++◌, Option, Some, None, if◌then◌else◌}
+use Rattle.std.specs.Prelude.{ℕ, ◌+◌, ◌^◌, ◌<◌, ◌≤◌, ◌==◌, not, true, false, Bool, length, All, List, [], ◌∷◌, ◌++◌, Option, Some, None, if◌then◌else◌}
 use Rattle.object_id.specs.declared.entry.VdiSpec.{VdiSpec}
-use Rattle.object_id.specs.Oid.{object_number}
+use Rattle.std.specs.List.Sorted.{IsStrictlyIncreasing}
+use Rattle.object_id.specs.declared.limits.TheConstants.{OBJECTS_MAX}
+use Rattle.object_id.specs.Oid.{IsVid, object_number}
+use Rattle.object_id.specs.Spec.{IsSpec}
 use Rattle.inode.specs.Layout.{Content}
 use Rattle.peer_proto.specs.declared.guest.Checked.{Checked}
 use Rattle.peer_proto.specs.declared.work.ObjWork.{ObjWork}
@@ -93,3 +96,35 @@ bytes_at spec Answered = None
 -- how many bytes the work gives that a check waits for; none where it waits for none
 abbrev pub check_bytes_wanted : Check → Option ℕ
 check_bytes_wanted check = bytes_at check.spec check.stage
+
+-- the own objects that a check hasn't read yet
+abbrev pub later_of : CheckStage → List ℕ
+later_of (Comparing index later) = later
+later_of (WritingBack later) = later
+later_of Answered = []
+
+-- the own objects that a check hasn't compared yet
+abbrev pub left_of : CheckStage → List ℕ
+left_of (Comparing index later) = index ∷ later
+left_of (WritingBack later) = later
+left_of Answered = []
+
+-- what holds of every check: its disk is one, and of the own objects that are left, by ascending index, each stands behind
+-- all that differed
+pub record IsCheck (check : Check) : Type 0 where
+  pub vid : IsVid check.vid
+  pub spec : IsSpec check.spec
+  pub ascending : IsStrictlyIncreasing (left_of check.stage)
+  pub within : All (λ index. index < OBJECTS_MAX) (left_of check.stage)
+  pub behind : All (λ oid. All (λ index. oid < object_number check.vid index) (left_of check.stage)) check.found.differed
+  pub count : check.found.objects + length (left_of check.stage) ≤ OBJECTS_MAX
+
+-- whether going on takes memory: to read the next own object doesn't, nor to tell that none differed
+abbrev pub memory_is_taken_at : Checked → CheckStage → Bool
+memory_is_taken_at found (Comparing index later) = true
+memory_is_taken_at found (WritingBack []) = not (length found.differed == 0)
+memory_is_taken_at found (WritingBack (index ∷ later)) = false
+memory_is_taken_at found Answered = false
+
+abbrev pub takes_memory : Check → Bool
+takes_memory check = memory_is_taken_at check.found check.stage

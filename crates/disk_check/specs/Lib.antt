@@ -2,3 +2,4 @@ pub mod Table
 pub mod Value
 pub mod Check
 pub mod Course
+pub mod Stage

@@ -1,11 +1,11 @@
 -- What the pieces of an object tell, which its targets gave in their order: its value, and whether they differ.
-use Rattle.std.specs.Prelude.{ℕ, zero, suc, ◌*◌, ◌^◌, not, Bool, List, [], ◌∷◌, bytes_eq, take, drop}
+use Rattle.std.specs.Prelude.{ℕ, ◌*◌, ◌^◌, not, Bool, List, bytes_eq, take}
 use Rattle.std.specs.List.{list_any, range_with_len, enumerate_from}
 use Rattle.object_id.specs.declared.entry.VdiSpec.{VdiSpec}
 use Rattle.object_id.specs.declared.oid.Kind.TheVariants.{Block}
 use Rattle.object_id.specs.declared.policy.Policy.{Policy}
 use Rattle.object_id.specs.Policy.{wanted_of, need_of}
-use Rattle.gf256.specs.Part.{part, part_size, bytes_of_parts, index_at}
+use Rattle.gf256.specs.Part.{part, part_size, parts_in, bytes_of_parts, index_at}
 
 -- how many bytes a target keeps of an object
 abbrev pub target_bytes : VdiSpec → ℕ
@@ -15,14 +15,9 @@ target_bytes spec = part_size spec.policy Block (2 ^ spec.shift)
 abbrev pub all_bytes : VdiSpec → ℕ
 all_bytes spec = wanted_of spec.policy Block * target_bytes spec
 
--- bytes cut into so many pieces of this size
-unfoldable pub cut_pieces : ℕ → ℕ → List ℕ → List (List ℕ)
-cut_pieces zero size bytes = []
-cut_pieces (suc count) size bytes = take size bytes ∷ cut_pieces count size (drop size bytes)
-
 -- the pieces that all targets gave, one for each
 abbrev pub pieces_in : VdiSpec → List ℕ → List (List ℕ)
-pieces_in spec bytes = cut_pieces (wanted_of spec.policy Block) (target_bytes spec) bytes
+pieces_in spec bytes = parts_in (target_bytes spec) (wanted_of spec.policy Block) bytes
 
 -- the value: of whole copies the first piece, of coded data what strips 0 to d - 1 give
 abbrev pub value_of : Policy → List (List ℕ) → List ℕ

@@ -1,9 +1,11 @@
-//! Each call with ample memory: a body that never finds any would meet the contracts too.
+//! Each call with ample memory: a body that never finds any would meet the contracts too. And worked checks.
 
 use super::*;
-use object_id::{Oid, Policy, Vid};
+use inode::Inode;
+use object_id::{Bytes, NoMemory, Oid, Policy, VdiSpec, Vid};
 use object_store::OidList;
-use peer_proto::{Checked, ObjWork};
+use peer_proto::{Checked, ObjWork, WorkDone};
+use std::alloc::Global;
 use std::test::Fail;
 
 #[test]
@@ -35,5 +37,96 @@ fn copies_acts(rt: HostRuntime) -> Result<(), Fail> {
             })
         )
     );
+    Ok(())
+}
+
+/// The inode of disk 1, with one object of 4,096 bytes that is its own.
+fn one_object(alloc: Global, policy: Policy) -> Result<Inode, Fail> {
+    let spec = VdiSpec {
+        size: 4_096,
+        policy,
+        shift: 12,
+    };
+    let mut inode = Inode::new(alloc, b"a", Vid(1), 1, None, spec)?;
+    inode.set_entry(0, Vid(1));
+    Ok(inode)
+}
+
+/// Tells a check that its work is done. Where memory is wanted once, the call is made again: the check is as it was.
+fn told(alloc: Global, check: &mut CheckOp, bytes: &[u8]) -> Result<Option<CheckAct>, NoMemory> {
+    let done = WorkDone {
+        req: 1,
+        bytes: Bytes::from_slice(alloc, bytes)?,
+    };
+    if check.bytes_wanted() != Some(done.bytes.len()) {
+        return Ok(None);
+    }
+    match check.on_done(alloc, &done) {
+        Ok(act) => Ok(Some(act)),
+        Err(NoMemory) => Ok(Some(check.on_done(alloc, &done)?)),
+    }
+}
+
+/// So many bytes of each of some values, one behind the other.
+fn runs(alloc: Global, long: usize, values: &[u8]) -> Result<Vec<u8>, NoMemory> {
+    let mut bytes = Vec::new(alloc);
+    for value in values {
+        for _ in 0..long {
+            bytes.push(*value)?;
+        }
+    }
+    Ok(bytes)
+}
+
+// Two copies, one full of 1 and one full of 2: the first is written back, and the object is told as differing.
+#[test]
+fn writes_the_first_copy_back(rt: HostRuntime) -> Result<(), Fail> {
+    let alloc = rt.alloc();
+    let inode = one_object(alloc, Policy::Copies(2))?;
+    let (mut check, act) = begin_check(alloc, &inode)?;
+    assert!(rt;
+        matches!(&act, CheckAct::Work(ObjWork::ReadAll { oid, policy: Policy::Copies(2), length: 4_096 })
+            if oid.as_u64() == 0x0000_0001_0000_0000)
+    );
+    let pieces = runs(alloc, 4_096, &[1, 2])?;
+    let ones = runs(alloc, 4_096, &[1])?;
+    let act = told(alloc, &mut check, pieces.as_slice())?;
+    assert!(rt;
+        matches!(&act, Some(CheckAct::Work(ObjWork::Write { oid, policy: Policy::Copies(2), offset: 0, bytes }))
+            if oid.as_u64() == 0x0000_0001_0000_0000 && bytes.as_slice() == ones.as_slice())
+    );
+    let act = told(alloc, &mut check, &[])?;
+    assert!(rt;
+        matches!(&act, Some(CheckAct::Reply(Checked { objects: 1, inherited: 0, differed }))
+            if differed.as_slice() == [Oid::object(Vid(1), 0)].as_slice())
+    );
+    assert!(rt; check.bytes_wanted() == None);
+    Ok(())
+}
+
+// Blocks of 256 bytes 1 and 256 bytes 2 have the parity strip 3 * 1 + 2 * 2 = 7 over the field.
+#[test]
+fn compares_strips(rt: HostRuntime) -> Result<(), Fail> {
+    let alloc = rt.alloc();
+    let inode = one_object(alloc, Policy::Coded { d: 2, p: 1 })?;
+    let value = runs(
+        alloc,
+        256,
+        &[1, 2, 1, 2, 1, 2, 1, 2, 1, 2, 1, 2, 1, 2, 1, 2],
+    )?;
+    for (parity, count) in [(7, 0), (8, 1)] {
+        let (mut check, _) = begin_check(alloc, &inode)?;
+        let pieces = runs(alloc, 2_048, &[1, 2, parity])?;
+        let act = told(alloc, &mut check, pieces.as_slice())?;
+        assert!(rt;
+            matches!(&act, Some(CheckAct::Work(ObjWork::Write { offset: 0, bytes, .. }))
+                if bytes.as_slice() == value.as_slice())
+        );
+        let act = told(alloc, &mut check, &[])?;
+        assert!(rt;
+            matches!(&act, Some(CheckAct::Reply(Checked { objects: 1, inherited: 0, differed }))
+                if differed.len() == count)
+        );
+    }
     Ok(())
 }
