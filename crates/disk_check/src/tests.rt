@@ -1,5 +1,9 @@
 //! Each call with ample memory: a body that never finds any would meet the contracts too. And worked checks.
 
+ghost use Rattle.std.specs.Prelude.{IfOk};
+ghost use Rattle.object_id.specs.Policy.{IsPolicy};
+ghost use Rattle.object_id.specs.Oid.{IsVid};
+
 use super::*;
 use inode::Inode;
 use object_id::{Bytes, NoMemory, Oid, Policy, VdiSpec, Vid};
@@ -41,14 +45,19 @@ fn copies_acts(rt: HostRuntime) -> Result<(), Fail> {
 }
 
 /// The inode of disk 1, with one object of 4,096 bytes that is its own.
-fn one_object(alloc: Global, policy: Policy) -> Result<Inode, Fail> {
+fn one_object(alloc: Global, policy: Policy) -> Result<Inode, NoMemory>
+    requires { IsPolicy policy }
+    ensures { IfOk result (λ inode. IsVid inode.vid) }
+{
     let spec = VdiSpec {
         size: 4_096,
         policy,
         shift: 12,
     };
     let mut inode = Inode::new(alloc, b"a", Vid(1), 1, None, spec)?;
-    inode.set_entry(0, Vid(1));
+    if !inode.entries().is_empty() {
+        inode.set_entry(0, Vid(1));
+    }
     Ok(inode)
 }
 
