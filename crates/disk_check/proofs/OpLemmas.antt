@@ -1,5 +1,5 @@
 -- What always holds of a check, and how each step keeps it.
-use Rattle.std.proofs.Common.{◌≡◌, ℕ, zero, suc, ◌+◌, ◌-◌, ◌<◌, ◌≤◌, ◌==◌, not, Bool, true, false, cond, List, [], ◌∷◌, ◌++◌, length, get_or, slice_get, drop, count_by, All, Option, Some, None, IfSome, refl, sym, ap, subst, ◌∙◌, arith}
+use Rattle.std.proofs.Common.{◌≡◌, ℕ, zero, suc, ◌+◌, ◌-◌, ◌<◌, ◌≤◌, ◌==◌, not, Bool, true, false, cond, List, [], ◌∷◌, ◌++◌, length, get_or, slice_get, drop, count_by, All, Some, IfSome, refl, sym, ap, subst, ◌∙◌, arith}
 use Rattle.std.specs.List.Sorted.{IsStrictlyIncreasing}
 use Rattle.std.proofs.Math.Seq.{drop-cons}
 use Rattle.std.proofs.lemmas.Bool.{eqb-true}
@@ -16,7 +16,7 @@ use Rattle.disk_check.specs.declared.stage.Stage.{Stage}
 use Rattle.disk_check.specs.declared.stage.Stage.TheVariants as stages
 use Rattle.disk_check.specs.Table.{own_indexes, inherited_count}
 use Rattle.disk_check.specs.Value.{pieces_in}
-use Rattle.disk_check.specs.Check.{CheckStage, Comparing, WritingBack, Answered, Check, CheckStep, with_object, later_of, left_of, IsCheck, memory_is_taken_at, check_on, begun_check, begin_check, write_back_step, check_done_at, check_on_done, bytes_at}
+use Rattle.disk_check.specs.Check.{CheckStage, Comparing, WritingBack, Check, with_object, later_of, left_of, IsCheck, memory_is_taken_at, check_on, begun_check, begin_check, write_back_step, check_done_at, check_on_done, bytes_at}
 use Rattle.disk_check.specs.Stage.{check_stage}
 use Rattle.disk_check.proofs.TableLemmas.{own_indexes-ascend, own_indexes-own, own_indexes-count}
 

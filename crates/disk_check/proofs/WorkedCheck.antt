@@ -1,5 +1,5 @@
 -- A worked check: disk 1 of one object of 4,096 bytes in two copies, one full of 1 and one full of 2.
-use Rattle.std.proofs.Common.{◌≡◌, ℕ, List, [], ◌∷◌, ◌++◌, replicate, Some, refl}
+use Rattle.std.proofs.Common.{◌≡◌, [], ◌∷◌, ◌++◌, replicate, Some, refl}
 use Rattle.object_id.specs.declared.policy.Policy.TheVariants.{Copies}
 use Rattle.inode.specs.Layout.{Content}
 use Rattle.peer_proto.specs.declared.work.ObjWork.TheVariants.{Write, ReadAll}

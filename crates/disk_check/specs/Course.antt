@@ -1,10 +1,10 @@
 -- The course of a check: all its acts in their order, and what it tells in the end.
-use Rattle.std.specs.Prelude.{ℕ, List, [], ◌∷◌, length, map, flat_map, filter, Option, Some, None}
+use Rattle.std.specs.Prelude.{ℕ, List, [], ◌∷◌, length, map, filter, Option, Some, None}
 use Rattle.object_id.specs.Oid.{object_number}
 use Rattle.inode.specs.Layout.{Content}
 use Rattle.peer_proto.specs.declared.guest.Checked.{Checked}
 use Rattle.disk_check.specs.declared.act.CheckAct.{CheckAct}
-use Rattle.disk_check.specs.declared.act.CheckAct.TheVariants.{Work, Reply}
+use Rattle.disk_check.specs.declared.act.CheckAct.TheVariants.{Work}
 use Rattle.disk_check.specs.Table.{own_indexes, inherited_count}
 use Rattle.disk_check.specs.Value.{pieces_in, value_of, differ}
 use Rattle.disk_check.specs.Check.{CheckStep, begun_check, read_copies, write_value, check_on_done}

@@ -1,5 +1,5 @@
 use Rattle.disk_check.proofs.CompareLemmas.{all_fit}
-use Rattle.std.proofs.Common.{◌≡◌, ◌<◌, ◌*◌, ◌^◌, arith}
+use Rattle.std.proofs.Common.{◌<◌, ◌*◌, ◌^◌, arith}
 use Rattle.disk_check.proofs.compare.all_bytes.Goals as goal
 
 pub overflow_mul-result : goal.overflow_mul-result

@@ -1,10 +1,10 @@
-use Rattle.std.proofs.Common.{◌≡◌, ℕ, ◌+◌, ◌-◌, ◌*◌, ◌^◌, ◌<◌, ◌≤◌, List, length, take, drop, true, false, sym, ap, subst, ◌∙◌, arith, rules}
+use Rattle.std.proofs.Common.{ℕ, ◌+◌, ◌-◌, ◌*◌, ◌^◌, ◌<◌, ◌≤◌, List, length, take, drop, sym, ap, subst, ◌∙◌, arith, rules}
 use Rattle.object_id.specs.declared.oid.Kind.TheVariants.{Block}
 use Rattle.object_id.specs.Policy.{wanted_of}
 use Rattle.gf256.specs.Part.{IsAligned}
 use Rattle.disk_check.specs.Value.{pieces_in, is_other_piece, differ}
 use Rattle.disk_check.proofs.WorkLemmas.{object_whole, aligned, value-length}
-use Rattle.disk_check.proofs.CompareLemmas.{EndsWithin, ends_within, all_pieces, found_other, none_found, piece_at_place, length-written}
+use Rattle.disk_check.proofs.CompareLemmas.{ends_within, all_pieces, found_other, none_found, piece_at_place, length-written}
 use Rattle.disk_check.proofs.compare.differ.Goals as goal
 
 pub loop-place-init : goal.loop-place-init

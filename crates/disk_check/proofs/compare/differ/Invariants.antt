@@ -1,4 +1,4 @@
-use Rattle.std.proofs.Common.{◌≡◌, ◌≤◌, ◌*◌, ◌-◌, take, drop, length}
+use Rattle.std.proofs.Common.{◌≡◌, ◌*◌, ◌-◌, take, drop, length}
 use Rattle.object_id.specs.declared.oid.Kind.TheVariants.{Block}
 use Rattle.object_id.specs.Policy.{wanted_of}
 use Rattle.disk_check.specs.Value.{pieces_in, is_other_piece, differ}

@@ -1,4 +1,4 @@
-use Rattle.std.proofs.Common.{◌≡◌, ◌∙◌, ap, sym, subst, length}
+use Rattle.std.proofs.Common.{◌∙◌, sym, subst, length}
 use Rattle.object_id.specs.declared.oid.Kind.TheVariants.{Block}
 use Rattle.gf256.specs.Part.{IsAligned}
 use Rattle.disk_check.proofs.WorkLemmas.{object_whole, aligned}

@@ -1,4 +1,4 @@
-use Rattle.std.proofs.Common.{◌≡◌, ◌∙◌, sym}
+use Rattle.std.proofs.Common.{◌∙◌, sym}
 use Rattle.disk_check.proofs.OpLemmas.{begun-is, check_on-begun}
 use Rattle.disk_check.proofs.op.begin_check.Goals as goal
 

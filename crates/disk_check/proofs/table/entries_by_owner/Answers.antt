@@ -1,7 +1,5 @@
-use Rattle.std.proofs.Common.{◌≡◌, ◌<◌, ℕ, List, length, take, slice_index, sym, ap, subst, ◌∙◌, arith}
-use Rattle.std.proofs.lemmas.List.{take_all}
-use Rattle.disk_check.specs.Table.{own_indexes, inherited_count}
-use Rattle.disk_check.proofs.TableLemmas.{objects_of-most, FoundUpTo, own_entry, inherited_entry, hole_entry}
+use Rattle.std.proofs.Common.{◌<◌, ℕ, List, length, slice_index, sym, ap, subst, ◌∙◌}
+use Rattle.disk_check.proofs.TableLemmas.{own_entry, inherited_entry, hole_entry}
 use Rattle.disk_check.proofs.table.entries_by_owner.Goals.{then-entry-vid+in_ok-push, else-entry-vid+then-entry-ne0, else-entry-vid+else-entry-ne0}
 use Rattle.disk_check.proofs.table.entries_by_owner.Goals as goal
 

@@ -1,6 +1,6 @@
-use Rattle.std.proofs.Common.{◌≡◌, ℕ, ◌+◌, ◌<◌, ◌≤◌, List, [], ◌∷◌, length, drop, false, sym, ap, subst, ◌∙◌, arith}
+use Rattle.std.proofs.Common.{◌≡◌, ℕ, ◌+◌, ◌<◌, ◌≤◌, List, [], ◌∷◌, length, drop, sym, ap, subst, ◌∙◌, arith}
 use Rattle.std.proofs.lemmas.List.{drop_all}
-use Rattle.disk_check.specs.Check.{CheckStage, Comparing, WritingBack, Check, left_of, IsCheck, memory_is_taken_at}
+use Rattle.disk_check.specs.Check.{Comparing, WritingBack, left_of}
 use Rattle.disk_check.specs.Stage.{check_stage}
 use Rattle.disk_check.proofs.OpLemmas.{writing_back, with_left, drop-place, none_differed}
 use Rattle.disk_check.proofs.op.CheckOp.go_on.Goals as goal

@@ -1,9 +1,7 @@
 use Rattle.std.proofs.Common.{◌≡◌, ℕ, List, drop, length, Some, ◌∙◌, sym, ap}
 use Rattle.std.proofs.lemmas.Result.{IfOk-weaker}
-use Rattle.peer_proto.specs.declared.work.ObjWork.{ObjWork}
-use Rattle.disk_check.specs.declared.act.CheckAct.{CheckAct}
 use Rattle.disk_check.specs.Value.{pieces_in}
-use Rattle.disk_check.specs.Check.{Check, CheckStep, CheckStage, Comparing, WritingBack, later_of, check_on, write_back_step, check_on_done}
+use Rattle.disk_check.specs.Check.{Check, CheckStep, Comparing, WritingBack, later_of, check_on, write_back_step, check_on_done}
 use Rattle.disk_check.specs.Stage.{check_stage}
 use Rattle.disk_check.proofs.OpLemmas.{done-comparing, done-writing, waits-writing}
 use Rattle.disk_check.proofs.op.CheckOp.on_done.Goals as goal

@@ -1,5 +1,5 @@
-use Rattle.std.proofs.Common.{◌≡◌, ℕ, List, drop, ◌∙◌, sym, ap, subst}
-use Rattle.disk_check.specs.Check.{Comparing, Check}
+use Rattle.std.proofs.Common.{◌≡◌, ℕ, List, drop}
+use Rattle.disk_check.specs.Check.{Comparing}
 use Rattle.disk_check.specs.Stage.{check_stage}
 use Rattle.disk_check.proofs.OpLemmas.{comparing, compared, behind-last}
 use Rattle.disk_check.proofs.op.CheckOp.write_back.Goals as goal
