@@ -1,7 +1,8 @@
 ghost use Rattle.std.specs.Prelude.{◌≡◌, ◌^◌, ◌∷◌, length, false, IfOk, IsOk, Some, OnErr, OnOk};
 ghost use Rattle.object_id.specs.Oid.{IsVid};
 ghost use Rattle.disk_check.specs.Value.{all_bytes, pieces_in};
-ghost use Rattle.disk_check.specs.Check.{CheckStage, Comparing, WritingBack, later_of, check_on, begin_check, write_back_step, check_on_done, check_bytes_wanted, takes_memory};
+ghost use Rattle.disk_check.specs.Check.{CheckStage, Comparing, WritingBack, later_of, check_on, begin_check, write_back_step};
+ghost use Rattle.disk_check.specs.Check.{check_on_done, check_bytes_wanted, takes_memory};
 
 use crate::act::CheckAct;
 use crate::compare::{all_bytes, differ, value_of};
