@@ -5,3 +5,5 @@ pub mod TaskWorks
 pub mod Op
 pub mod Steps
 pub mod Course
+pub mod Stage
+pub mod Kept

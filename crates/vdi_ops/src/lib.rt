@@ -11,11 +11,19 @@
 #![tactic(auto)]
 
 mod act;
+mod decisions;
 mod end;
+mod first;
+mod granted;
+mod inode_works;
 mod laws;
 mod limits;
+mod op;
+mod stage;
+mod table;
 #[cfg(test)]
 mod tests;
+mod works_done;
 
 pub use act::OpAct;
 pub use end::OpEnd;
@@ -25,4 +33,5 @@ pub use laws::{
     what_becomes_of_the_open_disk,
 };
 pub use limits::CHECKED_BYTES_MAX;
+pub use op::{VdiOp, begin_vdi};
 pub use peer_proto::{GuestRsp, VdiAsk, WorkDone};

@@ -1,0 +1,106 @@
+//! What comes after the entry that a command waits for was decided.
+ghost use Rattle.std.specs.Prelude.{◌≡◌, false, Some, IfOk, IfErr, IsOk, IsTrue, is_some};
+ghost use Rattle.std.specs.Option.{option_copied, option_map_or, option_and_then};
+ghost use Rattle.peer_proto.specs.declared.guest.GuestRsp.TheVariants.{Done};
+ghost use Rattle.vdi_ops.specs.declared.act.OpAct.TheVariants.{Reply};
+ghost use Rattle.vdi_ops.specs.Op.{Stays, Opens, Answered};
+ghost use Rattle.vdi_directory.specs.Decisions.{log_effects};
+ghost use Rattle.vdi_directory.specs.Effects.{header_of};
+ghost use Rattle.vdi_ops.specs.Steps.{change_without_grant, step_after_decision, decided_at};
+ghost use Rattle.vdi_ops.specs.Stage.{op_change, op_stage, bare_op, step_to};
+ghost use Rattle.vdi_ops.specs.Kept.{IsSoundOpStage, FitsEntry, FitsOpStage, vid_granted, first_takes_memory, decision_takes_memory};
+
+use crate::granted::{after_grant, reply};
+use crate::stage::{Change, Next, Stage};
+use inode::Inode;
+use object_id::{Entry, NoMemory, NodeId};
+use peer_proto::GuestRsp;
+use std::alloc::Global;
+use vdi_directory::{Decision, Directory};
+
+/// What a command leaves open that is granted nothing.
+fn change_without_grant(entry: &Entry) -> Change
+    ensures { op_change result ≡ change_without_grant entry.now }
+{
+    match entry {
+        Entry::Unlock { .. } => Change::Closes,
+        _ => Change::Stays,
+    }
+}
+
+/// The first entry was decided.
+fn after_first(
+    alloc: Global,
+    by: NodeId,
+    entry: &Entry,
+    decision: &Decision,
+    directory: &Directory,
+    disk: Option<&Inode>,
+) -> Result<Next, NoMemory>
+    requires step { IsTrue (is_some (step_after_decision (log_effects directory.now) (option_copied disk.entry) (bare_op by) entry.now
+        decision.now)) }
+    requires disk { IfSome (option_and_then (λ vid. header_of (log_effects directory.now) vid.0) (vid_granted decision.now))
+        (λ header. IfSome (option_copied disk.entry) (λ inode. FitsEntry header inode entry.now)) }
+    ensures ok { IfOk result (λ next. step_after_decision (log_effects directory.now) (option_copied disk.entry) (bare_op by) entry.now
+        decision.now ≡ Some (step_to (bare_op by) next)) }
+    ensures sound { IfOk result (λ next. IsSoundOpStage (op_stage next.stage)) }
+    ensures memory { first_takes_memory decision.now entry.now ≡ false → IsOk result }
+{
+    match *decision {
+        Decision::None => Ok(reply(GuestRsp::Done, change_without_grant(entry))),
+        Decision::Granted { vid } => match directory.header(vid) {
+            Some(header) => after_grant(alloc, by, entry, vid, header, directory, disk),
+            None => Err(NoMemory),
+        },
+        Decision::Refused(cause) => {
+            Ok(reply(GuestRsp::Refused(cause), change_without_grant(entry)))
+        }
+    }
+}
+
+/// The last entry was decided.
+fn after_last(opened: Option<Inode>) -> Next
+    ensures stage { op_stage result.stage ≡ Answered (option_map_or (Opens false) opened Stays) }
+    ensures act { result.act ≡ Reply Done }
+{
+    match opened {
+        Some(inode) => reply(
+            GuestRsp::Done,
+            Change::Opens {
+                snapshot: false,
+                inode,
+            },
+        ),
+        None => reply(GuestRsp::Done, Change::Stays),
+    }
+}
+
+/// The entry that a command waits for was decided. Without memory this gives its stage back.
+pub(crate) fn after_decision(
+    alloc: Global,
+    by: NodeId,
+    stage: Stage,
+    decision: &Decision,
+    directory: &Directory,
+    disk: Option<&Inode>,
+) -> Result<Next, Stage>
+    requires step { IsTrue (is_some (decided_at (log_effects directory.now) (option_copied disk.entry) decision.now (bare_op by)
+        (op_stage stage))) }
+    requires disk { FitsOpStage (option_and_then (λ vid. header_of (log_effects directory.now) vid.0) (vid_granted decision.now))
+        (option_copied disk.entry) (op_stage stage) }
+    ensures ok { IfOk result (λ next. decided_at (log_effects directory.now) (option_copied disk.entry) decision.now (bare_op by)
+        (op_stage stage) ≡ Some (step_to (bare_op by) next)) }
+    ensures sound { IfOk result (λ next. IsSoundOpStage (op_stage next.stage)) }
+    ensures err { IfErr result (λ kept. kept ≡ stage) }
+    ensures memory { decision_takes_memory decision.now (op_stage stage) ≡ false → IsOk result }
+{
+    match stage {
+        Stage::Asked(entry) => match after_first(alloc, by, &entry, decision, directory, disk) {
+            Ok(next) => Ok(next),
+            Err(NoMemory) => Err(Stage::Asked(entry)),
+        },
+        Stage::Working(vid, task) => Err(Stage::Working(vid, task)),
+        Stage::Publishing(_, opened) => Ok(after_last(opened)),
+        Stage::Answered(change) => Err(Stage::Answered(change)),
+    }
+}
