@@ -1,5 +1,7 @@
 pub mod StepLemmas
 mod TableLemmas
+mod IdLemmas
+mod MovedSteps
 mod TagLemmas
 mod CourseLemmas
 mod CheckRefusals

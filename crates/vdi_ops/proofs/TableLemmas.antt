@@ -1,5 +1,5 @@
 -- What is taken from an inode that is read, and what is written back.
-use Rattle.std.proofs.Common.{◌≡◌, ◌⊎◌, inl, inr, ℕ, ◌+◌, ◌-◌, ◌*◌, ◌/◌, ◌^◌, ◌<◌, ◌≤◌, ◌==◌, Bool, true, false, List, [], ◌∷◌, ◌++◌, length, drop, map, All, cond, refl, ap, sym, ◌∙◌, arith, append_assoc}
+use Rattle.std.proofs.Common.{◌≡◌, ◌⊎◌, inl, inr, ℕ, ◌+◌, ◌-◌, ◌*◌, ◌/◌, ◌^◌, ◌<◌, ◌≤◌, ◌==◌, Bool, true, false, List, [], ◌∷◌, ◌++◌, length, take, drop, map, All, cond, refl, ap, sym, ◌∙◌, arith, append_assoc}
 use Rattle.std.specs.List.{list_any}
 use Rattle.std.specs.Int.{w32}
 use Rattle.std.proofs.lemmas.Bool.{cond-true}
@@ -7,13 +7,14 @@ use Rattle.std.proofs.lemmas.List.{length-append, length-map, length-replicate, 
 use Rattle.std.proofs.lemmas.List.Elements.{All-nil, All-cons}
 use Rattle.std.proofs.lemmas.Nat.{pow_pos}
 use Rattle.std.proofs.Math.Nat.{div-lt_iff_lt-mul}
+use Rattle.std.proofs.Math.Seq.{take-append_seam}
 use Rattle.object_id.specs.declared.entry.VdiSpec.{VdiSpec}
 use Rattle.object_id.specs.Spec.{IsSpec, objects_of}
 use Rattle.object_id.specs.Policy.{policy_byte, strips_of}
 use Rattle.object_id.specs.Fields.{u8_bytes, u32_bytes, u64_bytes, numbers_bytes, numbers_at, zeros, Stands}
 use Rattle.object_id.proofs.FieldLemmas.{wide32, numbers-read, length-numbers_at}
 use Rattle.inode.specs.declared.layout.TheConstants.{INODE_BYTES, INODE_HEADER_BYTES, TEXT_BYTES, CHILDREN_BYTES}
-use Rattle.inode.specs.Layout.{Content, UnreadParts, Fills, text_bytes, header_bytes, unread_zeros, no_children, SpellsInode, IsFieldText, IsEntry}
+use Rattle.inode.specs.Layout.{Content, UnreadParts, Fills, text_bytes, header_bytes, inode_bytes, unread_zeros, no_children, SpellsInode, IsFieldText, IsEntry}
 use Rattle.inode.proofs.TableLemmas.{entries-fit}
 use Rattle.vdi_ops.specs.Tables.{kept_entry, table_in}
 use Rattle.vdi_ops.specs.InodeWorks.{written_bytes, written_back}
@@ -133,6 +134,23 @@ written_spells inode read bytes name tag s =
           ∙ ap (λ xs. head ++ xs) (behind_header bytes read s)
           ∙ sym (append_assoc head (numbers_bytes w32 read.table) s.rest);
     }
+
+-- the header's bytes are the first of an inode's
+pub first_bytes : (inode : Content) → IsFieldText inode.name → IsFieldText inode.tag
+    → take INODE_HEADER_BYTES (inode_bytes inode (unread_zeros inode)) ≡ header_bytes inode (unread_zeros inode)
+first_bytes inode name tag =
+    let head : List ℕ = header_bytes inode (unread_zeros inode) in
+    ap (λ n. take n (head ++ numbers_bytes w32 inode.table)) (sym (header_length inode (unread_zeros inode) (blank_fills inode name tag)))
+    ∙ take-append_seam head (numbers_bytes w32 inode.table)
+
+-- as many as the entries of a table
+pub spelled_length : (inode : Content) → IsFieldText inode.name → IsFieldText inode.tag
+    → INODE_HEADER_BYTES ≤ length (inode_bytes inode (unread_zeros inode))
+spelled_length inode name tag =
+    let head : List ℕ = header_bytes inode (unread_zeros inode) in
+    let long = header_length inode (unread_zeros inode) (blank_fills inode name tag) in
+    let sum = length-append head (numbers_bytes w32 inode.table) in
+    omega (arith, long, sum)
 
 -- ---- how long it is
 

@@ -1,5 +1,5 @@
 //! What comes after the entry that a command waits for was decided.
-ghost use Rattle.std.specs.Prelude.{◌≡◌, false, Some, IfOk, IfErr, IsOk, IsTrue, is_some};
+ghost use Rattle.std.specs.Prelude.{◌≡◌, false, Some, IfOk, IfSome, IfErr, IsOk, IsTrue, is_some};
 ghost use Rattle.std.specs.Option.{option_copied, option_map_or, option_and_then};
 ghost use Rattle.peer_proto.specs.declared.guest.GuestRsp.TheVariants.{Done};
 ghost use Rattle.vdi_ops.specs.declared.act.OpAct.TheVariants.{Reply};
@@ -37,10 +37,10 @@ fn after_first(
     directory: &Directory,
     disk: Option<&Inode>,
 ) -> Result<Next, NoMemory>
-    requires step { IsTrue (is_some (step_after_decision (log_effects directory.now) (option_copied disk.entry) (bare_op by) entry.now
+    requires step { IsTrue (is_some (step_after_decision (log_effects directory.now) (option_copied disk) (bare_op by) entry.now
         decision.now)) }
     requires disk { IfSome (option_and_then (λ vid. header_of (log_effects directory.now) vid.0) (vid_granted decision.now))
-        (λ header. IfSome (option_copied disk.entry) (λ inode. FitsEntry header inode entry.now)) }
+        (λ header. IfSome (option_copied disk) (λ inode. FitsEntry header inode entry.now)) }
     ensures ok { IfOk result (λ next. step_after_decision (log_effects directory.now) (option_copied disk.entry) (bare_op by) entry.now
         decision.now ≡ Some (step_to (bare_op by) next)) }
     ensures sound { IfOk result (λ next. IsSoundOpStage (op_stage next.stage)) }
@@ -84,10 +84,10 @@ pub(crate) fn after_decision(
     directory: &Directory,
     disk: Option<&Inode>,
 ) -> Result<Next, Stage>
-    requires step { IsTrue (is_some (decided_at (log_effects directory.now) (option_copied disk.entry) decision.now (bare_op by)
+    requires step { IsTrue (is_some (decided_at (log_effects directory.now) (option_copied disk) decision.now (bare_op by)
         (op_stage stage))) }
     requires disk { FitsOpStage (option_and_then (λ vid. header_of (log_effects directory.now) vid.0) (vid_granted decision.now))
-        (option_copied disk.entry) (op_stage stage) }
+        (option_copied disk) (op_stage stage) }
     ensures ok { IfOk result (λ next. decided_at (log_effects directory.now) (option_copied disk.entry) decision.now (bare_op by)
         (op_stage stage) ≡ Some (step_to (bare_op by) next)) }
     ensures sound { IfOk result (λ next. IsSoundOpStage (op_stage next.stage)) }

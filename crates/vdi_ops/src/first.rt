@@ -29,7 +29,7 @@ pub(crate) fn first_entry(
     ask: VdiAsk,
     disk: Option<&Inode>,
 ) -> Result<Entry, NoMemory>
-    requires { HasFirstEntry (option_copied disk.entry) ask }
+    requires { HasFirstEntry (option_copied disk) ask }
     ensures ok { IfOk result (λ entry. first_entry node session (option_copied disk.entry) ask ≡ Some entry) }
     ensures memory { ask ≡ Close → IfOk result (λ entry. gives_back entry ≡ true) × IsOk result }
 {

@@ -154,9 +154,9 @@ fn after_reservation(
     requires vid { IsVid vid.0 }
     requires header { IsInodeHeader header.now }
     requires base { IfSome header.now.parent (λ parent. IsVid parent.0) }
-    requires disk { IfSome (option_copied disk.entry) (λ inode. FitsOrigin header.now inode origin.now) }
+    requires disk { IfSome (option_copied disk) (λ inode. FitsOrigin header.now inode origin.now) }
     requires step { IsTrue (is_some (step_after_grant (bare_op by) vid (chain_of (log_effects directory.now) vid.0)
-        (option_copied disk.entry) (entries.Reserve by 0 [] origin.now) header.now)) }
+        (option_copied disk) (entries.Reserve by 0 [] origin.now) header.now)) }
     ensures ok { IfOk result (λ next. step_after_grant (bare_op by) vid (chain_of (log_effects directory.now) vid.0)
         (option_copied disk.entry) (entries.Reserve by 0 [] origin.now) header.now ≡ Some (step_to (bare_op by) next)) }
     ensures sound { IfOk result (λ next. IsSoundOpStage (op_stage next.stage)) }
@@ -187,9 +187,9 @@ pub(crate) fn after_grant(
     requires vid { IsVid vid.0 }
     requires header { IsInodeHeader header.now }
     requires base { IfSome header.now.parent (λ parent. IsVid parent.0) }
-    requires disk { IfSome (option_copied disk.entry) (λ inode. FitsEntry header.now inode entry.now) }
+    requires disk { IfSome (option_copied disk) (λ inode. FitsEntry header.now inode entry.now) }
     requires step { IsTrue (is_some (step_after_grant (bare_op by) vid (chain_of (log_effects directory.now) vid.0)
-        (option_copied disk.entry) entry.now header.now)) }
+        (option_copied disk) entry.now header.now)) }
     ensures ok { IfOk result (λ next. step_after_grant (bare_op by) vid (chain_of (log_effects directory.now) vid.0)
         (option_copied disk.entry) entry.now header.now ≡ Some (step_to (bare_op by) next)) }
     ensures sound { IfOk result (λ next. IsSoundOpStage (op_stage next.stage)) }

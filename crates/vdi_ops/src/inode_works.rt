@@ -1,7 +1,10 @@
 //! The inodes that commands make, and their works on them.
-ghost use Rattle.std.specs.Prelude.{◌≡◌, ◌∷◌, length, IfOk};
+ghost use Rattle.std.specs.Prelude.{◌≡◌, ◌≤◌, length, take, IfOk};
 ghost use Rattle.object_id.specs.Oid.{IsVid};
 ghost use Rattle.object_id.specs.Spec.{IsSpec, objects_of};
+ghost use Rattle.inode.specs.declared.layout.TheConstants.{INODE_HEADER_BYTES};
+ghost use Rattle.object_id.specs.Piece.{laid_over};
+ghost use Rattle.inode.specs.Layout.{IsFieldText};
 ghost use Rattle.vdi_ops.specs.Tables.{table_in, holes, inode_by};
 ghost use Rattle.vdi_ops.specs.InodeWorks.{written_bytes, read_inode, create_inode, write_back, written_back, write_tag};
 ghost use Rattle.vdi_ops.specs.Kept.{IsInodeHeader};
@@ -113,24 +116,31 @@ pub(crate) fn create_inode(alloc: Global, inode: &Inode) -> Result<ObjWork, NoMe
     })
 }
 
+/// Lays the header of an inode's bytes over other bytes.
+fn lay_header(bytes: &mut [u8], spelled: &[u8])
+    requires room { INODE_HEADER_BYTES ≤ length bytes.old }
+    requires whole { INODE_HEADER_BYTES ≤ length spelled.now }
+    ensures { bytes.new ≡ laid_over bytes.old 0 (take INODE_HEADER_BYTES spelled.now) }
+{
+    lay_over(bytes, 0, &spelled[..INODE_HEADER_BYTES]);
+}
+
 /// What was read of an inode, with the inode's header laid over it.
 fn written_back(alloc: Global, inode: &Inode, bytes: &[u8]) -> Result<Bytes, NoMemory>
-    requires { INODE_HEADER_BYTES ≤ length bytes.now }
+    requires texts { IsFieldText inode.now.name × IsFieldText inode.now.tag }
+    requires whole { INODE_HEADER_BYTES ≤ length bytes.now }
     ensures { IfOk result (λ written. written ≡ written_back inode.now bytes.now) }
 {
     let spelled = inode.to_bytes(alloc)?;
     let mut written = Vec::from_slice(alloc, bytes)?;
-    lay_over(
-        written.as_mut_slice(),
-        0,
-        &spelled.as_slice()[..INODE_HEADER_BYTES],
-    );
+    lay_header(written.as_mut_slice(), spelled.as_slice());
     Ok(Bytes::from_vec(written))
 }
 
 /// What was read of an inode is written back with the inode's header. Takes the bytes twice.
 pub(crate) fn write_back(alloc: Global, inode: &Inode, bytes: &[u8]) -> Result<ObjWork, NoMemory>
     requires vid { IsVid inode.now.vid }
+    requires texts { IsFieldText inode.now.name × IsFieldText inode.now.tag }
     requires whole { INODE_HEADER_BYTES ≤ length bytes.now }
     ensures { IfOk result (λ work. work ≡ write_back inode.now bytes.now) }
 {

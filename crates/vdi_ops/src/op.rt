@@ -57,7 +57,7 @@ pub fn begin_vdi(
     ask: VdiAsk,
     disk: Option<&Inode>,
 ) -> Result<(VdiOp, OpAct), NoMemory>
-    requires { HasFirstEntry (option_copied disk.entry) ask }
+    requires { HasFirstEntry (option_copied disk) ask }
     ensures ok { IfOk result (λ begun. begin_command node session ask (option_copied disk.entry)
         ≡ Some (record { op = begun.0; act = begun.1 })) }
     ensures memory { ask ≡ Close → IsOk result }
@@ -107,10 +107,10 @@ impl VdiOp {
         directory: &Directory,
         disk: Option<&Inode>,
     ) -> Result<OpAct, NoMemory>
-        requires step { IsTrue (is_some (on_decision (log_effects directory.now) (option_copied disk.entry) decision.now self.old)) }
+        requires step { IsTrue (is_some (on_decision (log_effects directory.now) (option_copied disk) decision.now self.old)) }
         // A snapshot's disk is one that the granted id can follow.
         requires disk { FitsOpStage (option_and_then (λ vid. header_of (log_effects directory.now) vid.0) (vid_granted decision.now))
-            (option_copied disk.entry) self.old.stage }
+            (option_copied disk) self.old.stage }
         ensures ok { IfOk result (λ act. on_decision (log_effects directory.now) (option_copied disk.entry) decision.now self.old
             ≡ Some (record { op = self.new; act = act })) }
         ensures err { OnErr result (self.new ≡ self.old) }
@@ -153,21 +153,33 @@ impl VdiOp {
 
     /// How the command ends when the work that it waits for was refused: with the refusal, and with what gives back the id that it was
     /// granted. Takes no memory.
+    #[tactic(auto, unfolding(crate::specs::Steps::on_refusal))]
     pub fn on_refused(&self, cause: Cause) -> OpEnd
         requires { IsTrue (is_some (op_bytes_wanted self.now)) }
         ensures { on_refusal cause self.now ≡ Some result }
     {
-        let unlock = match &self.stage {
-            Stage::Working(vid, _) => Some(Entry::Unlock {
-                by: self.by,
-                session: self.session,
-                vid: *vid,
-            }),
-            _ => None,
-        };
-        OpEnd {
-            unlock,
-            reply: GuestRsp::Refused(cause),
+        let reply = GuestRsp::Refused(cause);
+        match &self.stage {
+            Stage::Asked(_) => OpEnd {
+                unlock: None,
+                reply,
+            },
+            Stage::Working(vid, _) => OpEnd {
+                unlock: Some(Entry::Unlock {
+                    by: self.by,
+                    session: self.session,
+                    vid: *vid,
+                }),
+                reply,
+            },
+            Stage::Publishing(_, _) => OpEnd {
+                unlock: None,
+                reply,
+            },
+            Stage::Answered(_) => OpEnd {
+                unlock: None,
+                reply,
+            },
         }
     }
 

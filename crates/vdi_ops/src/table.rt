@@ -15,7 +15,8 @@ pub(crate) fn objects(spec: VdiSpec) -> u32
     requires { IsSpec spec }
     ensures { result ≡ objects_of spec }
 {
-    spec.size.div_ceil(1 << spec.shift) as u32
+    let object_bytes = 1 << spec.shift;
+    ((spec.size + object_bytes - 1) / object_bytes) as u32
 }
 
 /// The numbers of these ids. Takes memory for them.
