@@ -3,6 +3,7 @@ use Rattle.std.proofs.Common.{◌≡◌, ℕ, ◌+◌, ◌<◌, ◌≤◌, ◌==
 use Rattle.std.specs.List.{list_any}
 use Rattle.std.specs.List.Sorted.{IsPermutation}
 use Rattle.std.proofs.lemmas.Bool.{eq-eqb, ne_eqb, cond-true, cond-false, cases_lt}
+use Rattle.std.proofs.lemmas.List.{append-nil, take_all, drop_all}
 use Rattle.std.proofs.lemmas.Grind.{get_or_default_zero}
 use Rattle.std.proofs.lemmas.List.Folds.{list_any_at, list_any_none}
 use Rattle.std.proofs.lemmas.List.Sorted.{list_any-IsPermutation}
@@ -35,3 +36,10 @@ kept_same ids sorted (entry ∷ entries) moved =
     ap₂ (λ (x : ℕ) (xs : List ℕ). x ∷ xs)
     (ap (λ b. cond b entry 0) (sym (list_any-IsPermutation (λ id. id == entry) ids sorted moved)))
     (kept_same ids sorted entries moved)
+
+-- a slice that was written over its whole vector
+pub whole_slice : (long : ℕ) (new items : List ℕ) → long ≡ length items → length new ≡ length items
+    → take long (new ++ drop (length new) items) ≡ new
+whole_slice long new items all same =
+    let none : drop (length new) items ≡ [] = drop_all (length new) items (omega (arith, same)) in
+    ap (λ (xs : List ℕ). take long (new ++ xs)) none ∙ ap (take long) (append-nil new) ∙ take_all long new (omega (arith, all, same))
