@@ -160,7 +160,7 @@ div_most size object some most =
     let quotient : (size + object - 1) / object < 2 ^ 20 + 1 = (div-lt_iff_lt-mul some).1 below in
     omega (arith, quotient)
 
-objects_most : (spec : VdiSpec) → IsSpec spec → objects_of spec ≤ 2 ^ 20
+pub objects_most : (spec : VdiSpec) → IsSpec spec → objects_of spec ≤ 2 ^ 20
 objects_most spec valid = div_most spec.size (2 ^ spec.shift) (pow_pos spec.shift) valid.size.1
 
 pub room : (spec : VdiSpec) → IsSpec spec → written_bytes spec ≤ INODE_BYTES

@@ -1,22 +1,23 @@
 //! What comes after the entry that a command waits for was decided.
-ghost use Rattle.std.specs.Prelude.{◌≡◌, false, Some, IfOk, IfSome, IfErr, IsOk, IsTrue, is_some};
+ghost use Rattle.std.specs.Prelude.{◌≡◌, ℕ, List, false, Some, IfOk, IfSome, IfErr, IsOk, IsTrue, is_some};
 ghost use Rattle.std.specs.Option.{option_copied, option_map_or, option_and_then};
 ghost use Rattle.peer_proto.specs.declared.guest.GuestRsp.TheVariants.{Done};
 ghost use Rattle.vdi_ops.specs.declared.act.OpAct.TheVariants.{Reply};
-ghost use Rattle.vdi_ops.specs.Op.{Stays, Opens, Answered};
+ghost use Rattle.vdi_ops.specs.Op.{Op, Stays, Opens, Answered};
+ghost use Rattle.object_id.specs.declared.oid.Vid.{Vid as TheVid};
 ghost use Rattle.vdi_directory.specs.Decisions.{log_effects};
 ghost use Rattle.vdi_directory.specs.Effects.{header_of};
-ghost use Rattle.vdi_ops.specs.Steps.{change_without_grant, step_after_decision, decided_at};
+ghost use Rattle.vdi_ops.specs.Steps.{change_without_grant, step_after_grant, step_after_decision, decided_at};
 ghost use Rattle.vdi_ops.specs.Stage.{op_change, op_stage, bare_op, step_to};
 ghost use Rattle.vdi_ops.specs.Kept.{IsSoundOpStage, FitsEntry, FitsOpStage, vid_granted, first_takes_memory, decision_takes_memory};
 
-use crate::granted::{after_grant, reply};
+use crate::granted::{reply, step_after_grant};
 use crate::stage::{Change, Next, Stage};
 use inode::Inode;
-use object_id::{Entry, NoMemory, NodeId};
+use object_id::{Entry, NoMemory, NodeId, Origin};
 use peer_proto::GuestRsp;
 use std::alloc::Global;
-use vdi_directory::{Decision, Directory};
+use vdi_directory::{Decision, Directory, Header};
 
 /// What a command leaves open that is granted nothing.
 fn change_without_grant(entry: &Entry) -> Change
@@ -28,8 +29,52 @@ fn change_without_grant(entry: &Entry) -> Change
     }
 }
 
+/// Whether the open disk is one that the id which was granted on an entry can follow, and the entry is one that is granted.
+fn has_step_after_grant(entry: &Entry, header: &Header, disk: Option<&Inode>) -> bool
+    ensures step { (op : Op) (vid : TheVid) (chain : List ℕ) → IsTrue result
+        → IsTrue (is_some (step_after_grant op vid chain (option_copied disk.entry) entry.now header.now)) }
+    ensures disk { IsTrue result → IfSome (option_copied disk.entry) (λ inode. FitsEntry header.now inode entry.now) }
+{
+    match entry {
+        Entry::Reserve { origin, .. } => match origin {
+            Origin::Fresh { .. } => true,
+            Origin::SnapshotOf { .. } => match disk {
+                Some(disk) => disk.vid().is_valid() && header.spec == disk.spec(),
+                None => false,
+            },
+            Origin::CloneOf { .. } => header.parent.is_some(),
+        },
+        Entry::Delete { .. } => true,
+        Entry::Lock { .. } => true,
+        Entry::Unlock { .. } => true,
+        _ => false,
+    }
+}
+
+/// Whether a command goes on by the decision on its first entry.
+pub(crate) fn has_step_after_decision(
+    entry: &Entry,
+    decision: &Decision,
+    directory: &Directory,
+    disk: Option<&Inode>,
+) -> bool
+    ensures step { (op : Op) → IsTrue result → IsTrue (is_some (step_after_decision (log_effects directory.now)
+        (option_copied disk.entry) op entry.now decision.now)) }
+    ensures disk { IsTrue result → IfSome (option_and_then (λ vid. header_of (log_effects directory.now) vid.0) (vid_granted decision.now))
+        (λ header. IfSome (option_copied disk.entry) (λ inode. FitsEntry header inode entry.now)) }
+{
+    match *decision {
+        Decision::None => true,
+        Decision::Granted { vid } => match directory.header(vid) {
+            Some(header) => has_step_after_grant(entry, header, disk),
+            None => false,
+        },
+        Decision::Refused(_) => true,
+    }
+}
+
 /// The first entry was decided.
-fn after_first(
+fn step_after_decision(
     alloc: Global,
     by: NodeId,
     entry: &Entry,
@@ -49,7 +94,7 @@ fn after_first(
     match *decision {
         Decision::None => Ok(reply(GuestRsp::Done, change_without_grant(entry))),
         Decision::Granted { vid } => match directory.header(vid) {
-            Some(header) => after_grant(alloc, by, entry, vid, header, directory, disk),
+            Some(header) => step_after_grant(alloc, by, entry, vid, header, directory, disk),
             None => Err(NoMemory),
         },
         Decision::Refused(cause) => {
@@ -95,7 +140,7 @@ pub(crate) fn after_decision(
     ensures memory { decision_takes_memory decision.now (op_stage stage) ≡ false → IsOk result }
 {
     match stage {
-        Stage::Asked(entry) => match after_first(alloc, by, &entry, decision, directory, disk) {
+        Stage::Asked(entry) => match step_after_decision(alloc, by, &entry, decision, directory, disk) {
             Ok(next) => Ok(next),
             Err(NoMemory) => Err(Stage::Asked(entry)),
         },

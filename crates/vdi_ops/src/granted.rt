@@ -175,7 +175,7 @@ fn after_reservation(
 }
 
 /// Goes on with the id that was granted.
-pub(crate) fn after_grant(
+pub(crate) fn step_after_grant(
     alloc: Global,
     by: NodeId,
     entry: &Entry,

@@ -19,6 +19,7 @@ mod inode_works;
 mod laws;
 mod limits;
 mod op;
+mod refusal;
 mod stage;
 mod table;
 #[cfg(test)]
@@ -35,3 +36,4 @@ pub use laws::{
 pub use limits::CHECKED_BYTES_MAX;
 pub use op::{VdiOp, begin_vdi};
 pub use peer_proto::{GuestRsp, VdiAsk, WorkDone};
+pub use refusal::command_refusal;

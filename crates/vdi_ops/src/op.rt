@@ -11,10 +11,11 @@ ghost use Rattle.vdi_ops.specs.Kept.{HasFirstEntry, FitsOpStage, vid_granted, de
 ghost use Rattle.vdi_ops.specs.Kept.{inode_opened, opens_snapshot, closes};
 
 use crate::act::OpAct;
-use crate::decisions::after_decision;
+use crate::decisions::{after_decision, has_step_after_decision};
 use crate::end::OpEnd;
 use crate::first::{copy_entry, first_entry};
-use crate::stage::{Change, Stage};
+use crate::inode_works::written_bytes;
+use crate::stage::{Change, Stage, Task};
 use crate::works_done::after_work;
 use inode::Inode;
 use object_id::{Cause, Entry, NoMemory, NodeId};
@@ -85,13 +86,36 @@ impl VdiOp {
         }
     }
 
+    /// Whether the command can go on by this decision: it waits for one, what was granted is known, and the open disk is there where it
+    /// is wanted. Costs the logarithm of the known ids, and takes no memory.
+    pub fn has_step(&self, decision: &Decision, directory: &Directory, disk: Option<&Inode>) -> bool
+        ensures step { IsTrue result
+            → IsTrue (is_some (on_decision (log_effects directory.now) (option_copied disk.entry) decision.now self.now)) }
+        ensures disk { IsTrue result
+            → FitsOpStage (option_and_then (λ vid. header_of (log_effects directory.now) vid.0) (vid_granted decision.now))
+            (option_copied disk.entry) self.now.stage }
+    {
+        match &self.stage {
+            Stage::Asked(entry) => has_step_after_decision(entry, decision, directory, disk),
+            Stage::Working(_, _) => false,
+            Stage::Publishing(_, _) => true,
+            Stage::Answered(_) => false,
+        }
+    }
+
     /// How many bytes the work gives that the command waits for; `None` if it waits for none. Takes no memory.
     pub fn bytes_wanted(&self) -> Option<usize>
         ensures { result ≡ op_bytes_wanted self.now }
     {
         match &self.stage {
             Stage::Asked(_) => None,
-            Stage::Working(vid, task) => Some(task.bytes(*vid)),
+            Stage::Working(_, task) => match task {
+                Task::Opening { header, .. } => Some(written_bytes(header.spec)),
+                Task::WritingBack { .. } => Some(0),
+                Task::Tagging { .. } => Some(0),
+                Task::Copying { header, .. } => Some(written_bytes(header.spec)),
+                Task::Making { .. } => Some(0),
+            },
             Stage::Publishing(_, _) => None,
             Stage::Answered(_) => None,
         }

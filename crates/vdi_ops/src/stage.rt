@@ -1,11 +1,8 @@
 //! What a command keeps while it waits, and what a step makes of it.
 ghost use Rattle.std.specs.Prelude.{◌≡◌};
-ghost use Rattle.vdi_ops.specs.Op.{bytes_of_task};
-ghost use Rattle.vdi_ops.specs.Stage.{entry_of_last, op_task};
-ghost use Rattle.vdi_ops.specs.Kept.{IsSoundTask};
+ghost use Rattle.vdi_ops.specs.Stage.{entry_of_last};
 
 use crate::act::OpAct;
-use crate::inode_works::written_bytes;
 use inode::Inode;
 use object_id::{Entry, Items, NodeId, Vid};
 use vdi_directory::Header;
@@ -48,22 +45,6 @@ pub(crate) enum Task {
         entry: LastEntry,
         opened: Option<Inode>,
     },
-}
-
-impl Task {
-    /// How many bytes the task's work gives, for the id that was granted.
-    pub fn bytes(&self, _vid: Vid) -> usize
-        requires { IsSoundTask _vid (op_task _vid self.now) }
-        ensures { result ≡ bytes_of_task (op_task _vid self.now) }
-    {
-        match self {
-            Task::Opening { header, .. } => written_bytes(header.spec),
-            Task::WritingBack { .. } => 0,
-            Task::Tagging { .. } => 0,
-            Task::Copying { header, .. } => written_bytes(header.spec),
-            Task::Making { .. } => 0,
-        }
-    }
 }
 
 /// What a command leaves of what its session has open.
