@@ -140,7 +140,9 @@ pub(crate) fn after_decision(
     ensures memory { decision_takes_memory decision.now (op_stage stage) ≡ false → IsOk result }
 {
     match stage {
-        Stage::Asked(entry) => match step_after_decision(alloc, by, &entry, decision, directory, disk) {
+        Stage::Asked(entry) => match step_after_decision(
+            alloc, by, &entry, decision, directory, disk,
+        ) {
             Ok(next) => Ok(next),
             Err(NoMemory) => Err(Stage::Asked(entry)),
         },

@@ -43,14 +43,7 @@ pub(crate) fn inode_of_holes(alloc: Global, header: &Header, vid: Vid) -> Result
     ensures { IfOk result (λ inode. inode ≡ inode_by header.now vid.0 (holes header.now.spec)) }
 {
     let name = header.name.as_slice();
-    let mut inode = Inode::new(
-        alloc,
-        name,
-        vid,
-        header.snap_id,
-        header.parent,
-        header.spec,
-    )?;
+    let mut inode = Inode::new(alloc, name, vid, header.snap_id, header.parent, header.spec)?;
     if !header.tag.is_empty() {
         inode.set_tag(alloc, header.tag.as_slice())?;
     }

@@ -24,6 +24,8 @@ mod stage;
 mod table;
 #[cfg(test)]
 mod tests;
+#[cfg(test)]
+mod worked;
 mod works_done;
 
 pub use act::OpAct;

@@ -88,6 +88,7 @@ impl VdiOp {
 
     /// Whether the command can go on by this decision: it waits for one, what was granted is known, and the open disk is there where it
     /// is wanted. Costs the logarithm of the known ids, and takes no memory.
+    #[tactic(auto, unfolding(crate::specs::Steps::on_decision))]
     pub fn has_step(&self, decision: &Decision, directory: &Directory, disk: Option<&Inode>) -> bool
         ensures step { IsTrue result
             → IsTrue (is_some (on_decision (log_effects directory.now) (option_copied disk.entry) decision.now self.now)) }

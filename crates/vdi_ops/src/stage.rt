@@ -37,10 +37,18 @@ pub(crate) enum Task {
         chain: Items<Vid>,
         header: Header,
     },
-    WritingBack { inode: Inode },
-    Tagging { old: Vid, inode: Inode },
+    WritingBack {
+        inode: Inode,
+    },
+    Tagging {
+        old: Vid,
+        inode: Inode,
+    },
     /// The inode of a clone's base is read; `chain` are the ids above the clone.
-    Copying { chain: Items<Vid>, header: Header },
+    Copying {
+        chain: Items<Vid>,
+        header: Header,
+    },
     Making {
         entry: LastEntry,
         opened: Option<Inode>,

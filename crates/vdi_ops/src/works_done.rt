@@ -96,13 +96,7 @@ fn after_copying(
 }
 
 /// The open disk has its tag: the inode that takes its place is created. Without memory this gives the inode back.
-fn after_tagging(
-    alloc: Global,
-    by: NodeId,
-    vid: Vid,
-    old: Vid,
-    inode: Inode,
-) -> Result<Next, Inode>
+fn after_tagging(alloc: Global, by: NodeId, vid: Vid, old: Vid, inode: Inode) -> Result<Next, Inode>
     requires { IsVid inode.vid }
     ensures ok { (bytes : List ℕ) → IfOk result (λ next. step_to (bare_op by) next
         ≡ task_done (bare_op by) vid bytes (Tagging old inode)) }
@@ -128,13 +122,7 @@ fn after_tagging(
 }
 
 /// A task's work was done. Without memory this gives the task back.
-fn after_task(
-    alloc: Global,
-    by: NodeId,
-    vid: Vid,
-    task: Task,
-    bytes: &[u8],
-) -> Result<Next, Task>
+fn after_task(alloc: Global, by: NodeId, vid: Vid, task: Task, bytes: &[u8]) -> Result<Next, Task>
     requires sound { IsSoundTask vid (op_task vid task) }
     requires whole { length bytes.now ≡ bytes_of_task (op_task vid task) }
     ensures ok { IfOk result (λ next. step_to (bare_op by) next ≡ task_done (bare_op by) vid bytes.now (op_task vid task)) }
