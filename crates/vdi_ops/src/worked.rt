@@ -469,7 +469,11 @@ fn ends_with_the_refusal_of_its_work(rt: HostRuntime) -> Result<(), Fail> {
     decided(alloc, &mut op, &act, None, &mut directory, &mut locks)?;
     assert_eq!(rt; op.bytes_wanted(), Some(0));
     if op.bytes_wanted().is_some() {
-        let end = op.on_refused(Cause::Halt);
+        let halt = Cause::Halt {
+            members: 1,
+            wanted: 2,
+        };
+        let end = op.on_refused(halt);
         assert!(rt;
             matches!(
                 end.unlock,
@@ -480,7 +484,15 @@ fn ends_with_the_refusal_of_its_work(rt: HostRuntime) -> Result<(), Fail> {
                 })
             )
         );
-        assert!(rt; matches!(end.reply, GuestRsp::Refused(Cause::Halt)));
+        assert!(rt;
+            matches!(
+                end.reply,
+                GuestRsp::Refused(Cause::Halt {
+                    members: 1,
+                    wanted: 2
+                })
+            )
+        );
     }
     Ok(())
 }
