@@ -23,15 +23,15 @@ entry_of_last (lasts.Clone by vid) = entries.Clone by vid
 entry_of_last (lasts.Snapshot by old vid) = entries.Snapshot by old vid
 
 -- the numbers of ids
-abbrev pub numbers_of : List Vid → List ℕ
-numbers_of ids = map (λ (id : Vid). id.0) ids
+abbrev pub id_numbers : List Vid → List ℕ
+id_numbers ids = map (λ (id : Vid). id.0) ids
 
 -- a task, for the id that was granted: an opening counts that id's own entries too
 abbrev pub op_task : Vid → KeptTask → Task
-op_task vid (tasks.Opening snapshot chain header) = Opening snapshot (vid.0 ∷ numbers_of chain) header
+op_task vid (tasks.Opening snapshot chain header) = Opening snapshot (vid.0 ∷ id_numbers chain) header
 op_task vid (tasks.WritingBack inode) = WritingBack inode
 op_task vid (tasks.Tagging old inode) = Tagging old inode
-op_task vid (tasks.Copying chain header) = Copying (numbers_of chain) header
+op_task vid (tasks.Copying chain header) = Copying (id_numbers chain) header
 op_task vid (tasks.Making entry opened) = Making (entry_of_last entry) opened
 
 -- what is left of what a session has open

@@ -11,7 +11,7 @@ ghost use Rattle.vdi_ops.specs.Tables.{holes, inode_by};
 ghost use Rattle.vdi_ops.specs.InodeWorks.{read_inode, create_inode, write_tag};
 ghost use Rattle.vdi_ops.specs.Op.{Opening, Tagging, Copying, Making, Working};
 ghost use Rattle.vdi_ops.specs.Steps.{step_after_grant};
-ghost use Rattle.vdi_ops.specs.Stage.{op_stage, bare_op, step_to, numbers_of};
+ghost use Rattle.vdi_ops.specs.Stage.{op_stage, bare_op, step_to, id_numbers};
 ghost use Rattle.vdi_ops.specs.Kept.{IsInodeHeader, IsSoundOpStage, FitsOrigin, FitsEntry, grant_takes_memory};
 
 use crate::act::OpAct;
@@ -83,7 +83,7 @@ fn tag_disk(
 
 /// The ids above one.
 fn chain_above(directory: &Directory, vid: Vid) -> Result<Items<Vid>, NoMemory>
-    ensures { IfOk result (λ chain. numbers_of chain ≡ chain_of (log_effects directory.now) vid.0) }
+    ensures { IfOk result (λ chain. id_numbers chain ≡ chain_of (log_effects directory.now) vid.0) }
 {
     Ok(Items::from_vec(directory.chain(vid)?))
 }

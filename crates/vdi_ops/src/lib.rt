@@ -1,10 +1,15 @@
 //! The commands on disks: create, open, close, snapshot, clone and delete, each by entries of the membership log and
 //! works on inodes. Of the check of a disk stands here when it is refused on the spot; how it goes is told by `disk_check`.
 //!
-//! The crate stands on `peer_proto`, `inode` and `vdi_directory`. Here stand the types that a command hands out, and as
-//! definitions all that it does: its first entry, and when it is refused on the spot (`specs/Entries.antt`); what it takes
-//! from an inode that it reads (`specs/Tables.antt`); its works on inodes (`specs/InodeWorks.antt`); what it waits for
-//! (`specs/Op.antt`); and each of its steps (`specs/Steps.antt`).
+//! [`begin_vdi`] makes a [`VdiOp`] of what is asked; it hands out one act after the other: an entry to put, a work, and in the
+//! end the reply. It goes on by [`VdiOp::on_decision`] when its entry was decided, and by [`VdiOp::on_done`] when its work is done;
+//! [`VdiOp::on_refused`] is how it ends if its work was refused. Contracts see it as a record (`specs/Op.antt`): the node and the
+//! session, and what it waits for.
+//!
+//! The crate stands on `peer_proto`, `inode` and `vdi_directory`. Its definitions say all that a command does: its first entry,
+//! and when it is refused on the spot (`specs/Entries.antt`); what it takes from an inode that it reads (`specs/Tables.antt`); its
+//! works on inodes (`specs/InodeWorks.antt`); what it waits for (`specs/Op.antt`); and each of its steps (`specs/Steps.antt`).
+//! How the code keeps what it waits for is in `specs/Stage.antt`, and what always holds of it in `specs/Kept.antt`.
 //! The laws of `laws.rt` say what these mean: how each command goes from its first entry to its reply; of an inode
 //! that is read the table alone is taken, and of that the disk's own entries and its parents'; what is written back has
 //! the directory's header and the table as it was read; and a command waits for what it did last.

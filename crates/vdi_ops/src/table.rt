@@ -3,7 +3,7 @@ ghost use Rattle.std.specs.Prelude.{◌≡◌, ◌++◌, ◌∷◌, [], length, 
 ghost use Rattle.std.specs.List.{list_any};
 ghost use Rattle.std.specs.List.Sorted.{IsNonDecreasing};
 ghost use Rattle.object_id.specs.Spec.{IsSpec, objects_of};
-ghost use Rattle.vdi_ops.specs.Stage.{numbers_of};
+ghost use Rattle.vdi_ops.specs.Stage.{id_numbers};
 ghost use Rattle.vdi_ops.specs.Tables.{kept_entry, table_in};
 
 use inode::entries_in;
@@ -21,7 +21,7 @@ pub(crate) fn objects(spec: VdiSpec) -> u32
 
 /// The numbers of these ids. Takes memory for them.
 pub(crate) fn numbers(alloc: Global, ids: &[Vid]) -> Result<Vec<u32>, NoMemory>
-    ensures { IfOk result (λ numbers. numbers.items ≡ numbers_of ids.now) }
+    ensures { IfOk result (λ numbers. numbers.items ≡ id_numbers ids.now) }
 {
     let mut numbers = Vec::with_capacity(alloc, ids.len())?;
     for id in ids {

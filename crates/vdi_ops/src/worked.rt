@@ -340,6 +340,40 @@ fn takes_a_snapshot(rt: HostRuntime) -> Result<(), Fail> {
     Ok(())
 }
 
+/// Creates disk `a`, opens it, and takes its snapshot `t`.
+fn make_snapshot(
+    alloc: Global,
+    directory: &mut Directory,
+    locks: &mut Locks,
+) -> Result<(), NoMemory>
+    requires { AreLocks (log_effects directory.old) locks.old }
+    ensures { OnOk result (AreLocks (log_effects directory.new) locks.new) }
+{
+    create_a(alloc, directory, locks)?;
+    let opened = open_a(alloc, None, directory, locks)?;
+    take_snapshot(alloc, opened.op.into_inode(), directory, locks)?;
+    Ok(())
+}
+
+/// Makes the clone `b` of the snapshot `t` of disk `a`, whose inode has these entries.
+fn clone_b(
+    alloc: Global,
+    table: [u32; 3],
+    directory: &mut Directory,
+    locks: &mut Locks,
+) -> Result<CommandCourse, NoMemory>
+    requires { AreLocks (log_effects directory.old) locks.old }
+    ensures { OnOk result (AreLocks (log_effects directory.new) locks.new) }
+{
+    let ask = VdiAsk::Clone {
+        base: bytes(alloc, b"a")?,
+        tag: bytes(alloc, b"t")?,
+        name: bytes(alloc, b"b")?,
+    };
+    let read = read_bytes(alloc, table)?;
+    course(alloc, ask, read.as_slice(), None, directory, locks)
+}
+
 // Of the base's table a clone takes the entries of its own parent chain alone: its own id isn't among them.
 #[test]
 fn makes_a_clone(rt: HostRuntime) -> Result<(), Fail> {
@@ -347,23 +381,8 @@ fn makes_a_clone(rt: HostRuntime) -> Result<(), Fail> {
     let mut directory = Directory::new(alloc);
     let mut locks = Locks::new(alloc);
     nobody_holds_at_first();
-    create_a(alloc, &mut directory, &mut locks)?;
-    let opened = open_a(alloc, None, &mut directory, &mut locks)?;
-    take_snapshot(alloc, opened.op.into_inode(), &mut directory, &mut locks)?;
-    let ask = VdiAsk::Clone {
-        base: bytes(alloc, b"a")?,
-        tag: bytes(alloc, b"t")?,
-        name: bytes(alloc, b"b")?,
-    };
-    let read = read_bytes(alloc, [A, 0x01_f1a5, 7])?;
-    let course = course(
-        alloc,
-        ask,
-        read.as_slice(),
-        None,
-        &mut directory,
-        &mut locks,
-    )?;
+    make_snapshot(alloc, &mut directory, &mut locks)?;
+    let course = clone_b(alloc, [A, 0x01_f1a5, 7], &mut directory, &mut locks)?;
     let acts = course.acts.as_slice();
     assert!(rt;
         matches!(acts.get(1), Some(OpAct::Work(ObjWork::Read { oid, offset: 0, length: 4_676, .. }))
@@ -386,52 +405,72 @@ fn makes_a_clone(rt: HostRuntime) -> Result<(), Fail> {
     Ok(())
 }
 
-// A snapshot is only read, and a disk that isn't there is refused.
+// A snapshot is only read.
 #[test]
 fn opens_a_snapshot(rt: HostRuntime) -> Result<(), Fail> {
     let alloc = rt.alloc();
     let mut directory = Directory::new(alloc);
     let mut locks = Locks::new(alloc);
     nobody_holds_at_first();
-    create_a(alloc, &mut directory, &mut locks)?;
-    let tag = bytes(alloc, b"t")?;
-    let refused = open_a(alloc, Some(tag), &mut directory, &mut locks)?;
-    assert!(rt;
-        matches!(
-            refused.acts.get(1),
-            Some(OpAct::Reply(GuestRsp::Refused(Cause::NoTag)))
-        )
-    );
-    let opened = open_a(alloc, None, &mut directory, &mut locks)?;
-    take_snapshot(alloc, opened.op.into_inode(), &mut directory, &mut locks)?;
+    make_snapshot(alloc, &mut directory, &mut locks)?;
     let tag = bytes(alloc, b"t")?;
     let course = open_a(alloc, Some(tag), &mut directory, &mut locks)?;
-    assert!(rt; matches!(course.acts.get(1), Some(OpAct::Work(ObjWork::Read { .. }))));
-    assert!(rt; matches!(course.acts.get(2), Some(OpAct::Reply(GuestRsp::Done))));
+    let acts = course.acts.as_slice();
+    assert!(rt; matches!(acts.get(1), Some(OpAct::Work(ObjWork::Read { .. }))));
+    assert!(rt; matches!(acts.get(2), Some(OpAct::Reply(GuestRsp::Done))));
     assert!(rt; course.op.opens_snapshot());
     Ok(())
 }
 
 #[test]
-fn closes_and_deletes(rt: HostRuntime) -> Result<(), Fail> {
+fn refuses_a_tag_that_no_snapshot_has(rt: HostRuntime) -> Result<(), Fail> {
+    let alloc = rt.alloc();
+    let mut directory = Directory::new(alloc);
+    let mut locks = Locks::new(alloc);
+    nobody_holds_at_first();
+    create_a(alloc, &mut directory, &mut locks)?;
+    let tag = bytes(alloc, b"t")?;
+    let course = open_a(alloc, Some(tag), &mut directory, &mut locks)?;
+    assert!(rt;
+        matches!(
+            course.acts.as_slice().get(1),
+            Some(OpAct::Reply(GuestRsp::Refused(Cause::NoTag)))
+        )
+    );
+    Ok(())
+}
+
+/// Closes disk `a`, which is open.
+fn close_a(
+    alloc: Global,
+    disk: Option<Inode>,
+    directory: &mut Directory,
+    locks: &mut Locks,
+) -> Result<Option<CommandCourse>, NoMemory>
+    requires { AreLocks (log_effects directory.old) locks.old }
+    ensures { OnOk result (AreLocks (log_effects directory.new) locks.new) }
+{
+    match disk {
+        Some(disk) => Ok(Some(course(alloc, VdiAsk::Close, &[], Some(&disk), directory, locks)?)),
+        None => Ok(None),
+    }
+}
+
+#[test]
+fn closes_a_disk(rt: HostRuntime) -> Result<(), Fail> {
     let alloc = rt.alloc();
     let mut directory = Directory::new(alloc);
     let mut locks = Locks::new(alloc);
     nobody_holds_at_first();
     create_a(alloc, &mut directory, &mut locks)?;
     let opened = open_a(alloc, None, &mut directory, &mut locks)?;
-    if let Some(disk) = opened.op.into_inode() {
-        let closed = course(
-            alloc,
-            VdiAsk::Close,
-            &[],
-            Some(&disk),
-            &mut directory,
-            &mut locks,
-        )?;
+    let course = close_a(alloc, opened.op.into_inode(), &mut directory, &mut locks)?;
+    assert!(rt; course.is_some());
+    if let Some(course) = course {
+        let acts = course.acts.as_slice();
         assert!(rt;
             matches!(
-                closed.acts.get(0),
+                acts.get(0),
                 Some(OpAct::Append(Entry::Unlock {
                     by: NodeId(3),
                     session: 1,
@@ -439,19 +478,30 @@ fn closes_and_deletes(rt: HostRuntime) -> Result<(), Fail> {
                 }))
             )
         );
-        assert!(rt; matches!(closed.acts.get(1), Some(OpAct::Reply(GuestRsp::Done))));
-        assert!(rt; closed.op.closes());
+        assert!(rt; matches!(acts.get(1), Some(OpAct::Reply(GuestRsp::Done))));
+        assert!(rt; course.op.closes());
     }
+    Ok(())
+}
+
+#[test]
+fn deletes_a_disk(rt: HostRuntime) -> Result<(), Fail> {
+    let alloc = rt.alloc();
+    let mut directory = Directory::new(alloc);
+    let mut locks = Locks::new(alloc);
+    nobody_holds_at_first();
+    create_a(alloc, &mut directory, &mut locks)?;
     let ask = VdiAsk::Delete {
         name: bytes(alloc, b"a")?,
         tag: None,
     };
-    let deleted = course(alloc, ask, &[], None, &mut directory, &mut locks)?;
+    let course = course(alloc, ask, &[], None, &mut directory, &mut locks)?;
+    let acts = course.acts.as_slice();
     assert!(rt;
-        matches!(deleted.acts.get(0), Some(OpAct::Append(Entry::Delete { by: NodeId(3), session: 1, name, tag: None }))
+        matches!(acts.get(0), Some(OpAct::Append(Entry::Delete { by: NodeId(3), session: 1, name, tag: None }))
             if name.as_slice() == b"a".as_slice())
     );
-    assert!(rt; matches!(deleted.acts.get(1), Some(OpAct::Reply(GuestRsp::Done))));
+    assert!(rt; matches!(acts.get(1), Some(OpAct::Reply(GuestRsp::Done))));
     Ok(())
 }
 
@@ -497,6 +547,15 @@ fn ends_with_the_refusal_of_its_work(rt: HostRuntime) -> Result<(), Fail> {
     Ok(())
 }
 
+/// The refusals of a command with no disk open, with a disk, and with a snapshot.
+fn refusals(ask: &VdiAsk, disk: &Inode) -> [Option<Cause>; 3] {
+    [
+        command_refusal(ask, None, false),
+        command_refusal(ask, Some(disk), false),
+        command_refusal(ask, Some(disk), true),
+    ]
+}
+
 #[test]
 fn refuses_commands_on_the_spot(rt: HostRuntime) -> Result<(), Fail> {
     let alloc = rt.alloc();
@@ -508,21 +567,21 @@ fn refuses_commands_on_the_spot(rt: HostRuntime) -> Result<(), Fail> {
     let snapshot = VdiAsk::Snapshot {
         tag: bytes(alloc, b"t")?,
     };
-    // A command; its refusals with no disk open, with a disk, and with a snapshot.
-    let locked = Some(Cause::VdiNotLocked);
-    let rows = [
-        (
-            &attach,
-            [None, Some(Cause::InvalidParms), Some(Cause::InvalidParms)],
-        ),
-        (&VdiAsk::Close, [locked, None, None]),
-        (&snapshot, [locked, None, Some(Cause::Readonly)]),
-        (&VdiAsk::Check, [locked, None, Some(Cause::Readonly)]),
-    ];
-    for (ask, wanted) in rows {
-        assert_eq!(rt; command_refusal(ask, None, false), wanted[0]);
-        assert_eq!(rt; command_refusal(ask, Some(&disk), false), wanted[1]);
-        assert_eq!(rt; command_refusal(ask, Some(&disk), true), wanted[2]);
-    }
+    assert_eq!(rt;
+        refusals(&attach, &disk),
+        [None, Some(Cause::InvalidParms), Some(Cause::InvalidParms)]
+    );
+    assert_eq!(rt;
+        refusals(&VdiAsk::Close, &disk),
+        [Some(Cause::VdiNotLocked), None, None]
+    );
+    assert_eq!(rt;
+        refusals(&snapshot, &disk),
+        [Some(Cause::VdiNotLocked), None, Some(Cause::Readonly)]
+    );
+    assert_eq!(rt;
+        refusals(&VdiAsk::Check, &disk),
+        [Some(Cause::VdiNotLocked), None, Some(Cause::Readonly)]
+    );
     Ok(())
 }

@@ -6,7 +6,7 @@ ghost use Rattle.vdi_ops.specs.Op.{Opening, Tagging, Copying, bytes_of_task, op_
 ghost use Rattle.vdi_ops.specs.InodeWorks.{written_bytes};
 ghost use Rattle.vdi_ops.specs.Tables.{table_in, inode_by};
 ghost use Rattle.vdi_ops.specs.Steps.{task_done, done_at};
-ghost use Rattle.vdi_ops.specs.Stage.{op_task, op_stage, bare_op, step_to, numbers_of};
+ghost use Rattle.vdi_ops.specs.Stage.{op_task, op_stage, bare_op, step_to, id_numbers};
 ghost use Rattle.vdi_ops.specs.Kept.{IsInodeHeader, IsSoundTask, IsSoundOpStage, task_takes_memory, work_takes_memory};
 
 use crate::act::OpAct;
@@ -30,7 +30,7 @@ fn inode_opened(
 ) -> Result<Inode, NoMemory>
     requires { IsInodeHeader header.now }
     ensures { IfOk result (λ inode. inode
-        ≡ inode_by header.now vid.0 (table_in (vid.0 ∷ numbers_of chain.now) header.now.spec bytes.now)) }
+        ≡ inode_by header.now vid.0 (table_in (vid.0 ∷ id_numbers chain.now) header.now.spec bytes.now)) }
 {
     let mut ids = numbers(alloc, chain)?;
     ids.push(vid.0)?;
@@ -50,7 +50,7 @@ fn after_opening(
     requires header { IsInodeHeader header.now }
     requires whole { length bytes.now ≡ written_bytes header.now.spec }
     ensures ok { (by : TheNode) → IfOk result (λ next. step_to (bare_op by) next
-        ≡ task_done (bare_op by) vid bytes.now (Opening snapshot (vid.0 ∷ numbers_of chain.now) header.now)) }
+        ≡ task_done (bare_op by) vid bytes.now (Opening snapshot (vid.0 ∷ id_numbers chain.now) header.now)) }
     ensures sound { IfOk result (λ next. IsSoundOpStage (op_stage next.stage)) }
 {
     let inode = inode_opened(alloc, vid, chain, header, bytes)?;
@@ -76,7 +76,7 @@ fn after_copying(
     requires vid { IsVid vid.0 }
     requires header { IsInodeHeader header.now }
     ensures ok { IfOk result (λ next. step_to (bare_op by) next
-        ≡ task_done (bare_op by) vid bytes.now (Copying (numbers_of chain.now) header.now)) }
+        ≡ task_done (bare_op by) vid bytes.now (Copying (id_numbers chain.now) header.now)) }
     ensures sound { IfOk result (λ next. IsSoundOpStage (op_stage next.stage)) }
 {
     let ids = numbers(alloc, chain)?;
