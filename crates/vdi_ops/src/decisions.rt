@@ -34,6 +34,9 @@ fn has_step_after_grant(entry: &Entry, header: &Header, disk: Option<&Inode>) ->
     ensures step { (op : Op) (vid : TheVid) (chain : List ℕ) → IsTrue result
         → IsTrue (is_some (step_after_grant op vid chain (option_copied disk.entry) entry.now header.now)) }
     ensures disk { IsTrue result → IfSome (option_copied disk.entry) (λ inode. FitsEntry header.now inode entry.now) }
+    ensures only { (op : Op) (vid : TheVid) (chain : List ℕ)
+        → IsTrue (is_some (step_after_grant op vid chain (option_copied disk.entry) entry.now header.now))
+        → IfSome (option_copied disk.entry) (λ inode. FitsEntry header.now inode entry.now) → IsTrue result }
 {
     match entry {
         Entry::Reserve { origin, .. } => match origin {
@@ -62,6 +65,9 @@ pub(crate) fn has_step_after_decision(
         (option_copied disk.entry) op entry.now decision.now)) }
     ensures disk { IsTrue result → IfSome (option_and_then (λ vid. header_of (log_effects directory.now) vid.0) (vid_granted decision.now))
         (λ header. IfSome (option_copied disk.entry) (λ inode. FitsEntry header inode entry.now)) }
+    ensures only { (op : Op) → IsTrue (is_some (step_after_decision (log_effects directory.now) (option_copied disk.entry) op entry.now
+        decision.now)) → IfSome (option_and_then (λ vid. header_of (log_effects directory.now) vid.0) (vid_granted decision.now))
+        (λ header. IfSome (option_copied disk.entry) (λ inode. FitsEntry header inode entry.now)) → IsTrue result }
 {
     match *decision {
         Decision::None => true,

@@ -30,6 +30,8 @@ mod table;
 #[cfg(test)]
 mod tests;
 #[cfg(test)]
+mod trial;
+#[cfg(test)]
 mod worked;
 mod works_done;
 

@@ -86,8 +86,8 @@ impl VdiOp {
         }
     }
 
-    /// Whether the command can go on by this decision: it waits for one, what was granted is known, and the open disk is there where it
-    /// is wanted. Costs the logarithm of the known ids, and takes no memory.
+    /// Whether the command can go on by this decision, exactly where `on_decision` may be called: it waits for one, what was granted is
+    /// known, and the open disk of a snapshot is there. Costs the logarithm of the known ids, and takes no memory.
     #[tactic(auto, unfolding(crate::specs::Steps::on_decision))]
     pub fn has_step(&self, decision: &Decision, directory: &Directory, disk: Option<&Inode>) -> bool
         ensures step { IsTrue result
@@ -95,6 +95,9 @@ impl VdiOp {
         ensures disk { IsTrue result
             → FitsOpStage (option_and_then (λ vid. header_of (log_effects directory.now) vid.0) (vid_granted decision.now))
             (option_copied disk.entry) self.now.stage }
+        ensures only { IsTrue (is_some (on_decision (log_effects directory.now) (option_copied disk.entry) decision.now self.now))
+            → FitsOpStage (option_and_then (λ vid. header_of (log_effects directory.now) vid.0) (vid_granted decision.now))
+            (option_copied disk.entry) self.now.stage → IsTrue result }
     {
         match &self.stage {
             Stage::Asked(entry) => has_step_after_decision(entry, decision, directory, disk),
