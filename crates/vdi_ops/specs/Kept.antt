@@ -1,5 +1,5 @@
 -- What always holds of a command, what its calls ask for, and which of them take memory.
-use Rattle.std.specs.Prelude.{◌≡◌, ◌⊎◌, ℕ, Bool, true, false, List, [], Option, Some, None, IfSome, IsTrue, is_some}
+use Rattle.std.specs.Prelude.{◌≡◌, ◌⊎◌, Bool, true, false, [], Option, Some, None, IfSome, IsTrue, is_some}
 use Rattle.object_id.specs.Oid.{IsVid}
 use Rattle.object_id.specs.Spec.{IsName, IsSpec}
 use Rattle.object_id.specs.declared.oid.Vid.{Vid}

@@ -1,6 +1,5 @@
-ghost use Rattle.std.specs.Prelude.{◌≡◌, ◌↔◌, ℕ, length, false, Some, None, IfOk, IfSome, IsOk, IsTrue, OnErr, is_some};
+ghost use Rattle.std.specs.Prelude.{◌≡◌, ◌↔◌, length, false, Some, None, IfOk, IsOk, IsTrue, OnErr, is_some};
 ghost use Rattle.std.specs.Option.{option_copied, option_and_then};
-ghost use Rattle.object_id.specs.declared.entry.Entry.TheVariants as entries;
 ghost use Rattle.peer_proto.specs.declared.guest.VdiAsk.TheVariants.{Close};
 ghost use Rattle.vdi_directory.specs.Decisions.{log_effects};
 ghost use Rattle.vdi_directory.specs.Effects.{header_of};

@@ -2,7 +2,7 @@
 ghost use Rattle.std.specs.Prelude.{◌≡◌, ◌≤◌, ◌==◌, count_by, length, option_map};
 ghost use Rattle.std.specs.Option.{option_copied};
 ghost use Rattle.inode.specs.Layout.{Content};
-ghost use Rattle.vdi_ops.specs.Entries.{OpenDisk, own_bytes, check_refusal, command_refusal};
+ghost use Rattle.vdi_ops.specs.Entries.{own_bytes, check_refusal, command_refusal};
 
 use crate::limits::CHECKED_BYTES_MAX;
 use inode::Inode;

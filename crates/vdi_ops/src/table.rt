@@ -1,6 +1,5 @@
 //! What an opening or a clone takes from the inode that it reads.
-ghost use Rattle.std.specs.Prelude.{◌≡◌, ◌++◌, ◌∷◌, [], length, map, IfOk, OnOk};
-ghost use Rattle.std.specs.List.{list_any};
+ghost use Rattle.std.specs.Prelude.{◌≡◌, map, IfOk};
 ghost use Rattle.std.specs.List.Sorted.{IsNonDecreasing};
 ghost use Rattle.object_id.specs.Spec.{IsSpec, objects_of};
 ghost use Rattle.vdi_ops.specs.Stage.{id_numbers};

@@ -1,5 +1,5 @@
 //! What comes after the work that a command waits for was done.
-ghost use Rattle.std.specs.Prelude.{◌≡◌, ℕ, List, ◌∷◌, ◌++◌, [], false, length, Some, IfOk, IfErr, IsOk};
+ghost use Rattle.std.specs.Prelude.{◌≡◌, ℕ, List, ◌∷◌, false, length, Some, IfOk, IfErr, IsOk};
 ghost use Rattle.object_id.specs.Oid.{IsVid};
 ghost use Rattle.object_id.specs.declared.node.NodeId.{NodeId as TheNode};
 ghost use Rattle.vdi_ops.specs.Op.{Opening, Tagging, Copying, bytes_of_task, op_stage_bytes};

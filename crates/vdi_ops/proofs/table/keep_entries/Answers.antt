@@ -1,4 +1,4 @@
-use Rattle.std.proofs.Common.{◌≡◌, get_or, ap, sym, ◌∙◌, arith, slice_set}
+use Rattle.std.proofs.Common.{get_or, ap, sym, ◌∙◌, arith, slice_set}
 use Rattle.std.proofs.lemmas.List.Edits.{map_over_more}
 use Rattle.std.proofs.lemmas.Grind.{get_or_default_zero}
 use Rattle.vdi_ops.specs.Tables.{kept_entry}

@@ -1,4 +1,4 @@
-use Rattle.std.proofs.Common.{◌≡◌, ap, sym, ◌∙◌}
+use Rattle.std.proofs.Common.{ap, sym, ◌∙◌}
 use Rattle.vdi_ops.specs.Op.{Copying}
 use Rattle.vdi_ops.specs.Steps.{task_done}
 use Rattle.vdi_ops.specs.Stage.{bare_op, id_numbers, op_task}
