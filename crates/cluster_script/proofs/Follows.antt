@@ -13,7 +13,7 @@ use Rattle.cluster_script.specs.declared.statement.Statement.{Statement}
 use Rattle.cluster_script.specs.declared.statement.Statement.TheVariants.{Cluster, Session, Create, OpenDisk, Close, Read, Write}
 use Rattle.cluster_script.specs.Statements.{is_setting, is_cluster, is_create, is_open, is_close, is_request, is_session_declared, has, requests_of, disk_name, disk_size}
 use Rattle.cluster_script.specs.OneDisk.{IsDiskOpen, MayFollow, EachMayFollow, IsOneDiskScript, IsPrintedName}
-use Rattle.cluster_script.specs.Words.{is_name, is_name_byte}
+use Rattle.cluster_script.specs.Words.{is_printed_name, is_name_byte}
 use Rattle.cluster_script.specs.OneDiskRequests.{is_disk_open, is_disk_named}
 
 pub no_requests : (before : List Statement) → count_by is_request before ≡ 0 → requests_of before ≡ []
@@ -46,7 +46,7 @@ not_dash (byte ∷ rest) passed e =
     absurd cc
 
 -- a name by the tests is a name
-pub name_of_test : (name : List ℕ) → is_name name ≡ true → IsPrintedName name
+pub name_of_test : (name : List ℕ) → is_printed_name name ≡ true → IsPrintedName name
 name_of_test name named =
     let last = and_parts (nat_le 1 (length name) && nat_le (length name) NAME_BYTES_MAX && list_all is_name_byte name) (not (starts_with nat_eq name (codes "-"))) named in
     let third = and_parts (nat_le 1 (length name) && nat_le (length name) NAME_BYTES_MAX) (list_all is_name_byte name) last.0 in

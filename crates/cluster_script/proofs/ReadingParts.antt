@@ -8,7 +8,7 @@ use Rattle.cluster_script.specs.declared.fault.LineCause.TheVariants as causes
 use Rattle.object_id.specs.declared.limits.TheConstants.{BLOCK_BYTES}
 use Rattle.cluster_script.specs.OneDisk.{IsPrintedName}
 use Rattle.cluster_script.specs.ReadResults.{◌>>=◌}
-use Rattle.cluster_script.specs.Words.{Word, word_at, keyword_at, is_next_word, option_at, end_of_words, is_name, name_word_at}
+use Rattle.cluster_script.specs.Words.{Word, word_at, keyword_at, is_next_word, option_at, end_of_words, is_printed_name, name_word_at}
 use Rattle.cluster_script.specs.Numbers.{number_of, size_of_word, number_in_range, aligned_number, plain_number_at, blocks_at}
 use Rattle.cluster_script.proofs.Follows.{name_of_test}
 
@@ -65,7 +65,7 @@ pub name-read : (words : List Word) (name : Word × List Word) → name_word_at 
 unfolding name_word_at
 name-read words name e =
     read-on _ _ _ e (λ word read tested.
-    let passed = test-passed (is_name word.0) word name causes.Word tested in (
+    let passed = test-passed (is_printed_name word.0) word name causes.Word tested in (
       word-read words word read ∙ ap (λ (w : Word × List Word). w.0 ∷ w.1) passed.1,
       subst (λ (w : Word × List Word). IsPrintedName w.0) passed.1 (name_of_test word.0 passed.0),
     ))

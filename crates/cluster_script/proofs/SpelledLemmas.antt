@@ -14,14 +14,14 @@ use Rattle.cluster_script.specs.declared.statement.Statement.{Statement}
 use Rattle.cluster_script.specs.declared.statement.Statement.TheVariants.{Cluster, Vnodes, Tries, Limit, Session, Create, OpenDisk, Close, Read, Write, Snapshot, Clone, Delete, Fail, Join, Lose, Settle, ListNodes, ListVdis, ClusterInfo, Dump, Zone, Reweight, Back, Check}
 use Rattle.cluster_script.specs.declared.fault.LineCause.{LineCause}
 use Rattle.cluster_script.specs.declared.fault.LineCause.TheVariants as causes
-use Rattle.cluster_script.specs.declared.limits.TheConstants.{CHECKS_MAX}
+use Rattle.object_id.specs.declared.limits.TheConstants.{CHECKS_MAX}
 use Rattle.cluster_script.specs.Statements.{is_session_declared, is_request, read_bytes, write_bytes}
 use Rattle.cluster_script.specs.Settings.{nodes_set, vnodes_set, tries_set, limit_set}
 use Rattle.cluster_script.specs.Nodes.{IsNodeThere}
 use Rattle.object_id.specs.Span.{IsSpan}
 use Rattle.cluster_script.specs.OneDisk.{IsPrintedName}
 use Rattle.cluster_script.specs.Language.{MaySet, HasCluster, MayAsk, IsPrintedTag, IsByte, MayStand, IsScript}
-use Rattle.cluster_script.specs.Words.{Word, keyword_at, is_next_word, option_at, is_name_byte, is_name, name_word_at}
+use Rattle.cluster_script.specs.Words.{Word, keyword_at, is_next_word, option_at, is_name_byte, is_printed_name, name_word_at}
 use Rattle.cluster_script.specs.Numbers.{is_digits, digits_value, scaled_number, number_in_range, aligned_number, plain_number_at, blocks_at}
 use Rattle.cluster_script.specs.Requests.{request_within_limits, policy_option_at, shift_option_at, tag_at, create_request_at, disk_words_at, open_request_at, close_request_at, check_request_at, span_at, read_request_at, pattern_byte_at, named_pattern_at, pattern_at, write_request_at, snapshot_request_at, clone_request_at, delete_request_at, copy_verb_at, verb_at, vdi_request_at}
 use Rattle.cluster_script.specs.ClusterLines.{setting_at, node_number_at, zone_number_at, zone_at, there_at, session_line_at, fail_at, join_at, reweight_at, back_at, lose_at, alone_at, followed_at, barrier_at, happening_at}
@@ -66,7 +66,7 @@ no-dash [] other = refl
 no-dash (byte ∷ rest) other = rw (ne_eqb 45 byte (λ same. other (ap (λ (n : ℕ). Some n) (sym same)))) refl
 
 -- a name passes its test
-name-passes : (name : Word) → IsPrintedName name → is_name name ≡ true
+name-passes : (name : Word) → IsPrintedName name → is_printed_name name ≡ true
 name-passes name named =
     and_from _ _
     (and_from _ _ (and_from _ _ (le-leb _ _ named.some) (le-leb _ _ named.short)) (each-printed name named.printed))

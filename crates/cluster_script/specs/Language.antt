@@ -12,7 +12,7 @@ use Rattle.cluster_script.specs.declared.statement.Statement.TheVariants.{ListNo
 use Rattle.cluster_script.specs.declared.statement.Statement.TheVariants.{Check}
 use Rattle.object_id.specs.declared.limits.TheConstants.{NODES_MAX, VNODES_MAX, TRIES_MAX, LIMIT_MAX, SESSIONS_MAX, LOSSES_MAX}
 use Rattle.object_id.specs.declared.limits.TheConstants.{REQUESTS_MAX, READ_BYTES_MAX, WRITE_BYTES_MAX}
-use Rattle.cluster_script.specs.declared.limits.TheConstants.{CHECKS_MAX}
+use Rattle.object_id.specs.declared.limits.TheConstants.{CHECKS_MAX}
 use Rattle.cluster_script.specs.Statements.{is_setting, is_cluster, is_session_declared, is_check, is_request, read_bytes, write_bytes, has}
 use Rattle.object_id.specs.Span.{IsSpan}
 use Rattle.cluster_script.specs.OneDisk.{IsPrintedName}

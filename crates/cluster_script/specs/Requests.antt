@@ -14,7 +14,7 @@ use Rattle.cluster_script.specs.declared.statement.Statement.TheVariants.{Create
 use Rattle.cluster_script.specs.declared.statement.Statement.TheVariants.{Snapshot, Clone, Delete, Check}
 use Rattle.cluster_script.specs.declared.fault.LineCause.{LineCause}
 use Rattle.cluster_script.specs.declared.fault.LineCause.TheVariants as causes
-use Rattle.cluster_script.specs.declared.limits.TheConstants.{CHECKS_MAX}
+use Rattle.object_id.specs.declared.limits.TheConstants.{CHECKS_MAX}
 use Rattle.cluster_script.specs.Statements.{is_check, is_request, read_bytes, write_bytes}
 use Rattle.cluster_script.specs.ReadResults.{◌>>=◌}
 use Rattle.cluster_script.specs.Words.{Word, word_at, keyword_at, option_at, name_word_at, end_of_words}

@@ -61,12 +61,12 @@ abbrev pub is_name_byte : ℕ → Bool
 is_name_byte byte = nat_le 33 byte && nat_le byte 126
 
 -- 1 to 255 such bytes, of which the first isn't `-`
-abbrev pub is_name : Word → Bool
-is_name word = nat_le 1 (length word) && nat_le (length word) NAME_BYTES_MAX && list_all is_name_byte word
+abbrev pub is_printed_name : Word → Bool
+is_printed_name word = nat_le 1 (length word) && nat_le (length word) NAME_BYTES_MAX && list_all is_name_byte word
     && not (starts_with nat_eq word (codes "-"))
 
 -- a name, and the words after it
 unfoldable pub name_word_at : List Word → Result (Word × List Word) LineCause
 name_word_at words = do
   word ← word_at words
-  if is_name word.0 then Ok word else Err causes.Word
+  if is_printed_name word.0 then Ok word else Err causes.Word

@@ -5,6 +5,3 @@ pub const ONE_DISK_SIZE_MAX: u64 = 1 << 22;
 
 /// The greatest session number of a script of one disk: it has one session.
 pub const ONE_DISK_SESSION_MAX: u64 = 1;
-
-/// The most checks of a script.
-pub const CHECKS_MAX: u32 = 4;

@@ -2,7 +2,7 @@ ghost use Rattle.std.specs.Prelude.{◌≡◌, ◌<◌, ◌==◌, ◌∷◌, [],
 ghost use Rattle.std.specs.List.{before_first, after_first, list_all};
 ghost use Rattle.cluster_script.specs.OneDisk.{IsPrintedName};
 ghost use Rattle.cluster_script.specs.ReadResults.{GivesLine};
-ghost use Rattle.cluster_script.specs.Words.{words_of, says_nothing, word_at, keyword_at, end_of_words, is_name_byte, is_name};
+ghost use Rattle.cluster_script.specs.Words.{words_of, says_nothing, word_at, keyword_at, end_of_words, is_name_byte, is_printed_name};
 ghost use Rattle.cluster_script.specs.Words.{name_word_at};
 
 use crate::fault::LineCause;
@@ -95,7 +95,7 @@ pub fn end(line: &[u8]) -> Result<(), LineCause>
 /// Whether a word may be a disk's name: printed bytes without a blank, not like an option.
 #[tactic(auto, using(crate::proofs::Follows::name_of_test))]
 pub fn may_be_name(word: &[u8]) -> bool
-    ensures name { result ≡ is_name word.now }
+    ensures name { result ≡ is_printed_name word.now }
     ensures is_name { IsTrue result → IsPrintedName word.now }
 {
     if word.is_empty() || word.len() > NAME_BYTES_MAX || !is_printed(word) {

@@ -3,3 +3,4 @@ pub mod EpochLemmas
 pub mod RecoveredLemmas
 pub mod MembersLemmas
 pub mod TallyLemmas
+pub mod AppendTestLemmas

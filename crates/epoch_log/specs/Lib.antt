@@ -2,3 +2,4 @@ pub mod Members
 pub mod Epochs
 pub mod Appending
 pub mod Tally
+pub mod AppendTests

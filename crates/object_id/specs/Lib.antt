@@ -8,3 +8,4 @@ pub mod Spec
 pub mod Piece
 pub mod Fields
 pub mod Runs
+pub mod Tests

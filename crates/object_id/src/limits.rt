@@ -70,6 +70,9 @@ pub const INPUT_BYTES_MAX: usize = 1 << 24;
 /// The most requests of a script.
 pub const REQUESTS_MAX: u32 = 10_000;
 
+/// The most checks of a script.
+pub const CHECKS_MAX: u32 = 4;
+
 /// How many requests of a session may be without reply at once, where they are all reads and writes.
 pub const REQUESTS_AT_ONCE: usize = 16;
 

@@ -3,3 +3,4 @@ pub mod Lists
 pub mod AscendingNumbers
 pub mod AscendingWithout
 pub mod FiniteMaps
+pub mod Deciding

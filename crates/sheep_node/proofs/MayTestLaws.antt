@@ -54,81 +54,9 @@ use Rattle.gf256.specs.Part.{IsAligned}
 use Rattle.peer_proto.specs.Work.{oid_of, policy_of}
 use Rattle.peer_proto.specs.declared.work.ObjWork.{ObjWork}
 use Rattle.peer_proto.specs.declared.work.ObjWork.TheVariants as works
-
--- ---- tests put together
-
-itself : (b : Bool) → Decides b (b ≡ true)
-itself b = (λ is. is, λ is. is)
-
-always : Decides true (Unit {0})
-always = (λ is. tt, λ holds. refl)
-
-never : Decides false ⊥
-never = (λ is. absurd (cc (is)), λ holds. absurd holds)
-
-module _ {P Q : Type 0} where
-  both : {one other : Bool} → Decides one P → Decides other Q → Decides (one && other) (P × Q)
-  both {one} {other} first second = (
-    λ is. let (left, right) = and_parts one other is in (first.0 left, second.0 right),
-    λ holds. and_from one other (first.1 holds.0) (second.1 holds.1),
-  )
-
-  -- the same said in other words
-  said_as : {b : Bool} → (P → Q) → (Q → P) → Decides b P → Decides b Q
-  said_as to from decided = (λ is. to (decided.0 is), λ holds. decided.1 (from holds))
-
-all_three : {P Q R : Type 0} {one other last : Bool} → Decides one P → Decides other Q → Decides last R → Decides (one && (other && last)) (P × Q × R)
-all_three first second third =
-    said_as (λ holds. (holds.0, holds.1.0, holds.1.1)) (λ holds. (holds.0, (holds.1, holds.2))) (both first (both second third))
-
-at_most : (a b : ℕ) → Decides (nat_le a b) (a ≤ b)
-at_most a b = (leb-true a b, le-leb a b)
-
--- a test is false exactly if its negation is true
-is_not : (b : Bool) → Decides (not b) (b ≡ false)
-is_not true = (λ is. absurd (cc (is)), λ is. absurd (cc (is)))
-is_not false = (λ is. refl, λ is. refl)
-
-each : {X : Type 0} (P : X → Type 0) (test : X → Bool) → ((x : X) → Decides (test x) (P x)) → (xs : List X) → Decides (list_all test xs) (All P xs)
-each P test decided [] = (λ is. All-nil P, λ all. refl)
-each P test decided (x ∷ xs) =
-    let rest = each P test decided xs in
-    said_as (λ holds. All-cons P x xs holds.0 holds.1) (λ all. (All-head P x xs all, All-tail P x xs all)) (both (decided x) rest)
-
-ascending : (numbers : List ℕ) → Decides (tests.is_strictly_increasing numbers) (IsStrictlyIncreasing numbers)
-ascending [] = (λ is. IsStrictlyIncreasing-nil, λ holds. refl)
-ascending (first ∷ later) =
-    said_as (λ holds. IsStrictlyIncreasing-cons first later holds.0 holds.1)
-    (λ up. (IsStrictlyIncreasing-first first later up, IsStrictlyIncreasing-tail first later up))
-    (both (each (λ (y : ℕ). first < y) (nat_lt first) (Decides-ltb first) later) (ascending later))
-
--- ---- names, and what disks may be made with and from
-
-name_tested : (name : List ℕ) → Decides (tests.is_name_or_tag name) (IsName name)
-name_tested name =
-    all_three (at_most 1 (length name)) (at_most (length name) NAME_BYTES_MAX)
-    (each (λ (byte : ℕ). byte ≢ 0) (λ (byte : ℕ). not (byte == 0)) (λ byte. Decides-not (byte == 0) (Decides-eqb byte 0)) name)
-
-tag_tested : (tag : Option (List ℕ)) → Decides (tests.is_tag tag) (IsTag tag)
-tag_tested None = always
-tag_tested (Some tag) = name_tested tag
-
-policy_tested : (policy : Policy) → Decides (tests.is_policy policy) (IsPolicy policy)
-policy_tested (Copies copies) = both (at_most 1 copies) (at_most copies COPIES_MAX)
-policy_tested (Coded d p) = all_three (itself (is_width d)) (at_most 1 p) (at_most p PARITY_MAX)
-
-spec_tested : (spec : VdiSpec) → Decides (tests.is_spec spec) (IsSpec spec)
-spec_tested spec =
-    said_as (λ holds. record { shift = holds.0; policy = holds.1.0; size = holds.1.1.0; blocks = holds.1.1.1 })
-    (λ is. (is.shift, (is.policy, (is.size, is.blocks))))
-    (both (both (at_most SHIFT_MIN spec.shift) (at_most spec.shift SHIFT_MAX))
-    (both (policy_tested spec.policy)
-    (both (both (at_most BLOCK_BYTES spec.size) (at_most spec.size (OBJECTS_MAX * 2 ^ spec.shift))) (Decides-eqb (spec.size % BLOCK_BYTES) 0))))
-
-origin_tested : (origin : Origin) → Decides (tests.is_origin origin) (IsOrigin origin)
-origin_tested (Fresh spec) = spec_tested spec
-origin_tested (SnapshotOf tag) = name_tested tag
-origin_tested (CloneOf base tag) = both (name_tested base) (name_tested tag)
+use Rattle.proof_tools.proofs.Deciding.{itself, always, never, both, said_as, all_three, at_most}
+use Rattle.object_id.proofs.TestLemmas.{name_tested, tag_tested, spec_tested}
+use Rattle.epoch_log.proofs.AppendTestLemmas.{open_tested, append_tested}
 
 -- ---- what a guest may ask
 
@@ -226,35 +154,6 @@ guest_tested req session ask node =
     (both (itself (not (tree.contains_key node.requests req))) (both (itself (is_epoch_member node)) (guest_ask_tested node ask))))
 
 -- ---- which entries may be read
-
-weight_tested : (vnodes : ℕ) → Decides (tests.is_weight vnodes) (IsWeight vnodes)
-weight_tested vnodes = both (at_most 1 vnodes) (at_most vnodes VNODES_MAX)
-
-open_tested : (members : List Member) → Decides (tests.may_open members) (MayOpen members)
-open_tested members =
-    said_as (λ holds. record { some = holds.0; ordered = record { ascending = holds.1.0.0; nodes = holds.1.0.1 }; weights = holds.1.1 })
-    (λ may. (may.some, ((may.ordered.ascending, may.ordered.nodes), may.weights)))
-    (both (at_most 1 (length members))
-    (both (both (ascending (node_numbers members)) (each IsNode tests.is_node (λ node. Decides-ltb node NODES_MAX) (node_numbers members)))
-    (each (λ (member : Member). IsWeight member.vnodes) (λ (member : Member). tests.is_weight member.vnodes) (λ member. weight_tested member.vnodes) members)))
-
-reservable_tested : (entry : Entry) → Decides (tests.is_reservable entry) (IsReservable entry)
-reservable_tested (Reserve by session name origin) = both (name_tested name) (origin_tested origin)
-reservable_tested _ = always
-
-members_tested : (members : List Member) (entry : Entry) → Decides (tests.fits_members members entry) (FitsMembers members entry)
-members_tested members (Join node zone vnodes) =
-    all_three (Decides-ltb node.0 NODES_MAX) (weight_tested vnodes) (is_not (is_member node.0 members))
-members_tested members (Leave node) = itself (is_member node.0 members)
-members_tested members (Reweight node vnodes) = both (weight_tested vnodes) (itself (is_member node.0 members))
-members_tested members _ = always
-
-append_tested : (entries : List Entry) (entry : Entry) → Decides (tests.may_append entries entry) (MayAppend entries entry)
-append_tested entries entry =
-    said_as (λ holds. record { later = holds.0; reservable = holds.1.0; fits = holds.1.1.0; room = holds.1.1.1 })
-    (λ may. (may.later, (may.reservable, (may.fits, may.room))))
-    (both (is_not (is_format entry))
-    (both (reservable_tested entry) (both (members_tested (members_in entries (epoch_of entries)) entry) (Decides-ltb (epoch_of entries) EPOCH_MAX))))
 
 first_tested : (entry : Entry) → Decides (tests.may_be_first entry) (MayBeFirst entry)
 first_tested (Format opening) = open_tested opening

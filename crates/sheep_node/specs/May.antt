@@ -16,7 +16,8 @@ use Rattle.vdi_ops.specs.Entries.{IsVdiAsk}
 use Rattle.sheep_node.specs.declared.ask.Ask.{Ask}
 use Rattle.sheep_node.specs.declared.ask.Ask.TheVariants as asks
 use Rattle.sheep_node.specs.declared.input.Input.{Input}
-use Rattle.sheep_node.specs.declared.limits.TheConstants.{REQUESTS_AT_ONCE, SENDS_MAX}
+use Rattle.object_id.specs.declared.limits.TheConstants.{REQUESTS_AT_ONCE}
+use Rattle.sheep_node.specs.declared.limits.TheConstants.{SENDS_MAX}
 use Rattle.sheep_node.specs.declared.input.Input.TheVariants as inputs
 use Rattle.peer_proto.specs.declared.say.PeerRsp.{PeerRsp}
 use Rattle.sheep_node.specs.State.{Course, Waiting, Driving, Commanding, Checking, DoingWork, AwaitingDecision, Session, Node, session_at}

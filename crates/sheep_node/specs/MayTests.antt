@@ -5,20 +5,16 @@ use Rattle.std.specs.List.{list_all}
 use Rattle.std.specs.Option.{option_map_or}
 use Rattle.std.specs.FinMap as tree
 use Rattle.object_id.specs.declared.entry.Entry.{Entry}
-use Rattle.object_id.specs.declared.entry.Entry.TheVariants.{Format, Join, Leave, Reweight, Reserve, Lock, Unlock}
-use Rattle.object_id.specs.declared.entry.Member.{Member}
-use Rattle.object_id.specs.declared.entry.Origin.{Origin}
-use Rattle.object_id.specs.declared.entry.Origin.TheVariants.{Fresh, SnapshotOf, CloneOf}
+use Rattle.object_id.specs.declared.entry.Entry.TheVariants.{Format, Lock, Unlock}
 use Rattle.object_id.specs.declared.entry.VdiSpec.{VdiSpec}
 use Rattle.object_id.specs.declared.policy.Policy.{Policy}
 use Rattle.object_id.specs.declared.policy.Policy.TheVariants.{Copies, Coded}
-use Rattle.object_id.specs.declared.limits.TheConstants.{BLOCK_BYTES, SHIFT_MIN, SHIFT_MAX, OBJECTS_MAX, NAME_BYTES_MAX}
-use Rattle.object_id.specs.declared.limits.TheConstants.{COPIES_MAX, PARITY_MAX, NODES_MAX, VNODES_MAX, EPOCH_MAX}
-use Rattle.object_id.specs.Policy.{is_width}
+use Rattle.object_id.specs.declared.limits.TheConstants.{BLOCK_BYTES}
+use Rattle.object_id.specs.Tests.{is_name, is_tag, is_spec}
 use Rattle.object_id.specs.Same.{is_same_policy, is_same_entry}
-use Rattle.epoch_log.specs.Members.{is_member, node_numbers}
+use Rattle.epoch_log.specs.Members.{is_member}
 use Rattle.epoch_log.specs.Epochs.{epoch_of, members_in}
-use Rattle.epoch_log.specs.Appending.{is_format}
+use Rattle.epoch_log.specs.AppendTests.{may_open, may_append}
 use Rattle.peer_proto.specs.declared.guest.VdiAsk.{VdiAsk}
 use Rattle.peer_proto.specs.declared.guest.VdiAsk.TheVariants.{Create, Attach, Close, Snapshot, Clone, Delete, Check}
 use Rattle.peer_service.specs.Serve.{may_serve}
@@ -40,38 +36,15 @@ use Rattle.peer_proto.specs.declared.work.ObjWork.{ObjWork}
 use Rattle.peer_proto.specs.declared.work.ObjWork.TheVariants as works
 use Rattle.peer_service.specs.State.{Peer, spec_of, object_size}
 
--- names, and what disks may be made with and from
-
-abbrev pub is_name_or_tag : List ℕ → Bool
-is_name_or_tag name = nat_le 1 (length name) && (nat_le (length name) NAME_BYTES_MAX && list_all (λ (byte : ℕ). not (byte == 0)) name)
-
-abbrev pub is_tag : Option (List ℕ) → Bool
-is_tag tag = option_map_or is_name_or_tag tag true
-
-abbrev pub is_policy : Policy → Bool
-is_policy (Copies copies) = nat_le 1 copies && nat_le copies COPIES_MAX
-is_policy (Coded d p) = is_width d && (nat_le 1 p && nat_le p PARITY_MAX)
-
-abbrev pub is_spec : VdiSpec → Bool
-is_spec spec =
-    (nat_le SHIFT_MIN spec.shift && nat_le spec.shift SHIFT_MAX)
-    && (is_policy spec.policy
-    && ((nat_le BLOCK_BYTES spec.size && nat_le spec.size (OBJECTS_MAX * 2 ^ spec.shift)) && spec.size % BLOCK_BYTES == 0))
-
-abbrev pub is_origin : Origin → Bool
-is_origin (Fresh spec) = is_spec spec
-is_origin (SnapshotOf tag) = is_name_or_tag tag
-is_origin (CloneOf base tag) = is_name_or_tag base && is_name_or_tag tag
-
 -- what a guest may ask
 
 abbrev pub is_vdi_ask : VdiAsk → Bool
-is_vdi_ask (Create name spec) = is_name_or_tag name && is_spec spec
-is_vdi_ask (Attach name tag) = is_name_or_tag name && is_tag tag
+is_vdi_ask (Create name spec) = is_name name && is_spec spec
+is_vdi_ask (Attach name tag) = is_name name && is_tag tag
 is_vdi_ask Close = true
-is_vdi_ask (Snapshot tag) = is_name_or_tag tag
-is_vdi_ask (Clone base tag name) = is_name_or_tag base && (is_name_or_tag tag && is_name_or_tag name)
-is_vdi_ask (Delete name tag) = is_name_or_tag name && is_tag tag
+is_vdi_ask (Snapshot tag) = is_name tag
+is_vdi_ask (Clone base tag name) = is_name base && (is_name tag && is_name name)
+is_vdi_ask (Delete name tag) = is_name name && is_tag tag
 is_vdi_ask Check = true
 
 -- what a client without a script may ask
@@ -116,37 +89,6 @@ may_take_ask req session ask node =
     && (not (tree.contains_key node.requests req) && (is_epoch_member node && is_guest_ask node ask))
 
 -- which entries may be read
-
-abbrev pub is_node : ℕ → Bool
-is_node node = nat_lt node NODES_MAX
-
-abbrev pub is_weight : ℕ → Bool
-is_weight vnodes = nat_le 1 vnodes && nat_le vnodes VNODES_MAX
-
-abbrev pub is_strictly_increasing : List ℕ → Bool
-is_strictly_increasing [] = true
-is_strictly_increasing (first ∷ later) = list_all (nat_lt first) later && is_strictly_increasing later
-
-abbrev pub may_open : List Member → Bool
-may_open members =
-    nat_le 1 (length members)
-    && ((is_strictly_increasing (node_numbers members) && list_all is_node (node_numbers members))
-    && list_all (λ (member : Member). is_weight member.vnodes) members)
-
-abbrev pub is_reservable : Entry → Bool
-is_reservable (Reserve by session name origin) = is_name_or_tag name && is_origin origin
-is_reservable _ = true
-
-abbrev pub fits_members : List Member → Entry → Bool
-fits_members members (Join node zone vnodes) = is_node node.0 && (is_weight vnodes && not (is_member node.0 members))
-fits_members members (Leave node) = is_member node.0 members
-fits_members members (Reweight node vnodes) = is_weight vnodes && is_member node.0 members
-fits_members members _ = true
-
-abbrev pub may_append : List Entry → Entry → Bool
-may_append entries entry =
-    not (is_format entry)
-    && (is_reservable entry && (fits_members (members_in entries (epoch_of entries)) entry && nat_lt (epoch_of entries) EPOCH_MAX))
 
 abbrev pub may_be_first : Entry → Bool
 may_be_first (Format opening) = may_open opening

@@ -4,7 +4,7 @@ use Rattle.std.specs.Ordering.{nat_cmp}
 use Rattle.std.specs.Option.{option_map_or}
 use Rattle.std.specs.FinMap as tree
 use Rattle.gateway_queue.specs.declared.queue.Queued.{Queued}
-use Rattle.sheep_node.specs.declared.limits.TheConstants.{REQUESTS_AT_ONCE}
+use Rattle.object_id.specs.declared.limits.TheConstants.{REQUESTS_AT_ONCE}
 use Rattle.sheep_node.specs.State.{Request, Session, Node, new_session}
 use Rattle.sheep_node.specs.May.{is_disk_course}
 

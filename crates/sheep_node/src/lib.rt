@@ -43,6 +43,6 @@ pub use laws::{
     requests_come_from_inputs, sends_are_numbered, the_history_has_the_write_of_a_check,
     what_a_command_leaves_open, what_is_put_leaves_the_outbox,
 };
-pub use limits::{REQUESTS_AT_ONCE, SENDS_MAX};
+pub use limits::SENDS_MAX;
 pub use outputs::Outputs;
 pub use replies::ReplyList;

@@ -8,7 +8,7 @@ use Rattle.cluster_script.specs.declared.statement.Statement.TheVariants as line
 use Rattle.cluster_script.specs.NumberedRequests.{is_disk_request, request_at, numbers_of_session}
 use Rattle.cluster_script.specs.Phases.{phases_of, phase_of_request}
 use Rattle.cluster_script.specs.Sessions.{ScriptSession, session_numbered, brings_back}
-use Rattle.sheep_node.specs.declared.limits.TheConstants.{REQUESTS_AT_ONCE}
+use Rattle.object_id.specs.declared.limits.TheConstants.{REQUESTS_AT_ONCE}
 use Rattle.sheep_node.specs.State.{Node}
 use Rattle.sheep_node.specs.May as nodes
 use Rattle.sheep_node.specs.LogReading as reading
