@@ -3,4 +3,7 @@ mod PieceLemmas
 mod LineLemmas
 mod WriteLemmas
 mod ReadLemmas
+mod ExtentLemmas
+mod NextLemmas
+mod BeginLemmas
 mod WorkedRequests

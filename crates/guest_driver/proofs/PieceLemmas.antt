@@ -123,11 +123,11 @@ each P shift offset size (suc n) index holds =
     (each P shift offset size n (index + 1) (λ k low high. holds k (omega (arith, low)) (omega (arith, high))))
 
 -- the objects that a request touches meet its bytes
-record Meets (shift offset size k : ℕ) : Type 0 where
-  begun : offset < (k + 1) * 2 ^ shift
-  there : k * 2 ^ shift < offset + size
+pub record Meets (shift offset size k : ℕ) : Type 0 where
+  pub begun : offset < (k + 1) * 2 ^ shift
+  pub there : k * 2 ^ shift < offset + size
 
-meets : (shift offset size k : ℕ) → 1 ≤ size → first_index shift offset ≤ k → k ≤ last_index shift offset size → Meets shift offset size k
+pub meets : (shift offset size k : ℕ) → 1 ≤ size → first_index shift offset ≤ k → k ≤ last_index shift offset size → Meets shift offset size k
 meets shift offset size k some low high =
     let wide : 0 < 2 ^ shift = pow_pos shift in
     let above : offset < offset / 2 ^ shift * 2 ^ shift + 2 ^ shift = lt-div-mul-add wide in
@@ -161,7 +161,7 @@ from_end P end high in_object at_border = ⊎_elim
     (cases_lt high end)
 
 -- a piece from start to end, of the object from low to high
-abbrev between : ℕ → ℕ → ℕ → ℕ → ℕ → Piece
+abbrev pub between : ℕ → ℕ → ℕ → ℕ → ℕ → Piece
 between k offset low start end = record { index = k; offset = start - low; place = start - offset; size = end - start }
 
 one_inside : (shift offset size k : ℕ) → 1 ≤ size → Meets shift offset size k → IsPiece shift (piece_in shift offset size k)

@@ -27,7 +27,7 @@ apart_from shift offset size (suc n) index = (
 )
 
 -- an entry that is written changes nothing for the other objects
-backing_stays : (inode : Content) (piece other : Piece) → other.index ≢ piece.index
+pub backing_stays : (inode : Content) (piece other : Piece) → other.index ≢ piece.index
     → backing_of (table_with_entry inode piece) other ≡ backing_of inode other
 backing_stays inode piece other apart =
     ap (backing inode.vid) (get_or-set_other inode.table piece.index other.index inode.vid 0 apart)

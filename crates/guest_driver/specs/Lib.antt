@@ -1,6 +1,11 @@
 pub mod Pieces
 pub mod PieceWorks
+pub mod DiskContent
 pub mod Refusals
 pub mod Driver
 pub mod Course
 pub mod InodeQueue
+pub mod Extent
+pub mod Progress
+pub mod OnDisk
+pub mod WaitingWork

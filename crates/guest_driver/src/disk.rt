@@ -1,26 +1,44 @@
-ghost use Rattle.std.specs.Prelude.{◌≡◌, IfOk};
+ghost use Rattle.std.specs.Prelude.{◌≡◌, ◌<◌, All, IfOk, slice_set};
+ghost use Rattle.object_id.specs.Oid.{IsVid};
+ghost use Rattle.object_id.specs.Spec.{objects_of};
+ghost use Rattle.inode.specs.Layout.{IsEntry};
+ghost use Rattle.guest_driver.specs.DiskContent.{HasIds};
 
 use inode::Inode;
 use object_id::NoMemory;
 use std::alloc::Global;
+use std::marker::Model;
 
 /// The disk that a session has open: its inode, whose table says where each object is, and whether it is a snapshot,
-/// which is only read.
+/// which is only read. Its id is one, and each entry of its table is 0 or an id.
 #[derive(Debug, Drop)]
 pub struct Disk {
     inode: Inode,
     snapshot: bool,
 }
 
+impl Model for Disk {
+    ghost use Rattle.guest_driver.specs.DiskContent.{DiskContent, HasIds};
+
+    ghost Value = { DiskContent };
+
+    ghost view = { λ disk. record { inode = disk.inode; snapshot = disk.snapshot } };
+
+    ghost invariant = { λ disk. HasIds disk.inode };
+}
+
 impl Disk {
     pub fn new(inode: Inode, snapshot: bool) -> Disk
+        requires vid { IsVid inode.vid }
+        requires entries { All IsEntry inode.table }
         ensures { result ≡ record { inode = inode; snapshot = snapshot } }
     {
         Disk { inode, snapshot }
     }
 
     pub fn inode(&self) -> &Inode
-        ensures { result.now ≡ self.now.inode }
+        ensures value { result.now ≡ self.now.inode }
+        ensures valid { HasIds result.now }
     {
         &self.inode
     }
@@ -29,6 +47,16 @@ impl Disk {
         ensures { result ≡ self.now.snapshot }
     {
         self.snapshot
+    }
+
+    /// Says in the table that an object is the disk's own.
+    pub(crate) fn enter(&mut self, index: u32)
+        requires { index < objects_of self.old.inode.spec }
+        ensures inode { self.new.inode ≡ record self.old.inode { table = slice_set self.old.inode.table index self.old.inode.vid } }
+        ensures snapshot { self.new.snapshot ≡ self.old.snapshot }
+    {
+        let vid = self.inode.vid();
+        self.inode.set_entry(index, vid);
     }
 
     pub fn copy(&self, alloc: Global) -> Result<Self, NoMemory>

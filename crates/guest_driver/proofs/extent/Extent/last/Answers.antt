@@ -1,0 +1,12 @@
+use Rattle.std.proofs.Common.{◌+◌, ◌-◌, arith}
+use Rattle.guest_driver.proofs.ExtentLemmas.{quotient_below}
+use Rattle.guest_driver.proofs.extent.Extent.last.Goals as goal
+
+pub overflow_cast-result-2 : goal.overflow_cast-result-2
+overflow_cast-result-2 c =
+    let below = quotient_below (c.args.self.offset + c.args.self.size - 1) c.args.self.shift (omega (arith, c.requires.some, c.requires.objects)) in
+    omega (arith, below)
+
+pub returns-clause-below : goal.returns-clause-below
+returns-clause-below c =
+    quotient_below (c.args.self.offset + c.args.self.size - 1) c.args.self.shift (omega (arith, c.requires.some, c.requires.objects))

@@ -1,0 +1,27 @@
+use Rattle.std.proofs.Common.{◌≡◌, ℕ, ◌+◌, ◌*◌, ◌%◌, ◌^◌, ◌≤◌, max, min, ap, ap₂, ◌∙◌, arith}
+use Rattle.std.proofs.Math.Pow.{pow_mono}
+use Rattle.std.proofs.Math.Nat.{mod-eq_of_lt}
+use Rattle.guest_driver.proofs.PieceLemmas.{Meets, meets, between}
+use Rattle.guest_driver.proofs.extent.Extent.piece.Goals as goal
+
+pub returns-clause-value : goal.returns-clause-value
+returns-clause-value c =
+    let shift : ℕ = c.args.self.shift in
+    let offset : ℕ = c.args.self.offset in
+    let size : ℕ = c.args.self.size in
+    let index : ℕ = c.args.index in
+    let met : Meets shift offset size index = meets shift offset size index c.requires.is.some c.requires.first c.requires.last in
+    let there = met.there in
+    let most = c.requires.is.end in
+    let wide : 2 ^ shift ≤ 2 ^ 24 = pow_mono c.requires.is.shift.1 in
+    let low : c.from.result * 2 ^ shift % 18446744073709551616 ≡ index * 2 ^ shift
+    = ap (λ n. n * 2 ^ shift % 18446744073709551616) c.from.ensures ∙ mod-eq_of_lt (omega (arith, there, most)) in
+    let step : index * 2 ^ shift + 2 ^ shift ≡ (index + 1) * 2 ^ shift = grind arith in
+    let one : 1 * 2 ^ shift % 18446744073709551616 ≡ 2 ^ shift
+    = mod-eq_of_lt (omega (arith, wide)) ∙ omega arith in
+    let start : c.max-start.result ≡ max offset (index * 2 ^ shift) = c.max-start.ensures ∙ ap (max offset) low in
+    let end : c.min-end.result ≡ min (offset + size) ((index + 1) * 2 ^ shift)
+    = c.min-end.ensures ∙ ap (min (offset + size)) (ap₂ (λ a b. a + b) low one ∙ step) in
+    ap (λ l. between index offset l c.max-start.result c.min-end.result) low
+    ∙ ap (λ s. between index offset (index * 2 ^ shift) s c.min-end.result) start
+    ∙ ap (λ e. between index offset (index * 2 ^ shift) (max offset (index * 2 ^ shift)) e) end

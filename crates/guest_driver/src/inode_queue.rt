@@ -1,0 +1,96 @@
+//! The queue of a session's works on its disk's inode.
+
+ghost use Rattle.std.specs.Prelude.{◌≡◌, IsTrue, OnErr, OnOk, option_map};
+ghost use Rattle.guest_driver.specs.InodeQueue.{is_on_inode, empty_inode_queue, may_open_work, queue_with_open, queue_with_waiting};
+ghost use Rattle.guest_driver.specs.InodeQueue.{queue_after_end, next_work, queue_after_start};
+ghost use Rattle.guest_driver.specs.WaitingWork.{waiting_of};
+
+use crate::waiting_work::WaitingWork;
+use object_id::{Kind, NoMemory};
+use peer_proto::ObjWork;
+use std::alloc::Global;
+use std::marker::Model;
+
+/// Whether a work is on an inode.
+fn is_on_inode(work: &ObjWork) -> bool
+    ensures { result ≡ is_on_inode work.now }
+{
+    work.oid().kind() == Kind::Inode
+}
+
+/// The request whose work on the inode is open, and the works that wait, the first to come in front.
+#[derive(Debug, Drop)]
+pub struct InodeQueue {
+    current: Option<u32>,
+    waiting: Vec<WaitingWork>,
+}
+
+impl Model for InodeQueue {
+    ghost use Rattle.std.specs.Prelude.{map};
+    ghost use Rattle.guest_driver.specs.InodeQueue.{InodeQueue as TheQueue};
+    ghost use Rattle.guest_driver.specs.WaitingWork.{waiting_of};
+
+    ghost Value = { TheQueue };
+
+    ghost view = { λ queue. record { current = queue.current; waiting = map waiting_of queue.waiting.items } };
+}
+
+impl InodeQueue {
+    /// The queue in which nobody is. Takes no memory.
+    pub fn new(alloc: Global) -> InodeQueue
+        ensures { result ≡ empty_inode_queue }
+    {
+        InodeQueue {
+            current: None,
+            waiting: Vec::new(alloc),
+        }
+    }
+
+    /// Whether a work may begin at once.
+    pub fn may_open(&self, work: &ObjWork) -> bool
+        ensures { result ≡ may_open_work self.now work.now }
+    {
+        !is_on_inode(work) || self.current.is_none()
+    }
+
+    /// Takes note of a work that begins at once. Takes no memory.
+    pub fn open(&mut self, req: u32, work: &ObjWork)
+        requires { IsTrue (may_open_work self.old work.now) }
+        ensures { self.new ≡ queue_with_open self.old req work.now }
+    {
+        if is_on_inode(work) {
+            self.current = Some(req);
+        }
+    }
+
+    /// Lets a work wait behind the others. Without memory the queue stays as it was.
+    pub fn wait(&mut self, req: u32, work: ObjWork) -> Result<(), NoMemory>
+        ensures ok { OnOk result (self.new ≡ queue_with_waiting self.old req work) }
+        ensures err { OnErr result (self.new ≡ self.old) }
+    {
+        self.waiting.push(WaitingWork { req, work })?;
+        Ok(())
+    }
+
+    /// Takes note that a work is done or refused. Takes no memory.
+    pub fn end(&mut self, work: &ObjWork)
+        ensures { self.new ≡ queue_after_end self.old work.now }
+    {
+        if is_on_inode(work) {
+            self.current = None;
+        }
+    }
+
+    /// The work that begins next, if no other is open: the first that waits. Moves the others one place down, and takes no memory.
+    pub fn start(&mut self) -> Option<WaitingWork>
+        ensures next { option_map waiting_of result ≡ next_work self.old }
+        ensures after { self.new ≡ queue_after_start self.old }
+    {
+        if self.current.is_some() || self.waiting.is_empty() {
+            return None;
+        }
+        let first = self.waiting.remove(0);
+        self.current = Some(first.req);
+        Some(first)
+    }
+}
