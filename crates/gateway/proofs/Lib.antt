@@ -1,3 +1,11 @@
+mod GivenLemmas
+mod StepLemmas
+mod AskersKept
+mod WorkLemmas
+mod AskerLemmas
+mod AskingLemmas
+mod KeptMaps
+mod MessageLemmas
 pub mod AnswerLaws
 pub mod SendLaws
 pub mod TryLaws

@@ -3,3 +3,6 @@ pub mod Attempt
 pub mod State
 pub mod Step
 pub mod Outcomes
+pub mod Messages
+pub mod Stage
+pub mod Kept

@@ -67,3 +67,10 @@ BeginsAttempt gateway req work first zones (acts.Done ended done) = ⊥
 BeginsAttempt gateway req work first zones (acts.Refused ended number cause) =
     (ended ≡ work.work) × (number ≡ req) × (zones < zones_for work.work) × (is_touched req gateway ≡ false)
     × (cause ≡ Halt zones (zones_for work.work))
+
+-- the request is refused
+abbrev pub IsRefusal : Act → Type 0
+IsRefusal (acts.Send sends) = ⊥
+IsRefusal acts.Wait = ⊥
+IsRefusal (acts.Done ended done) = ⊥
+IsRefusal (acts.Refused ended number cause) = Unit {0}

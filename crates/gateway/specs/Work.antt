@@ -75,3 +75,10 @@ is_piece (Create oid policy size offset bytes) n = false
 is_piece (Write oid policy offset bytes) n = false
 is_piece (Read oid policy offset size) n = n == part_size policy (kind_of oid) size
 is_piece (ReadAll oid policy size) n = n == part_size policy (kind_of oid) size
+
+-- whether each attempt of a work asks all targets; a read of whole copies asks one of them
+abbrev pub asks_all : ObjWork → Bool
+asks_all (Create oid policy size offset bytes) = true
+asks_all (Write oid policy offset bytes) = true
+asks_all (Read oid policy offset size) = is_in_strips policy (kind_of oid)
+asks_all (ReadAll oid policy size) = true
