@@ -7,9 +7,11 @@ ghost use Rattle.peer_proto.specs.Work.{IsWork};
 ghost use Rattle.gateway.specs.State.{MaySend, MayStart};
 
 use super::*;
+use hash_ring::are_weighted;
 use object_id::{Bytes, Cause, Epoch, Member, NoMemory, NodeId, Oid, Policy, Vid};
 use peer_proto::{ObjWork, PeerAsk, PeerReq, PeerRsp, PeerSay, Refusal, SendList};
 use std::alloc::Global;
+use std::process::Abort;
 use std::test::*;
 use vnode_table::Placement;
 
@@ -93,7 +95,9 @@ fn copies_what_was_done(rt: HostRuntime) -> Result<(), Fail> {
 }
 
 /// A placement with one epoch of so many nodes, each in a zone of its own.
-fn placement(alloc: Global, nodes: u32) -> Result<Placement, NoMemory> {
+fn placement(rt: &impl Abort, alloc: Global, nodes: u32) -> Result<Placement, NoMemory>
+    ensures entered { IfOk result (λ place. IsTrue (is_entered place.now 1)) }
+{
     let mut members = Vec::new(alloc);
     for node in 0..nodes {
         members.push(Member {
@@ -103,6 +107,7 @@ fn placement(alloc: Global, nodes: u32) -> Result<Placement, NoMemory> {
         })?;
     }
     let mut place = Placement::new(alloc);
+    assert!(rt; are_weighted(members.as_slice()) && !place.has_entered(Epoch(1)));
     place.enter(Epoch(1), members.as_slice())?;
     Ok(place)
 }
@@ -127,7 +132,7 @@ fn sends(act: &Act) -> usize {
 #[test]
 fn writes_to_each_copy(rt: HostRuntime) -> Result<(), Fail> {
     let alloc = rt.alloc();
-    let place = placement(alloc, 3)?;
+    let place = placement(&rt, alloc, 3)?;
     let mut gateway = Gateway::new(alloc, NodeId(0), 8);
     let work = ObjWork::Write {
         oid: Oid::object(Vid(9), 2),
@@ -159,7 +164,7 @@ fn writes_to_each_copy(rt: HostRuntime) -> Result<(), Fail> {
 #[test]
 fn reads_through_parity(rt: HostRuntime) -> Result<(), Fail> {
     let alloc = rt.alloc();
-    let place = placement(alloc, 3)?;
+    let place = placement(&rt, alloc, 3)?;
     let mut gateway = Gateway::new(alloc, NodeId(0), 1);
     let work = ObjWork::Read {
         oid: Oid::object(Vid(9), 2),
@@ -187,7 +192,7 @@ fn reads_through_parity(rt: HostRuntime) -> Result<(), Fail> {
 #[test]
 fn reads_all_copies(rt: HostRuntime) -> Result<(), Fail> {
     let alloc = rt.alloc();
-    let place = placement(alloc, 2)?;
+    let place = placement(&rt, alloc, 2)?;
     let mut gateway = Gateway::new(alloc, NodeId(0), 1);
     let work = ObjWork::ReadAll {
         oid: Oid::object(Vid(9), 2),
@@ -209,7 +214,7 @@ fn reads_all_copies(rt: HostRuntime) -> Result<(), Fail> {
 #[test]
 fn refuses_with_the_first_cause(rt: HostRuntime) -> Result<(), Fail> {
     let alloc = rt.alloc();
-    let place = placement(alloc, 2)?;
+    let place = placement(&rt, alloc, 2)?;
     let mut gateway = Gateway::new(alloc, NodeId(0), 2);
     let act = gateway.start(7, a_read(), 0, Epoch(1), &place)?;
     assert_eq!(rt; sends(&act), 1);
@@ -239,7 +244,7 @@ fn refuses_with_the_first_cause(rt: HostRuntime) -> Result<(), Fail> {
 #[test]
 fn halts_for_want_of_zones(rt: HostRuntime) -> Result<(), Fail> {
     let alloc = rt.alloc();
-    let place = placement(alloc, 2)?;
+    let place = placement(&rt, alloc, 2)?;
     let mut gateway = Gateway::new(alloc, NodeId(0), 2);
     let work = ObjWork::Create {
         oid: Oid::object(Vid(9), 2),

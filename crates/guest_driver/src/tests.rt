@@ -296,3 +296,34 @@ fn asks_for_whole_blocks(rt: HostRuntime) -> Result<(), Fail> {
     }
     Ok(())
 }
+
+/// A read of an object of disk 5.
+fn read_of(oid: Oid) -> ObjWork {
+    ObjWork::Read {
+        oid,
+        policy: Policy::Copies(2),
+        offset: 0,
+        length: 512,
+    }
+}
+
+// A work on the inode waits for the one that is open, in the order of coming; a work on a data object waits for none.
+#[test]
+fn works_on_the_inode_go_in_line(rt: HostRuntime) -> Result<(), Fail> {
+    let mut queue = InodeQueue::new(rt.alloc());
+    let inode = read_of(Oid::inode(Vid(5)));
+    let block = read_of(Oid::object(Vid(5), 0));
+    assert!(rt; queue.start().is_none() && queue.may_open(&inode));
+    queue.open(1, &inode);
+    assert!(rt; queue.may_open(&block) && !queue.may_open(&inode));
+    queue.wait(2, read_of(Oid::inode(Vid(5))))?;
+    queue.wait(3, read_of(Oid::inode(Vid(5))))?;
+    queue.end(&block);
+    assert!(rt; queue.start().is_none());
+    queue.end(&inode);
+    assert!(rt; matches!(queue.start(), Some(WaitingWork { req: 2, .. })));
+    assert!(rt; queue.start().is_none());
+    queue.end(&inode);
+    assert!(rt; matches!(queue.start(), Some(WaitingWork { req: 3, .. })));
+    Ok(())
+}
