@@ -1,4 +1,4 @@
--- The entries of the tree in which locks are kept, and the finite map as which they are seen.
+-- The locks that a node's end leaves, and the finite map as which they are seen.
 use Rattle.std.proofs.Common.{◌≡◌, ℕ, Bool, true, false, cond, List, filter, not, Option, Some, None, refl, ap, sym, ◌∙◌}
 use Rattle.std.specs.Ordering.{nat_cmp, eq_by_cmp}
 use Rattle.std.specs.Cmp.{nat_cmp_total, eq_by_cmp_equiv}
@@ -10,22 +10,6 @@ use Rattle.std.proofs.lemmas.Map.Entries.{lookup-filter-values, option_filter}
 use Rattle.proof_tools.proofs.FiniteMaps.{get-from_entries}
 use Rattle.disk_lock.specs.declared.holder.Holder.{Holder}
 use Rattle.disk_lock.specs.Locks.{is_of_node, without_node}
-
-module _ {V : Type 0} where
-  -- one id has a new value, and every other keeps its own
-  pub insert-seen : (old new : List (ℕ × V)) (k : ℕ) (v : V)
-      → ((q : ℕ) → lookup (is_at (nat_cmp q)) new ≡ cond (is_at (nat_cmp k) q) (Some v) (lookup (is_at (nat_cmp q)) old))
-      → tree.from_entries {R = nat_cmp} new ≡ tree.insert (tree.from_entries old) k v
-  insert-seen old new k v is =
-      tree.same_map nat_cmp_total tree.nat_cmp-IsAntisymmetric (tree.from_entries new) (tree.insert (tree.from_entries old) k v)
-      (λ q. get-from_entries new q ∙ is q ∙ (λ i. cond ((eq_by_cmp_equiv nat_cmp_total).symm k q i) (Some v) (sym (get-from_entries old q) i)) ∙ sym (tree.get-insert nat_cmp_total (tree.from_entries old) k v q))
-
-  pub remove-seen : (old new : List (ℕ × V)) (k : ℕ)
-      → ((q : ℕ) → lookup (is_at (nat_cmp q)) new ≡ cond (is_at (nat_cmp k) q) None (lookup (is_at (nat_cmp q)) old))
-      → tree.from_entries {R = nat_cmp} new ≡ tree.remove (tree.from_entries old) k
-  remove-seen old new k is =
-      tree.same_map nat_cmp_total tree.nat_cmp-IsAntisymmetric (tree.from_entries new) (tree.remove (tree.from_entries old) k)
-      (λ q. get-from_entries new q ∙ is q ∙ (λ i. cond ((eq_by_cmp_equiv nat_cmp_total).symm k q i) None (sym (get-from_entries old q) i)) ∙ sym (tree.get-remove nat_cmp_total (tree.from_entries old) k q))
 
 turned_test : {A : Type 0} (b : Bool) (x y : A) → cond (not b) x y ≡ cond b y x
 turned_test true x y = refl

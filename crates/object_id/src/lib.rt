@@ -21,6 +21,7 @@ mod oid;
 mod piece;
 mod policy;
 mod same;
+mod same_entry;
 mod span;
 #[cfg(test)]
 mod tests;

@@ -5,9 +5,13 @@ ghost use Rattle.object_id.specs.Same.{is_same_tag, is_same_origin, is_same_memb
 
 use crate::bytes::Bytes;
 use crate::entry::{Entry, MemberList, Origin};
+use crate::same_entry::{
+    is_clone, is_delete, is_format, is_join, is_leave, is_lock, is_publish, is_recovered,
+    is_reserve, is_reweight, is_snapshot, is_unlock,
+};
 
 /// Whether both lists have the same members in the same order.
-fn same_members(one: &MemberList, other: &MemberList) -> bool
+pub(crate) fn same_members(one: &MemberList, other: &MemberList) -> bool
     ensures value { result ≡ pointwise is_same_member one.now other.now }
     ensures exact { IsTrue result ↔ (one.now ≡ other.now) }
 {
@@ -58,102 +62,41 @@ impl Entry {
         ensures value { result ≡ is_same_entry self.now other.now }
         ensures exact { IsTrue result ↔ (self.now ≡ other.now) }
     {
-        match (self, other) {
-            (Entry::Format { members }, Entry::Format { members: others }) => same_members(
-                members, others,
-            ),
-            (
-                Entry::Join { node, zone, vnodes },
-                Entry::Join {
-                    node: other,
-                    zone: place,
-                    vnodes: weight,
-                },
-            ) => node == other && zone == place && vnodes == weight,
-            (Entry::Leave { node }, Entry::Leave { node: other }) => node == other,
-            (
-                Entry::Reweight { node, vnodes },
-                Entry::Reweight {
-                    node: other,
-                    vnodes: weight,
-                },
-            ) => { node == other && vnodes == weight }
-            (
-                Entry::Recovered { node, epoch },
-                Entry::Recovered {
-                    node: other,
-                    epoch: level,
-                },
-            ) => { node == other && epoch == level }
-            (
-                Entry::Reserve {
-                    by,
-                    session,
-                    name,
-                    origin,
-                },
-                Entry::Reserve {
-                    by: node,
-                    session: number,
-                    name: text,
-                    origin: source,
-                },
-            ) => by == node && session == number && name.same(text) && origin.same(source),
-            (Entry::Publish { by, vid }, Entry::Publish { by: node, vid: id }) => by == node
-                && vid == id,
-            (Entry::Clone { by, vid }, Entry::Clone { by: node, vid: id }) => by == node
-                && vid == id,
-            (
-                Entry::Snapshot { by, old, vid },
-                Entry::Snapshot {
-                    by: node,
-                    old: before,
-                    vid: id,
-                },
-            ) => by == node && old == before && vid == id,
-            (
-                Entry::Delete {
-                    by,
-                    session,
-                    name,
-                    tag,
-                },
-                Entry::Delete {
-                    by: node,
-                    session: number,
-                    name: text,
-                    tag: label,
-                },
-            ) => by == node
-                && session == number
-                && name.same(text)
-                && Bytes::same_option(tag, label),
-            (
-                Entry::Lock {
-                    by,
-                    session,
-                    name,
-                    tag,
-                },
-                Entry::Lock {
-                    by: node,
-                    session: number,
-                    name: text,
-                    tag: label,
-                },
-            ) => by == node
-                && session == number
-                && name.same(text)
-                && Bytes::same_option(tag, label),
-            (
-                Entry::Unlock { by, session, vid },
-                Entry::Unlock {
-                    by: node,
-                    session: number,
-                    vid: id,
-                },
-            ) => by == node && session == number && vid == id,
-            _ => false,
+        self.has_fields_of(other)
+    }
+
+    /// Whether both are of one kind, with the same fields.
+    fn has_fields_of(&self, other: &Entry) -> bool
+        ensures { result ≡ is_same_entry self.now other.now }
+    {
+        match self {
+            Entry::Format { members } => is_format(members, other),
+            Entry::Join { node, zone, vnodes } => is_join(*node, *zone, *vnodes, other),
+            Entry::Leave { node } => is_leave(*node, other),
+            Entry::Reweight { node, vnodes } => is_reweight(*node, *vnodes, other),
+            Entry::Recovered { node, epoch } => is_recovered(*node, *epoch, other),
+            Entry::Reserve {
+                by,
+                session,
+                name,
+                origin,
+            } => is_reserve(*by, *session, name, origin, other),
+            Entry::Publish { by, vid } => is_publish(*by, *vid, other),
+            Entry::Clone { by, vid } => is_clone(*by, *vid, other),
+            Entry::Snapshot { by, old, vid } => is_snapshot(*by, *old, *vid, other),
+            Entry::Delete {
+                by,
+                session,
+                name,
+                tag,
+            } => is_delete(*by, *session, name, tag, other),
+            Entry::Lock {
+                by,
+                session,
+                name,
+                tag,
+            } => is_lock(*by, *session, name, tag, other),
+            Entry::Unlock { by, session, vid } => is_unlock(*by, *session, *vid, other),
         }
     }
 }

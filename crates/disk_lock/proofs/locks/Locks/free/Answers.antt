@@ -1,6 +1,6 @@
 use Rattle.std.proofs.Common.{ap, ◌∙◌}
 use Rattle.std.specs.FinMap as tree
-use Rattle.disk_lock.proofs.LockLemmas.{remove-seen}
+use Rattle.proof_tools.proofs.SeenMaps.{remove-seen}
 use Rattle.disk_lock.proofs.locks.Locks.free.Goals as goal
 
 pub returns : goal.returns

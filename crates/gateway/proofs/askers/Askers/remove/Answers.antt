@@ -1,6 +1,6 @@
 use Rattle.std.proofs.Common.{ap, ◌∙◌}
 use Rattle.std.specs.FinMap as tree
-use Rattle.gateway.proofs.KeptMaps.{remove-seen}
+use Rattle.proof_tools.proofs.SeenMaps.{remove-seen}
 use Rattle.gateway.proofs.askers.Askers.remove.Goals as goal
 
 pub returns : goal.returns

@@ -11,7 +11,7 @@ use Rattle.gateway.specs.declared.outcome.Outcome.{Outcome}
 use Rattle.gateway.specs.State.{Work, is_awaited_in}
 use Rattle.gateway.specs.Messages.{IsPieceFor}
 use Rattle.gateway.specs.Kept.{work_with_status, work_by, outcome_at}
-use Rattle.gateway.proofs.KeptMaps.{insert-seen}
+use Rattle.proof_tools.proofs.SeenMaps.{insert-seen}
 use Rattle.gateway.proofs.WorkLemmas.{if_none, if_some, some_if}
 use Rattle.gateway.proofs.works.Works.end_message.Goals as goal
 

@@ -1,6 +1,6 @@
 use Rattle.std.proofs.Common.{ap, ◌∙◌}
 use Rattle.std.specs.FinMap as tree
-use Rattle.gateway.proofs.KeptMaps.{insert-seen}
+use Rattle.proof_tools.proofs.SeenMaps.{insert-seen}
 use Rattle.gateway.proofs.works.Works.put.Goals as goal
 
 pub returns-clause-ok : goal.returns-clause-ok

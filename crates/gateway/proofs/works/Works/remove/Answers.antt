@@ -1,7 +1,7 @@
 use Rattle.std.proofs.Common.{ap, sym, ◌∙◌}
 use Rattle.std.specs.FinMap as tree
 use Rattle.proof_tools.proofs.FiniteMaps.{get-from_entries}
-use Rattle.gateway.proofs.KeptMaps.{remove-seen}
+use Rattle.proof_tools.proofs.SeenMaps.{remove-seen}
 use Rattle.gateway.proofs.works.Works.remove.Goals as goal
 
 pub returns-clause-value : goal.returns-clause-value

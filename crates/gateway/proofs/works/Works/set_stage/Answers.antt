@@ -7,7 +7,7 @@ use Rattle.std.specs.FinMap as tree
 use Rattle.proof_tools.proofs.FiniteMaps.{get-from_entries}
 use Rattle.gateway.specs.State.{Work}
 use Rattle.gateway.specs.Stage.{stage_of, IsStageOf}
-use Rattle.gateway.proofs.KeptMaps.{insert-seen}
+use Rattle.proof_tools.proofs.SeenMaps.{insert-seen}
 use Rattle.gateway.proofs.WorkLemmas.{if_none, if_some, some_if}
 use Rattle.gateway.proofs.works.Works.set_stage.Goals as goal
 
