@@ -23,7 +23,7 @@ use Rattle.disk_history.specs.Legal.{has_begun_to_write, has_place}
 use Rattle.disk_history.specs.CheckerState.{fate_of, stray_of, is_answer, place_cmp, items_from, items_by, shown_disk, has_block_in, ShowsRequest, AreWithin, IsLinked, IsWithin, IsWritten, WritesOne}
 use Rattle.disk_history.specs.CheckerLedger.{ShowsAll}
 use Rattle.disk_history.proofs.ItemLemmas.{items_from-older, within_more}
-use Rattle.disk_history.proofs.ShownLemmas.{unanswered_fate, ended_shown, stray_shown}
+use Rattle.disk_history.proofs.CheckerViews.{unanswered_fate, ended_shown, stray_shown}
 
 -- ---- the request
 

@@ -1,7 +1,9 @@
 pub mod LegalLemmas
 pub mod ItemLemmas
-pub mod ShownLemmas
+pub mod CheckerViews
 pub mod BeginLemmas
-pub mod ToldLemmas
+pub mod LedgerTells
+pub mod HistoryTells
+pub mod LegalReads
 pub mod ChangeLemmas
-pub mod StayLemmas
+pub mod LastingItems

@@ -9,7 +9,7 @@ use Rattle.proof_tools.proofs.FiniteMaps.{get-entry, entries-contain}
 use Rattle.proof_tools.proofs.Lists.{find-contains, list_any-none}
 use Rattle.gateway.specs.declared.message.Message.{Message}
 use Rattle.gateway.specs.State.{Work, Gateway, asker, is_awaited_in}
-use Rattle.gateway.specs.Kept.{AreAskers, asked_in, asked_of, Works}
+use Rattle.gateway.specs.Kept.{AreAskers, asked_in, asked_at, Works}
 use Rattle.gateway.proofs.MessageLemmas.{has_number}
 
 list_any-push : (p : Message → Bool) (messages : List Message) (message : Message)
@@ -77,7 +77,7 @@ awaits number entry = is_awaited_in number entry.1
 
 -- the work of a message is the one to which the map leads, if that waits for it
 pub asked-is : (number : ℕ) (askers : tree.FinMap nat_cmp ℕ) (gateway : Gateway) → AreAskers askers gateway.works
-    → asker number gateway ≡ asked_of number (tree.get askers number) gateway.works
+    → asker number gateway ≡ asked_at number (tree.get askers number) gateway.works
 asked-is number askers gateway are = by_found (find (awaits number) (tree.entries works)) refl
   where
     works : Works
@@ -91,18 +91,18 @@ asked-is number askers gateway are = by_found (find (awaits number) (tree.entrie
         (entries-contain tree.nat_cmp-IsAntisymmetric works req work at) in
         sym (ap (λ b. cond b (Some (req, work)) None) other)
 
-    by_asker : (o : Option ℕ) → find (awaits number) (tree.entries works) ≡ None → None ≡ asked_of number o works
+    by_asker : (o : Option ℕ) → find (awaits number) (tree.entries works) ≡ None → None ≡ asked_at number o works
     by_asker None none = refl
     by_asker (Some req) none = by_work req (tree.get works req) refl none
 
-    by_found : (o : Option (ℕ × Work)) → find (awaits number) (tree.entries works) ≡ o → o ≡ asked_of number (tree.get askers number) works
+    by_found : (o : Option (ℕ × Work)) → find (awaits number) (tree.entries works) ≡ o → o ≡ asked_at number (tree.get askers number) works
     by_found None found = by_asker (tree.get askers number) found
     by_found (Some entry) found =
         let there = find-contains (awaits number) (tree.entries works) entry found in
         let at : tree.get works entry.0 ≡ Some entry.1 = get-entry works entry there.0 in
         let leads : tree.get askers number ≡ Some entry.0 = are number entry.0 entry.1 at there.1 in
         sym
-        (ap (λ o. asked_of number o works) leads ∙ ap (asked_in number entry.0) at
+        (ap (λ o. asked_at number o works) leads ∙ ap (asked_in number entry.0) at
         ∙ ap (λ b. cond b (Some (entry.0, entry.1)) None) there.1)
 
 -- the work of a message stands at its request, and waits for it

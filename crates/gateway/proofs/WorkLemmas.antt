@@ -10,7 +10,7 @@ use Rattle.gateway.specs.declared.outcome.Outcome.TheVariants as outcomes
 use Rattle.gateway.specs.Attempt.{Attempt, is_awaited_message}
 use Rattle.gateway.specs.State.{WorkStage, Open, Ended, WaitsForMembers, Work, is_awaited_in}
 use Rattle.gateway.specs.Messages.{IsPieceFor, AreMessagesFor}
-use Rattle.gateway.specs.Stage.{IsStageOf, IsOpenWork, IsOpen}
+use Rattle.gateway.specs.Stage.{IsStageFor, IsOpenWork, IsOpenStage}
 use Rattle.gateway.specs.Kept.{stage_with_status, work_with_status, outcome_at}
 use Rattle.gateway.proofs.MessageLemmas.{AreMessagesFor-with_status, taken_back}
 
@@ -26,7 +26,7 @@ module _ {X : Type 0} where
   some_if o P x is p = subst (λ q. IfSome q P) is p
 
 IsStageOf-with_status : (work : ObjWork) (ended number : ℕ) (status : Status) (stage : WorkStage) → IsPieceFor work status
-    → IsStageOf work ended stage → IsStageOf work ended (stage_with_status number status stage)
+    → IsStageFor work ended stage → IsStageFor work ended (stage_with_status number status stage)
 IsStageOf-with_status work ended number status (Open attempt) piece is =
     (AreMessagesFor-with_status work number status attempt.messages piece is.0, is.1)
 IsStageOf-with_status work ended number status Ended piece is = tt
@@ -39,7 +39,7 @@ IsOpenWork-with_status work number status piece is = record {
   stage = IsStageOf-with_status work.work work.ended number status work.stage piece is.stage;
 }
 
-stage_taken_back : (work : ObjWork) (ended number : ℕ) (status : Status) (stage : WorkStage) → IsStageOf work ended stage
+stage_taken_back : (work : ObjWork) (ended number : ℕ) (status : Status) (stage : WorkStage) → IsStageFor work ended stage
     → is_awaited_in number (record { work = work; ended = ended; stage = stage }) ≡ true
     → stage_with_status number Unanswered (stage_with_status number status stage) ≡ stage
 stage_taken_back work ended number status (Open attempt) is there =
@@ -54,7 +54,7 @@ work_taken_back work number status is there =
     (stage_taken_back work.work work.ended number status work.stage is.stage there)
 
 -- only an open attempt fails
-pub failed-open : (tries : ℕ) (touched : Bool) (work : Work) (stage : WorkStage) → outcomes.Failed ≡ outcome_at tries touched work stage → IsOpen stage
+pub failed-open : (tries : ℕ) (touched : Bool) (work : Work) (stage : WorkStage) → outcomes.Failed ≡ outcome_at tries touched work stage → IsOpenStage stage
 failed-open tries touched work (Open attempt) is = tt
 failed-open tries touched work Ended is = absurd (cc (is))
 failed-open tries touched work (WaitsForMembers epoch) is = absurd (cc (is))

@@ -39,9 +39,9 @@ abbrev pub asked_in : ℕ → ℕ → Option Work → Option (ℕ × Work)
 asked_in number req None = None
 asked_in number req (Some work) = if is_awaited_in number work then Some (req, work) else None
 
-abbrev pub asked_of : ℕ → Option ℕ → Works → Option (ℕ × Work)
-asked_of number None works = None
-asked_of number (Some req) works = asked_in number req (tree.get works req)
+abbrev pub asked_at : ℕ → Option ℕ → Works → Option (ℕ × Work)
+asked_at number None works = None
+asked_at number (Some req) works = asked_in number req (tree.get works req)
 
 -- where a work stands, with what is now known of one of its messages
 abbrev pub stage_with_status : ℕ → Status → WorkStage → WorkStage

@@ -69,8 +69,8 @@ BeginsAttempt gateway req work first zones (acts.Refused ended number cause) =
     × (cause ≡ Halt zones (zones_for work.work))
 
 -- the request is refused
-abbrev pub IsRefusal : Act → Type 0
-IsRefusal (acts.Send sends) = ⊥
-IsRefusal acts.Wait = ⊥
-IsRefusal (acts.Done ended done) = ⊥
-IsRefusal (acts.Refused ended number cause) = Unit {0}
+abbrev pub RefusesWork : Act → Type 0
+RefusesWork (acts.Send sends) = ⊥
+RefusesWork acts.Wait = ⊥
+RefusesWork (acts.Done ended done) = ⊥
+RefusesWork (acts.Refused ended number cause) = Unit {0}

@@ -7,7 +7,7 @@ ghost use Rattle.gateway.specs.State.{initial_gateway, asker, has_work, gateway_
 ghost use Rattle.gateway.specs.State.{MaySend, MayStart};
 ghost use Rattle.gateway.specs.Messages.{IsPieceFor};
 ghost use Rattle.gateway.specs.Kept.{next_req};
-ghost use Rattle.gateway.specs.Outcomes.{IsRefusal};
+ghost use Rattle.gateway.specs.Outcomes.{RefusesWork};
 ghost use Rattle.gateway.specs.Step.{start_step, retry_step, message_ended, gateway_on_reply, gateway_on_loss, without_touch};
 
 use crate::act::Act;
@@ -170,7 +170,7 @@ impl Gateway {
         requires may_send { MaySend self.old place.now first epoch }
         requires may_start { MayStart self.old req work }
         ensures ok { IfOk result (λ act. start_step place.now self.old req work first epoch ≡ record { gateway = self.new; act = act }) }
-        ensures refused { IfOk result (λ act. IsRefusal act → self.new ≡ self.old) }
+        ensures refused { IfOk result (λ act. RefusesWork act → self.new ≡ self.old) }
         ensures err { OnErr result (self.new ≡ self.old) }
     {
         let touched = self.touched.has(req);

@@ -4,7 +4,7 @@ ghost use Rattle.gateway.specs.Work.{is_making};
 ghost use Rattle.gateway.specs.Attempt.{is_unanswered};
 ghost use Rattle.gateway.specs.State.{is_awaited_in, may_try};
 ghost use Rattle.gateway.specs.Messages.{AreMessagesFor, IsPieceFor};
-ghost use Rattle.gateway.specs.Stage.{stage_of, IsStageOf, IsOpen};
+ghost use Rattle.gateway.specs.Stage.{work_stage, IsStageFor, IsOpenStage};
 ghost use Rattle.gateway.specs.Kept.{work_with_status, work_failed, work_by, outcome_with, outcome_at, failure_outcome};
 
 use crate::given::bytes_given;
@@ -28,21 +28,21 @@ pub(crate) struct OpenWork {
 
 impl Model for OpenWork {
     ghost use Rattle.gateway.specs.State.{Work};
-    ghost use Rattle.gateway.specs.Stage.{stage_of, IsOpenWork};
+    ghost use Rattle.gateway.specs.Stage.{work_stage, IsOpenWork};
 
     ghost Value = { Work };
 
-    ghost view = { λ kept. record { work = kept.work; ended = kept.ended; stage = stage_of kept.stage } };
+    ghost view = { λ kept. record { work = kept.work; ended = kept.ended; stage = work_stage kept.stage } };
 
-    ghost invariant = { λ kept. IsOpenWork (record { work = kept.work; ended = kept.ended; stage = stage_of kept.stage }) };
+    ghost invariant = { λ kept. IsOpenWork (record { work = kept.work; ended = kept.ended; stage = work_stage kept.stage }) };
 }
 
 impl OpenWork {
     /// A work of which no attempt has ended.
     pub fn new(work: ObjWork, stage: Stage) -> OpenWork
         requires work { IsWork work }
-        requires stage { IsStageOf work 0 (stage_of stage) }
-        ensures { result ≡ record { work = work; ended = 0; stage = stage_of stage } }
+        requires stage { IsStageFor work 0 (work_stage stage) }
+        ensures { result ≡ record { work = work; ended = 0; stage = work_stage stage } }
     {
         OpenWork {
             work,
@@ -93,8 +93,8 @@ impl OpenWork {
     }
 
     pub fn set_stage(&mut self, stage: Stage)
-        requires { IsStageOf self.old.work self.old.ended (stage_of stage) }
-        ensures { self.new ≡ record self.old { stage = stage_of stage } }
+        requires { IsStageFor self.old.work self.old.ended (work_stage stage) }
+        ensures { self.new ≡ record self.old { stage = work_stage stage } }
     {
         self.stage = stage;
     }
@@ -109,7 +109,7 @@ impl OpenWork {
 
     /// The last attempt has ended, and isn't done.
     fn fail(&mut self)
-        requires { IsOpen self.old.stage }
+        requires { IsOpenStage self.old.stage }
         ensures { self.new ≡ work_failed self.old }
     {
         self.ended += 1;

@@ -1,5 +1,5 @@
 ghost use Rattle.std.specs.Prelude.{◌≡◌};
-ghost use Rattle.gateway.specs.Stage.{stage_of, NumbersDifferAt};
+ghost use Rattle.gateway.specs.Stage.{work_stage, NumbersDifferAt};
 ghost use Rattle.gateway.specs.Kept.{stage_with_status};
 
 use crate::message::Status;
@@ -19,8 +19,8 @@ pub(crate) enum Stage {
 
 /// What the message of a number came to is known.
 pub(crate) fn set_status(stage: &mut Stage, number: u32, status: Status)
-    requires { NumbersDifferAt (stage_of stage.old) }
-    ensures { stage_of stage.new ≡ stage_with_status number status (stage_of stage.old) }
+    requires { NumbersDifferAt (work_stage stage.old) }
+    ensures { work_stage stage.new ≡ stage_with_status number status (work_stage stage.old) }
 {
     if let Stage::Open { messages, .. } = stage {
         messages.set_status(number, status);

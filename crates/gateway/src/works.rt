@@ -6,7 +6,7 @@ ghost use Rattle.gateway.specs.Work.{is_making};
 ghost use Rattle.gateway.specs.Attempt.{is_unanswered};
 ghost use Rattle.gateway.specs.State.{is_awaited_in};
 ghost use Rattle.gateway.specs.Messages.{IsPieceFor};
-ghost use Rattle.gateway.specs.Stage.{stage_of, IsStageOf};
+ghost use Rattle.gateway.specs.Stage.{work_stage, IsStageFor};
 ghost use Rattle.gateway.specs.Kept.{work_with_status, work_by, works_left, outcome_at, act_by, next_req, MessageEnds};
 
 use crate::act::Act;
@@ -83,8 +83,8 @@ impl Works {
 
     /// A work stands differently.
     pub fn set_stage(&mut self, req: u32, stage: Stage)
-        requires { IfSome (tree.get self.old req) (λ work. IsStageOf work.work work.ended (stage_of stage)) }
-        ensures { IfSome (tree.get self.old req) (λ work. self.new ≡ tree.insert self.old req (record work { stage = stage_of stage })) }
+        requires { IfSome (tree.get self.old req) (λ work. IsStageFor work.work work.ended (work_stage stage)) }
+        ensures { IfSome (tree.get self.old req) (λ work. self.new ≡ tree.insert self.old req (record work { stage = work_stage stage })) }
     {
         let Some(work) = self.by_request.get_mut(&req) else {
             return;
@@ -166,7 +166,8 @@ impl Works {
         requires awaited { IfSome (tree.get self.old req) (λ work. is_awaited_in number work ≡ true) }
         requires known { is_unanswered status ≡ false }
         requires piece { IfSome (tree.get self.old req) (λ work. IsPieceFor work.work status) }
-        ensures ok { IfOk result (λ act. IfSome (tree.get self.old req) (λ work. MessageEnds req number status tries touched work self.old self.new act)) }
+        ensures ok { IfOk result (λ act. IfSome (tree.get self.old req) (λ work.
+            MessageEnds req number status tries touched work self.old self.new act)) }
         ensures err { OnErr result (self.new ≡ self.old) }
         ensures memory { IfSome (tree.get self.old req) (λ work. is_making work.work ≡ true → IsOk result) }
     {

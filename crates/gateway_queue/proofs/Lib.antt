@@ -1,2 +1,2 @@
 pub mod QueueLemmas
-pub mod LawLemmas
+pub mod RequestOrder

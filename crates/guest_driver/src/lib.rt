@@ -40,6 +40,6 @@ pub use laws::{
     a_driver_waits_for_works, a_read_goes_by_its_pieces, a_write_goes_by_its_entries,
     entries_follow_their_objects, pieces_are_the_request, the_line_keeps_its_order,
 };
-pub use peer_proto::{DiskAsk, GuestRsp, WorkDone};
+pub use peer_proto::{DiskAsk, GuestRsp};
 pub use refusals::{disk_refusal, is_ask};
 pub use waiting_work::WaitingWork;

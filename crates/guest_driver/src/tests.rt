@@ -8,7 +8,7 @@ ghost use Rattle.guest_driver.specs.OnDisk.{IsDriverOn};
 use super::*;
 use inode::Inode;
 use object_id::{Bytes, Cause, NoMemory, Oid, Policy, VdiSpec, Vid};
-use peer_proto::ObjWork;
+use peer_proto::{ObjWork, WorkDone};
 use std::alloc::Global;
 use std::test::Fail;
 

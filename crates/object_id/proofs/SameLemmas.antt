@@ -7,6 +7,7 @@ use Rattle.std.specs.Str.{bytes_eq}
 use Rattle.std.proofs.lemmas.Bool.{and_parts, eqb-true, eq-eqb, and_from}
 use Rattle.std.proofs.lemmas.Bool.Decides.{same_from_decides}
 use Rattle.std.proofs.lemmas.Slice.Eq.{bytes_eq-Decides, slice_eq-Decides}
+use Rattle.object_id.specs.declared.node.NodeId.{NodeId}
 use Rattle.object_id.specs.declared.policy.Policy.{Policy}
 use Rattle.object_id.specs.declared.policy.Policy.TheVariants.{Copies, Coded}
 use Rattle.object_id.specs.declared.entry.Member.{Member}
@@ -113,6 +114,23 @@ members_decided one other = (member-is one other, λ e. subst (λ m. is_same_mem
 pub member_lists_decided : (one other : List Member) → Decides (pointwise is_same_member one other) (one ≡ other)
 member_lists_decided one other = slice_eq-Decides members_decided one other (pointwise is_same_member one other) refl
 
+-- what a session asks of a name and a tag
+named-is : (by node : NodeId) (session number : ℕ) (name text : List ℕ) (tag label : Option (List ℕ))
+    → (by.0 == node.0 && (session == number && (bytes_eq name text && is_same_tag tag label))) ≡ true
+    → (by ≡ node) × ((session ≡ number) × ((name ≡ text) × (tag ≡ label)))
+named-is by node session number name text tag label e =
+    let first = and_parts (by.0 == node.0) (session == number && (bytes_eq name text && is_same_tag tag label)) e in
+    let second = and_parts (session == number) (bytes_eq name text && is_same_tag tag label) first.1 in
+    let third = and_parts (bytes_eq name text) (is_same_tag tag label) second.1 in
+    (λ i. record { 0 = eqb-true by.0 node.0 first.0 i }, (eqb-true session number second.0, (text-is name text third.0, tag-is tag label third.1)))
+
+named-same : (by : NodeId) (session : ℕ) (name : List ℕ) (tag : Option (List ℕ))
+    → (by.0 == by.0 && (session == session && (bytes_eq name name && is_same_tag tag tag))) ≡ true
+named-same by session name tag =
+    and_from (by.0 == by.0) (session == session && (bytes_eq name name && is_same_tag tag tag)) (number-same by.0)
+    (and_from (session == session) (bytes_eq name name && is_same_tag tag tag) (number-same session)
+    (and_from (bytes_eq name name) (is_same_tag tag tag) (text-same name) (tag-same tag)))
+
 entry-is : (one other : Entry) → is_same_entry one other ≡ true → one ≡ other
 entry-is (Format members) (Format others) e = ap (λ (m : List Member). Format m) ((member_lists_decided members others).0 e)
 entry-is (Join node zone vnodes) (Join other place weight) e =
@@ -149,23 +167,11 @@ entry-is (Snapshot by old vid) (Snapshot node before id) e =
     (record { 0 = eqb-true old.0 before.0 second.0 i })
     (record { 0 = eqb-true vid.0 id.0 second.1 i })
 entry-is (Delete by session name tag) (Delete node number text label) e =
-    let first = and_parts (by.0 == node.0) (session == number && (bytes_eq name text && is_same_tag tag label)) e in
-    let second = and_parts (session == number) (bytes_eq name text && is_same_tag tag label) first.1 in
-    let third = and_parts (bytes_eq name text) (is_same_tag tag label) second.1 in
-    λ i. Delete
-    (record { 0 = eqb-true by.0 node.0 first.0 i })
-    (eqb-true session number second.0 i)
-    (text-is name text third.0 i)
-    (tag-is tag label third.1 i)
+    let own = named-is by node session number name text tag label e in
+    λ i. Delete (own.0 i) (own.1.0 i) (own.1.1.0 i) (own.1.1.1 i)
 entry-is (Lock by session name tag) (Lock node number text label) e =
-    let first = and_parts (by.0 == node.0) (session == number && (bytes_eq name text && is_same_tag tag label)) e in
-    let second = and_parts (session == number) (bytes_eq name text && is_same_tag tag label) first.1 in
-    let third = and_parts (bytes_eq name text) (is_same_tag tag label) second.1 in
-    λ i. Lock
-    (record { 0 = eqb-true by.0 node.0 first.0 i })
-    (eqb-true session number second.0 i)
-    (text-is name text third.0 i)
-    (tag-is tag label third.1 i)
+    let own = named-is by node session number name text tag label e in
+    λ i. Lock (own.0 i) (own.1.0 i) (own.1.1.0 i) (own.1.1.1 i)
 entry-is (Unlock by session vid) (Unlock node number id) e =
     let first = and_parts (by.0 == node.0) (session == number && vid.0 == id.0) e in
     let second = and_parts (session == number) (vid.0 == id.0) first.1 in
@@ -192,14 +198,8 @@ entry-same (Clone by vid) = and_from (by.0 == by.0) (vid.0 == vid.0) (number-sam
 entry-same (Snapshot by old vid) =
     and_from (by.0 == by.0) (old.0 == old.0 && vid.0 == vid.0) (number-same by.0)
     (and_from (old.0 == old.0) (vid.0 == vid.0) (number-same old.0) (number-same vid.0))
-entry-same (Delete by session name tag) =
-    and_from (by.0 == by.0) (session == session && (bytes_eq name name && is_same_tag tag tag)) (number-same by.0)
-    (and_from (session == session) (bytes_eq name name && is_same_tag tag tag) (number-same session)
-    (and_from (bytes_eq name name) (is_same_tag tag tag) (text-same name) (tag-same tag)))
-entry-same (Lock by session name tag) =
-    and_from (by.0 == by.0) (session == session && (bytes_eq name name && is_same_tag tag tag)) (number-same by.0)
-    (and_from (session == session) (bytes_eq name name && is_same_tag tag tag) (number-same session)
-    (and_from (bytes_eq name name) (is_same_tag tag tag) (text-same name) (tag-same tag)))
+entry-same (Delete by session name tag) = named-same by session name tag
+entry-same (Lock by session name tag) = named-same by session name tag
 entry-same (Unlock by session vid) =
     and_from (by.0 == by.0) (session == session && vid.0 == vid.0) (number-same by.0)
     (and_from (session == session) (vid.0 == vid.0) (number-same session) (number-same vid.0))

@@ -34,7 +34,7 @@ use Rattle.sheep_world.specs.Step.{EventOutcome, with_replies, step, delivery_ma
 use Rattle.overlap_law.specs.Words.{Hosts}
 use Rattle.overlap_law.specs.Past.{MomentWithPast, run_with_past}
 use Rattle.overlap_law.specs.Headline.{IsOfAnotherEpoch, ChangesNothing, OtherEpochsChangeNothing}
-use Rattle.overlap_law.proofs.RestLemmas.{AreRested, run-rested}
+use Rattle.overlap_law.proofs.NoRecoveredDue.{AreRested, run-rested}
 use Rattle.sheep_node.specs.CheckWrites.{CheckWrite, check_write_on}
 
 got-own : (hosts : Hosts) (n : ℕ) (host : Host) → tree.get (tree.insert hosts n host) n ≡ Some host

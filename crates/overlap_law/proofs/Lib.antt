@@ -2,11 +2,11 @@ pub mod FateLemmas
 pub mod RunLemmas
 pub mod UnitLemmas
 pub mod BaseLemmas
-pub mod WholeLemmas
-pub mod RestLemmas
+pub mod FatesOfAttempts
+pub mod NoRecoveredDue
 pub mod EpochLemmas
 pub mod WorkedCases
 pub mod OverlapLemmas
 pub mod HolderLemmas
-pub mod StandLemmas
+pub mod StandingAttempts
 pub mod GrantCases

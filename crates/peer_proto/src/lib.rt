@@ -2,7 +2,7 @@
 //! plain types that pass between the parts of a node.
 //!
 //! The crate stands on `object_id`, `object_store`, `sheep_proto`, whose first 16 bytes of a header it shares, and
-//! `strip_coding`, by whose parts works on coded data are aligned. A message's bytes are one spelling of it, said once for
+//! `gf256`, by whose parts works on coded data are aligned. A message's bytes are one spelling of it, said once for
 //! both directions in `specs/Ask.antt` and `specs/Say.antt`: a header of 48 bytes, and what stands behind it. The encoders
 //! give that spelling. The decoders take exactly the bytes that spell a message, and else answer with the first refusal.
 //! Memory is taken only for what an answer keeps.
@@ -17,6 +17,8 @@ mod header;
 mod ids;
 mod laws;
 mod opcode;
+#[cfg(test)]
+mod rows;
 mod say;
 mod say_codec;
 mod say_head;

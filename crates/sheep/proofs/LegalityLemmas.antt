@@ -22,7 +22,7 @@ use Rattle.disk_history.proofs.LegalLemmas.{ledger_from-append}
 use Rattle.sheep.specs.Blocks.{zero_block, size_after, block_after, block_of, piece_blocks, laid_on, ends_inside_disk, covers_block}
 use Rattle.sheep.specs.Report.{lists_along, number_after}
 use Rattle.sheep.specs.History.{vid_after, events_after, script_history_of}
-use Rattle.sheep.proofs.AlongLemmas.{disk_size-snoc, disk_size-kept, disk_size-no_requests, disk_name-snoc, disk_name-kept, disk_name-no_requests, block_after-snoc, block_after-no_requests}
+use Rattle.sheep.proofs.StatementsSoFar.{disk_size-snoc, disk_size-kept, disk_size-no_requests, disk_name-snoc, disk_name-kept, disk_name-no_requests, block_after-snoc, block_after-no_requests}
 use Rattle.sheep.proofs.ReportLemmas.{count_by-snoc}
 use Rattle.sheep.proofs.BlockLemmas.{block_filled}
 use Rattle.sheep.proofs.LedgerLemmas.{first_ok, changed_at-same, changed_at-other, NoneOf, NoneOf-append, item_with_mark-NoneOf, filter-NoneOf, settled_item, item_with_mark-open, filter-open, may_read-settled, Begins, begins_ok}

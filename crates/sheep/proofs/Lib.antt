@@ -1,6 +1,6 @@
 pub mod RunLemmas
 pub mod BlockLemmas
-pub mod AlongLemmas
+pub mod StatementsSoFar
 pub mod ReportLemmas
 pub mod LedgerLemmas
 pub mod LegalityLemmas

@@ -12,7 +12,7 @@ use Rattle.sheep.specs.declared.report.Lines.{Lines}
 use Rattle.sheep.specs.Blocks.{size_after, block_after, piece_blocks, laid_on, ends_inside_disk}
 use Rattle.sheep.specs.Report.{lists_along, reply_on, reply_after, line_after, number_after, runs_text, refused_text}
 use Rattle.sheep.specs.Stored.{stored_block, size_next, Holds}
-use Rattle.sheep.proofs.AlongLemmas.{lists_along-snoc, holds_next}
+use Rattle.sheep.proofs.StatementsSoFar.{lists_along-snoc, holds_next}
 
 -- a statement of a script may follow those before it
 each_may_follow : (earlier statements : List Statement) (k : ℕ) (d : Statement) → EachMayFollow earlier statements → k < length statements

@@ -11,6 +11,7 @@ pub mod NumberChanges
 pub mod OwnEntryChanges
 pub mod QueueChanges
 pub mod QueueLengths
+pub mod RefusedCourses
 pub mod RequestChanges
 pub mod PeerLog
 pub mod StepEffects

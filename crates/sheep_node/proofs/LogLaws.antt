@@ -119,19 +119,23 @@ later_one : (entries : List Entry) (entry : Entry) → MayRead entries entry →
 later_one [] entry may some = absurd (omega arith)
 later_one (first ∷ later) entry may some = may.later
 
+-- the first entry is the format, which begins no later epoch
+first_one : (entry : Entry) → MayRead [] entry → (is_format entry ≡ true) × (begins_epoch entry ≡ false)
+first_one (Format members) may = (refl, refl)
+first_one (Join node zone vnodes) may = absurd may
+first_one (Leave node) may = absurd may
+first_one (Reweight node vnodes) may = absurd may
+first_one (Recovered node epoch) may = absurd may
+first_one (Reserve by session name origin) may = absurd may
+first_one (Publish by vid) may = absurd may
+first_one (Clone by vid) may = absurd may
+first_one (Snapshot by old vid) may = absurd may
+first_one (Delete by session name tag) may = absurd may
+first_one (Lock by session name tag) may = absurd may
+first_one (Unlock by session vid) may = absurd may
+
 begins_later : (entries : List Entry) (entry : Entry) → MayRead entries entry → begins_epoch entry ≡ true → 1 ≤ length entries
-begins_later [] (Format members) may e = absurd (cc (e))
-begins_later [] (Join node zone vnodes) may e = absurd may
-begins_later [] (Leave node) may e = absurd may
-begins_later [] (Reweight node vnodes) may e = absurd may
-begins_later [] (Recovered node epoch) may e = absurd may
-begins_later [] (Reserve by session name origin) may e = absurd may
-begins_later [] (Publish by vid) may e = absurd may
-begins_later [] (Clone by vid) may e = absurd may
-begins_later [] (Snapshot by old vid) may e = absurd may
-begins_later [] (Delete by session name tag) may e = absurd may
-begins_later [] (Lock by session name tag) may e = absurd may
-begins_later [] (Unlock by session vid) may e = absurd may
+begins_later [] entry may e = let first = first_one entry may in absurd (cc (e, first.1))
 begins_later (first ∷ later) entry may e = omega arith
 
 none_before : (entries : List Entry) (entry : Entry) → MayRead entries entry → is_format entry ≡ true → entries ≡ []
@@ -139,18 +143,7 @@ none_before [] entry may e = refl
 none_before (first ∷ later) entry may e = absurd (cc (e, may.later))
 
 some_before : (entries : List Entry) (entry : Entry) → MayRead entries entry → is_format entry ≡ false → 1 ≤ length entries
-some_before [] (Format members) may e = absurd (cc (e))
-some_before [] (Join node zone vnodes) may e = absurd may
-some_before [] (Leave node) may e = absurd may
-some_before [] (Reweight node vnodes) may e = absurd may
-some_before [] (Recovered node epoch) may e = absurd may
-some_before [] (Reserve by session name origin) may e = absurd may
-some_before [] (Publish by vid) may e = absurd may
-some_before [] (Clone by vid) may e = absurd may
-some_before [] (Snapshot by old vid) may e = absurd may
-some_before [] (Delete by session name tag) may e = absurd may
-some_before [] (Lock by session name tag) may e = absurd may
-some_before [] (Unlock by session vid) may e = absurd may
+some_before [] entry may e = let first = first_one entry may in absurd (cc (e, first.0))
 some_before (first ∷ later) entry may e = omega arith
 
 -- the first entry: nothing was read before, and epoch 1 has its members

@@ -27,14 +27,11 @@ use Rattle.recovery.specs.State as recoveries
 use Rattle.recovery.specs.State.{Recovery, Message}
 use Rattle.recovery.specs.Steps as recovery_steps
 use Rattle.recovery.specs.Tick.{state_after_tick}
-use Rattle.vdi_ops.specs.declared.end.OpEnd.{OpEnd}
-use Rattle.vdi_ops.specs.Steps.{on_refusal}
 use Rattle.sheep_node.specs.declared.input.Input.{Input}
 use Rattle.sheep_node.specs.declared.input.Input.TheVariants as inputs
-use Rattle.sheep_node.specs.State.{Course, Waiting, Driving, Commanding, Request, Node, initial_node, Checking, DoingWork, AwaitingDecision}
+use Rattle.sheep_node.specs.State.{Course, Node, initial_node}
 use Rattle.sheep_node.specs.RecoveryView.{recovery_state_of}
 use Rattle.sheep_node.specs.StepState.{StepState, at_first, with_gateway, request_ended, with_sole_request}
-use Rattle.sheep_node.specs.RequestWorks.{command_refused, course_refused, request_refused}
 use Rattle.sheep_node.specs.LogReading.{entry_read, come_back_with, on_back}
 use Rattle.sheep_node.specs.Step.{on_request, recovery_stepped, on_put, on_recover_tick, node_step}
 use Rattle.sheep_node.specs.May.{Meets, May}
@@ -43,6 +40,7 @@ use Rattle.sheep_node.specs.Changes as changes
 use Rattle.sheep_node.specs.Changes.{IsSoundStep, LearnsStatus, gateway_with_touch, without_ended_work, Outcome, ToWork, ToEntry, ToReply, RequestSteps, DiskBegins, DiskGoesOn, CommandBegins, CommandGoesOn, CommandDecided, WorkIsNext, AtOnce, InTurn, Again, AgainAlone, attempt_in, input_received, Change, CheckBegins, CheckGoesOn, ObjectBegins, ObjectIsDone, EntryBegins, EntryDecided, MeetsNumbers}
 use Rattle.sheep_node.proofs.AwaitedWorks.{Works, found_by, found_got, got_found}
 use Rattle.sheep_node.proofs.MessageNumbers.{all_before, fresh_apart, fresh_below, left_before, ticked_within, unanswered_in_epoch, unanswered_reading}
+use Rattle.sheep_node.proofs.RefusedCourses.{course_refused-keeps, request_refused-keeps}
 use Rattle.sheep_node.proofs.OneWorkChanges.{StepHasOneWork, none_good, never_alone, change_keeps_one_work, received_one_work}
 use Rattle.sheep_node.proofs.StepChain.{kept_by_chain, step_chain}
 
@@ -133,23 +131,6 @@ ended_numbered : (session req : ℕ) (reply : GuestRsp) (so_far : StepState) →
 unfolding request_ended
 ended_numbered session req reply so_far numbered = numbered
 
-refused_numbered : (session req : ℕ) (cause : Cause) (course : Course) (so_far : StepState) → StepHasOneNumber so_far → StepHasOneNumber (course_refused session req cause course so_far)
-unfolding request_ended
-refused_numbered session req cause (Waiting ask) so_far numbered = numbered
-refused_numbered session req cause (Driving driver) so_far numbered = numbered
-refused_numbered session req cause (Commanding op) so_far numbered = by_end (on_refusal cause op)
-  where
-    by_end : (end : Option OpEnd) → StepHasOneNumber (command_refused session req end so_far)
-    by_end None = numbered
-    by_end (Some end) = numbered
-refused_numbered session req cause (Checking check) so_far numbered = numbered
-refused_numbered session req cause (DoingWork work) so_far numbered = numbered
-refused_numbered session req cause (AwaitingDecision entry) so_far numbered = numbered
-
-request_refused_numbered : (req : ℕ) (cause : Cause) (request : Option Request) (so_far : StepState) → StepHasOneNumber so_far → StepHasOneNumber (request_refused req cause request so_far)
-request_refused_numbered req cause None so_far numbered = numbered
-request_refused_numbered req cause (Some request) so_far numbered = refused_numbered request.session req cause request.course so_far numbered
-
 -- ---- an attempt begins
 
 opened_numbered : (req : ℕ) (asked : Work) (so_far : StepState) → StepHasOneNumber so_far → StepHasOneNumber (changes.with_open_attempt req asked so_far)
@@ -237,7 +218,7 @@ change_keeps_numbers so_far next (changes.Fails session req number work attempt 
 change_keeps_numbers so_far next (changes.Stops session req number work attempt status course bytes ends over) sound good numbered =
     freed_numbered session req number work attempt status so_far ends.ends.learns numbered
 change_keeps_numbers so_far next (changes.Refuses session req number work attempt status course cause ends done why) sound good numbered =
-    refused_numbered session req cause course (without_ended_work session req work status so_far)
+    course_refused-keeps StepHasOneNumber ended_numbered (λ entry before now. now) session req cause course (without_ended_work session req work status so_far)
     (freed_numbered session req number work attempt status so_far ends.learns numbered)
 change_keeps_numbers so_far next (changes.Opens session req asked lined comes short) sound good numbered =
     opened_numbered req asked lined (comes_numbered so_far session req asked lined comes numbered)
@@ -247,7 +228,7 @@ change_keeps_numbers so_far next (changes.Holds session req asked lined comes sh
     (put_fewer lined.node.gateway.works req now (λ number awaits. absurd (cc (awaits))))
     (comes_numbered so_far session req asked lined comes numbered)
 change_keeps_numbers so_far next (changes.Denies session req asked lined request comes short untouched there own) sound good numbered =
-    request_refused_numbered req (Halt (changes.zones_of_members lined.node) (works.zones_for asked.work)) request (changes.without_denied_work session req asked lined)
+    request_refused-keeps StepHasOneNumber ended_numbered (λ entry before now. now) req (Halt (changes.zones_of_members lined.node) (works.zones_for asked.work)) request (changes.without_denied_work session req asked lined)
     (fewer lined.node.me lined.node.gateway.me lined.node.gateway.works (tree.remove lined.node.gateway.works req) lined.node.sends lined.node.recovery
     (gone_fewer lined.node.gateway.works req) (comes_numbered so_far session req asked lined comes numbered))
 change_keeps_numbers so_far next (changes.Strays req work gateway there none apart) sound good numbered = absurd (never_alone req work so_far there none good)

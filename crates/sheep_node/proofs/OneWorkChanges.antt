@@ -38,7 +38,7 @@ use Rattle.sheep_node.specs.declared.input.Input.TheVariants as inputs
 use Rattle.sheep_node.specs.State.{Course, Waiting, Driving, Commanding, Request, Session, Node, new_session, Checking, DoingWork, AwaitingDecision}
 use Rattle.sheep_node.specs.RecoveryView.{recovery_state_of}
 use Rattle.sheep_node.specs.StepState.{StepState, at_first, with_optional_entry, with_gateway, session_in, request_ended, with_sole_request}
-use Rattle.sheep_node.specs.RequestWorks.{command_refused, course_refused, request_refused}
+use Rattle.sheep_node.specs.RequestWorks.{command_refused, course_refused}
 use Rattle.sheep_node.specs.Courses.{after_driver_step, disk_after, inode_open, after_command_step}
 use Rattle.sheep_node.specs.Guests.{queued_as}
 use Rattle.sheep_node.specs.AwaitedEntry.{waits_for_entry}
@@ -320,7 +320,7 @@ course_refused_good session req cause (DoingWork work) so_far free good = ended_
 course_refused_good session req cause (AwaitingDecision entry) so_far free good = good
 
 request_refused_good : (req : ℕ) (cause : Cause) (request : Option Request) (so_far : StepState) → HasNoWorkIn req so_far → StepHasOneWork so_far
-    → StepHasOneWork (request_refused req cause request so_far)
+    → StepHasOneWork (option_map_or (λ (request : Request). course_refused request.session req cause request.course so_far) request so_far)
 request_refused_good req cause None so_far free good = good
 request_refused_good req cause (Some request) so_far free good = course_refused_good request.session req cause request.course so_far free good
 

@@ -1,6 +1,6 @@
 -- What a client without a script may ask is a work that a gateway may do, and it waits for exactly its own entry.
 use Rattle.std.proofs.Common.{◌≡◌, ◌↔◌, ℕ, ◌+◌, ◌^◌, ◌≤◌, true, All, Option, Some, None, length, refl, sym, ap, subst, ◌∙◌, arith, List, [], ◌∷◌, ◌++◌}
-use Rattle.std.specs.Option.{option_map}
+use Rattle.std.specs.Option.{option_map, option_map_or}
 use Rattle.object_id.specs.declared.oid.Kind.{Kind}
 use Rattle.object_id.specs.declared.oid.Kind.TheVariants.{Block, Inode}
 use Rattle.object_id.specs.declared.policy.Policy.{Policy}
@@ -29,11 +29,11 @@ use Rattle.peer_proto.specs.declared.guest.VdiAsk.TheVariants as disk_commands
 use Rattle.peer_proto.specs.declared.guest.GuestRsp.TheVariants.{Piece}
 use Rattle.guest_driver.specs.declared.disk.Disk.{Disk}
 use Rattle.disk_check.specs.Value.{pieces_in, value_of}
-use Rattle.disk_check.specs.Check.{Check, CheckStage, Comparing, WritingBack, Answered, begin_check, write_value, write_back_step, check_done_at, check_on_done}
+use Rattle.disk_check.specs.Check.{Check, CheckStage, CheckStep, Comparing, WritingBack, Answered, begin_check, write_value, write_back_step, check_done_at, check_on_done}
 use Rattle.sheep_node.specs.declared.ask.Ask.TheVariants.{Vdi, Object}
 use Rattle.sheep_node.specs.StepState.{StepState, session_in, with_sole_request, request_ended}
 use Rattle.sheep_node.specs.RequestWorks.{work_asked}
-use Rattle.sheep_node.specs.Courses.{inode_open, check_stepped, check_went_on, decision_reply, course_went_on, course_decided}
+use Rattle.sheep_node.specs.Courses.{inode_open, check_stepped, decision_reply, course_went_on, course_decided}
 use Rattle.sheep_node.specs.Guests.{request_refusal, request_taken_unless, on_guest}
 use Rattle.sheep_node.specs.CheckWrites.{CheckWrite, write_at_stage, write_of_course}
 use Rattle.sheep_node.specs.declared.ask.Ask.TheVariants as asks
@@ -120,7 +120,7 @@ unfolding on_guest
 check_begins req session disk so_far on allowed =
     ap (λ (cause : Option Cause). request_taken_unless cause session req (Vdi disk_commands.Check) so_far)
     (ap (λ (disk : Option Disk). request_refusal so_far.node.peer disk (Vdi disk_commands.Check)) on ∙ allowed)
-    ∙ ap (λ (disk : Option Disk). check_went_on session req (option_map begin_check (inode_open disk)) so_far) on
+    ∙ ap (λ (disk : Option Disk). option_map_or (λ (step : CheckStep). check_stepped session req step so_far) (option_map begin_check (inode_open disk)) so_far) on
 
 pub check_writes : (session req : ℕ) (bytes : List ℕ) (check : Check) (write : CheckWrite) (so_far : StepState)
     → write_of_course req bytes (Checking check) ≡ Some write
@@ -130,14 +130,14 @@ unfolding course_went_on check_on_done check_stepped
 check_writes session req bytes check write so_far comes = by_stage check.stage refl comes
   where
     by_stage : (stage : CheckStage) → check.stage ≡ stage → write_at_stage req bytes check stage ≡ Some write
-        → (moved : StepState) × (check_went_on session req (check_done_at bytes check check.stage) so_far
+        → (moved : StepState) × (option_map_or (λ (step : CheckStep). check_stepped session req step so_far) (check_done_at bytes check check.stage) so_far
         ≡ work_asked session req (write_value write.check write.index write.value) moved)
     by_stage (Comparing index later) is comes =
         let step = write_back_step check index later (pieces_in check.spec bytes) in
         let moved = with_sole_request session req (Checking step.check) so_far in
         let same : record { req = req; check = check; index = index; value = value_of check.spec.policy (pieces_in check.spec bytes) } ≡ write = cc (comes) in (
           moved,
-          ap (λ (stage : CheckStage). check_went_on session req (check_done_at bytes check stage) so_far) is
+          ap (λ (stage : CheckStage). option_map_or (λ (step : CheckStep). check_stepped session req step so_far) (check_done_at bytes check stage) so_far) is
               ∙ ap (λ (write : CheckWrite). work_asked session req (write_value write.check write.index write.value) moved) same,
         )
     by_stage (WritingBack later) is comes = absurd (cc (comes))

@@ -2,7 +2,7 @@
 use Rattle.std.proofs.Common.{◌≡◌, ◌≢◌, ℕ, true, false, List, [], ◌∷◌, ◌++◌, All, option_to_list, Option, Some, None, IfSome, refl, sym, ap, subst, ◌∙◌, ⊎_elim}
 use Rattle.std.specs.Ordering.{nat_cmp}
 use Rattle.std.specs.FinMap as tree
-use Rattle.std.specs.Option.{option_map, option_and_then}
+use Rattle.std.specs.Option.{option_map, option_and_then, option_map_or}
 use Rattle.std.proofs.lemmas.List.{append-nil}
 use Rattle.std.proofs.lemmas.List.Elements.{All-nil, All-push, All-tail}
 use Rattle.std.proofs.lemmas.Bool.{cases_eq}
@@ -49,7 +49,7 @@ use Rattle.sheep_node.specs.declared.input.Input.TheVariants as inputs
 use Rattle.sheep_node.specs.State.{Course, Waiting, Driving, Commanding, Request, Node, initial_node, Checking, DoingWork, AwaitingDecision}
 use Rattle.sheep_node.specs.RecoveryView.{recovery_state_of}
 use Rattle.sheep_node.specs.StepState.{StepState, at_first, with_optional_entry, session_in, request_ended, with_sole_request}
-use Rattle.sheep_node.specs.RequestWorks.{command_refused, course_refused, request_refused}
+use Rattle.sheep_node.specs.RequestWorks.{command_refused, course_refused}
 use Rattle.sheep_node.specs.Courses.{inode_open, after_command_step}
 use Rattle.sheep_node.specs.LogReading.{entry_read, on_back}
 use Rattle.sheep_node.specs.Step.{on_request, recovery_stepped, on_put, on_recover_tick, node_step}
@@ -324,7 +324,7 @@ module _ (me : NodeId) where
             (record { own_so = own.own_so; commands = own.commands; entries = more end.unlock of })
 
     request_refused_own : (req : ℕ) (cause : Cause) (request : Option Request) (so_far : StepState) → tree.get so_far.node.requests req ≡ request → OnlyOwn so_far
-        → OnlyOwn (request_refused req cause request so_far)
+        → OnlyOwn (option_map_or (λ (request : Request). course_refused request.session req cause request.course so_far) request so_far)
     request_refused_own req cause None so_far there own = own
     request_refused_own req cause (Some request) so_far there own =
         refused_own request.session req cause request.course so_far (own.commands req request there) own

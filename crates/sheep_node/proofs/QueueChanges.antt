@@ -1,5 +1,6 @@
 -- Every change leaves each session's queue to its reads and writes without reply.
 use Rattle.std.proofs.Common.{◌≡◌, ◌≢◌, ℕ, ◌==◌, ◌&&◌, not, Bool, true, false, cond, List, [], ◌∷◌, ◌++◌, Contains, Option, Some, None, unwrap_or, refl, sym, ap, subst, ◌∙◌, ⊎_elim}
+use Rattle.std.specs.Option.{option_map_or}
 use Rattle.std.specs.Ordering.{nat_cmp}
 use Rattle.std.specs.FinMap as tree
 use Rattle.std.proofs.Math.Bool.{and-false}
@@ -34,7 +35,7 @@ use Rattle.sheep_node.specs.declared.input.Input.TheVariants as inputs
 use Rattle.sheep_node.specs.State.{Course, Waiting, Driving, Commanding, Request, Session, Node, new_session, Checking, DoingWork, AwaitingDecision}
 use Rattle.sheep_node.specs.RecoveryView.{recovery_state_of}
 use Rattle.sheep_node.specs.StepState.{StepState, at_first, with_optional_entry, session_in, request_ended, with_sole_request}
-use Rattle.sheep_node.specs.RequestWorks.{command_refused, course_refused, request_refused}
+use Rattle.sheep_node.specs.RequestWorks.{command_refused, course_refused}
 use Rattle.sheep_node.specs.Courses.{after_driver_step, disk_after, after_command_step}
 use Rattle.sheep_node.specs.Guests.{queued_as}
 use Rattle.sheep_node.specs.LogReading.{entry_read, on_back}
@@ -185,7 +186,7 @@ refused_queued session req cause (DoingWork work) so_far there queued = ended_qu
 refused_queued session req cause (AwaitingDecision entry) so_far there queued = queued
 
 request_refused_queued : (req : ℕ) (cause : Cause) (request : Option Request) (so_far : StepState) → tree.get so_far.node.requests req ≡ request → QueuesAre so_far
-    → QueuesAre (request_refused req cause request so_far)
+    → QueuesAre (option_map_or (λ (request : Request). course_refused request.session req cause request.course so_far) request so_far)
 request_refused_queued req cause None so_far there queued = queued
 request_refused_queued req cause (Some request) so_far there queued = refused_queued request.session req cause request.course so_far there queued
 

@@ -12,7 +12,6 @@ use Rattle.object_id.specs.declared.entry.Entry.{Entry}
 use Rattle.object_id.specs.declared.node.NodeId.{NodeId}
 use Rattle.peer_proto.specs.declared.guest.DiskAsk.{DiskAsk}
 use Rattle.peer_proto.specs.declared.guest.GuestRsp.{GuestRsp}
-use Rattle.peer_proto.specs.declared.guest.GuestRsp.TheVariants.{Refused}
 use Rattle.gateway.specs.declared.message.Status.{Status}
 use Rattle.gateway.specs.Work.{zones_for}
 use Rattle.gateway.specs.State as gateways
@@ -24,16 +23,13 @@ use Rattle.guest_driver.specs.Driver.{DriverStep, begin_driver}
 use Rattle.guest_driver.specs.InodeQueue.{queue_with_open, queue_with_waiting, queue_after_end}
 use Rattle.recovery.specs.Steps as recovery_steps
 use Rattle.vdi_ops.specs.Op.{OpStep, disk_change}
-use Rattle.vdi_ops.specs.declared.end.OpEnd.{OpEnd}
-use Rattle.vdi_ops.specs.Steps.{on_refusal}
 use Rattle.sheep_node.specs.declared.ask.Ask.TheVariants as asks
 use Rattle.sheep_node.specs.declared.input.Input.{Input}
 use Rattle.sheep_node.specs.declared.input.Input.TheVariants as inputs
 use Rattle.object_id.specs.declared.limits.TheConstants.{REQUESTS_AT_ONCE}
-use Rattle.sheep_node.specs.State.{Course, Waiting, Driving, Commanding, Request, Session, Node, new_session, session_at, initial_node, Checking, DoingWork, AwaitingDecision}
+use Rattle.sheep_node.specs.State.{Course, Session, Node, new_session, session_at, initial_node, Checking, DoingWork, AwaitingDecision}
 use Rattle.sheep_node.specs.RecoveryView.{recovery_state_of}
 use Rattle.sheep_node.specs.StepState.{StepState, at_first, with_optional_entry, session_in, request_ended, with_sole_request}
-use Rattle.sheep_node.specs.RequestWorks.{command_refused, course_refused, request_refused}
 use Rattle.sheep_node.specs.Courses.{after_driver_step, disk_after, after_command_step}
 use Rattle.sheep_node.specs.Guests.{queued_as}
 use Rattle.sheep_node.specs.LogReading.{entry_read, on_back}
@@ -42,6 +38,7 @@ use Rattle.sheep_node.specs.May.{May}
 use Rattle.sheep_node.specs.SessionQueues.{HaveShortQueues, QueuesAreShort}
 use Rattle.sheep_node.specs.Changes as changes
 use Rattle.sheep_node.specs.Changes.{Outcome, ToWork, ToEntry, ToReply, Arrival, RequestSteps, DiskBegins, DiskGoesOn, CommandBegins, CommandGoesOn, CommandDecided, WorkIsNext, AtOnce, InTurn, Again, AgainAlone, input_received, Change, CheckBegins, CheckGoesOn, ObjectBegins, ObjectIsDone, EntryBegins, EntryDecided}
+use Rattle.sheep_node.proofs.RefusedCourses.{course_refused-keeps, request_refused-keeps}
 use Rattle.sheep_node.proofs.OneWorkParts.{Sessions}
 use Rattle.sheep_node.proofs.StepChain.{kept_by_chain, step_chain}
 use Rattle.disk_check.specs.Check.{begin_check}
@@ -78,24 +75,6 @@ ended_short session req reply so_far all =
     let fewer : length (queue_without req queue) ≤ length queue = left_short req queue in
     let before : length queue ≤ REQUESTS_AT_ONCE = all session in
     session_short so_far.node.sessions session (record (session_in session so_far) { queue = queue_without req queue; command = None }) (omega (arith, fewer, before)) all
-
-refused_short : (session req : ℕ) (cause : Cause) (course : Course) (so_far : StepState) → QueuesAreShortIn so_far
-    → QueuesAreShortIn (course_refused session req cause course so_far)
-refused_short session req cause (Waiting ask) so_far all = all
-refused_short session req cause (Driving driver) so_far all = ended_short session req (Refused cause) so_far all
-refused_short session req cause (Commanding op) so_far all = by_end (on_refusal cause op)
-  where
-    by_end : (end : Option OpEnd) → QueuesAreShortIn (command_refused session req end so_far)
-    by_end None = all
-    by_end (Some end) = ended_short session req end.reply (with_optional_entry end.unlock so_far) all
-refused_short session req cause (Checking check) so_far all = ended_short session req (Refused cause) so_far all
-refused_short session req cause (DoingWork work) so_far all = ended_short session req (Refused cause) so_far all
-refused_short session req cause (AwaitingDecision entry) so_far all = all
-
-request_refused_short : (req : ℕ) (cause : Cause) (request : Option Request) (so_far : StepState) → QueuesAreShortIn so_far
-    → QueuesAreShortIn (request_refused req cause request so_far)
-request_refused_short req cause None so_far all = all
-request_refused_short req cause (Some request) so_far all = refused_short request.session req cause request.course so_far all
 
 -- a session whose queue stays as it is
 same_short : (session : ℕ) (after : Session) (so_far : StepState) → after.queue ≡ (session_in session so_far).queue → QueuesAreShortIn so_far
@@ -172,11 +151,11 @@ module _ {input : Input} {node : Node} where
   change_keeps_short so_far next (changes.Stops session req number work attempt status course bytes ends over) may all =
       freed_short session req work status so_far all
   change_keeps_short so_far next (changes.Refuses session req number work attempt status course cause ends done why) may all =
-      refused_short session req cause course (changes.without_ended_work session req work status so_far) (freed_short session req work status so_far all)
+      course_refused-keeps QueuesAreShortIn ended_short (λ entry before now. now) session req cause course (changes.without_ended_work session req work status so_far) (freed_short session req work status so_far all)
   change_keeps_short so_far next (changes.Opens session req asked lined comes short) may all = comes_short so_far session req asked lined comes all
   change_keeps_short so_far next (changes.Holds session req asked lined comes short touched) may all = comes_short so_far session req asked lined comes all
   change_keeps_short so_far next (changes.Denies session req asked lined request comes short untouched there own) may all =
-      request_refused_short req (Halt (changes.zones_of_members lined.node) (zones_for asked.work)) request (changes.without_denied_work session req asked lined)
+      request_refused-keeps QueuesAreShortIn ended_short (λ entry before now. now) req (Halt (changes.zones_of_members lined.node) (zones_for asked.work)) request (changes.without_denied_work session req asked lined)
       (same_short session (record (session_in session lined) { inode_queue = queue_after_end (session_in session lined).inode_queue asked.work }) lined refl
       (comes_short so_far session req asked lined comes all))
   change_keeps_short so_far next (changes.Strays req work gateway there none apart) may all = all

@@ -6,6 +6,7 @@ use Rattle.std.proofs.lemmas.Bool.{cases_eq}
 use Rattle.proof_tools.proofs.Booleans.{cond_either}
 use Rattle.proof_tools.proofs.FiniteMaps.{get-insert_cases, get-remove_other, get-remove_same}
 use Rattle.object_id.specs.declared.cause.Cause.{Cause}
+use Rattle.peer_proto.specs.declared.guest.GuestRsp.{GuestRsp}
 use Rattle.object_id.specs.declared.cause.Cause.TheVariants.{Halt}
 use Rattle.object_id.specs.declared.entry.Entry.{Entry}
 use Rattle.gateway.specs.Work.{zones_for}
@@ -13,9 +14,7 @@ use Rattle.gateway.specs.State as gateways
 use Rattle.gateway.specs.State.{Work}
 use Rattle.recovery.specs.Steps as recovery_steps
 use Rattle.guest_driver.specs.Driver as drivers
-use Rattle.vdi_ops.specs.declared.end.OpEnd.{OpEnd}
 use Rattle.vdi_ops.specs.Op as ops
-use Rattle.vdi_ops.specs.Steps.{on_refusal}
 use Rattle.sheep_node.specs.declared.ask.Ask.{Ask}
 use Rattle.sheep_node.specs.declared.ask.Ask.TheVariants as asks
 use Rattle.sheep_node.specs.declared.input.Input.{Input}
@@ -23,12 +22,12 @@ use Rattle.sheep_node.specs.declared.input.Input.TheVariants as inputs
 use Rattle.sheep_node.specs.State.{Course, Waiting, Driving, Commanding, Request, Node, Checking, DoingWork, AwaitingDecision}
 use Rattle.sheep_node.specs.RecoveryView.{recovery_state_of}
 use Rattle.sheep_node.specs.StepState.{StepState, at_first, request_ended, with_sole_request}
-use Rattle.sheep_node.specs.RequestWorks.{command_refused, course_refused, request_refused}
 use Rattle.sheep_node.specs.Courses.{after_command_step}
 use Rattle.sheep_node.specs.LogReading.{entry_read, on_back}
 use Rattle.sheep_node.specs.Step.{on_request, recovery_stepped, on_put, on_recover_tick, node_step}
 use Rattle.sheep_node.specs.Changes as changes
 use Rattle.sheep_node.specs.Changes.{Outcome, ToWork, ToEntry, ToReply, RequestSteps, DiskBegins, DiskGoesOn, CommandBegins, CommandGoesOn, CommandDecided, WorkIsNext, AtOnce, InTurn, Again, AgainAlone, input_received, Change, CheckBegins, CheckGoesOn, ObjectBegins, ObjectIsDone, EntryBegins, EntryDecided}
+use Rattle.sheep_node.proofs.RefusedCourses.{course_refused-keeps, request_refused-keeps}
 use Rattle.sheep_node.proofs.OneWorkParts.{Requests}
 use Rattle.sheep_node.proofs.StepChain.{kept_by_chain, step_chain}
 use Rattle.disk_check.specs.Check.{begin_check}
@@ -59,22 +58,9 @@ module _ (P : ℕ → Type 0) where
   command_are : (session req : ℕ) (step : ops.OpStep) (so_far : StepState) → P req → In so_far → In (after_command_step session req step so_far)
   command_are session req step so_far so all = put_are so_far.node.requests req (record { session = session; course = Commanding step.op }) so all
 
-  refused_are : (session req : ℕ) (cause : Cause) (course : Course) (so_far : StepState) → In so_far → In (course_refused session req cause course so_far)
+  ended_are : (session req : ℕ) (reply : GuestRsp) (so_far : StepState) → In so_far → In (request_ended session req reply so_far)
   unfolding request_ended
-  refused_are session req cause (Waiting ask) so_far all = all
-  refused_are session req cause (Driving driver) so_far all = gone_are so_far.node.requests req all
-  refused_are session req cause (Commanding op) so_far all = by_end (on_refusal cause op)
-    where
-      by_end : (end : Option OpEnd) → In (command_refused session req end so_far)
-      by_end None = all
-      by_end (Some end) = gone_are so_far.node.requests req all
-  refused_are session req cause (Checking check) so_far all = gone_are so_far.node.requests req all
-  refused_are session req cause (DoingWork work) so_far all = gone_are so_far.node.requests req all
-  refused_are session req cause (AwaitingDecision entry) so_far all = all
-
-  request_refused_are : (req : ℕ) (cause : Cause) (request : Option Request) (so_far : StepState) → In so_far → In (request_refused req cause request so_far)
-  request_refused_are req cause None so_far all = all
-  request_refused_are req cause (Some request) so_far all = refused_are request.session req cause request.course so_far all
+  ended_are session req reply so_far all = gone_are so_far.node.requests req all
 
   received_requests : (input : Input) (node : Node) → In (at_first node) → In (input_received input (at_first node))
   unfolding entry_read on_request on_recover_tick on_back
@@ -136,11 +122,11 @@ module _ (P : ℕ → Type 0) where
     change_keeps_requests so_far next (changes.Fails session req number work attempt status course ends done why) all = all
     change_keeps_requests so_far next (changes.Stops session req number work attempt status course bytes ends over) all = all
     change_keeps_requests so_far next (changes.Refuses session req number work attempt status course cause ends done why) all =
-        refused_are session req cause course (changes.without_ended_work session req work status so_far) all
+        course_refused-keeps In ended_are (λ entry before now. now) session req cause course (changes.without_ended_work session req work status so_far) all
     change_keeps_requests so_far next (changes.Opens session req tried lined comes short) all = comes_are so_far session req tried lined comes all
     change_keeps_requests so_far next (changes.Holds session req tried lined comes short touched) all = comes_are so_far session req tried lined comes all
     change_keeps_requests so_far next (changes.Denies session req tried lined request comes short untouched there own) all =
-        request_refused_are req (Halt (changes.zones_of_members lined.node) (zones_for tried.work)) request (changes.without_denied_work session req tried lined) (comes_are so_far session req tried lined comes all)
+        request_refused-keeps In ended_are (λ entry before now. now) req (Halt (changes.zones_of_members lined.node) (zones_for tried.work)) request (changes.without_denied_work session req tried lined) (comes_are so_far session req tried lined comes all)
     change_keeps_requests so_far next (changes.Strays req work gateway there none apart) all = all
     change_keeps_requests so_far next (changes.Lines session req work moved steps waits) all = steps_are so_far session req (ToWork work) moved steps all
     change_keeps_requests so_far next (changes.Appends session req entry moved steps) all = steps_are so_far session req (ToEntry entry) moved steps all

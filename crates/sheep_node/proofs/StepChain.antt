@@ -54,9 +54,9 @@ use Rattle.sheep_node.specs.declared.input.Input.TheVariants as inputs
 use Rattle.sheep_node.specs.State.{Course, Waiting, Driving, Commanding, Request, Node, Checking, DoingWork, AwaitingDecision}
 use Rattle.sheep_node.specs.RecoveryView.{recovery_state_of}
 use Rattle.sheep_node.specs.StepState.{StepState, at_first, with_node, with_gateway, session_in, with_inode_queue, with_course, with_sole_request}
-use Rattle.sheep_node.specs.RequestWorks.{request_refused, after_start, work_begun, work_asked}
-use Rattle.sheep_node.specs.Courses.{inode_open, after_driver_step, driver_acted, driver_stepped, driver_went_on, disk_went_on, disk_begun, after_command_step, command_acted, command_stepped, command_went_on, course_went_on, course_decided, check_acted, check_stepped, check_went_on, work_reply, decision_reply}
-use Rattle.sheep_node.specs.Waiting.{next_begun, course_begun, found_request_begun, begun_if_may, passed_over, queued_requests, let_begin, work_done, work_refused, after_act, after_gateway_step}
+use Rattle.sheep_node.specs.RequestWorks.{after_start, work_begun, work_asked, course_refused}
+use Rattle.sheep_node.specs.Courses.{inode_open, after_driver_step, driver_acted, driver_stepped, disk_went_on, after_command_step, command_acted, command_stepped, course_went_on, course_decided, check_acted, check_stepped, work_reply, decision_reply}
+use Rattle.sheep_node.specs.Waiting.{next_begun, course_begun, begun_if_may, passed_over, queued_requests, let_begin, work_done, work_refused, after_act, after_gateway_step}
 use Rattle.sheep_node.specs.Guests.{request_refusal, with_queued_request, request_taken, request_taken_unless, on_guest, command_taken}
 use Rattle.sheep_node.specs.AwaitedEntry.{waits_for_entry}
 use Rattle.sheep_node.specs.LogReading.{entry_read, asker_of, decision_told, on_log_entry}
@@ -75,7 +75,7 @@ use Rattle.inode.specs.Layout.{Content}
 use Rattle.peer_proto.specs.declared.guest.GuestRsp.TheVariants.{Checked}
 use Rattle.peer_proto.specs.declared.guest.VdiAsk.TheVariants.{Create, Attach, Close, Snapshot, Clone, Delete}
 use Rattle.peer_proto.specs.declared.guest.VdiAsk.TheVariants as disk_commands
-use Rattle.std.specs.Option.{option_map}
+use Rattle.std.specs.Option.{option_map, option_map_or}
 
 -- a chain of changes to here; in a sound step works are with their requests by now
 pub record IsReached (input : Input) (node : Node) (first so_far : StepState) : Type 0 where
@@ -169,7 +169,7 @@ module _ (input : Input) (node : Node) (first : StepState) where
 
   disk_begun_walk : (so_far : StepState) (session req : ℕ) (ask : DiskAsk) (disk : Option Disk) → HasRequest session req (Waiting ask) so_far
       → (session_in session so_far).disk ≡ disk → may_run req (session_in session so_far).queue ≡ true → IsReached input node first so_far
-      → IsReached input node first (disk_begun session req ask disk so_far)
+      → IsReached input node first (option_map_or (λ (disk : Disk). driver_stepped session req disk (drivers.begin_driver disk ask) so_far) disk so_far)
   disk_begun_walk so_far session req ask None there on may walk = walk
   disk_begun_walk so_far session req ask (Some disk) there on may walk =
       driver_stepped_walk so_far session req disk (drivers.begin_driver disk ask) so_far (DiskBegins ask disk there on may) walk
@@ -179,7 +179,7 @@ module _ (input : Input) (node : Node) (first : StepState) where
   course_begun_walk so_far session req (Waiting ask) there walk = by_run (may_run req (session_in session so_far).queue) refl
     where
       by_run : (b : Bool) → may_run req (session_in session so_far).queue ≡ b
-          → IsReached input node first (cond b (disk_begun session req ask (session_in session so_far).disk so_far) so_far)
+          → IsReached input node first (cond b (option_map_or (λ (disk : Disk). driver_stepped session req disk (drivers.begin_driver disk ask) so_far) (session_in session so_far).disk so_far) so_far)
       by_run true may = disk_begun_walk so_far session req ask (session_in session so_far).disk there refl may walk
       by_run false waits = walk
   course_begun_walk so_far session req (Driving driver) there walk = walk
@@ -189,7 +189,7 @@ module _ (input : Input) (node : Node) (first : StepState) where
   course_begun_walk so_far session req (AwaitingDecision entry) there walk = walk
 
   request_begun_walk : (so_far : StepState) (req : ℕ) (request : Option Request) → tree.get so_far.node.requests req ≡ request → IsReached input node first so_far
-      → IsReached input node first (found_request_begun req request so_far)
+      → IsReached input node first (option_map_or (λ (request : Request). course_begun request.session req request.course so_far) request so_far)
   request_begun_walk so_far req None there walk = walk
   request_begun_walk so_far req (Some request) there walk = course_begun_walk so_far request.session req request.course there walk
 
@@ -257,7 +257,7 @@ module _ (input : Input) (node : Node) (first : StepState) where
       disk_walk driver same (Some disk) on = by_step (drivers.driver_on_done disk.inode bytes_now driver) refl
         where
           by_step : (step : Option drivers.DriverStep) → drivers.driver_on_done disk.inode bytes_now driver ≡ step
-              → IsReached input node first (driver_went_on session req disk step freed)
+              → IsReached input node first (option_map_or (λ (step : drivers.DriverStep). driver_stepped session req disk step freed) step freed)
           by_step None none =
               stops (Driving driver) same (subst (λ (disk : Option Disk). IsOverWith bytes_now disk (Driving driver)) (sym on) none)
           by_step (Some step) next =
@@ -265,14 +265,14 @@ module _ (input : Input) (node : Node) (first : StepState) where
               (DiskGoesOn number work attempt status bytes_now driver disk step (ends_as (Driving driver) same) on next) walk
 
       command_done_walk : (op : Op) → course ≡ Commanding op → (step : Option ops.OpStep) → op_on_done bytes_now op ≡ step
-          → IsReached input node first (command_went_on session req step freed)
+          → IsReached input node first (option_map_or (λ (step : ops.OpStep). command_stepped session req step freed) step freed)
       command_done_walk op same None none = stops (Commanding op) same none
       command_done_walk op same (Some step) next =
           command_stepped_walk so_far session req step freed
           (CommandGoesOn number work attempt status bytes_now op step (ends_as (Commanding op) same) next) walk
 
       check_done_walk : (check : Check) → course ≡ Checking check → (step : Option checks.CheckStep) → check_on_done bytes_now check ≡ step
-          → IsReached input node first (check_went_on session req step freed)
+          → IsReached input node first (option_map_or (λ (step : checks.CheckStep). check_stepped session req step freed) step freed)
       check_done_walk check same None none = stops (Checking check) same none
       check_done_walk check same (Some step) next =
           check_stepped_walk so_far session req step freed
@@ -301,7 +301,7 @@ module _ (input : Input) (node : Node) (first : StepState) where
     refused_walk cause never why =
         subst (λ (o : Option Request). IsReached input node first (work_refused work.work req cause o (with_gateway (without_work req (gateway_with_touch req work status so_far)) so_far)))
         (sym ends.request)
-        (let_begin_walk session (request_refused req cause (Some (record { session = session; course = course })) (without_ended_work session req work status so_far))
+        (let_begin_walk session (course_refused session req cause course (without_ended_work session req work status so_far))
         (reached_by walk (changes.Refuses session req number work attempt status course cause ends never why)))
 
   -- ---- a message is known
@@ -409,7 +409,7 @@ module _ (input : Input) (node : Node) (first : StepState) where
     denied_walk req asked request again got short untouched =
         let cause = Halt (zones_of_members so_far.node) (zones_for asked.work) in
         subst (λ (o : Option Request). IsReached input node first (work_refused asked.work req cause o (with_gateway (without_work req so_far.node.gateway) so_far))) (sym got)
-        (let_begin_walk request.session (request_refused req cause (Some request) (without_denied_work request.session req asked so_far))
+        (let_begin_walk request.session (course_refused request.session req cause request.course (without_denied_work request.session req asked so_far))
         (reached_by walk (changes.Denies request.session req asked so_far (Some request) again short untouched got (λ sound. refl))))
 
     module _ (session req : ℕ) (asked : Work) (again : WorkIsNext input node so_far session req asked so_far) (denied : IsDenied req asked) where
@@ -477,14 +477,14 @@ module _ (input : Input) (node : Node) (first : StepState) where
 
     command_begun_walk : (session req : ℕ) (ask : VdiAsk) → Arrival input node so_far session req (asks.Vdi ask) None
         → (step : Option ops.OpStep) → begin_command so_far.node.me session ask (inode_open (session_in session so_far).disk) ≡ step
-        → IsReached input node first (command_went_on session req step so_far)
+        → IsReached input node first (option_map_or (λ (step : ops.OpStep). command_stepped session req step so_far) step so_far)
     command_begun_walk session req ask arrival None is = walk
     command_begun_walk session req ask arrival (Some step) is =
         command_stepped_walk so_far session req step so_far (CommandBegins ask step arrival is) walk
 
     check_begun_walk : (session req : ℕ) → Arrival input node so_far session req (asks.Vdi disk_commands.Check) None
         → (inode : Option Content) → inode_open (session_in session so_far).disk ≡ inode
-        → IsReached input node first (check_went_on session req (option_map begin_check inode) so_far)
+        → IsReached input node first (option_map_or (λ (step : checks.CheckStep). check_stepped session req step so_far) (option_map begin_check inode) so_far)
     check_begun_walk session req arrival None is = walk
     check_begun_walk session req arrival (Some inode) is =
         check_stepped_walk so_far session req (begin_check inode) so_far (CheckBegins inode arrival is) walk
@@ -535,7 +535,7 @@ module _ (input : Input) (node : Node) (first : StepState) where
 
     decided_walk : (req session : ℕ) (op : Op) → HasRequest session req (Commanding op) so_far
         → waits_for_entry entry (Commanding op) ≡ true → (step : Option ops.OpStep)
-        → on_decision (effects_of so_far.node.peer) (inode_open (session_in session so_far).disk) decision op ≡ step → IsReached input node first (command_went_on session req step so_far)
+        → on_decision (effects_of so_far.node.peer) (inode_open (session_in session so_far).disk) decision op ≡ step → IsReached input node first (option_map_or (λ (step : ops.OpStep). command_stepped session req step so_far) step so_far)
     decided_walk req session op there waits None none = walk
     decided_walk req session op there waits (Some step) next =
         command_stepped_walk so_far session req step so_far (CommandDecided entry op step from read there waits next) walk

@@ -25,19 +25,17 @@ use Rattle.gateway.specs.Outcomes.{AreNumberedFrom}
 use Rattle.gateway.proofs.SendLaws.{sends-numbers}
 use Rattle.recovery.specs.State.{Recovery, RecoveryState}
 use Rattle.recovery.specs.Steps as recovery_steps
-use Rattle.vdi_ops.specs.declared.end.OpEnd.{OpEnd}
-use Rattle.vdi_ops.specs.Steps.{on_refusal}
 use Rattle.sheep_node.specs.declared.input.Input.{Input}
 use Rattle.sheep_node.specs.declared.input.Input.TheVariants as inputs
-use Rattle.sheep_node.specs.State.{Course, Waiting, Driving, Commanding, Request, Node, Checking, DoingWork, AwaitingDecision}
+use Rattle.sheep_node.specs.State.{Course, Node}
 use Rattle.sheep_node.specs.RecoveryView.{recovery_state_of}
 use Rattle.sheep_node.specs.StepState.{StepState, at_first, with_sends, replies_in_order, with_guest_reply, with_optional_entry, with_gateway, without_request, request_ended, with_sole_request}
-use Rattle.sheep_node.specs.RequestWorks.{command_refused, course_refused, request_refused}
 use Rattle.sheep_node.specs.LogReading.{entry_read, on_back}
 use Rattle.sheep_node.specs.Step.{on_request, recovery_stepped, on_put, on_recover_tick, node_step}
 use Rattle.sheep_node.specs.StepFacts.{AscendFrom, Ascend}
 use Rattle.sheep_node.specs.Changes as changes
 use Rattle.sheep_node.specs.Changes.{Outcome, ToWork, ToEntry, ToReply, without_ended_work, zones_of_members, without_denied_work, attempt_in, RequestSteps, DiskBegins, DiskGoesOn, CommandBegins, CommandGoesOn, CommandDecided, WorkIsNext, AtOnce, InTurn, Again, AgainAlone, input_received, Change, CheckBegins, CheckGoesOn, ObjectBegins, ObjectIsDone, EntryBegins, EntryDecided}
+use Rattle.sheep_node.proofs.RefusedCourses.{course_refused-keeps, request_refused-keeps}
 use Rattle.sheep_node.proofs.Numbers.{tick_numbers, numbers_joined}
 use Rattle.sheep_node.proofs.StepChain.{kept_by_chain, step_chain}
 
@@ -118,24 +116,6 @@ module _ (first : ℕ) (was_recovered : Bool) (old : Untouched) where
   unfolding request_ended
   ended_in_order session req reply so_far s = replied_in_order req reply (without_request session req so_far) s
 
-  refused_in_order : (session req : ℕ) (cause : Cause) (course : Course) (so_far : StepState) → IsInOrder so_far
-      → IsInOrder (course_refused session req cause course so_far)
-  refused_in_order session req cause (Waiting ask) so_far s = s
-  refused_in_order session req cause (Driving driver) so_far s = ended_in_order session req (Refused cause) so_far s
-  refused_in_order session req cause (Commanding op) so_far s = by_end (on_refusal cause op)
-    where
-      by_end : (end : Option OpEnd) → IsInOrder (command_refused session req end so_far)
-      by_end None = s
-      by_end (Some end) = ended_in_order session req end.reply (with_optional_entry end.unlock so_far) s
-  refused_in_order session req cause (Checking check) so_far s = ended_in_order session req (Refused cause) so_far s
-  refused_in_order session req cause (DoingWork work) so_far s = ended_in_order session req (Refused cause) so_far s
-  refused_in_order session req cause (AwaitingDecision entry) so_far s = s
-
-  request_refused_in_order : (req : ℕ) (cause : Cause) (request : Option Request) (so_far : StepState) → IsInOrder so_far
-      → IsInOrder (request_refused req cause request so_far)
-  request_refused_in_order req cause None so_far s = s
-  request_refused_in_order req cause (Some request) so_far s = refused_in_order request.session req cause request.course so_far s
-
   steps_in_order : {input : Input} {node : Node} → (so_far : StepState) (session req : ℕ) (outcome : Outcome) (moved : StepState)
       → RequestSteps input node so_far session req outcome moved → IsInOrder so_far → IsInOrder moved
   steps_in_order so_far session req outcome moved (DiskBegins ask disk there on may) s = s
@@ -170,12 +150,12 @@ module _ (first : ℕ) (was_recovered : Bool) (old : Untouched) where
   change_keeps_order so_far next (changes.Fails session req number work attempt status course ends done why) s = s
   change_keeps_order so_far next (changes.Stops session req number work attempt status course bytes ends over) s = s
   change_keeps_order so_far next (changes.Refuses session req number work attempt status course cause ends done why) s =
-      refused_in_order session req cause course (without_ended_work session req work status so_far) s
+      course_refused-keeps IsInOrder ended_in_order (λ entry before now. now) session req cause course (without_ended_work session req work status so_far) s
   change_keeps_order so_far next (changes.Opens session req asked lined comes enough) s =
       opened_in_order req asked lined (next_in_order so_far session req asked lined comes s)
   change_keeps_order so_far next (changes.Holds session req asked lined comes short touched) s = next_in_order so_far session req asked lined comes s
   change_keeps_order so_far next (changes.Denies session req asked lined request comes short untouched there own) s =
-      request_refused_in_order req (Halt (zones_of_members lined.node) (zones_for asked.work)) request (without_denied_work session req asked lined)
+      request_refused-keeps IsInOrder ended_in_order (λ entry before now. now) req (Halt (zones_of_members lined.node) (zones_for asked.work)) request (without_denied_work session req asked lined)
       (next_in_order so_far session req asked lined comes s)
   change_keeps_order so_far next (changes.Strays req work gateway there none apart) s = s
   change_keeps_order so_far next (changes.Lines session req work moved steps waits) s = steps_in_order so_far session req (ToWork work) moved steps s

@@ -68,84 +68,51 @@ entries_received inputs.RecoverTick node = refl
 entries_received inputs.RetryTick node = refl
 entries_received (inputs.Back entries) node = entries_back entries node
 
-says_received : (input : Input) (node : Node) → (input_received input (at_first node)).outputs.say ≡ said_on input node
+-- what is said of a request, and which entry is put
+outputs_received : (input : Input) (node : Node)
+    → ((input_received input (at_first node)).outputs.say ≡ said_on input node) × ((input_received input (at_first node)).outputs.put ≡ put_on input node)
 unfolding on_request on_recover_tick
-says_received (inputs.Guest req session ask) node = refl
-says_received (inputs.Request request) node = refl
-says_received (inputs.Reply rsp) node =
-    by_waiting (λ (start : StepState). start.outputs.say ≡ None) rsp.number (recovery_steps.recovery_on_reply rsp (recovery_state_of node)) node refl refl
-says_received (inputs.Lost number) node =
-    by_waiting (λ (start : StepState). start.outputs.say ≡ None) number (recovery_steps.recovery_on_loss number (recovery_state_of node)) node refl refl
-says_received (inputs.LogEntry entry) node = refl
-says_received inputs.Put node = by_outbox node.outbox
+outputs_received (inputs.Guest req session ask) node = (refl, refl)
+outputs_received (inputs.Request request) node = (refl, refl)
+outputs_received (inputs.Reply rsp) node =
+    by_waiting (λ (start : StepState). (start.outputs.say ≡ None) × (start.outputs.put ≡ None)) rsp.number
+    (recovery_steps.recovery_on_reply rsp (recovery_state_of node)) node (refl, refl) (refl, refl)
+outputs_received (inputs.Lost number) node =
+    by_waiting (λ (start : StepState). (start.outputs.say ≡ None) × (start.outputs.put ≡ None)) number
+    (recovery_steps.recovery_on_loss number (recovery_state_of node)) node (refl, refl) (refl, refl)
+outputs_received (inputs.LogEntry entry) node = (refl, refl)
+outputs_received inputs.Put node = by_outbox node.outbox
   where
-    by_outbox : (outbox : List Entry) → (on_put outbox (at_first node)).outputs.say ≡ None
-    by_outbox [] = refl
-    by_outbox (entry ∷ later) = refl
-says_received inputs.RecoverTick node = refl
-says_received inputs.RetryTick node = refl
-says_received (inputs.Back entries) node = refl
+    by_outbox : (outbox : List Entry)
+        → ((on_put outbox (at_first node)).outputs.say ≡ None) × ((on_put outbox (at_first node)).outputs.put ≡ slice_get outbox 0)
+    by_outbox [] = (refl, refl)
+    by_outbox (entry ∷ later) = (refl, refl)
+outputs_received inputs.RecoverTick node = (refl, refl)
+outputs_received inputs.RetryTick node = (refl, refl)
+outputs_received (inputs.Back entries) node = (refl, refl)
 
-puts_received : (input : Input) (node : Node) → (input_received input (at_first node)).outputs.put ≡ put_on input node
+-- the epochs, and whether a `Recovered` is due, are known by the log alone
+log_parts_received : (input : Input) (node : Node) → may_begin_recovery input ≡ false
+    → ((input_received input (at_first node)).node.epochs ≡ node.epochs) × ((input_received input (at_first node)).node.recovered ≡ node.recovered)
 unfolding on_request on_recover_tick
-puts_received (inputs.Guest req session ask) node = refl
-puts_received (inputs.Request request) node = refl
-puts_received (inputs.Reply rsp) node =
-    by_waiting (λ (start : StepState). start.outputs.put ≡ None) rsp.number (recovery_steps.recovery_on_reply rsp (recovery_state_of node)) node refl refl
-puts_received (inputs.Lost number) node =
-    by_waiting (λ (start : StepState). start.outputs.put ≡ None) number (recovery_steps.recovery_on_loss number (recovery_state_of node)) node refl refl
-puts_received (inputs.LogEntry entry) node = refl
-puts_received inputs.Put node = by_outbox node.outbox
+log_parts_received (inputs.Guest req session ask) node quiet = (refl, refl)
+log_parts_received (inputs.Request request) node quiet = (refl, refl)
+log_parts_received (inputs.Reply rsp) node quiet =
+    by_waiting (λ (start : StepState). (start.node.epochs ≡ node.epochs) × (start.node.recovered ≡ node.recovered)) rsp.number
+    (recovery_steps.recovery_on_reply rsp (recovery_state_of node)) node (refl, refl) (refl, refl)
+log_parts_received (inputs.Lost number) node quiet =
+    by_waiting (λ (start : StepState). (start.node.epochs ≡ node.epochs) × (start.node.recovered ≡ node.recovered)) number
+    (recovery_steps.recovery_on_loss number (recovery_state_of node)) node (refl, refl) (refl, refl)
+log_parts_received (inputs.LogEntry entry) node quiet = absurd (cc (quiet))
+log_parts_received inputs.Put node quiet = by_outbox node.outbox
   where
-    by_outbox : (outbox : List Entry) → (on_put outbox (at_first node)).outputs.put ≡ slice_get outbox 0
-    by_outbox [] = refl
-    by_outbox (entry ∷ later) = refl
-puts_received inputs.RecoverTick node = refl
-puts_received inputs.RetryTick node = refl
-puts_received (inputs.Back entries) node = refl
-
-recovered_received : (input : Input) (node : Node) → may_begin_recovery input ≡ false
-    → (input_received input (at_first node)).node.recovered ≡ node.recovered
-unfolding on_request on_recover_tick
-recovered_received (inputs.Guest req session ask) node quiet = refl
-recovered_received (inputs.Request request) node quiet = refl
-recovered_received (inputs.Reply rsp) node quiet =
-    by_waiting (λ (start : StepState). start.node.recovered ≡ node.recovered) rsp.number
-    (recovery_steps.recovery_on_reply rsp (recovery_state_of node)) node refl refl
-recovered_received (inputs.Lost number) node quiet =
-    by_waiting (λ (start : StepState). start.node.recovered ≡ node.recovered) number
-    (recovery_steps.recovery_on_loss number (recovery_state_of node)) node refl refl
-recovered_received (inputs.LogEntry entry) node quiet = absurd (cc (quiet))
-recovered_received inputs.Put node quiet = by_outbox node.outbox
-  where
-    by_outbox : (outbox : List Entry) → (on_put outbox (at_first node)).node.recovered ≡ node.recovered
-    by_outbox [] = refl
-    by_outbox (entry ∷ later) = refl
-recovered_received inputs.RecoverTick node quiet = refl
-recovered_received inputs.RetryTick node quiet = refl
-recovered_received (inputs.Back entries) node quiet = absurd (cc (quiet))
-
--- the epochs are known by the log alone
-epochs_received : (input : Input) (node : Node) → may_begin_recovery input ≡ false
-    → (input_received input (at_first node)).node.epochs ≡ node.epochs
-unfolding on_request on_recover_tick
-epochs_received (inputs.Guest req session ask) node quiet = refl
-epochs_received (inputs.Request request) node quiet = refl
-epochs_received (inputs.Reply rsp) node quiet =
-    by_waiting (λ (start : StepState). start.node.epochs ≡ node.epochs) rsp.number
-    (recovery_steps.recovery_on_reply rsp (recovery_state_of node)) node refl refl
-epochs_received (inputs.Lost number) node quiet =
-    by_waiting (λ (start : StepState). start.node.epochs ≡ node.epochs) number
-    (recovery_steps.recovery_on_loss number (recovery_state_of node)) node refl refl
-epochs_received (inputs.LogEntry entry) node quiet = absurd (cc (quiet))
-epochs_received inputs.Put node quiet = by_outbox node.outbox
-  where
-    by_outbox : (outbox : List Entry) → (on_put outbox (at_first node)).node.epochs ≡ node.epochs
-    by_outbox [] = refl
-    by_outbox (entry ∷ later) = refl
-epochs_received inputs.RecoverTick node quiet = refl
-epochs_received inputs.RetryTick node quiet = refl
-epochs_received (inputs.Back entries) node quiet = absurd (cc (quiet))
+    by_outbox : (outbox : List Entry)
+        → ((on_put outbox (at_first node)).node.epochs ≡ node.epochs) × ((on_put outbox (at_first node)).node.recovered ≡ node.recovered)
+    by_outbox [] = (refl, refl)
+    by_outbox (entry ∷ later) = (refl, refl)
+log_parts_received inputs.RecoverTick node quiet = (refl, refl)
+log_parts_received inputs.RetryTick node quiet = (refl, refl)
+log_parts_received (inputs.Back entries) node quiet = absurd (cc (quiet))
 
 -- ---- a step
 
@@ -174,7 +141,7 @@ module _ (input : Input) (node : Node) where
   step_epochs = ap (λ (u : Untouched). u.epochs) (step_in_order input node).same
 
   pub step_epochs_stay : may_begin_recovery input ≡ false → (node_step input node).node.epochs ≡ node.epochs
-  step_epochs_stay quiet = step_epochs ∙ epochs_received input node quiet
+  step_epochs_stay quiet = step_epochs ∙ (log_parts_received input node quiet).0
 
   pub step_recovery : (node_step input node).node.recovery ≡ (input_received input (at_first node)).node.recovery
   step_recovery = ap (λ (u : Untouched). u.recovery) (step_in_order input node).same
@@ -185,16 +152,16 @@ module _ (input : Input) (node : Node) where
 
   -- what is said to a peer
   pub step_says : (node_step input node).outputs.say ≡ said_on input node
-  step_says = ap (λ (u : Untouched). u.say) (step_in_order input node).same ∙ says_received input node
+  step_says = ap (λ (u : Untouched). u.say) (step_in_order input node).same ∙ (outputs_received input node).0
 
   -- what goes into the log
   pub step_gives : (node_step input node).outputs.put ≡ put_on input node
-  step_gives = ap (λ (u : Untouched). u.put) (step_in_order input node).same ∙ puts_received input node
+  step_gives = ap (λ (u : Untouched). u.put) (step_in_order input node).same ∙ (outputs_received input node).1
 
   -- `Recovered`, once put, stays so until a recovery begins
   pub step_stays_recovered : may_begin_recovery input ≡ false → node.recovered ≡ true → (node_step input node).node.recovered ≡ true
   step_stays_recovered quiet done =
-      (step_in_order input node).recovered_stays (recovered_received input node quiet ∙ done)
+      (step_in_order input node).recovered_stays ((log_parts_received input node quiet).1 ∙ done)
 
 -- ---- `Recovered`
 

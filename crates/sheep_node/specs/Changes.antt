@@ -1,6 +1,7 @@
 -- A node's step by elementary changes: each is one effect on the node and the outputs, with what is known where it happens. Every
 -- step is a chain of these, so what each of them keeps every step keeps.
 use Rattle.std.specs.Prelude.{◌≡◌, ◌≢◌, ℕ, ◌+◌, nat_lt, Bool, true, false, ◌++◌, List, [], ◌∷◌, map, Option, Some, None, if◌then◌else◌, not}
+use Rattle.std.specs.Option.{option_map_or}
 use Rattle.std.specs.Prelude.{IsTrue}
 use Rattle.std.specs.FinMap as tree
 use Rattle.object_id.specs.declared.cause.Cause.{Cause}
@@ -43,7 +44,7 @@ use Rattle.sheep_node.specs.RecoveryView.{recovery_state_of}
 use Rattle.sheep_node.specs.StepState.{StepState, at_first, with_node, with_sends, with_guest_reply, with_outbox_entry, with_gateway}
 use Rattle.sheep_node.specs.StepState.{with_sole_request}
 use Rattle.sheep_node.specs.StepState.{with_session, session_in, with_inode_queue, with_course, request_ended}
-use Rattle.sheep_node.specs.RequestWorks.{course_refused, request_refused, queue_left}
+use Rattle.sheep_node.specs.RequestWorks.{course_refused, queue_left}
 use Rattle.sheep_node.specs.Courses.{after_driver_step, inode_open, after_command_step, work_reply, decision_reply}
 use Rattle.sheep_node.specs.declared.ask.Ask.{Ask}
 use Rattle.sheep_node.specs.declared.ask.Ask.TheVariants as asks
@@ -331,8 +332,10 @@ module _ (input : Input) (node : Node) where
     Denies : (session req : ℕ) (asked : Work) (lined : StepState) (request : Option Request) → WorkIsNext so_far session req asked lined
         → has_too_few_zones asked lined.node ≡ true → is_touched req lined.node.gateway ≡ false
         → tree.get lined.node.requests req ≡ request → (IsSoundStep input node → IsOfSession session request)
-        → Change so_far (request_refused req (Halt (zones_of_members lined.node) (zones_for asked.work)) request
+        → Change so_far (option_map_or
+        (λ (request : Request). course_refused request.session req (Halt (zones_of_members lined.node) (zones_for asked.work)) request.course
         (without_denied_work session req asked lined))
+        request (without_denied_work session req asked lined))
     -- a work whose request isn't there goes on in the gateway alone, apart from other works; no node whose requests have one work each
     -- has such a work
     Strays : (req : ℕ) (work : Work) (gateway : Gateway) → tree.get so_far.node.gateway.works req ≡ Some work

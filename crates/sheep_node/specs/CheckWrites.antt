@@ -10,7 +10,7 @@ use Rattle.disk_check.specs.Check.{CheckStage, Comparing, WritingBack, Answered,
 use Rattle.sheep_node.specs.declared.input.Input.{Input}
 use Rattle.sheep_node.specs.declared.input.Input.TheVariants as inputs
 use Rattle.sheep_node.specs.State.{Course, Waiting, Driving, Commanding, Checking, DoingWork, AwaitingDecision, Request, Node}
-use Rattle.std.specs.Option.{option_map_or}
+use Rattle.std.specs.Option.{option_map_or, option_and_then}
 
 -- a check, of the request of a number, writes a value over its disk's object of an index
 pub record CheckWrite : Type 0 where
@@ -34,15 +34,12 @@ write_of_course req bytes (Checking check) = write_at_stage req bytes check chec
 write_of_course req bytes (DoingWork work) = None
 write_of_course req bytes (AwaitingDecision entry) = None
 
-abbrev pub write_of_request : ℕ → List ℕ → Option Request → Option CheckWrite
-write_of_request req bytes None = None
-write_of_request req bytes (Some request) = write_of_course req bytes request.course
-
 -- the one that a request comes to whose work is done
 abbrev pub write_after_act : Act → Node → Option CheckWrite
 write_after_act (acts.Send sends) node = None
 write_after_act acts.Wait node = None
-write_after_act (acts.Done work done) node = write_of_request done.req done.bytes (tree.get node.requests done.req)
+write_after_act (acts.Done work done) node =
+    option_and_then (λ (request : Request). write_of_course done.req done.bytes request.course) (tree.get node.requests done.req)
 write_after_act (acts.Refused work req cause) node = None
 
 -- the one that a node's check comes to by an input: by the last reply that a read of all targets waits for

@@ -1,6 +1,6 @@
 -- How a request goes on, and what its session has open then.
 use Rattle.std.specs.Prelude.{ℕ, List, Option, Some, None}
-use Rattle.std.specs.Option.{option_map}
+use Rattle.std.specs.Option.{option_map, option_map_or}
 use Rattle.inode.specs.Layout.{Content}
 use Rattle.peer_proto.specs.declared.guest.DiskAsk.{DiskAsk}
 use Rattle.peer_proto.specs.declared.guest.GuestRsp.{GuestRsp}
@@ -43,21 +43,12 @@ after_driver_step number req disk step so_far =
 unfoldable pub driver_stepped : ℕ → ℕ → Disk → drivers.DriverStep → StepState → StepState
 driver_stepped number req disk step so_far = driver_acted number req step.act (after_driver_step number req disk step so_far)
 
--- a driver that waits for a work goes on
-abbrev pub driver_went_on : ℕ → ℕ → Disk → Option drivers.DriverStep → StepState → StepState
-driver_went_on number req disk None so_far = so_far
-driver_went_on number req disk (Some step) so_far = driver_stepped number req disk step so_far
-
 -- a read or write goes on, on the disk that the session has open
 abbrev pub disk_went_on : ℕ → ℕ → List ℕ → Driver → Option Disk → StepState → StepState
 disk_went_on number req bytes driver None so_far = so_far
 disk_went_on number req bytes driver (Some disk) so_far =
-    driver_went_on number req disk (drivers.driver_on_done disk.inode bytes driver) so_far
-
--- a read or write begins, on the disk that the session has open
-abbrev pub disk_begun : ℕ → ℕ → DiskAsk → Option Disk → StepState → StepState
-disk_begun number req ask None so_far = so_far
-disk_begun number req ask (Some disk) so_far = driver_stepped number req disk (drivers.begin_driver disk ask) so_far
+    option_map_or (λ (step : drivers.DriverStep). driver_stepped number req disk step so_far)
+    (drivers.driver_on_done disk.inode bytes driver) so_far
 
 -- what a session has open once a command has left this of it
 abbrev pub disk_after : DiskChange → Option Disk → Option Disk
@@ -89,11 +80,6 @@ command_acted number req (op_acts.Reply reply) so_far = request_ended number req
 unfoldable pub command_stepped : ℕ → ℕ → ops.OpStep → StepState → StepState
 command_stepped number req step so_far = command_acted number req step.act (after_command_step number req step so_far)
 
--- a command goes on by a step, if there is one
-abbrev pub command_went_on : ℕ → ℕ → Option ops.OpStep → StepState → StepState
-command_went_on number req None so_far = so_far
-command_went_on number req (Some step) so_far = command_stepped number req step so_far
-
 -- a check's act: a work is come to, or the request ends with what was found
 abbrev pub check_acted : ℕ → ℕ → CheckAct → StepState → StepState
 check_acted number req (check_acts.Work work) so_far = work_asked number req work so_far
@@ -102,11 +88,6 @@ check_acted number req (check_acts.Reply found) so_far = request_ended number re
 -- a check goes on by a step
 unfoldable pub check_stepped : ℕ → ℕ → checks.CheckStep → StepState → StepState
 check_stepped number req step so_far = check_acted number req step.act (with_sole_request number req (Checking step.check) so_far)
-
--- a check goes on by a step, if there is one
-abbrev pub check_went_on : ℕ → ℕ → Option checks.CheckStep → StepState → StepState
-check_went_on number req None so_far = so_far
-check_went_on number req (Some step) so_far = check_stepped number req step so_far
 
 -- what a client without a script is told of its work: a read's bytes
 abbrev pub work_reply : ObjWork → List ℕ → GuestRsp
@@ -126,8 +107,10 @@ unfoldable pub course_went_on : ℕ → ℕ → List ℕ → Course → StepStat
 course_went_on number req bytes (Waiting ask) so_far = so_far
 course_went_on number req bytes (Driving driver) so_far =
     disk_went_on number req bytes driver (session_in number so_far).disk so_far
-course_went_on number req bytes (Commanding op) so_far = command_went_on number req (op_on_done bytes op) so_far
-course_went_on number req bytes (Checking check) so_far = check_went_on number req (check_on_done bytes check) so_far
+course_went_on number req bytes (Commanding op) so_far =
+    option_map_or (λ (step : ops.OpStep). command_stepped number req step so_far) (op_on_done bytes op) so_far
+course_went_on number req bytes (Checking check) so_far =
+    option_map_or (λ (step : checks.CheckStep). check_stepped number req step so_far) (check_on_done bytes check) so_far
 course_went_on number req bytes (DoingWork work) so_far = request_ended number req (work_reply work bytes) so_far
 course_went_on number req bytes (AwaitingDecision entry) so_far = so_far
 
@@ -136,7 +119,7 @@ unfoldable pub course_decided : ℕ → ℕ → Decision → Course → StepStat
 course_decided number req decision (Waiting ask) so_far = so_far
 course_decided number req decision (Driving driver) so_far = so_far
 course_decided number req decision (Commanding op) so_far =
-    command_went_on number req
+    option_map_or (λ (step : ops.OpStep). command_stepped number req step so_far)
     (on_decision (effects_of so_far.node.peer) (inode_open (session_in number so_far).disk) decision op) so_far
 course_decided number req decision (Checking check) so_far = so_far
 course_decided number req decision (DoingWork work) so_far = so_far

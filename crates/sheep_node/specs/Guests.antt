@@ -13,7 +13,8 @@ use Rattle.gateway_queue.specs.declared.queue.Queued.{Queued}
 use Rattle.guest_driver.specs.declared.disk.Disk.{Disk}
 use Rattle.guest_driver.specs.Pieces.{offset_of, size_of, first_index, last_index}
 use Rattle.guest_driver.specs.Refusals as disk_refusals
-use Rattle.disk_check.specs.Check.{begin_check}
+use Rattle.disk_check.specs.Check.{CheckStep, begin_check}
+use Rattle.vdi_ops.specs.Op.{OpStep}
 use Rattle.vdi_ops.specs.Entries as entries
 use Rattle.vdi_ops.specs.Steps.{begin_command}
 use Rattle.sheep_node.specs.declared.ask.Ask.{Ask}
@@ -22,7 +23,7 @@ use Rattle.sheep_node.specs.State.{Waiting, DoingWork, AwaitingDecision}
 use Rattle.sheep_node.specs.StepState.{StepState, with_guest_reply, with_outbox_entry, session_in, with_session, with_course}
 use Rattle.sheep_node.specs.StepState.{with_sole_request}
 use Rattle.sheep_node.specs.RequestWorks.{work_asked}
-use Rattle.sheep_node.specs.Courses.{inode_open, command_went_on, check_went_on}
+use Rattle.sheep_node.specs.Courses.{inode_open, command_stepped, check_stepped}
 use Rattle.sheep_node.specs.Waiting.{course_begun}
 
 -- whether a session's disk is deleted, by the entries that the node has read
@@ -59,9 +60,11 @@ with_queued_request number req ask (Some disk) so_far = with_session
 -- a command begins with its entry in the outbox, and a check of the open disk with its first work
 abbrev pub command_taken : ℕ → ℕ → VdiAsk → StepState → StepState
 command_taken number req Check so_far =
-    check_went_on number req (option_map begin_check (inode_open (session_in number so_far).disk)) so_far
+    option_map_or (λ (step : CheckStep). check_stepped number req step so_far)
+    (option_map begin_check (inode_open (session_in number so_far).disk)) so_far
 command_taken number req ask so_far =
-    command_went_on number req (begin_command so_far.node.me number ask (inode_open (session_in number so_far).disk)) so_far
+    option_map_or (λ (step : OpStep). command_stepped number req step so_far)
+    (begin_command so_far.node.me number ask (inode_open (session_in number so_far).disk)) so_far
 
 -- a request that isn't refused: a read or write begins, if it may run, and any other at once
 abbrev pub request_taken : ℕ → ℕ → Ask → StepState → StepState

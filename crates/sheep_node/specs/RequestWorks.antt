@@ -1,5 +1,6 @@
 -- The works of requests at the gateway: one begins, or waits in its session's line; and how a request ends whose work is refused.
 use Rattle.std.specs.Prelude.{ℕ, Option, Some, None, if◌then◌else◌}
+use Rattle.std.specs.Option.{option_map_or}
 use Rattle.std.specs.FinMap as tree
 use Rattle.object_id.specs.declared.cause.Cause.{Cause}
 use Rattle.peer_proto.specs.declared.work.ObjWork.{ObjWork}
@@ -28,11 +29,6 @@ course_refused number req cause (Checking check) so_far = request_ended number r
 course_refused number req cause (DoingWork work) so_far = request_ended number req (Refused cause) so_far
 course_refused number req cause (AwaitingDecision entry) so_far = so_far
 
--- a request that was looked up ends so, if it is there
-abbrev pub request_refused : ℕ → Cause → Option Request → StepState → StepState
-request_refused req cause None so_far = so_far
-request_refused req cause (Some request) so_far = course_refused request.session req cause request.course so_far
-
 -- a work of the session has ended, and leaves the line
 abbrev pub queue_left : ℕ → ObjWork → StepState → StepState
 queue_left number work so_far = with_inode_queue number (queue_after_end (session_in number so_far).inode_queue work) so_far
@@ -43,7 +39,8 @@ after_start number (acts.Send sends) so_far = with_sends sends.list so_far
 after_start number acts.Wait so_far = so_far
 after_start number (acts.Done work done) so_far = so_far
 after_start number (acts.Refused work req cause) so_far =
-    request_refused req cause (tree.get so_far.node.requests req) (queue_left number work so_far)
+    option_map_or (λ (request : Request). course_refused request.session req cause request.course (queue_left number work so_far))
+    (tree.get so_far.node.requests req) (queue_left number work so_far)
 
 -- how the gateway starts a work: in the node's epoch, its messages numbered from the count of sends
 abbrev pub start_of : ℕ → ObjWork → Node → gateways.GatewayStep

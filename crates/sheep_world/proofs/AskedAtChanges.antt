@@ -21,14 +21,12 @@ use Rattle.gateway.specs.State.{WorkStage, Open, Ended, WaitsForMembers, Work, o
 use Rattle.gateway.specs.Step.{attempt_with_status}
 use Rattle.gateway.proofs.SendLaws.{sends-numbers}
 use Rattle.guest_driver.specs.InodeQueue as lines
-use Rattle.vdi_ops.specs.declared.end.OpEnd.{OpEnd}
-use Rattle.vdi_ops.specs.Steps.{on_refusal}
 use Rattle.sheep_node.specs.declared.input.Input.{Input}
-use Rattle.sheep_node.specs.State.{Course, Waiting, Driving, Commanding, Request, Node, Checking, DoingWork, AwaitingDecision}
+use Rattle.sheep_node.specs.State.{Course, Node}
 use Rattle.sheep_node.specs.StepState.{StepState, request_ended}
-use Rattle.sheep_node.specs.RequestWorks.{command_refused, course_refused, request_refused}
 use Rattle.sheep_node.specs.Changes as changes
 use Rattle.sheep_node.specs.Changes.{IsTold, IsSoundStep, LearnsStatus, without_ended_work, Outcome, ToWork, ToEntry, ToReply, RequestSteps, DiskBegins, DiskGoesOn, CommandBegins, CommandGoesOn, CommandDecided, WorkIsNext, AtOnce, InTurn, Again, AgainAlone, attempt_in, Change, CheckBegins, CheckGoesOn, ObjectBegins, ObjectIsDone, EntryBegins, EntryDecided}
+use Rattle.sheep_node.proofs.RefusedCourses.{course_refused-keeps, request_refused-keeps}
 use Rattle.sheep_node.proofs.MessageNumbers.{numbers_within}
 use Rattle.sheep_node.proofs.NumberChanges.{HasOneWorkAndNumber, comes_numbered}
 use Rattle.sheep_node.proofs.OneWorkChanges.{StepHasOneWork, steps_free, never_alone}
@@ -96,25 +94,6 @@ module _ (input : Input) (old node : Node) (sound : IsSoundStep input node) (bel
   unfolding request_ended
   ended_asks session req reply so_far asks = asks
 
-  refused_asks : (session req : ℕ) (cause : Cause) (course : Course) (so_far : StepState) → StepAsks so_far
-      → StepAsks (course_refused session req cause course so_far)
-  unfolding request_ended
-  refused_asks session req cause (Waiting ask) so_far asks = asks
-  refused_asks session req cause (Driving driver) so_far asks = asks
-  refused_asks session req cause (Commanding op) so_far asks = by_end (on_refusal cause op)
-    where
-      by_end : (end : Option OpEnd) → StepAsks (command_refused session req end so_far)
-      by_end None = asks
-      by_end (Some end) = asks
-  refused_asks session req cause (Checking check) so_far asks = asks
-  refused_asks session req cause (DoingWork work) so_far asks = asks
-  refused_asks session req cause (AwaitingDecision entry) so_far asks = asks
-
-  request_refused_asks : (req : ℕ) (cause : Cause) (request : Option Request) (so_far : StepState) → StepAsks so_far
-      → StepAsks (request_refused req cause request so_far)
-  request_refused_asks req cause None so_far asks = asks
-  request_refused_asks req cause (Some request) so_far asks = refused_asks request.session req cause request.course so_far asks
-
   begun_asks : (req : ℕ) (asked : Work) (lined : StepState) → ((q : ℕ) (w : Work) → tree.get lined.node.gateway.works req ≡ Some w → is_awaited_in q w ≡ false)
       → lined.node.gateway.me ≡ lined.node.me → StepAsks lined → StepAsks (changes.with_open_attempt req asked lined)
   begun_asks req asked lined idle own asks =
@@ -158,7 +137,7 @@ module _ (input : Input) (old node : Node) (sound : IsSoundStep input node) (bel
   change_keeps_asks so_far next (changes.Stops session req number work attempt status course bytes ends over) both asks =
       freed_asks so_far session req number work attempt status ends.ends.learns ends.ends.over asks
   change_keeps_asks so_far next (changes.Refuses session req number work attempt status course cause ends done why) both asks =
-      refused_asks session req cause course (without_ended_work session req work status so_far)
+      course_refused-keeps StepAsks ended_asks (λ entry before now. now) session req cause course (without_ended_work session req work status so_far)
       (freed_asks so_far session req number work attempt status ends.learns ends.over asks)
   change_keeps_asks so_far next (changes.Opens session req asked lined comes enough) both asks =
       begun_asks req asked lined (comes_idle so_far session req asked lined comes both.0)
@@ -168,7 +147,7 @@ module _ (input : Input) (old node : Node) (sound : IsSoundStep input node) (bel
       (comes_asks so_far session req asked lined comes asks) (record asked { stage = WaitsForMembers (record { 0 = lined.node.peer.epoch }) })
       (turns_held input old (tree.get lined.node.gateway.works req) (comes_idle so_far session req asked lined comes both.0) asked (record { 0 = lined.node.peer.epoch }))
   change_keeps_asks so_far next (changes.Denies session req asked lined request comes short untouched there own) both asks =
-      request_refused_asks req (Halt (changes.zones_of_members lined.node) (works_.zones_for asked.work)) request (changes.without_denied_work session req asked lined)
+      request_refused-keeps StepAsks ended_asks (λ entry before now. now) req (Halt (changes.zones_of_members lined.node) (works_.zones_for asked.work)) request (changes.without_denied_work session req asked lined)
       (gone_asks input old below lined.node.me lined.node.gateway.works lined.node.sends lined.outputs.sends req (tree.get lined.node.gateway.works req) refl
       (comes_asks so_far session req asked lined comes asks)
       (turns_denied input old (tree.get lined.node.gateway.works req) (comes_idle so_far session req asked lined comes both.0)))

@@ -17,7 +17,7 @@ use Rattle.vdi_directory.specs.declared.effect.Effect.TheVariants as effects
 use Rattle.vdi_directory.specs.Effects.{is_used, header_after, header_of}
 use Rattle.vdi_directory.specs.Decisions.{outcome, log_effects}
 use Rattle.vdi_directory.proofs.StateLemmas.{log_effects-push, header_of-push}
-use Rattle.vdi_directory.proofs.LawLemmas.{grant_outcome-unused}
+use Rattle.vdi_directory.proofs.DecisionLaws.{grant_outcome-unused}
 use Rattle.vdi_directory.proofs.LineLemmas.{line-log_effects}
 use Rattle.peer_proto.specs.declared.ask.PeerAsk.{PeerAsk}
 use Rattle.peer_proto.specs.declared.ask.PeerAsk.TheVariants as asks

@@ -1,5 +1,6 @@
 -- A gateway waits no more for a message that it was told of, whatever its works come to then.
 use Rattle.std.proofs.Common.{◌≡◌, ◌≢◌, ℕ, ◌+◌, ◌==◌, ◌<◌, nat_lt, Bool, true, false, ◌||◌, cond, List, [], ◌∷◌, fold, length, map, Option, Some, None, refl, sym, ap, subst, ◌∙◌, ⊎_elim}
+use Rattle.std.specs.Option.{option_map_or}
 use native.Mathlib.Omega.{arith}
 use Rattle.std.specs.List.{list_any}
 use Rattle.std.specs.FinMap as tree
@@ -8,6 +9,7 @@ use Rattle.std.proofs.lemmas.Option.{same_Some}
 use Rattle.proof_tools.proofs.Booleans.{cond_either, has_value}
 use Rattle.proof_tools.proofs.FiniteMaps.{get-insert_same, get-insert_other, get-remove_same, get-remove_other}
 use Rattle.object_id.specs.declared.cause.Cause.{Cause}
+use Rattle.peer_proto.specs.declared.guest.GuestRsp.{GuestRsp}
 use Rattle.object_id.specs.declared.cause.Cause.TheVariants.{Halt}
 use Rattle.object_id.specs.declared.node.Epoch.{Epoch}
 use Rattle.hash_ring.specs.Placement.{zone_count}
@@ -35,16 +37,16 @@ use Rattle.guest_driver.specs.InodeQueue.{may_open_work, queue_with_open, queue_
 use Rattle.gateway_queue.specs.Queue.{may_run}
 use Rattle.vdi_ops.specs.declared.act.OpAct.{OpAct}
 use Rattle.vdi_ops.specs.declared.act.OpAct.TheVariants as op_acts
-use Rattle.vdi_ops.specs.declared.end.OpEnd.{OpEnd}
 use Rattle.vdi_ops.specs.Op as ops
-use Rattle.vdi_ops.specs.Steps.{on_refusal, op_on_done}
+use Rattle.vdi_ops.specs.Steps.{op_on_done}
 use Rattle.sheep_node.specs.State.{Course, Waiting, Driving, Commanding, Request, Checking, DoingWork, AwaitingDecision}
 use Rattle.sheep_node.specs.StepState.{StepState, with_gateway, session_in, with_inode_queue, request_ended, with_sole_request}
-use Rattle.sheep_node.specs.RequestWorks.{command_refused, course_refused, request_refused, queue_left, after_start, work_begun, work_asked}
-use Rattle.sheep_node.specs.Courses.{after_driver_step, driver_acted, driver_stepped, driver_went_on, disk_went_on, disk_begun, after_command_step, command_acted, command_stepped, command_went_on, course_went_on, check_acted, check_stepped, check_went_on}
-use Rattle.sheep_node.specs.Waiting.{next_begun, course_begun, found_request_begun, begun_if_may, passed_over, queued_requests, let_begin, work_done, work_refused, after_act, after_gateway_step}
+use Rattle.sheep_node.specs.RequestWorks.{course_refused, queue_left, after_start, work_begun, work_asked}
+use Rattle.sheep_node.specs.Courses.{after_driver_step, driver_acted, driver_stepped, disk_went_on, after_command_step, command_acted, command_stepped, course_went_on, check_acted, check_stepped}
+use Rattle.sheep_node.specs.Waiting.{next_begun, course_begun, begun_if_may, passed_over, queued_requests, let_begin, work_done, work_refused, after_act, after_gateway_step}
 use Rattle.sheep_node.specs.Step.{is_due, with_recovered, recovered_put}
 use Rattle.sheep_node.specs.OneWork.{NumbersAreOfOneWork}
+use Rattle.sheep_node.proofs.RefusedCourses.{request_refused-keeps}
 use Rattle.sheep_node.proofs.AwaitedWorks.{Works, found_got}
 use Rattle.sheep_node.proofs.MessageNumbers.{fresh_apart}
 use Rattle.disk_check.specs.declared.act.CheckAct.{CheckAct}
@@ -80,23 +82,9 @@ module _ (number : ℕ) where
 
   -- ---- what goes on
 
-  ended_heard : (session req : ℕ) (end : Option OpEnd) (so_far : StepState) → IsHeard so_far → IsHeard (command_refused session req end so_far)
+  ended_heard : (session req : ℕ) (reply : GuestRsp) (so_far : StepState) → IsHeard so_far → IsHeard (request_ended session req reply so_far)
   unfolding request_ended
-  ended_heard session req None so_far heard = heard
-  ended_heard session req (Some end) so_far heard = heard
-
-  refused_heard : (req : ℕ) (cause : Cause) (request : Option Request) (so_far : StepState) → IsHeard so_far → IsHeard (request_refused req cause request so_far)
-  unfolding request_ended
-  refused_heard req cause None so_far heard = heard
-  refused_heard req cause (Some request) so_far heard = by_course request.course
-    where
-      by_course : (course : Course) → IsHeard (course_refused request.session req cause course so_far)
-      by_course (Waiting ask) = heard
-      by_course (Driving driver) = heard
-      by_course (Commanding op) = ended_heard request.session req (on_refusal cause op) so_far heard
-      by_course (Checking check) = heard
-      by_course (DoingWork work) = heard
-      by_course (AwaitingDecision entry) = heard
+  ended_heard session req reply so_far heard = heard
 
   begun_heard : (session req : ℕ) (work : ObjWork) (so_far : StepState) → IsHeard so_far → IsHeard (work_begun session req work so_far)
   unfolding work_begun start_step attempt_step
@@ -115,7 +103,7 @@ module _ (number : ℕ) where
       (cond_either Begins (is_touched req gateway)
       (waiting_step (with_work req (record asked { stage = WaitsForMembers epoch }) gateway)) (refusal_step gateway req work (Halt zones (zones_for work)))
       (low, put_none gateway.works req (record asked { stage = WaitsForMembers epoch }) refl (λ q w other got. heard.1 q w got))
-      (refused_heard req (Halt zones (zones_for work)) (tree.get node.requests req) (queue_left session work (with_gateway (without_work req gateway) so_far))
+      (request_refused-keeps IsHeard ended_heard (λ entry before now. now) req (Halt zones (zones_for work)) (tree.get node.requests req) (queue_left session work (with_gateway (without_work req gateway) so_far))
       (low, gone_none gateway.works req (λ q w other got. heard.1 q w got)))) (
         let higher : number < node.sends + more = omega (arith, low) in higher,
         put_none gateway.works req (record asked { stage = Open (next_attempt asked node.sends epoch targets) })
@@ -137,7 +125,7 @@ module _ (number : ℕ) where
   driver_heard session req (driver_acts.Reply reply) so_far heard = heard
 
   stepped_heard : (session req : ℕ) (disk : Disk) (step : Option drivers.DriverStep) (so_far : StepState) → IsHeard so_far
-      → IsHeard (driver_went_on session req disk step so_far)
+      → IsHeard (option_map_or (λ (step : drivers.DriverStep). driver_stepped session req disk step so_far) step so_far)
   unfolding driver_stepped
   stepped_heard session req disk None so_far heard = heard
   stepped_heard session req disk (Some step) so_far heard = driver_heard session req step.act (after_driver_step session req disk step so_far) heard
@@ -154,7 +142,7 @@ module _ (number : ℕ) where
   command_heard session req (op_acts.Work work) so_far heard = asked_heard session req work so_far heard
   command_heard session req (op_acts.Reply reply) so_far heard = heard
 
-  command_on_heard : (session req : ℕ) (step : Option ops.OpStep) (so_far : StepState) → IsHeard so_far → IsHeard (command_went_on session req step so_far)
+  command_on_heard : (session req : ℕ) (step : Option ops.OpStep) (so_far : StepState) → IsHeard so_far → IsHeard (option_map_or (λ (step : ops.OpStep). command_stepped session req step so_far) step so_far)
   unfolding command_stepped
   command_on_heard session req None so_far heard = heard
   command_on_heard session req (Some step) so_far heard = command_heard session req step.act (after_command_step session req step so_far) heard
@@ -164,7 +152,7 @@ module _ (number : ℕ) where
   check_heard session req (check_acts.Work work) so_far heard = asked_heard session req work so_far heard
   check_heard session req (check_acts.Reply found) so_far heard = heard
 
-  check_on_heard : (session req : ℕ) (step : Option checks.CheckStep) (so_far : StepState) → IsHeard so_far → IsHeard (check_went_on session req step so_far)
+  check_on_heard : (session req : ℕ) (step : Option checks.CheckStep) (so_far : StepState) → IsHeard so_far → IsHeard (option_map_or (λ (step : checks.CheckStep). check_stepped session req step so_far) step so_far)
   unfolding check_stepped
   check_on_heard session req None so_far heard = heard
   check_on_heard session req (Some step) so_far heard =
@@ -181,7 +169,7 @@ module _ (number : ℕ) where
 
   -- ---- what waited begins
 
-  disk_begun_heard : (session req : ℕ) (ask : DiskAsk) (disk : Option Disk) (so_far : StepState) → IsHeard so_far → IsHeard (disk_begun session req ask disk so_far)
+  disk_begun_heard : (session req : ℕ) (ask : DiskAsk) (disk : Option Disk) (so_far : StepState) → IsHeard so_far → IsHeard (option_map_or (λ (disk : Disk). driver_stepped session req disk (drivers.begin_driver disk ask) so_far) disk so_far)
   unfolding driver_stepped
   disk_begun_heard session req ask None so_far heard = heard
   disk_begun_heard session req ask (Some disk) so_far heard =
@@ -189,7 +177,7 @@ module _ (number : ℕ) where
 
   course_begun_heard : (session req : ℕ) (course : Course) (so_far : StepState) → IsHeard so_far → IsHeard (course_begun session req course so_far)
   course_begun_heard session req (Waiting ask) so_far heard =
-      cond_either IsHeard (may_run req (session_in session so_far).queue) (disk_begun session req ask (session_in session so_far).disk so_far) so_far
+      cond_either IsHeard (may_run req (session_in session so_far).queue) (option_map_or (λ (disk : Disk). driver_stepped session req disk (drivers.begin_driver disk ask) so_far) (session_in session so_far).disk so_far) so_far
       (disk_begun_heard session req ask (session_in session so_far).disk so_far heard) heard
   course_begun_heard session req (Driving driver) so_far heard = heard
   course_begun_heard session req (Commanding op) so_far heard = heard
@@ -201,7 +189,7 @@ module _ (number : ℕ) where
   all_begun_heard [] so_far heard = heard
   all_begun_heard (req ∷ reqs) so_far heard = all_begun_heard reqs (begun_if_may so_far req) (by_request (tree.get so_far.node.requests req))
     where
-      by_request : (request : Option Request) → IsHeard (found_request_begun req request so_far)
+      by_request : (request : Option Request) → IsHeard (option_map_or (λ (request : Request). course_begun request.session req request.course so_far) request so_far)
       by_request None = heard
       by_request (Some request) = course_begun_heard request.session req request.course so_far heard
 
@@ -227,8 +215,8 @@ module _ (number : ℕ) where
       → IsHeard (work_refused work req cause request so_far)
   work_refused_heard work req cause None so_far heard = heard
   work_refused_heard work req cause (Some request) so_far heard =
-      let_begin_heard request.session (request_refused req cause (Some request) (queue_left request.session work so_far))
-      (refused_heard req cause (Some request) (queue_left request.session work so_far) heard)
+      let_begin_heard request.session (course_refused request.session req cause request.course (queue_left request.session work so_far))
+      (request_refused-keeps IsHeard ended_heard (λ entry before now. now) req cause (Some request) (queue_left request.session work so_far) heard)
 
   -- ---- a message is told
 

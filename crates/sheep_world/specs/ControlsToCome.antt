@@ -1,6 +1,6 @@
 -- The controls of a script that are still to come, and that each fits the nodes that are there when it comes.
-use Rattle.std.specs.Prelude.{◌≡◌, ℕ, ◌+◌, ◌<◌, Bool, true, false, ◌||◌, List, [], ◌∷◌, ◌++◌, drop, flat_map, is_some}
-use Rattle.object_id.specs.Node.{IsWeight}
+use Rattle.std.specs.Prelude.{◌≡◌, ℕ, ◌+◌, Bool, true, false, ◌||◌, List, [], ◌∷◌, ◌++◌, drop, flat_map, is_some}
+use Rattle.object_id.specs.Node.{IsNode, IsWeight}
 use Rattle.cluster_script.specs.declared.statement.Statement.{Statement}
 use Rattle.cluster_script.specs.declared.statement.Statement.TheVariants.{Fail, Join, Reweight, Back}
 use Rattle.cluster_script.specs.Nodes.{failed_by}
@@ -16,11 +16,11 @@ controls_behind phases place = flat_map (λ (phase : Phase). phase.controls) (dr
 abbrev pub controls_to_come : List Statement → World → List Statement
 controls_to_come script world = world.controls ++ controls_behind (phases_of script) (world.phase + 1)
 
--- a control fits, where these numbers were used, and these are failed: who joins is new and below 64, who fails or gets a weight is
--- there, who comes back is failed
+-- a control fits, where these numbers were used, and these are failed: who joins is new and has a number that a node may have, who
+-- fails or gets a weight is there, who comes back is failed
 abbrev pub FitsNodes : (ℕ → Bool) → (ℕ → Bool) → Statement → Type 0
 FitsNodes used failed (Fail node) = (used node ≡ true) × (failed node ≡ false)
-FitsNodes used failed (Join node) = (node < 64) × (used node ≡ false)
+FitsNodes used failed (Join node) = IsNode node × (used node ≡ false)
 FitsNodes used failed (Reweight node vnodes) = (used node ≡ true) × (failed node ≡ false) × IsWeight vnodes
 FitsNodes used failed (Back node) = failed node ≡ true
 FitsNodes used failed s = Unit {0}

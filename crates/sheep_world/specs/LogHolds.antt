@@ -3,7 +3,7 @@ use Rattle.std.specs.Prelude.{◌≡◌, ℕ, ◌-◌, ◌^◌, ◌<◌, Bool, t
 use Rattle.std.specs.FinMap as tree
 use Rattle.object_id.specs.declared.entry.Entry.{Entry}
 use Rattle.epoch_log.specs.Members as members
-use Rattle.object_id.specs.Node.{IsWeight}
+use Rattle.object_id.specs.Node.{IsNode, IsWeight}
 use Rattle.epoch_log.specs.Epochs.{epoch_of, members_in}
 use Rattle.epoch_log.specs.Appending.{IsReservable, IsLog}
 use Rattle.sheep_world.specs.World.{Host, World}
@@ -20,9 +20,9 @@ pub record MayGrow (world : World) : Type 0 where
       → host.node.outbox ≡ entry ∷ later → IsReservable entry
   pub room : epoch_of world.log < 2 ^ 32 - 1
 
--- a number that has a host is below 64, and has a weight by the log; where the node isn't lost it is a member
+-- a number that has a host is one that a node may have, and has a weight by the log; where the node isn't lost it is a member
 pub record IsWell (log : List Entry) (n : ℕ) (lost : Bool) : Type 0 where
-  pub below : n < 64
+  pub below : IsNode n
   pub weight : IsWeight (last_weight log n)
   pub stands : lost ≡ false → is_member_now log n ≡ true
 

@@ -17,6 +17,8 @@ mod interpolate;
 mod laws;
 mod parts;
 mod rows;
+#[cfg(test)]
+mod tests;
 
 pub use coding::{decode_block, encode_block};
 pub use gf256::TooFewStrips;

@@ -11,8 +11,8 @@ use Rattle.vdi_directory.specs.Decisions.{outcome, log_effects}
 use Rattle.vdi_directory.specs.States.{is_live_state}
 use Rattle.vdi_directory.specs.Sound.{IsLawful}
 use Rattle.vdi_directory.proofs.StateLemmas.{log_effects-none, live_of-push}
-use Rattle.vdi_directory.proofs.LawfulLemmas.{lawful-outcome, sound-log_effects}
-use Rattle.vdi_directory.proofs.LawLemmas.{kept-later, live-is}
+use Rattle.vdi_directory.proofs.LawfulEntries.{lawful-outcome, sound-log_effects}
+use Rattle.vdi_directory.proofs.DecisionLaws.{kept-later, live-is}
 
 -- strictly ascending from a number on
 StrictFrom : ℕ → List ℕ → Type 0

@@ -14,9 +14,9 @@ use Rattle.vdi_directory.specs.Chains.{chain_of, is_above}
 use Rattle.vdi_directory.specs.Dead.{is_gone, IsDead}
 use Rattle.vdi_directory.proofs.ChainLemmas.{is_parent_or_above, above_after, is_above-push}
 use Rattle.vdi_directory.proofs.StateLemmas.{log_effects-none, is_used-push}
-use Rattle.vdi_directory.proofs.SoundLemmas.{state_of-push}
-use Rattle.vdi_directory.proofs.LawfulLemmas.{lawful-outcome, sound-log_effects}
-use Rattle.vdi_directory.proofs.LawLemmas.{kept-later, rank-grows}
+use Rattle.vdi_directory.proofs.SoundEffects.{state_of-push}
+use Rattle.vdi_directory.proofs.LawfulEntries.{lawful-outcome, sound-log_effects}
+use Rattle.vdi_directory.proofs.DecisionLaws.{kept-later, rank-grows}
 
 gone-rank : (state : VdiState) → is_gone state ≡ true → rank state ≡ 4
 gone-rank Deleted is = refl

@@ -15,13 +15,13 @@ use Rattle.vdi_directory.specs.Dead.{is_gone, IsDead, is_dead}
 use Rattle.vdi_directory.specs.References.{parent_of, own_of, count_in, has_vid, AreReferenceCounts}
 use Rattle.vdi_directory.specs.DirectoryState.{IsDirectoryState, lost_by, IsDeadList}
 use Rattle.vdi_directory.proofs.StateLemmas.{log_effects-push, is_used-push}
-use Rattle.vdi_directory.proofs.SoundLemmas.{state_of-push}
-use Rattle.vdi_directory.proofs.LawfulLemmas.{lawful-outcome, sound-log_effects}
+use Rattle.vdi_directory.proofs.SoundEffects.{state_of-push}
+use Rattle.vdi_directory.proofs.LawfulEntries.{lawful-outcome, sound-log_effects}
 use Rattle.vdi_directory.proofs.DeadLemmas.{chained, dead-before}
 use Rattle.vdi_directory.proofs.DeadTests.{test-finds-dead}
 use Rattle.vdi_directory.proofs.LineLemmas.{line-log_effects}
 use Rattle.vdi_directory.proofs.UnreferencedLemmas.{dead-unreferenced, unreferenced-dead}
-use Rattle.vdi_directory.proofs.StandLemmas.{reserved-log_effects, unused-unreferenced, frees, counts-freed, counts-kept}
+use Rattle.vdi_directory.proofs.ReferencesByEffect.{reserved-log_effects, unused-unreferenced, frees, counts-freed, counts-kept}
 
 and-is : (a b c d : Bool) → a ≡ c → b ≡ d → (a && b) ≡ (c && d)
 and-is a b c d one two = λ i. one i && two i

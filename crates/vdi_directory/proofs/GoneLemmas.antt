@@ -10,10 +10,10 @@ use Rattle.vdi_directory.specs.Effects.{is_used, header_of, reservations_of, res
 use Rattle.vdi_directory.specs.Decisions.{log_effects}
 use Rattle.vdi_directory.specs.States.{VdiState, Unused, Reserved, Working, Snapshot, Deleted, Freed, rank, state_of, is_live_state}
 use Rattle.vdi_directory.specs.Dead.{is_gone}
-use Rattle.vdi_directory.proofs.LawfulLemmas.{in-find, sound-log_effects}
-use Rattle.vdi_directory.proofs.LawLemmas.{live-is}
+use Rattle.vdi_directory.proofs.LawfulEntries.{in-find, sound-log_effects}
+use Rattle.vdi_directory.proofs.DecisionLaws.{live-is}
 use Rattle.vdi_directory.proofs.LineLemmas.{line-log_effects}
-use Rattle.vdi_directory.proofs.StandLemmas.{reserved-log_effects, reserved-found}
+use Rattle.vdi_directory.proofs.ReferencesByEffect.{reserved-log_effects, reserved-found}
 
 live-stands : (s : VdiState) → is_live_state s ≡ true → is_gone s ≡ false
 live-stands Unused live = cc

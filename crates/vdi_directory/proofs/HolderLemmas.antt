@@ -29,8 +29,8 @@ use Rattle.vdi_directory.specs.States.{Reserved, Working}
 use Rattle.vdi_directory.specs.Sound.{IsSound, IsLawful}
 use Rattle.vdi_directory.specs.Holders.{takes_disk, may_take_disk}
 use Rattle.vdi_directory.proofs.StateLemmas.{log_effects-push, holder_of-push}
-use Rattle.vdi_directory.proofs.SoundLemmas.{other-id}
-use Rattle.vdi_directory.proofs.LawfulLemmas.{lawful-outcome, sound-log_effects}
+use Rattle.vdi_directory.proofs.SoundEffects.{other-id}
+use Rattle.vdi_directory.proofs.LawfulEntries.{lawful-outcome, sound-log_effects}
 
 -- an effect on a disk that is held
 module _ (before : List Effect) (sound : IsSound before) (vid : ℕ) (holder : Holder) (held : holder_of before vid ≡ Some holder) where

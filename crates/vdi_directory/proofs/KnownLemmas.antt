@@ -27,7 +27,7 @@ use Rattle.vdi_directory.specs.Decisions.{nothing, silent_outcome, grant_outcome
 use Rattle.vdi_directory.specs.States.{owner_of}
 use Rattle.vdi_directory.specs.Sound.{IsSound}
 use Rattle.vdi_directory.proofs.StateLemmas.{log_effects-push, is_used-push, header_of-push}
-use Rattle.vdi_directory.proofs.LawfulLemmas.{in-find, snapshot_with_tag-is, target-tagged, free-is, sound-log_effects}
+use Rattle.vdi_directory.proofs.LawfulEntries.{in-find, snapshot_with_tag-is, target-tagged, free-is, sound-log_effects}
 use Rattle.vdi_directory.proofs.LineLemmas.{line-log_effects}
 
 same-grant_outcome : (a b : Vid) → decisions.Granted a ≡ decisions.Granted b → a ≡ b

@@ -5,9 +5,9 @@ pub mod LockLemmas
 pub mod UsedLemmas
 pub mod StateLemmas
 pub mod ReferenceLemmas
-pub mod SoundLemmas
-pub mod LawfulLemmas
-pub mod LawLemmas
+pub mod SoundEffects
+pub mod LawfulEntries
+pub mod DecisionLaws
 pub mod HolderLemmas
 pub mod AscentLemmas
 pub mod SnapshotLemmas
@@ -19,7 +19,7 @@ pub mod DeadTests
 pub mod LineLemmas
 pub mod KnownLemmas
 pub mod ValidLemmas
-pub mod StandLemmas
+pub mod ReferencesByEffect
 pub mod UnreferencedLemmas
 pub mod LossLemmas
 pub mod DyingLemmas

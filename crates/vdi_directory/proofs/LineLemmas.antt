@@ -18,9 +18,9 @@ use Rattle.vdi_directory.specs.Sound.{IsParent, IsSound, IsLawful}
 use Rattle.vdi_directory.specs.Chains.{chain_from, chain_after, chain_of, is_above, grant_place}
 use Rattle.vdi_directory.specs.References.{header_parent, parent_of}
 use Rattle.vdi_directory.proofs.StateLemmas.{log_effects-none, is_used-push, header_of-push}
-use Rattle.vdi_directory.proofs.SoundLemmas.{state_of-push}
-use Rattle.vdi_directory.proofs.LawfulLemmas.{lawful-outcome, sound-log_effects}
-use Rattle.vdi_directory.proofs.LawLemmas.{kept-later, rank-grows}
+use Rattle.vdi_directory.proofs.SoundEffects.{state_of-push}
+use Rattle.vdi_directory.proofs.LawfulEntries.{lawful-outcome, sound-log_effects}
+use Rattle.vdi_directory.proofs.DecisionLaws.{kept-later, rank-grows}
 use Rattle.vdi_directory.proofs.ChainLemmas.{is_parent_or_above, chain_of-push, from-above}
 use Rattle.vdi_directory.proofs.PlaceLemmas.{place-used, place-kept, place-new}
 use Rattle.vdi_directory.proofs.DeadLemmas.{parent-cases, live-used}

@@ -13,9 +13,9 @@ use Rattle.vdi_directory.specs.States.{VdiState, Reserved, Working, Snapshot, De
 use Rattle.vdi_directory.specs.Sound.{In, IsLawful}
 use Rattle.vdi_directory.proofs.NameLemmas.{is-same}
 use Rattle.vdi_directory.proofs.StateLemmas.{log_effects-none, name_of-push}
-use Rattle.vdi_directory.proofs.SoundLemmas.{state_of-push, owner-kept}
-use Rattle.vdi_directory.proofs.LawfulLemmas.{lawful-outcome, sound-log_effects}
-use Rattle.vdi_directory.proofs.LawLemmas.{kept-later}
+use Rattle.vdi_directory.proofs.SoundEffects.{state_of-push, owner-kept}
+use Rattle.vdi_directory.proofs.LawfulEntries.{lawful-outcome, sound-log_effects}
+use Rattle.vdi_directory.proofs.DecisionLaws.{kept-later}
 
 in-state_after_leave : {X : Type 0} (x : X) (xs ys : List X) → In x xs → In x (xs ++ ys)
 in-state_after_leave x [] ys there = absurd there

@@ -32,8 +32,8 @@ use Rattle.vdi_directory.specs.States.{VdiState, Unused, Reserved, Working, Snap
 use Rattle.vdi_directory.specs.Sound.{In, IsSound, IsLawful}
 use Rattle.vdi_directory.specs.Known.{HasTagOf, IsBase, IsHeaderOf, HasTag, AreKnown}
 use Rattle.vdi_directory.proofs.StateLemmas.{log_effects-none, log_effects-push, header_of-push, reservations_of-push}
-use Rattle.vdi_directory.proofs.SoundLemmas.{state_of-push, in-filter, in-push}
-use Rattle.vdi_directory.proofs.LawfulLemmas.{lawful-outcome, sound-log_effects, in-find}
+use Rattle.vdi_directory.proofs.SoundEffects.{state_of-push, in-filter, in-push}
+use Rattle.vdi_directory.proofs.LawfulEntries.{lawful-outcome, sound-log_effects, in-find}
 use Rattle.vdi_directory.proofs.DeadLemmas.{live-used}
 use Rattle.vdi_directory.proofs.LineLemmas.{IsLine, line-log_effects}
 

@@ -18,9 +18,9 @@ use Rattle.vdi_directory.specs.States.{VdiState, Unused, Reserved, Working, Snap
 use Rattle.vdi_directory.specs.Sound.{In, IsWorking, takes_name, HasRoom, IsLawful}
 use Rattle.vdi_directory.proofs.NameLemmas.{same-is, is-same}
 use Rattle.vdi_directory.proofs.StateLemmas.{log_effects-none, name_of-push, reservations_of-push}
-use Rattle.vdi_directory.proofs.SoundLemmas.{state_of-push, owner-kept, in-filter, in-push}
-use Rattle.vdi_directory.proofs.LawfulLemmas.{lawful-outcome, sound-log_effects}
-use Rattle.vdi_directory.proofs.LawLemmas.{kept-later}
+use Rattle.vdi_directory.proofs.SoundEffects.{state_of-push, owner-kept, in-filter, in-push}
+use Rattle.vdi_directory.proofs.LawfulEntries.{lawful-outcome, sound-log_effects}
+use Rattle.vdi_directory.proofs.DecisionLaws.{kept-later}
 
 abbrev WorkingOf : List Effect → List ℕ → Option Vid
 WorkingOf before name = (name_of before name).working

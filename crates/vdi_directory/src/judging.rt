@@ -1,64 +1,21 @@
 //! What is decided on the next entry, and what it changes. Nothing is changed here. Memory is taken for the names and tags of an
 //! effect alone: a refusal, and a decision that names nothing, is never answered as `NoMemory`.
-ghost use Rattle.std.specs.Prelude.{◌≡◌, ℕ, true, List, IfOk, OnErr, if◌then◌else◌};
+ghost use Rattle.std.specs.Prelude.{◌≡◌, true, IfOk, OnErr};
 ghost use Rattle.std.specs.Option.{option_copied};
-ghost use Rattle.vdi_directory.specs.Vids.{free_id as first_free, as_vid};
-ghost use Rattle.vdi_directory.specs.Effects.{is_used, holder_of, reservations_of, reservation_on as the_reservation, name_of};
-ghost use Rattle.vdi_directory.specs.Decisions.{nothing, has_names, silent_outcome, grant_outcome, refusal_outcome, is_held_by};
-ghost use Rattle.vdi_directory.specs.Decisions.{is_reserved_by, is_taken as has_taken, reservation_outcome as the_reserved};
-ghost use Rattle.vdi_directory.specs.Decisions.{held_disk as the_held, reserved_snapshot as the_snapshot, reserved_clone as the_clone};
-ghost use Rattle.vdi_directory.specs.Decisions.{reserve_outcome as the_reserve_outcome, publication, snapshot_outcome as the_replacement};
+ghost use Rattle.vdi_directory.specs.Effects.{reservations_of, reservation_on as the_reservation, name_of};
+ghost use Rattle.vdi_directory.specs.Decisions.{has_names, is_reserved_by, publication, snapshot_outcome as the_replacement};
 ghost use Rattle.vdi_directory.specs.Decisions.{free_disk as the_free, target as the_target, deletion, lock as the_lock};
 ghost use Rattle.vdi_directory.specs.Decisions.{release as the_release, outcome as the_outcome, log_effects};
 ghost use Rattle.vdi_directory.specs.Sources.{is_for, tag_for as for_tag};
 ghost use Rattle.vdi_directory.specs.DirectoryState.{AreLocks};
 
-use crate::decision::{Decision, Outcome};
+use crate::decision::Outcome;
 use crate::directory::Directory;
-use crate::effect::{Effect, Grant, Reservation, Snap, Source};
-use crate::header::Header;
-use crate::reservations::{is_reserved, reservation_on};
-use crate::vid_range::{FullVdi, free_vid};
+use crate::effect::{Effect, Reservation, Snap, Source};
+use crate::reservations::reservation_on;
+use crate::reserving::is_held_by;
 use disk_lock::{Holder, Locks};
-use object_id::{Bytes, Cause, Entry, NoMemory, NodeId, Origin, VdiSpec, Vid};
-
-impl Outcome {
-    fn nothing() -> Outcome
-        ensures { result ≡ nothing }
-    {
-        Outcome {
-            decision: Decision::None,
-            effect: Effect::Nothing,
-        }
-    }
-
-    fn silent(effect: Effect) -> Outcome
-        ensures { result ≡ silent_outcome effect }
-    {
-        Outcome {
-            decision: Decision::None,
-            effect,
-        }
-    }
-
-    fn granted(vid: Vid, effect: Effect) -> Outcome
-        ensures { result ≡ grant_outcome vid effect }
-    {
-        Outcome {
-            decision: Decision::Granted { vid },
-            effect,
-        }
-    }
-
-    fn refused(cause: Cause) -> Outcome
-        ensures { result ≡ refusal_outcome cause }
-    {
-        Outcome {
-            decision: Decision::Refused(cause),
-            effect: Effect::Nothing,
-        }
-    }
-}
+use object_id::{Bytes, Cause, Entry, NoMemory, NodeId, Vid};
 
 /// Whether an id of this source is published by `Clone`, or else by `Publish`.
 fn is_for(clones: bool, source: &Source) -> bool
@@ -81,15 +38,6 @@ fn tag_for(old: Vid, source: &Source) -> Option<&Bytes>
     }
 }
 
-fn is_held_by(node: NodeId, session: u32, holder: Option<Holder>) -> bool
-    ensures { result ≡ is_held_by node session holder }
-{
-    match holder {
-        Some(holder) => holder.node == node && holder.session == session,
-        None => false,
-    }
-}
-
 fn is_reserved_by(node: NodeId, session: u32, reservation: Option<&Reservation>) -> bool
     ensures { result ≡ is_reserved_by node session (option_copied reservation.entry) }
 {
@@ -100,162 +48,6 @@ fn is_reserved_by(node: NodeId, session: u32, reservation: Option<&Reservation>)
 }
 
 impl Directory {
-    fn is_taken(&self, name: &Bytes) -> bool
-        ensures { result ≡ has_taken (log_effects self.now) name.now }
-    {
-        self.state.names.working(name.as_slice()).is_some()
-            || is_reserved(&self.state.reservations, name.as_slice())
-    }
-
-    fn free_id(&self, name: &Bytes) -> Result<Vid, FullVdi>
-        ensures { result ≡ as_vid (first_free name.now (is_used (log_effects self.now))) }
-    {
-        free_vid(name.as_slice(), &self.state.used)
-    }
-
-    /// Reserves a free id.
-    fn reserve_id(
-        &self,
-        by: NodeId,
-        session: u32,
-        name: &Bytes,
-        source: Source,
-        parent: Option<Vid>,
-        spec: VdiSpec,
-    ) -> Result<Outcome, NoMemory>
-        ensures ok { IfOk result (λ o. o ≡ the_reserved (log_effects self.now) by session name.now source parent spec) }
-        ensures memory { OnErr result (has_names (the_reserved (log_effects self.now) by session name.now source parent spec).effect
-            ≡ true) }
-    {
-        let Ok(vid) = self.free_id(name) else {
-            return Ok(Outcome::refused(Cause::FullVdi));
-        };
-        let reservation = Reservation {
-            vid,
-            by,
-            session,
-            name: name.copy(self.alloc)?,
-            source,
-        };
-        let header = Header {
-            name: name.copy(self.alloc)?,
-            tag: Bytes::new(self.alloc),
-            snap_id: self.state.names.taken(name.as_slice()).saturating_add(1),
-            parent,
-            spec,
-        };
-        Ok(Outcome::granted(
-            vid,
-            Effect::Reserved(Grant {
-                reservation,
-                header,
-            }),
-        ))
-    }
-
-    /// The working disk of a name, where the session holds it.
-    fn held_disk(&self, by: NodeId, session: u32, name: &Bytes, locks: &Locks) -> Option<Vid>
-        requires { AreLocks (log_effects self.now) locks.now }
-        ensures { result ≡ the_held (log_effects self.now) by session (name_of (log_effects self.now) name.now).working }
-    {
-        match self.state.names.working(name.as_slice()) {
-            Some(vid) if is_held_by(by, session, locks.holder(vid)) => Some(vid),
-            _ => None,
-        }
-    }
-
-    fn reserved_snapshot(
-        &self,
-        by: NodeId,
-        session: u32,
-        name: &Bytes,
-        tag: &Bytes,
-        held: Option<Vid>,
-    ) -> Result<Outcome, NoMemory>
-        ensures ok { IfOk result (λ o. o ≡ the_snapshot (log_effects self.now) by session name.now tag.now held) }
-        ensures memory { OnErr result (has_names (the_snapshot (log_effects self.now) by session name.now tag.now held).effect ≡ true) }
-    {
-        let Some(old) = held else {
-            return Ok(Outcome::refused(Cause::VdiNotLocked));
-        };
-        if self
-            .state
-            .names
-            .tagged(name.as_slice(), tag.as_slice())
-            .is_some()
-        {
-            return Ok(Outcome::refused(Cause::VdiExist));
-        }
-        let Some(spec) = self.spec(old) else {
-            return Ok(Outcome::nothing());
-        };
-        // A refusal takes no memory: so the tag is copied once there is an id.
-        let Ok(_free) = self.free_id(name) else {
-            return Ok(Outcome::refused(Cause::FullVdi));
-        };
-        let source = Source::Snapshot {
-            old,
-            tag: tag.copy(self.alloc)?,
-        };
-        self.reserve_id(by, session, name, source, Some(old), spec)
-    }
-
-    fn reserved_clone(
-        &self,
-        by: NodeId,
-        session: u32,
-        name: &Bytes,
-        base: Option<Vid>,
-    ) -> Result<Outcome, NoMemory>
-        ensures ok { IfOk result (λ o. o ≡ the_clone (log_effects self.now) by session name.now base) }
-        ensures memory { OnErr result (has_names (the_clone (log_effects self.now) by session name.now base).effect ≡ true) }
-    {
-        let Some(base) = base else {
-            return Ok(Outcome::refused(Cause::NoTag));
-        };
-        if self.is_taken(name) {
-            return Ok(Outcome::refused(Cause::VdiExist));
-        }
-        let Some(spec) = self.spec(base) else {
-            return Ok(Outcome::nothing());
-        };
-        self.reserve_id(by, session, name, Source::Clone, Some(base), spec)
-    }
-
-    fn reserve(
-        &self,
-        by: NodeId,
-        session: u32,
-        name: &Bytes,
-        origin: &Origin,
-        locks: &Locks,
-    ) -> Result<Outcome, NoMemory>
-        requires { AreLocks (log_effects self.now) locks.now }
-        ensures ok { IfOk result (λ o. o ≡ the_reserve_outcome (log_effects self.now) by session name.now origin.now) }
-        ensures memory { OnErr result (has_names (the_reserve_outcome (log_effects self.now) by session name.now origin.now).effect
-            ≡ true) }
-    {
-        match origin {
-            Origin::Fresh { spec } => {
-                if self.is_taken(name) {
-                    return Ok(Outcome::refused(Cause::VdiExist));
-                }
-                self.reserve_id(by, session, name, Source::Fresh, None, *spec)
-            }
-            Origin::SnapshotOf { tag } => {
-                let held = self.held_disk(by, session, name, locks);
-                self.reserved_snapshot(by, session, name, tag, held)
-            }
-            Origin::CloneOf { base, tag } => {
-                if !self.state.names.is_live(base.as_slice()) {
-                    return Ok(Outcome::refused(Cause::NoBaseVdi));
-                }
-                let from = self.state.names.tagged(base.as_slice(), tag.as_slice());
-                self.reserved_clone(by, session, name, from)
-            }
-        }
-    }
-
     /// Publishes an id for its node, where its reservation is of the right source.
     fn publication(&self, by: NodeId, vid: Vid, clones: bool) -> Result<Outcome, NoMemory>
         ensures ok { IfOk result (λ o. o ≡ publication by (is_for clones) (the_reservation vid (reservations_of (log_effects self.now)))) }

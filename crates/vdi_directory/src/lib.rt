@@ -10,7 +10,7 @@
 //! and the reservations that stand in a list, since a session has one command at a time (`specs/DirectoryState.antt`). Beside each
 //! id stands how many bear it, by which the dead are told (`specs/References.antt`): an entry changes these counts along the
 //! parent chains of what it frees, and no further than they change.
-//! The crate stands on `object_id`, `disk_lock` and `epoch_log`, whose entry types it hands on.
+//! The crate stands on `object_id`, `disk_lock` and `epoch_log`.
 #![tactic(auto)]
 
 mod decision;
@@ -28,6 +28,11 @@ mod named;
 mod names;
 mod references;
 mod reservations;
+mod reserving;
+#[cfg(test)]
+mod rows;
+#[cfg(test)]
+mod spelled;
 #[cfg(test)]
 mod tests;
 mod used_ids;

@@ -100,11 +100,11 @@ task_takes_memory (Tagging old inode) = true
 task_takes_memory (Copying ids header) = true
 task_takes_memory (Making entry opened) = false
 
-abbrev pub work_takes_memory : OpStage → Bool
-work_takes_memory (Asked entry) = false
-work_takes_memory (Working vid task) = task_takes_memory task
-work_takes_memory (Publishing entry opened) = false
-work_takes_memory (Answered change) = false
+abbrev pub stage_takes_memory : OpStage → Bool
+stage_takes_memory (Asked entry) = false
+stage_takes_memory (Working vid task) = task_takes_memory task
+stage_takes_memory (Publishing entry opened) = false
+stage_takes_memory (Answered change) = false
 
 -- the inode that a session has open by a change
 abbrev pub inode_opened : DiskChange → Option Content

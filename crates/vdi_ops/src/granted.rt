@@ -141,39 +141,6 @@ fn read_disk(
     })
 }
 
-/// An id was reserved for a new disk.
-fn after_reservation(
-    alloc: Global,
-    by: NodeId,
-    origin: &Origin,
-    vid: Vid,
-    header: &Header,
-    directory: &Directory,
-    disk: Option<&Inode>,
-) -> Result<Next, NoMemory>
-    requires vid { IsVid vid.0 }
-    requires header { IsInodeHeader header.now }
-    requires base { IfSome header.now.parent (λ parent. IsVid parent.0) }
-    requires disk { IfSome (option_copied disk) (λ inode. FitsOrigin header.now inode origin.now) }
-    requires step { IsTrue (is_some (step_after_grant (bare_op by) vid (chain_of (log_effects directory.now) vid.0)
-        (option_copied disk) (entries.Reserve by 0 [] origin.now) header.now)) }
-    ensures ok { IfOk result (λ next. step_after_grant (bare_op by) vid (chain_of (log_effects directory.now) vid.0)
-        (option_copied disk.entry) (entries.Reserve by 0 [] origin.now) header.now ≡ Some (step_to (bare_op by) next)) }
-    ensures sound { IfOk result (λ next. IsSoundOpStage (op_stage next.stage)) }
-{
-    match origin {
-        Origin::Fresh { .. } => make_disk(alloc, by, vid, header),
-        Origin::SnapshotOf { tag } => match disk {
-            Some(disk) => tag_disk(alloc, vid, tag.as_slice(), header, disk),
-            None => Err(NoMemory),
-        },
-        Origin::CloneOf { .. } => match header.parent {
-            Some(parent) => read_base(alloc, vid, parent, header, directory),
-            None => Err(NoMemory),
-        },
-    }
-}
-
 /// Goes on with the id that was granted.
 pub(crate) fn step_after_grant(
     alloc: Global,
@@ -196,9 +163,17 @@ pub(crate) fn step_after_grant(
     ensures memory { grant_takes_memory entry.now ≡ false → IsOk result }
 {
     match entry {
-        Entry::Reserve { origin, .. } => {
-            after_reservation(alloc, by, origin, vid, header, directory, disk)
-        }
+        Entry::Reserve { origin, .. } => match origin {
+            Origin::Fresh { .. } => make_disk(alloc, by, vid, header),
+            Origin::SnapshotOf { tag } => match disk {
+                Some(disk) => tag_disk(alloc, vid, tag.as_slice(), header, disk),
+                None => Err(NoMemory),
+            },
+            Origin::CloneOf { .. } => match header.parent {
+                Some(parent) => read_base(alloc, vid, parent, header, directory),
+                None => Err(NoMemory),
+            },
+        },
         Entry::Lock { tag, .. } => read_disk(alloc, vid, tag.is_some(), header, directory),
         Entry::Unlock { .. } => Ok(reply(GuestRsp::Done, Change::Closes)),
         _ => Ok(reply(GuestRsp::Done, Change::Stays)),

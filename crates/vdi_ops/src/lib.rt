@@ -44,5 +44,5 @@ pub use laws::{
 };
 pub use limits::CHECKED_BYTES_MAX;
 pub use op::{VdiOp, begin_vdi};
-pub use peer_proto::{GuestRsp, VdiAsk, WorkDone};
+pub use peer_proto::{GuestRsp, VdiAsk};
 pub use refusal::command_refusal;

@@ -6,7 +6,7 @@ ghost use Rattle.vdi_directory.specs.Effects.{header_of};
 ghost use Rattle.vdi_ops.specs.Entries.{first_entry};
 ghost use Rattle.vdi_ops.specs.Op.{disk_change_at, entry_wanted, op_bytes_wanted};
 ghost use Rattle.vdi_ops.specs.Steps.{begin_command, on_decision, op_on_done, on_refusal};
-ghost use Rattle.vdi_ops.specs.Kept.{HasFirstEntry, FitsOpStage, vid_granted, decision_takes_memory, work_takes_memory};
+ghost use Rattle.vdi_ops.specs.Kept.{HasFirstEntry, FitsOpStage, vid_granted, decision_takes_memory, stage_takes_memory};
 ghost use Rattle.vdi_ops.specs.Kept.{inode_opened, opens_snapshot, closes};
 
 use crate::act::OpAct;
@@ -163,7 +163,7 @@ impl VdiOp {
         requires { op_bytes_wanted self.old ≡ Some (length done.now.bytes) }
         ensures ok { IfOk result (λ act. op_on_done done.now.bytes self.old ≡ Some (record { op = self.new; act = act })) }
         ensures err { OnErr result (self.new ≡ self.old) }
-        ensures memory { work_takes_memory self.old.stage ≡ false → IsOk result }
+        ensures memory { stage_takes_memory self.old.stage ≡ false → IsOk result }
     {
         let stage = mem::replace(&mut self.stage, Stage::Answered(Change::Stays));
         match after_work(alloc, self.by, stage, done.bytes.as_slice()) {

@@ -7,7 +7,7 @@ ghost use Rattle.vdi_ops.specs.InodeWorks.{written_bytes};
 ghost use Rattle.vdi_ops.specs.Tables.{table_in, inode_by};
 ghost use Rattle.vdi_ops.specs.Steps.{task_done, done_at};
 ghost use Rattle.vdi_ops.specs.Stage.{op_task, op_stage, bare_op, step_to, id_numbers};
-ghost use Rattle.vdi_ops.specs.Kept.{IsInodeHeader, IsSoundTask, IsSoundOpStage, task_takes_memory, work_takes_memory};
+ghost use Rattle.vdi_ops.specs.Kept.{IsInodeHeader, IsSoundTask, IsSoundOpStage, task_takes_memory, stage_takes_memory};
 
 use crate::act::OpAct;
 use crate::granted::reply;
@@ -184,7 +184,7 @@ pub(crate) fn after_work(
     ensures ok { IfOk result (λ next. done_at bytes.now (bare_op by) (op_stage stage) ≡ Some (step_to (bare_op by) next)) }
     ensures sound { IfOk result (λ next. IsSoundOpStage (op_stage next.stage)) }
     ensures err { IfErr result (λ kept. kept ≡ stage) }
-    ensures memory { work_takes_memory (op_stage stage) ≡ false → IsOk result }
+    ensures memory { stage_takes_memory (op_stage stage) ≡ false → IsOk result }
 {
     match stage {
         Stage::Working(vid, task) => match after_task(alloc, by, vid, task, bytes) {

@@ -1,4 +1,4 @@
-use Rattle.disk_history.proofs.StayLemmas.{blocks_stay, acknowledged_stays}
+use Rattle.disk_history.proofs.LastingItems.{blocks_stay, acknowledged_stays}
 use Rattle.disk_history.proofs.laws.legal_histories_keep.Goals as goal
 
 pub returns-clause-disks : goal.returns-clause-disks

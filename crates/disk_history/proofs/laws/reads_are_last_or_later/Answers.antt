@@ -1,4 +1,4 @@
-use Rattle.disk_history.proofs.ToldLemmas.{read_is_last_or_later, reads_exactly}
+use Rattle.disk_history.proofs.LegalReads.{read_is_last_or_later, reads_exactly}
 use Rattle.disk_history.proofs.laws.reads_are_last_or_later.Goals as goal
 
 pub returns-clause-reads : goal.returns-clause-reads

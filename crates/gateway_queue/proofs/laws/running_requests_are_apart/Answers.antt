@@ -1,4 +1,4 @@
-use Rattle.gateway_queue.proofs.LawLemmas.{running_apart}
+use Rattle.gateway_queue.proofs.RequestOrder.{running_apart}
 use Rattle.gateway_queue.proofs.laws.running_requests_are_apart.Goals as goal
 
 pub returns : goal.returns

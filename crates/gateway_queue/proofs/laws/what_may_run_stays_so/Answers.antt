@@ -1,4 +1,4 @@
-use Rattle.gateway_queue.proofs.LawLemmas.{may_run-pushed, may_run-done}
+use Rattle.gateway_queue.proofs.RequestOrder.{may_run-pushed, may_run-done}
 use Rattle.gateway_queue.proofs.laws.what_may_run_stays_so.Goals as goal
 
 pub returns-clause-pushed : goal.returns-clause-pushed

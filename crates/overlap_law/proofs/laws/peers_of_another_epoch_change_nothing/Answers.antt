@@ -1,5 +1,5 @@
 use Rattle.overlap_law.proofs.EpochLemmas.{run-changes_nothing}
-use Rattle.overlap_law.proofs.RestLemmas.{run-rested}
+use Rattle.overlap_law.proofs.NoRecoveredDue.{run-rested}
 use Rattle.overlap_law.proofs.laws.peers_of_another_epoch_change_nothing.Goals as goal
 
 pub returns : goal.returns

@@ -1,4 +1,4 @@
-use Rattle.overlap_law.proofs.StandLemmas.{gives-stand}
+use Rattle.overlap_law.proofs.StandingAttempts.{gives-stand}
 use Rattle.overlap_law.proofs.overlap.the_overlap_makes_attempts_stand.Goals as goal
 
 pub returns : goal.returns

@@ -1,4 +1,4 @@
-use Rattle.vdi_directory.proofs.LawLemmas.{grant_outcome-unused, grant_outcome-used, used-stays}
+use Rattle.vdi_directory.proofs.DecisionLaws.{grant_outcome-unused, grant_outcome-used, used-stays}
 use Rattle.vdi_directory.proofs.laws.an_id_is_granted_once.Goals as goal
 
 pub returns-clause-unused : goal.returns-clause-unused

@@ -1,4 +1,4 @@
-use Rattle.vdi_directory.proofs.LawLemmas.{live-is}
+use Rattle.vdi_directory.proofs.DecisionLaws.{live-is}
 use Rattle.vdi_directory.proofs.AscentLemmas.{live-ascends}
 use Rattle.vdi_directory.proofs.laws.live_ids_are_published.Goals as goal
 

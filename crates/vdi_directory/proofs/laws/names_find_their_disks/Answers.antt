@@ -1,4 +1,4 @@
-use Rattle.vdi_directory.proofs.LawfulLemmas.{sound-log_effects}
+use Rattle.vdi_directory.proofs.LawfulEntries.{sound-log_effects}
 use Rattle.vdi_directory.proofs.SnapshotLemmas.{listed-log_effects}
 use Rattle.vdi_directory.proofs.WorkingLemmas.{found-working}
 use Rattle.vdi_directory.proofs.laws.names_find_their_disks.Goals as goal

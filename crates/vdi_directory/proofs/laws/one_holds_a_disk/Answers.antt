@@ -1,4 +1,4 @@
-use Rattle.vdi_directory.proofs.LawLemmas.{held-was-free, held-works}
+use Rattle.vdi_directory.proofs.DecisionLaws.{held-was-free, held-works}
 use Rattle.vdi_directory.proofs.laws.one_holds_a_disk.Goals as goal
 
 pub returns-clause-free : goal.returns-clause-free

@@ -1,4 +1,4 @@
-use Rattle.vdi_directory.proofs.LawLemmas.{states-forward}
+use Rattle.vdi_directory.proofs.DecisionLaws.{states-forward}
 use Rattle.vdi_directory.proofs.laws.states_move_forward.Goals as goal
 
 pub returns : goal.returns

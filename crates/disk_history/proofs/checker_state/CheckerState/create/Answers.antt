@@ -1,5 +1,5 @@
 use Rattle.std.proofs.Common.{rules}
-use Rattle.disk_history.proofs.ShownLemmas.{shows-create}
+use Rattle.disk_history.proofs.CheckerViews.{shows-create}
 use Rattle.disk_history.proofs.checker_state.CheckerState.create.Goals as goal
 
 pub returns : goal.returns

@@ -6,7 +6,7 @@ use Rattle.std.specs.BTreeMap.{get}
 use Rattle.disk_history.specs.declared.requests.Fate.TheVariants.{Done}
 use Rattle.disk_history.specs.CheckerState.{may_end_in}
 use Rattle.disk_history.proofs.ItemLemmas.{done_turns}
-use Rattle.disk_history.proofs.ShownLemmas.{shows-end, may_be_done_told}
+use Rattle.disk_history.proofs.CheckerViews.{shows-end, may_be_done_told}
 use Rattle.disk_history.proofs.checker_state.CheckerState.write_done.Goals as goal
 
 pub returns : goal.returns

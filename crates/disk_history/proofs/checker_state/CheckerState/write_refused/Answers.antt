@@ -5,7 +5,7 @@ use Rattle.std.specs.BTreeMap.{get}
 use Rattle.disk_history.specs.declared.requests.Fate.TheVariants.{Refused}
 use Rattle.disk_history.specs.CheckerState.{may_end_in}
 use Rattle.disk_history.proofs.ItemLemmas.{refused_turns}
-use Rattle.disk_history.proofs.ShownLemmas.{shows-end, may_end_told}
+use Rattle.disk_history.proofs.CheckerViews.{shows-end, may_end_told}
 use Rattle.disk_history.proofs.checker_state.CheckerState.write_refused.Goals as goal
 
 pub returns : goal.returns

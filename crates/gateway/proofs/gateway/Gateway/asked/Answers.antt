@@ -3,7 +3,7 @@ use Rattle.std.specs.Option.{option_copied}
 use Rattle.std.specs.Ordering.{nat_cmp}
 use Rattle.std.specs.FinMap as tree
 use Rattle.gateway.specs.State.{Work, Gateway, asker}
-use Rattle.gateway.specs.Kept.{asked_in, asked_of}
+use Rattle.gateway.specs.Kept.{asked_in, asked_at}
 use Rattle.gateway.proofs.AskerLemmas.{asked-is}
 use Rattle.gateway.proofs.gateway.Gateway.asked.Goals as goal
 
@@ -19,7 +19,7 @@ returns-then-waits_for c =
     subst (λ (g : Gateway). Some (req, work) ≡ asker number g) c.self.view_is
     (sym
     (asked-is number c.self.inside.askers seen c.self.invariant
-    ∙ ap (λ (o : Option ℕ). asked_of number o works) leads ∙ ap (asked_in number req) at
+    ∙ ap (λ (o : Option ℕ). asked_at number o works) leads ∙ ap (asked_in number req) at
     ∙ ap (λ b. cond b (Some (req, work)) None) (sym c.waits_for.ensures ∙ c.if-waits_for.true)))
 
 pub returns-else-waits_for : goal.returns-else-waits_for
@@ -34,7 +34,7 @@ returns-else-waits_for c =
     subst (λ (g : Gateway). None ≡ asker number g) c.self.view_is
     (sym
     (asked-is number c.self.inside.askers seen c.self.invariant
-    ∙ ap (λ (o : Option ℕ). asked_of number o works) leads ∙ ap (asked_in number req) at
+    ∙ ap (λ (o : Option ℕ). asked_at number o works) leads ∙ ap (asked_in number req) at
     ∙ ap (λ b. cond b (Some (req, work)) None) (sym c.waits_for.ensures ∙ c.if-waits_for.false)))
 
 pub returns-in_default : goal.returns-in_default
@@ -43,7 +43,7 @@ returns-in_default c =
     let leads : tree.get c.self.inside.askers number ≡ None = sym c.request.ensures ∙ c.in_default.is in
     let seen : Gateway = record { me = c.self.inside.me; tries = c.self.inside.tries; works = c.self.inside.works; touched = c.self.inside.touched } in
     subst (λ (g : Gateway). None ≡ asker number g) c.self.view_is
-    (sym (asked-is number c.self.inside.askers seen c.self.invariant ∙ ap (λ (o : Option ℕ). asked_of number o c.self.inside.works) leads))
+    (sym (asked-is number c.self.inside.askers seen c.self.invariant ∙ ap (λ (o : Option ℕ). asked_at number o c.self.inside.works) leads))
 
 pub returns-in_default-get : goal.returns-in_default-get
 returns-in_default-get c =
@@ -56,4 +56,4 @@ returns-in_default-get c =
     subst (λ (g : Gateway). None ≡ asker number g) c.self.view_is
     (sym
     (asked-is number c.self.inside.askers seen c.self.invariant
-    ∙ ap (λ (o : Option ℕ). asked_of number o works) leads ∙ ap (asked_in number req) at))
+    ∙ ap (λ (o : Option ℕ). asked_at number o works) leads ∙ ap (asked_in number req) at))

@@ -12,7 +12,7 @@ use Rattle.gateway.specs.declared.beginning.Beginning.TheVariants as beginnings
 use Rattle.gateway.specs.declared.act.Act.TheVariants as acts
 use Rattle.gateway.specs.Attempt.{messages_of}
 use Rattle.gateway.specs.Messages.{AreMessagesFor}
-use Rattle.gateway.specs.Stage.{IsStageOf}
+use Rattle.gateway.specs.Stage.{IsStageFor}
 use Rattle.gateway.proofs.WorkLemmas.{if_some, some_if}
 use Rattle.gateway.specs.State.{Work, Open, Ended, WaitsForMembers, Gateway, is_awaited_in, open_numbers, is_touched}
 use Rattle.gateway.specs.Step.{retry_step}

@@ -6,7 +6,7 @@ use Rattle.std.specs.Ordering.{nat_cmp}
 use Rattle.std.specs.FinMap as tree
 use Rattle.proof_tools.proofs.FiniteMaps.{get-from_entries}
 use Rattle.gateway.specs.State.{Work}
-use Rattle.gateway.specs.Stage.{stage_of, IsStageOf}
+use Rattle.gateway.specs.Stage.{work_stage, IsStageFor}
 use Rattle.proof_tools.proofs.SeenMaps.{insert-seen}
 use Rattle.gateway.proofs.WorkLemmas.{if_none, if_some, some_if}
 use Rattle.gateway.proofs.works.Works.set_stage.Goals as goal
@@ -23,7 +23,7 @@ set_stage-requires c =
     let found : tree.get c.args.self.now c.args.req ≡ Some c.in-Some.work.now =
     ap (λ (m : tree.FinMap nat_cmp Work). tree.get m c.args.req) (sym c.self.view_is) ∙ get-from_entries c.self.inside.by_request.entries c.args.req
     ∙ sym c.get_mut.ensures.value ∙ ap option_copied_mut c.in-Some.is in
-    some_if (tree.get c.args.self.now c.args.req) (λ (work : Work). IsStageOf work.work work.ended (stage_of c.args.stage)) c.in-Some.work.now found c.requires
+    some_if (tree.get c.args.self.now c.args.req) (λ (work : Work). IsStageFor work.work work.ended (work_stage c.args.stage)) c.in-Some.work.now found c.requires
 
 pub returns : goal.returns
 returns c =

@@ -7,7 +7,7 @@ use Rattle.vdi_directory.specs.Decisions.{log_effects}
 use Rattle.vdi_directory.specs.States.{state_of}
 use Rattle.vdi_directory.specs.Dead.{is_gone, IsDead}
 use Rattle.vdi_directory.specs.References.{count_in}
-use Rattle.vdi_directory.proofs.LawfulLemmas.{sound-log_effects}
+use Rattle.vdi_directory.proofs.LawfulEntries.{sound-log_effects}
 use Rattle.vdi_directory.proofs.DeadLemmas.{chained}
 use Rattle.vdi_directory.proofs.LineLemmas.{line-log_effects}
 use Rattle.vdi_directory.proofs.UnreferencedLemmas.{dead-unreferenced, unreferenced-dead}

@@ -4,9 +4,9 @@ use Rattle.object_id.specs.declared.entry.Entry.{Entry}
 use Rattle.vdi_directory.specs.declared.decision.Outcome.{Outcome}
 use Rattle.vdi_directory.specs.Decisions.{outcome as outcome_of, log_effects}
 use Rattle.vdi_directory.specs.DirectoryState.{IsDirectoryState, CanMake, lost_by, IsDeadList}
-use Rattle.vdi_directory.proofs.LawfulLemmas.{lawful-outcome, sound-log_effects}
+use Rattle.vdi_directory.proofs.LawfulEntries.{lawful-outcome, sound-log_effects}
 use Rattle.vdi_directory.proofs.LineLemmas.{line-log_effects}
-use Rattle.vdi_directory.proofs.StandLemmas.{reserved-log_effects, can-make}
+use Rattle.vdi_directory.proofs.ReferencesByEffect.{reserved-log_effects, can-make}
 use Rattle.vdi_directory.proofs.DyingLemmas.{dead-by}
 use Rattle.vdi_directory.proofs.directory.Directory.dead_by.Goals as goal
 

@@ -8,10 +8,10 @@ use Rattle.vdi_directory.specs.DirectoryState.{IsDirectoryState, AreMade, AreLoc
 use Rattle.vdi_directory.proofs.LiveLemmas.{live_of-sorted}
 use Rattle.vdi_directory.proofs.AscentLemmas.{live-ascends}
 use Rattle.vdi_directory.proofs.StateLemmas.{log_effects-push, state-push, locks-push, fresh-outcome}
-use Rattle.vdi_directory.proofs.LawfulLemmas.{lawful-outcome, sound-log_effects}
+use Rattle.vdi_directory.proofs.LawfulEntries.{lawful-outcome, sound-log_effects}
 use Rattle.vdi_directory.proofs.LineLemmas.{line-log_effects}
 use Rattle.vdi_directory.proofs.ValidLemmas.{known-happens}
-use Rattle.vdi_directory.proofs.StandLemmas.{reserved-log_effects, can-make, bear-push}
+use Rattle.vdi_directory.proofs.ReferencesByEffect.{reserved-log_effects, can-make, bear-push}
 use Rattle.vdi_directory.proofs.directory.Directory.read_entry.Goals as goal
 
 pub make-requires-clause-fresh : goal.make-requires-clause-fresh

@@ -17,9 +17,9 @@ use Rattle.vdi_directory.specs.Sound.{IsParent, IsSound, IsLawful}
 use Rattle.vdi_directory.specs.References.{one_if, one, one_parent_reference, references_by, KEY_COUNT, child_references, AreReferenceCounts, stands, header_parent, parent_of, own_of, parent_in, count_in, reserved_once, reserved_by, LosesReferences, IsReferenced}
 use Rattle.vdi_directory.specs.DirectoryState.{IsDirectoryState, AreReferencesMade, CanMake, lost_by}
 use Rattle.vdi_directory.proofs.StateLemmas.{log_effects-none, reservations_of-push}
-use Rattle.vdi_directory.proofs.SoundLemmas.{state_of-push}
-use Rattle.vdi_directory.proofs.LawfulLemmas.{lawful-outcome, sound-log_effects}
-use Rattle.vdi_directory.proofs.LawLemmas.{kept-later}
+use Rattle.vdi_directory.proofs.SoundEffects.{state_of-push}
+use Rattle.vdi_directory.proofs.LawfulEntries.{lawful-outcome, sound-log_effects}
+use Rattle.vdi_directory.proofs.DecisionLaws.{kept-later}
 use Rattle.vdi_directory.proofs.ReferenceLemmas.{one-other, total-zero, total-most, references_by-most, key-below, key-most, child-more}
 use Rattle.vdi_directory.proofs.LineLemmas.{IsLine, parent-tagged, parent_of-push}
 

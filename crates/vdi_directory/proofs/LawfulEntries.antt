@@ -29,7 +29,7 @@ use Rattle.vdi_directory.specs.Decisions.{nothing, silent_outcome, grant_outcome
 use Rattle.vdi_directory.specs.States.{Reserved, state_of, is_live_state, owner_of}
 use Rattle.vdi_directory.specs.Sound.{In, OwnsBase, IsParent, takes_name, HasRoom, IsReservation, IsWorking, IsNameTaken, IsSound, IsLawful}
 use Rattle.vdi_directory.proofs.StateLemmas.{free_id-is}
-use Rattle.vdi_directory.proofs.SoundLemmas.{sound-push}
+use Rattle.vdi_directory.proofs.SoundEffects.{sound-push}
 
 pub in-find : {X : Type 0} (p : X → Bool) (x : X) (xs : List X) → find p xs ≡ Some x → In x xs × (p x ≡ true)
 in-find p x [] is = cc

@@ -22,8 +22,8 @@ use Rattle.vdi_directory.specs.Decisions.{outcome, happens, log_effects}
 use Rattle.vdi_directory.specs.States.{VdiState, Unused, Reserved, Working, Snapshot as SnapshotState, Deleted, Freed, freed_state, state_after_leave, state_after, state_of, rank, is_live_state}
 use Rattle.vdi_directory.specs.Sound.{In, IsSound, IsLawful}
 use Rattle.vdi_directory.proofs.StateLemmas.{log_effects-none, log_effects-push, is_used-push, reservations_of-push, live_of-push, holder_of-push}
-use Rattle.vdi_directory.proofs.SoundLemmas.{state_of-push, in-filter}
-use Rattle.vdi_directory.proofs.LawfulLemmas.{lawful-outcome, sound-log_effects}
+use Rattle.vdi_directory.proofs.SoundEffects.{state_of-push, in-filter}
+use Rattle.vdi_directory.proofs.LawfulEntries.{lawful-outcome, sound-log_effects}
 
 log_effects-append : (entries later : List Entry) → log_effects (entries ++ later) ≡ fold happens (log_effects entries) later
 unfolding log_effects
