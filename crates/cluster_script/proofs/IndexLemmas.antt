@@ -2,7 +2,7 @@
 use Rattle.std.proofs.Common.{◌≡◌, ◌≢◌, ℕ, zero, suc, ◌+◌, ◌<◌, ◌≤◌, ◌==◌, Bool, true, false, not, cond, ◌||◌, List, [], ◌∷◌, ◌++◌, length, refl, ap, sym, subst, ◌∙◌, arith, Option, Some, None, ◌⊎◌, inl, inr}
 use Rattle.std.specs.Prelude.{filter, map, count_by, sum_by, unwrap_or, slice_get}
 use Rattle.std.specs.Option.{option_map, option_and_then}
-use Rattle.std.specs.List.{find, list_any, range_with_len, enumerate_from, position_or_len}
+use Rattle.std.specs.List.{find, list_any, range_with_len, enumerate_from}
 use Rattle.std.proofs.lemmas.List.FromFn.{length-range_with_len}
 use Rattle.std.proofs.lemmas.List.Sums.{length-filter}
 use Rattle.std.proofs.lemmas.Bool.{cases_lt, eq-eqb, ne_eqb}
@@ -13,11 +13,11 @@ use Rattle.cluster_script.specs.declared.statement.Statement.TheVariants.{Cluste
 use Rattle.cluster_script.specs.Statements.{is_setting, is_request, requests_of}
 use Rattle.cluster_script.specs.NumberedRequests.{session_of, is_of_session, request_at, numbered_requests, numbers_of_session}
 use Rattle.cluster_script.specs.Settings.{zone_set, setting_of, zone_of}
-use Rattle.cluster_script.specs.Phases.{Phase, is_barrier, is_control, losses_in, stretches, stretches_with, phases_of, has_request, phase_of_request}
-use Rattle.cluster_script.specs.Sessions.{ScriptSession, sessions_from, sessions_of, has_session_number, session_numbered}
+use Rattle.cluster_script.specs.Phases.{Phase, is_barrier, is_control, losses_in, stretches, phases_of, phase_of_request}
+use Rattle.cluster_script.specs.Sessions.{sessions_from, sessions_of, has_session_number, session_numbered}
 use Rattle.cluster_script.specs.OneDisk.{IsOneDiskScript}
 use Rattle.cluster_script.specs.Index.{request_places, place_numbered, index_of, indexed_at, indexed_numbers, indexed_request, control_at, barrier_at, phase_request_at, phase_counts}
-use Rattle.cluster_script.proofs.Shape.{IsAsked, AreAsked, has_shape}
+use Rattle.cluster_script.proofs.Shape.{AreAsked, has_shape}
 
 -- at a place both lists have nothing, or a place among the statements and the statement there
 abbrev AreTogether : ℕ → List Statement → Option ℕ → Option Statement → Type 0

@@ -1,5 +1,5 @@
 -- The shape that a script of one disk has: `cluster 1`, then session 1 on node 0, then requests of that session.
-use Rattle.std.proofs.Common.{◌≡◌, ℕ, ◌==◌, true, false, List, [], ◌∷◌, ◌++◌, refl, ap, sym, subst, ◌∙◌, Option, Some, None, Bool, ◌||◌, ◌⊎◌, inl, inr}
+use Rattle.std.proofs.Common.{◌≡◌, ℕ, true, false, List, [], ◌∷◌, ◌++◌, refl, ap, sym, subst, ◌∙◌, Some, None, Bool, ◌||◌, ◌⊎◌, inl, inr}
 use Rattle.std.specs.List.{list_any}
 use Rattle.std.proofs.lemmas.Bool.{false≢true}
 use Rattle.std.proofs.lemmas.List.Folds.{list_any-append}
@@ -9,8 +9,8 @@ use Rattle.cluster_script.specs.Statements.{is_setting, is_request, is_session_d
 use Rattle.cluster_script.specs.NumberedRequests.{session_of}
 use Rattle.cluster_script.specs.Settings.{zone_set}
 use Rattle.cluster_script.specs.Phases.{is_barrier, is_control, losses_in}
-use Rattle.cluster_script.specs.Sessions.{ScriptSession, declared_session}
-use Rattle.cluster_script.specs.OneDisk.{MayFollow, EachMayFollow, IsOneDiskScript}
+use Rattle.cluster_script.specs.Sessions.{declared_session}
+use Rattle.cluster_script.specs.OneDisk.{EachMayFollow, IsOneDiskScript}
 
 -- a request of session 1 is nothing else
 pub record IsAsked (s : Statement) : Type 0 where

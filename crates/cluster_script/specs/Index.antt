@@ -1,5 +1,5 @@
 -- The index of a script: what a cluster looks up in it, so that no look-up goes through the statements.
-use Rattle.std.specs.Prelude.{◌≡◌, ℕ, zero, suc, ◌+◌, List, [], ◌∷◌, map, length, Option, Some, None, unwrap_or, if◌then◌else◌}
+use Rattle.std.specs.Prelude.{◌≡◌, ℕ, zero, suc, ◌+◌, List, [], ◌∷◌, map, length, Option, None, unwrap_or, if◌then◌else◌}
 use Rattle.std.specs.List.{slice_get, range_with_len}
 use Rattle.std.specs.Option.{option_map, option_and_then}
 use Rattle.object_id.specs.declared.limits.TheConstants.{NODES_MAX, SESSIONS_MAX}

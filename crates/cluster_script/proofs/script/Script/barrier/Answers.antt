@@ -1,9 +1,7 @@
-use Rattle.std.proofs.Common.{◌≡◌, ◌≤◌, ◌<◌, ◌+◌, ℕ, List, length, sym, subst, ap, ◌∙◌, arith, Fits, w32}
-use Rattle.object_id.specs.declared.limits.TheConstants.{INPUT_BYTES_MAX}
+use Rattle.std.proofs.Common.{◌<◌, List, length, sym, arith}
 use Rattle.cluster_script.specs.declared.statement.Statement.{Statement}
-use Rattle.cluster_script.specs.Index.{request_places}
 use Rattle.cluster_script.specs.Phases.{phases_of}
-use Rattle.cluster_script.proofs.IndexLemmas.{looks, barrier-there, barrier-past}
+use Rattle.cluster_script.proofs.IndexLemmas.{looks, barrier-there}
 use Rattle.cluster_script.proofs.script.Script.barrier.Goals as goal
 
 pub returns : goal.returns

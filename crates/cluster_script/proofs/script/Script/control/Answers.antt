@@ -1,4 +1,4 @@
-use Rattle.std.proofs.Common.{◌≡◌, sym}
+use Rattle.std.proofs.Common.{sym}
 use Rattle.cluster_script.proofs.IndexLemmas.{looks, no-control}
 use Rattle.cluster_script.proofs.script.Script.control.Goals as goal
 

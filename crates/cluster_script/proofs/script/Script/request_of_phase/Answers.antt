@@ -1,9 +1,8 @@
-use Rattle.std.proofs.Common.{◌≡◌, ◌≤◌, ◌<◌, ◌+◌, ℕ, List, length, sym, subst, ap, ◌∙◌, arith, Fits, w32}
-use Rattle.object_id.specs.declared.limits.TheConstants.{INPUT_BYTES_MAX}
+use Rattle.std.proofs.Common.{◌≡◌, ◌<◌, List, length, sym, ap, ◌∙◌, arith}
 use Rattle.cluster_script.specs.declared.statement.Statement.{Statement}
 use Rattle.cluster_script.specs.Index.{request_places}
 use Rattle.cluster_script.specs.Phases.{phases_of}
-use Rattle.cluster_script.proofs.IndexLemmas.{looks, phase_request-past, phase_request-behind, phase_request-there, few-requests}
+use Rattle.cluster_script.proofs.IndexLemmas.{looks, phase_request-behind, phase_request-there, few-requests}
 use Rattle.cluster_script.proofs.script.Script.request_of_phase.Goals as goal
 
 pub returns-then-place-len : goal.returns-then-place-len

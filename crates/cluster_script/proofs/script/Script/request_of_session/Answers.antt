@@ -1,8 +1,6 @@
-use Rattle.std.proofs.Common.{◌≡◌, ◌≤◌, ◌<◌, ◌+◌, ℕ, List, length, sym, subst, ap, ◌∙◌, arith, Fits, w32}
-use Rattle.object_id.specs.declared.limits.TheConstants.{INPUT_BYTES_MAX}
+use Rattle.std.proofs.Common.{◌≡◌, List, length, sym, ap, ◌∙◌, arith}
 use Rattle.cluster_script.specs.declared.statement.Statement.{Statement}
 use Rattle.cluster_script.specs.Index.{request_places}
-use Rattle.cluster_script.specs.Phases.{phases_of}
 use Rattle.cluster_script.proofs.IndexLemmas.{looks, number-there, number-past, number-other, few-requests}
 use Rattle.cluster_script.proofs.script.Script.request_of_session.Goals as goal
 

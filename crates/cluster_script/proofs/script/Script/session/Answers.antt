@@ -1,8 +1,5 @@
-use Rattle.std.proofs.Common.{◌≡◌, ◌≤◌, ◌<◌, ◌+◌, ℕ, List, length, sym, subst, ap, ◌∙◌, arith, Fits, w32}
-use Rattle.object_id.specs.declared.limits.TheConstants.{INPUT_BYTES_MAX}
+use Rattle.std.proofs.Common.{List, sym, arith}
 use Rattle.cluster_script.specs.declared.statement.Statement.{Statement}
-use Rattle.cluster_script.specs.Index.{request_places}
-use Rattle.cluster_script.specs.Phases.{phases_of}
 use Rattle.cluster_script.proofs.IndexLemmas.{looks, session-other, session-short, session-one}
 use Rattle.cluster_script.proofs.script.Script.session.Goals as goal
 

@@ -1,4 +1,4 @@
-use Rattle.std.proofs.Common.{◌≡◌, sym}
+use Rattle.std.proofs.Common.{sym}
 use Rattle.cluster_script.proofs.IndexLemmas.{looks}
 use Rattle.cluster_script.proofs.script.Script.zone.Goals as goal
 
