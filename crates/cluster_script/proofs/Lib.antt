@@ -6,6 +6,8 @@ pub mod LineSteps
 pub mod SettingLemmas
 pub mod WorkedCases
 pub mod WorkedLines
+pub mod Shape
+pub mod IndexLemmas
 pub mod PhaseLaws
 pub mod SessionLaws
 pub mod LanguageLaws

@@ -3,6 +3,7 @@ pub mod Settings
 pub mod NumberedRequests
 pub mod Phases
 pub mod Sessions
+pub mod Index
 pub mod Nodes
 pub mod OneDisk
 pub mod Language

@@ -1,6 +1,7 @@
 //! Laws of the definitions, for the proofs of the layers above: each is the contract of a function that does nothing.
-ghost use Rattle.std.specs.Prelude.{◌≡◌, ◌↔◌, ℕ, ◌≤◌, false, List, ◌∷◌, ◌++◌, length, flat_map, is_some, Ok, Err};
+ghost use Rattle.std.specs.Prelude.{◌≡◌, ◌↔◌, ℕ, ◌≤◌, ◌<◌, Some, slice_get, false, List, ◌∷◌, ◌++◌, length, flat_map, is_some, Ok, Err};
 ghost use Rattle.std.specs.List.{range_with_len, AllPairs};
+ghost use Rattle.std.specs.Option.{option_map};
 ghost use Rattle.cluster_script.specs.declared.statement.Pattern.{Pattern};
 ghost use Rattle.cluster_script.specs.declared.statement.Statement.{Statement as Line};
 ghost use Rattle.cluster_script.specs.declared.statement.Statement.TheVariants as lines;
@@ -14,9 +15,13 @@ ghost use Rattle.cluster_script.specs.Script.{statement_at, script_in};
 ghost use Rattle.cluster_script.specs.OneDiskLines as one_disk;
 ghost use Rattle.cluster_script.specs.Spelling.{IsSpelled, IsScriptText, IsBadLine};
 ghost use Rattle.cluster_script.specs.Writing.{text_for};
-ghost use Rattle.cluster_script.specs.NumberedRequests.{session_of, payload_of};
+ghost use Rattle.cluster_script.specs.NumberedRequests.{session_of, payload_of, request_at, numbers_of_session};
+ghost use Rattle.cluster_script.specs.Settings.{zone_of};
+ghost use Rattle.cluster_script.specs.Index.{index_of, indexed_request, indexed_at, indexed_numbers};
 ghost use Rattle.cluster_script.specs.Phases.{Phase, phases_of};
 ghost use Rattle.cluster_script.specs.Sessions.{ScriptSession, sessions_of, session_numbered};
+
+use object_id::{NODES_MAX, SESSIONS_MAX};
 
 /// The requests of a script are what its sessions ask for, and a write has as many bytes as its length says.
 pub fn what_is_asked()
@@ -35,6 +40,16 @@ pub fn each_session_is_declared()
     ensures declared { (statements : List Line) (number : ℕ) → is_some (session_numbered statements number)
         ≡ is_session_declared number statements }
     ensures order { (statements : List Line) → AllPairs (λ (a b : ScriptSession). a.number ≤ b.number) (sessions_of statements) }
+{}
+
+/// The index of a script has of each request, each session's requests and each node's zone what the statements say.
+pub fn the_index_is_of_the_statements()
+    ensures requests { (statements : List Line) (number : ℕ) → indexed_at (index_of statements) number
+        ≡ option_map (λ s. indexed_request statements (number, s)) (request_at statements number) }
+    ensures numbers { (statements : List Line) (session : ℕ) → 1 ≤ session → session ≤ SESSIONS_MAX
+        → indexed_numbers (index_of statements) session ≡ numbers_of_session statements session }
+    ensures zones { (statements : List Line) (node : ℕ) → node < NODES_MAX
+        → slice_get (index_of statements).zones node ≡ Some (zone_of statements node) }
 {}
 
 /// A script of one disk is a script of the whole language.

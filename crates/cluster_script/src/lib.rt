@@ -11,11 +11,13 @@
 //! each of them, which may stand after which, how a text is read, and with which cause it is refused. Laws tie these
 //! together, and what [`parse`] takes is read the same there. What a cluster takes from a script is defined over all of
 //! it: its settings and opening members, its requests by number and by session, its phases, and its sessions with the
-//! incarnations of their gateways. Of the workspace the crate stands on `object_id` alone.
+//! incarnations of their gateways. These are the index of a script. A [`Script`] looks them up without memory, by what
+//! [`parse`] noted once, and no look-up goes through the statements. Of the workspace the crate stands on `object_id` alone.
 #![tactic(auto)]
 
 mod draft;
 mod fault;
+mod index;
 mod laws;
 mod limits;
 mod line;
@@ -26,10 +28,12 @@ mod statement;
 mod words;
 
 pub use fault::{LineCause, ScriptFault};
+pub use index::{PhaseOfScript, RequestOfScript, SessionOfScript};
 pub use laws::{
     a_line_reads_as_it_is_spelled, a_text_reads_as_its_script, each_request_is_of_a_phase,
     each_session_is_declared, each_statement_stands, every_script_can_be_written,
-    one_disk_scripts_are_scripts, one_disk_texts_read_the_same, what_is_asked,
+    one_disk_scripts_are_scripts, one_disk_texts_read_the_same, the_index_is_of_the_statements,
+    what_is_asked,
 };
 pub use script::{Script, parse};
 pub use statement::{Pattern, Statement};

@@ -83,6 +83,66 @@ fn has_the_settings_of_an_empty_text(rt: HostRuntime) -> Result<(), Fail> {
 }
 
 #[test]
+fn looks_up_what_a_script_has(rt: HostRuntime) -> Result<(), Fail> {
+    let text =
+        b"# one disk\ncluster 1\nsession 1 node 0\n1 vdi create -c 1 a 1M\n1 vdi open a\n1 vdi read 0 1024\n";
+    let script = parse(rt.alloc(), text).ok().ok_or("the text is a script")?;
+    assert!(rt; script.request(0).is_none());
+    for number in 1..4 {
+        let request = script.request(number).ok_or("there is a request")?;
+        assert_eq!(rt; request.session, 1);
+        assert_eq!(rt; request.phase, 0);
+        assert_eq!(rt; script.request_of_session(1, number - 1), Some(number));
+        assert_eq!(rt; script.request_of_session(2, number - 1), None);
+        assert_eq!(rt; script.request_of_phase(0, number - 1), Some(number));
+        assert_eq!(rt; script.request_of_phase(1, number - 1), None);
+    }
+    let read = script.request(3).ok_or("there is a read")?;
+    assert!(rt; matches!(read.statement, Statement::Read { length: 1024, .. }));
+    assert!(rt; script.request(4).is_none());
+    assert_eq!(rt; script.request_of_session(1, 3), None);
+    assert_eq!(rt; script.request_of_phase(0, 3), None);
+
+    let session = SessionOfScript {
+        number: 1,
+        node: 0,
+        incarnation: 1,
+    };
+    assert_eq!(rt; script.session(1), Some(session));
+    assert_eq!(rt; script.session(0), None);
+    assert_eq!(rt; script.session(2), None);
+
+    let phase = PhaseOfScript {
+        controls: 0,
+        losses: 0,
+        requests: 3,
+    };
+    assert_eq!(rt; script.phase_count(), 1);
+    assert_eq!(rt; script.phase(0), Some(phase));
+    assert_eq!(rt; script.phase(1), None);
+    assert!(rt; script.control(0, 0).is_none());
+    assert!(rt; matches!(script.barrier(0), Some(Statement::Settle)));
+    assert!(rt; script.barrier(1).is_none());
+    for node in 0..64 {
+        assert_eq!(rt; script.zone(node), node);
+    }
+    Ok(())
+}
+
+#[test]
+fn has_no_phase_without_a_session(rt: HostRuntime) -> Result<(), Fail> {
+    let script = parse(rt.alloc(), b"cluster 1\n")
+        .ok()
+        .ok_or("a setting is a script")?;
+    assert_eq!(rt; script.phase_count(), 0);
+    assert_eq!(rt; script.phase(0), None);
+    assert!(rt; script.barrier(0).is_none());
+    assert_eq!(rt; script.session(1), None);
+    assert!(rt; script.request(1).is_none());
+    Ok(())
+}
+
+#[test]
 fn names_the_first_bad_line_and_its_cause(rt: HostRuntime) -> Result<(), Fail> {
     let cases: [(&[u8], &[u8], u32, u8); 34] = [
         (b"", b"cluster 2", 1, 3),

@@ -2,10 +2,10 @@ use Rattle.std.proofs.Common.{◌∙◌, rules, tests}
 use Rattle.object_id.specs.declared.limits.TheConstants.{TRIES_DEFAULT}
 use Rattle.cluster_script.specs.Settings.{tries_set}
 use Rattle.cluster_script.proofs.SettingLemmas.{setting_of-found}
-use Rattle.cluster_script.proofs.script.Script.tries.Goals as goal
+use Rattle.cluster_script.proofs.index.tries_in.Goals as goal
 
 pub returns : goal.returns
 returns c =
     c.unwrap_or.ensures
     ∙ setting_of-found tries_set TRIES_DEFAULT (λ x answer after called. search (rules, tests)) c.find_map.result _ _
-    c.iter.ensures.runs (c.iter.ensures.rest ∙ c.statements.ensures.statements) c.find_map.ensures.runs
+    c.iter.ensures.runs c.iter.ensures.rest c.find_map.ensures.runs
