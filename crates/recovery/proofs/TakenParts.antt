@@ -27,7 +27,8 @@ use Rattle.recovery.specs.Step.{HaveSize}
 length-row : (row : RowCopy) → length (row_bytes row) ≡ row.length
 length-row row =
     let first = length-take row.length row.bytes in
-    let rest = length-replicate (row.length - length row.bytes) 0 in
+    let none : ℕ = 0 in
+    let rest = length-replicate (row.length - length row.bytes) none in
     let both = length-append (take row.length row.bytes) (zeros (row.length - length row.bytes)) in
     omega (arith, first, rest, both)
 
@@ -133,7 +134,7 @@ rise-put low (first ∷ rest) row up from = by_order (nat_lt row.index first.ind
 
     by_order : (b : Bool) → nat_lt row.index first.index ≡ b → (suc first.index ≤ row.index → Rise (suc first.index) (put_by_index rest row))
         → Rise low (cond b (row ∷ first ∷ rest) (cond (row.index == first.index) (first ∷ rest) (first ∷ put_by_index rest row)))
-    by_order true is more = (from, ltb-true row.index first.index is, up.1)
+    by_order true is more = (from, (ltb-true row.index first.index is, up.1))
     by_order false is more = by_same is more (row.index == first.index) refl
 
 rise-fold : (start rows : List RowCopy) → Rise 0 start → Rise 0 (fold put_by_index start rows)
