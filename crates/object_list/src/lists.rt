@@ -1,5 +1,7 @@
 ghost use Rattle.std.specs.Prelude.{◌≡◌, ◌↔◌, [], IfOk, OnOk, OnErr, IsTrue};
 ghost use Rattle.std.specs.List.Sorted.{IsStrictlyIncreasing};
+ghost use Rattle.object_id.specs.declared.node.NodeId.{NodeId as TheNode};
+ghost use Rattle.object_list.specs.Union.{union};
 ghost use Rattle.object_list.specs.Gathered.{GatheredLists, gathered_of_none, gathered_with_answer, has_node};
 
 use crate::union::union;
@@ -39,14 +41,38 @@ impl Lists {
         })
     }
 
+    /// Waits for nobody. Takes no memory.
+    pub fn of_nobody(alloc: Global) -> Lists
+        ensures { (me : TheNode) → result ≡ gathered_of_none me [] }
+    {
+        Lists {
+            alloc,
+            waiting: Vec::new(alloc),
+            objects: OidList::new(alloc),
+        }
+    }
+
+    /// What [`Lists::add`] would make of this, which stays. Takes and costs all that is gathered.
+    pub fn with_answer(&self, from: NodeId, list: &OidList) -> Result<Lists, NoMemory>
+        ensures { IfOk result (λ lists. lists ≡ gathered_with_answer from list.now self.now) }
+    {
+        let objects = union(self.alloc, self.objects.as_slice(), list.as_slice())?;
+        let mut waiting = Vec::from_slice(self.alloc, self.waiting.as_slice())?;
+        waiting.retain(|node| *node != from);
+        Ok(Lists {
+            alloc: self.alloc,
+            waiting,
+            objects,
+        })
+    }
+
     /// Takes the list that a node answered with. A node that isn't waited for (any more) only adds its ids. Without
     /// memory everything stays.
     pub fn add(&mut self, from: NodeId, list: &OidList) -> Result<(), NoMemory>
         ensures ok { OnOk result (self.new ≡ gathered_with_answer from list.now self.old) }
         ensures err { OnErr result (self.new ≡ self.old) }
     {
-        self.objects = union(self.alloc, self.objects.as_slice(), list.as_slice())?;
-        self.waiting.retain(|node| *node != from);
+        *self = self.with_answer(from, list)?;
         Ok(())
     }
 
@@ -55,6 +81,13 @@ impl Lists {
         ensures { result ≡ has_node node self.now.waiting }
     {
         self.waiting.as_slice().contains(&node)
+    }
+
+    /// The other members that haven't answered, in the order of the members.
+    pub fn waiting(&self) -> &[NodeId]
+        ensures { result.now ≡ self.now.waiting }
+    {
+        self.waiting.as_slice()
     }
 
     /// Whether every other member has answered.
@@ -70,5 +103,12 @@ impl Lists {
         ensures ascending { IsStrictlyIncreasing result.now }
     {
         self.objects.as_slice()
+    }
+
+    /// These ids with those of one list more. Takes and costs all of them.
+    pub fn objects_with(&self, list: &OidList) -> Result<OidList, NoMemory>
+        ensures { IfOk result (λ oids. oids ≡ union self.now.objects list.now) }
+    {
+        union(self.alloc, self.objects.as_slice(), list.as_slice())
     }
 }

@@ -17,7 +17,8 @@ use Rattle.object_store.specs.Store.{SeenRow, rows_of, row_bytes}
 use Rattle.vdi_directory.specs.declared.effect.Effect.{Effect}
 use Rattle.recovery.specs.Shown.{first_in}
 use Rattle.recovery.specs.Level.{is_of_search}
-use Rattle.recovery.specs.State.{Message, RowAnswer, Search, search_on, is_listed, is_missing}
+use Rattle.recovery.specs.declared.search.RowAnswer.{RowAnswer}
+use Rattle.recovery.specs.State.{Message, Search, search_on, is_listed, is_missing}
 use Rattle.sheep_node.specs.RecoveryView.{recovery_state_of}
 use Rattle.sheep_world.specs.World.{Host}
 use Rattle.overlap_law.specs.Attempts.{AttemptRecord}

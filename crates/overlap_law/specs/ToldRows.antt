@@ -10,7 +10,8 @@ use Rattle.peer_proto.specs.declared.say.PeerSay.TheVariants as says
 use Rattle.peer_proto.specs.declared.say.PeerRsp.{PeerRsp}
 use Rattle.peer_service.specs.Serve.{row_or_none}
 use Rattle.recovery.specs.Level.{is_of_search}
-use Rattle.recovery.specs.State.{Message, RowAnswer, Search, Recovery, all_unanswered, search_on}
+use Rattle.recovery.specs.declared.search.RowAnswer.{RowAnswer}
+use Rattle.recovery.specs.State.{Message, Search, Recovery, all_unanswered, search_on}
 use Rattle.sheep_node.specs.State.{Node}
 use Rattle.sheep_node.specs.RecoveryView.{recovery_state_of}
 use Rattle.overlap_law.specs.Packets.{Wire, message_name, IsAnswering}

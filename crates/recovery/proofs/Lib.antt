@@ -5,3 +5,10 @@ pub mod PendingLemmas
 pub mod ListingLemmas
 pub mod TakenLemmas
 pub mod RangeLemmas
+pub mod FlightLemmas
+pub mod LevelLemmas
+pub mod EndLemmas
+pub mod TakenParts
+pub mod FoundLemmas
+pub mod ReplyLemmas
+pub mod TickLemmas

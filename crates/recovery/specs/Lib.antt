@@ -7,3 +7,5 @@ pub mod Steps
 pub mod Frame
 pub mod Range
 pub mod Example
+pub mod Kept
+pub mod Step

@@ -6,9 +6,9 @@ use Rattle.std.specs.List.Sorted.{IsStrictlyIncreasing}
 use Rattle.object_id.specs.declared.limits.TheConstants.{NODES_MAX}
 use Rattle.object_id.specs.Node.{IsNode}
 use Rattle.object_id.specs.declared.node.NodeId.{NodeId}
-use Rattle.object_store.specs.declared.row.RowCopy.{RowCopy}
 use Rattle.object_list.specs.Gathered.{GatheredLists, gathered_of_none, has_node}
 use Rattle.peer_proto.specs.declared.ask.PeerReq.{PeerReq}
+use Rattle.recovery.specs.declared.search.RowAnswer.{RowAnswer}
 use Rattle.recovery.specs.Shown.{NodeView, first_in, is_pending_object}
 
 -- a message that was sent: the node that it goes to, the request, and on how many nodes the object that it asks for is
@@ -17,11 +17,6 @@ pub record Message : Type 0 where
   pub to : NodeId
   pub request : PeerReq
   pub wanted : ℕ
-
--- what a node answered of a level: its row, or that it has none
-pub record RowAnswer : Type 0 where
-  pub from : NodeId
-  pub row : Option RowCopy
 
 -- a search: the object, the level, what was answered since the level was asked, and whether a message was refused or lost since
 pub record Search : Type 0 where

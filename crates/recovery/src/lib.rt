@@ -10,9 +10,17 @@
 //! step by step (`specs/Example.antt`).
 #![tactic(auto)]
 
+mod in_flight;
 mod laws;
+mod level;
+mod level_end;
+mod listing;
+mod recovery;
 mod rows;
+mod search;
 mod sends;
+#[cfg(test)]
+mod tests;
 
 pub use laws::{
     a_recovery_worked_out, levels_are_left_after_all_answers, lists_come_before_searches,
@@ -20,5 +28,6 @@ pub use laws::{
     parts_are_of_the_same_bytes, taken_rows_are_of_the_level, what_is_asked_can_be_spelled,
     what_is_pending,
 };
+pub use recovery::Recovery;
 pub use rows::Rows;
 pub use sends::RecoverSends;

@@ -13,6 +13,10 @@ pub trait Rows {
     /// What the node shows.
     ghost shown: { Self → NodeView };
 
+    /// What else the node is: a recovery reads nothing of it, and changes nothing.
+    ghost Rest: { Type 0 };
+    ghost rest: { Self → Rest };
+
     /// The ids of the objects that have rows.
     fn objects(&self) -> Result<OidList, NoMemory>
         ensures { IfOk result (λ oids. oids ≡ tree.keys (shown self.now).rows) };
@@ -48,11 +52,13 @@ pub trait Rows {
 
     /// The node doesn't know any more what is pending. Takes no memory.
     fn start_list(&mut self)
-        ensures { shown self.new ≡ shown_with_unfinished_list (shown self.old) };
+        ensures shown { shown self.new ≡ shown_with_unfinished_list (shown self.old) }
+        ensures rest { rest self.new ≡ rest self.old };
 
     /// These objects are pending. Takes no memory.
     fn set_pending(&mut self, list: OidList)
-        ensures { shown self.new ≡ shown_with_pending list (shown self.old) };
+        ensures shown { shown self.new ≡ shown_with_pending list (shown self.old) }
+        ensures rest { rest self.new ≡ rest self.old };
 
     /// Whether the object is pending.
     fn pending(&self, oid: Oid) -> bool
@@ -67,9 +73,11 @@ pub trait Rows {
     fn put_row(&mut self, key: Key, length: u32, bytes: &[u8]) -> Result<(), NoMemory>
         requires { IsUpTo length bytes.now }
         ensures ok { OnOk result (shown self.new ≡ with_row key length bytes.now (shown self.old)) }
-        ensures err { OnErr result (shown self.new ≡ shown self.old) };
+        ensures err { OnErr result (shown self.new ≡ shown self.old) }
+        ensures rest { rest self.new ≡ rest self.old };
 
     /// The object is pending no more. Takes no memory.
     fn give_up(&mut self, oid: Oid)
-        ensures { shown self.new ≡ shown_without_pending oid (shown self.old) };
+        ensures shown { shown self.new ≡ shown_without_pending oid (shown self.old) }
+        ensures rest { rest self.new ≡ rest self.old };
 }

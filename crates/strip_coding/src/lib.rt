@@ -23,4 +23,4 @@ mod tests;
 pub use coding::{decode_block, encode_block};
 pub use gf256::TooFewStrips;
 pub use laws::choice_laws;
-pub use parts::{bytes_of_parts, part, part_size};
+pub use parts::{bytes_of_parts, index_among, part, part_size};

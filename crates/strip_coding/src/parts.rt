@@ -2,15 +2,17 @@
 //! part of coded data has the index's strip of each block, in order.
 
 ghost use Rattle.std.specs.Prelude.{◌≡◌, ◌+◌, ◌*◌, ◌/◌, ◌%◌, ◌^◌, ◌<◌, ◌≤◌, length, map, take, IsTrue};
-ghost use Rattle.std.specs.List.{All, range_with_len};
+ghost use Rattle.std.specs.Prelude.{◌==◌};
+ghost use Rattle.std.specs.List.{All, position, range_with_len};
+ghost use Rattle.object_id.specs.declared.node.NodeId.{NodeId as TheNode};
 ghost use Rattle.object_id.specs.Policy.{IsPolicy, is_width, need_of};
 ghost use Rattle.gf256.specs.Polynomial.{ArePoints};
 ghost use Rattle.gf256.specs.Strip.{strip_bytes};
-ghost use Rattle.gf256.specs.Part.{strips_of_blocks, blocks_through, IsAligned, part_size, part, parts_in, bytes_of_parts};
+ghost use Rattle.gf256.specs.Part.{strips_of_blocks, blocks_through, IsAligned, part_size, part, parts_in, bytes_of_parts, index_at, index_among};
 
 use crate::choice::MOST_DATA_STRIPS;
 use crate::coding::{block, strip};
-use object_id::{BLOCK_BYTES, Kind, Policy, TARGETS_MAX};
+use object_id::{BLOCK_BYTES, Kind, NodeId, Policy, TARGETS_MAX};
 
 /// A block's length, as a length of slices.
 const BLOCK: usize = BLOCK_BYTES as usize;
@@ -26,6 +28,37 @@ pub fn part_size(policy: Policy, kind: Kind, n: usize) -> usize
             Kind::Block => n / d as usize,
             Kind::Inode => n,
         },
+    }
+}
+
+/// The index under which a target keeps its part: of strips its place in the target list, of whole copies 0.
+fn index_at(policy: Policy, kind: Kind, place: u8) -> u8
+    ensures { result ≡ index_at policy kind place }
+{
+    match policy {
+        Policy::Copies(_) => 0,
+        Policy::Coded { .. } => match kind {
+            Kind::Block => place,
+            Kind::Inode => 0,
+        },
+    }
+}
+
+/// The place of a node among targets.
+fn place_of(node: NodeId, targets: &[NodeId]) -> Option<usize>
+    ensures { result ≡ position (λ (target : TheNode). target.0 == node.0) targets.now }
+{
+    targets.iter().position(|target| *target == node)
+}
+
+/// The index under which a node keeps its part of an object, if it is among the object's targets. Looks at each target.
+pub fn index_among(node: NodeId, targets: &[NodeId], policy: Policy, kind: Kind) -> Option<u8>
+    requires { length targets.now ≤ TARGETS_MAX }
+    ensures { result ≡ index_among node targets.now policy kind }
+{
+    match place_of(node, targets) {
+        Some(place) => Some(index_at(policy, kind, place as u8)),
+        None => None,
     }
 }
 
