@@ -13,3 +13,4 @@ pub mod PartLaws
 pub mod WorkedCases
 pub mod MapLaws
 pub mod FailureLaws
+mod WaitingWork

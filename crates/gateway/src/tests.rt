@@ -1,10 +1,8 @@
 //! What no clause says: that each call comes through with ample memory.
 
-ghost use Rattle.std.specs.Prelude.{◌≡◌, ◌≤◌, ◌^◌, ◌-◌, IfOk, IfSome, IsTrue, not, Some};
-ghost use Rattle.object_id.specs.declared.limits.TheConstants.{NODES_MAX};
+ghost use Rattle.std.specs.Prelude.{IfOk, IsTrue};
 ghost use Rattle.vnode_table.specs.Epochs.{is_entered};
 ghost use Rattle.peer_proto.specs.Work.{IsWork};
-ghost use Rattle.gateway.specs.State.{MaySend, MayStart};
 
 use super::*;
 use hash_ring::are_weighted;
@@ -42,7 +40,10 @@ fn copies_what_is_sent(rt: HostRuntime) -> Result<(), Fail> {
     Ok(())
 }
 
-fn a_read() -> ObjWork {
+/// A read of object 2 of disk 9.
+fn a_read() -> ObjWork
+    ensures { IsWork result }
+{
     ObjWork::Read {
         oid: Oid::object(Vid(9), 2),
         policy: Policy::Copies(3),
@@ -96,7 +97,7 @@ fn copies_what_was_done(rt: HostRuntime) -> Result<(), Fail> {
 
 /// A placement with one epoch of so many nodes, each in a zone of its own.
 fn placement(rt: &impl Abort, alloc: Global, nodes: u32) -> Result<Placement, NoMemory>
-    ensures entered { IfOk result (λ place. IsTrue (is_entered place.now 1)) }
+    ensures entered { IfOk result (λ place. IsTrue (is_entered place 1)) }
 {
     let mut members = Vec::new(alloc);
     for node in 0..nodes {
@@ -112,6 +113,21 @@ fn placement(rt: &impl Abort, alloc: Global, nodes: u32) -> Result<Placement, No
     Ok(place)
 }
 
+/// A gateway of node 0 in which a work of request 4 began, with messages from number 10 on, and what came of that.
+fn started(
+    alloc: Global,
+    tries: u32,
+    work: ObjWork,
+    place: &Placement,
+) -> Result<(Gateway, Act), NoMemory>
+    requires work { IsWork work }
+    requires entered { IsTrue (is_entered place.now 1) }
+{
+    let mut gateway = Gateway::new(alloc, NodeId(0), tries);
+    let act = gateway.start(4, work, 10, Epoch(1), place)?;
+    Ok((gateway, act))
+}
+
 /// The reply to a message.
 fn reply(number: u32, say: PeerSay) -> PeerRsp {
     PeerRsp {
@@ -121,7 +137,26 @@ fn reply(number: u32, say: PeerSay) -> PeerRsp {
     }
 }
 
-/// The numbers of what is sent, or none.
+/// What comes of a reply to a message; `None` if it doesn't fit.
+fn replied(gateway: &mut Gateway, number: u32, say: PeerSay) -> Result<Option<Act>, NoMemory> {
+    let rsp = reply(number, say);
+    if gateway.fits(&rsp) {
+        Ok(Some(gateway.on_reply(&rsp)?))
+    } else {
+        Ok(None)
+    }
+}
+
+/// What comes of the loss of a message; `None` if nobody waits for it.
+fn lost(gateway: &mut Gateway, number: u32) -> Result<Option<Act>, NoMemory> {
+    if gateway.waits_for(number) {
+        Ok(Some(gateway.on_lost(number)?))
+    } else {
+        Ok(None)
+    }
+}
+
+/// How many messages are sent.
 fn sends(act: &Act) -> usize {
     match act {
         Act::Send(sends) => sends.list.len(),
@@ -129,34 +164,55 @@ fn sends(act: &Act) -> usize {
     }
 }
 
-#[test]
-fn writes_to_each_copy(rt: HostRuntime) -> Result<(), Fail> {
-    let alloc = rt.alloc();
-    let place = placement(&rt, alloc, 3)?;
-    let mut gateway = Gateway::new(alloc, NodeId(0), 8);
-    let work = ObjWork::Write {
+/// Whether a work is done, and gave these bytes.
+fn is_done(act: &Option<Act>, bytes: &[u8]) -> bool {
+    matches!(act, Some(Act::Done { done, .. }) if done.req == 4 && done.bytes.as_slice() == bytes)
+}
+
+fn is_wait(act: &Option<Act>) -> bool {
+    matches!(act, Some(Act::Wait))
+}
+
+/// A write of object 2 of disk 9.
+fn a_write(alloc: Global) -> Result<ObjWork, NoMemory>
+    ensures { IfOk result IsWork }
+{
+    Ok(ObjWork::Write {
         oid: Oid::object(Vid(9), 2),
         policy: Policy::Copies(2),
         offset: 512,
         bytes: Bytes::from_slice(alloc, b"data")?,
-    };
-    let act = gateway.start(4, work, 10, Epoch(1), &place)?;
+    })
+}
+
+#[test]
+fn writes_to_each_copy(rt: HostRuntime) -> Result<(), Fail> {
+    let alloc = rt.alloc();
+    let place = placement(&rt, alloc, 3)?;
+    let (mut gateway, act) = started(alloc, 8, a_write(alloc)?, &place)?;
     assert_eq!(rt; sends(&act), 2);
     assert!(rt; gateway.waits_for(10) && gateway.waits_for(11) && !gateway.waits_for(12));
     let piece = PeerSay::Piece(Bytes::from_slice(alloc, b"data")?);
-    assert!(rt; !gateway.fits(&reply(10, piece)) && gateway.fits(&reply(10, PeerSay::Success)));
-    assert!(rt; matches!(gateway.on_reply(&reply(11, PeerSay::Success))?, Act::Wait));
+    assert!(rt; replied(&mut gateway, 10, piece)?.is_none());
+    assert!(rt; is_wait(&replied(&mut gateway, 11, PeerSay::Success)?));
     assert!(rt; !gateway.waits_for(11) && !gateway.can_retry(Epoch(1)));
-    assert!(rt; matches!(gateway.on_lost(10)?, Act::Wait));
+    assert!(rt; is_done(&replied(&mut gateway, 10, PeerSay::Success)?, &[]));
+    Ok(())
+}
+
+#[test]
+fn tries_again_after_a_loss(rt: HostRuntime) -> Result<(), Fail> {
+    let alloc = rt.alloc();
+    let place = placement(&rt, alloc, 3)?;
+    let (mut gateway, _) = started(alloc, 8, a_write(alloc)?, &place)?;
+    assert!(rt; is_wait(&lost(&mut gateway, 10)?) && !gateway.can_retry(Epoch(1)));
+    assert!(rt; lost(&mut gateway, 10)?.is_none());
+    assert!(rt; is_wait(&lost(&mut gateway, 11)?) && gateway.can_retry(Epoch(1)));
+
+    let mut gateway = Gateway::waiting(alloc, a_write(alloc)?)?;
     assert!(rt; gateway.can_retry(Epoch(1)));
-    let act = gateway.retry(12, Epoch(1), &place)?;
-    assert_eq!(rt; sends(&act), 2);
-    assert!(rt; matches!(gateway.on_reply(&reply(12, PeerSay::Success))?, Act::Wait));
-    let act = gateway.on_reply(&reply(13, PeerSay::Success))?;
-    assert!(rt;
-        matches!(&act, Act::Done { work: ObjWork::Write { offset: 512, .. }, done } if done.req == 4 && done.bytes.is_empty())
-    );
-    gateway.end(4);
+    assert_eq!(rt; sends(&gateway.retry(10, Epoch(1), &place)?), 2);
+    assert!(rt; gateway.waits_for(10) && gateway.waits_for(11) && !gateway.can_retry(Epoch(1)));
     Ok(())
 }
 
@@ -165,27 +221,25 @@ fn writes_to_each_copy(rt: HostRuntime) -> Result<(), Fail> {
 fn reads_through_parity(rt: HostRuntime) -> Result<(), Fail> {
     let alloc = rt.alloc();
     let place = placement(&rt, alloc, 3)?;
-    let mut gateway = Gateway::new(alloc, NodeId(0), 1);
     let work = ObjWork::Read {
         oid: Oid::object(Vid(9), 2),
         policy: Policy::Coded { d: 2, p: 1 },
         offset: 512,
         length: 512,
     };
-    let act = gateway.start(4, work, 0, Epoch(1), &place)?;
+    let (mut gateway, act) = started(alloc, 1, work, &place)?;
     assert_eq!(rt; sends(&act), 3);
     assert!(rt;
         matches!(&act, Act::Send(sends) if matches!(sends.list.get(2),
-        Some((_, PeerReq { number: 2, ask: PeerAsk::Read { offset: 256, length: 256, .. }, .. }))))
+        Some((_, PeerReq { number: 12, ask: PeerAsk::Read { offset: 256, length: 256, .. }, .. }))))
     );
     let mut want = [1; 512];
     want[256..].fill(2);
     let twos = PeerSay::Piece(Bytes::from_slice(alloc, &want[256..])?);
     let sevens = PeerSay::Piece(Bytes::from_slice(alloc, &[7; 256])?);
-    assert!(rt; matches!(gateway.on_reply(&reply(2, sevens))?, Act::Wait));
-    assert!(rt; matches!(gateway.on_lost(0)?, Act::Wait));
-    let act = gateway.on_reply(&reply(1, twos))?;
-    assert!(rt; matches!(&act, Act::Done { done, .. } if done.bytes.as_slice() == want.as_slice()));
+    assert!(rt; is_wait(&replied(&mut gateway, 12, sevens)?));
+    assert!(rt; is_wait(&lost(&mut gateway, 10)?));
+    assert!(rt; is_done(&replied(&mut gateway, 11, twos)?, want.as_slice()));
     Ok(())
 }
 
@@ -193,48 +247,40 @@ fn reads_through_parity(rt: HostRuntime) -> Result<(), Fail> {
 fn reads_all_copies(rt: HostRuntime) -> Result<(), Fail> {
     let alloc = rt.alloc();
     let place = placement(&rt, alloc, 2)?;
-    let mut gateway = Gateway::new(alloc, NodeId(0), 1);
     let work = ObjWork::ReadAll {
         oid: Oid::object(Vid(9), 2),
         policy: Policy::Copies(2),
         length: 1,
     };
-    let act = gateway.start(4, work, 0, Epoch(1), &place)?;
+    let (mut gateway, act) = started(alloc, 1, work, &place)?;
     assert_eq!(rt; sends(&act), 2);
     let two = PeerSay::Piece(Bytes::from_slice(alloc, b"2")?);
     let one = PeerSay::Piece(Bytes::from_slice(alloc, b"1")?);
-    assert!(rt; matches!(gateway.on_reply(&reply(1, two))?, Act::Wait));
-    let act = gateway.on_reply(&reply(0, one))?;
-    assert!(rt;
-        matches!(&act, Act::Done { done, .. } if done.bytes.as_slice() == b"12".as_slice())
-    );
+    assert!(rt; is_wait(&replied(&mut gateway, 11, two)?));
+    assert!(rt; is_done(&replied(&mut gateway, 10, one)?, b"12"));
     Ok(())
 }
 
+// A read has one attempt only, and the node that it asks has a later epoch.
 #[test]
-fn refuses_with_the_first_cause(rt: HostRuntime) -> Result<(), Fail> {
+fn refuses_with_the_cause(rt: HostRuntime) -> Result<(), Fail> {
     let alloc = rt.alloc();
     let place = placement(&rt, alloc, 2)?;
-    let mut gateway = Gateway::new(alloc, NodeId(0), 2);
-    let act = gateway.start(7, a_read(), 0, Epoch(1), &place)?;
+    let (mut gateway, act) = started(alloc, 1, a_read(), &place)?;
     assert_eq!(rt; sends(&act), 1);
-    let recovery = PeerSay::Refused(Refusal::Recovery);
-    assert!(rt; matches!(gateway.on_reply(&reply(0, recovery))?, Act::Wait));
-    assert_eq!(rt; sends(&gateway.retry(1, Epoch(1), &place)?), 1);
     let old = PeerSay::Refused(Refusal::OldEpoch { own: Epoch(3) });
-    let act = gateway.on_reply(&reply(1, old))?;
     assert!(rt;
         matches!(
-            &act,
-            Act::Refused {
-                req: 7,
+            replied(&mut gateway, 10, old)?,
+            Some(Act::Refused {
+                req: 4,
                 cause: Cause::OldEpoch {
                     own: Epoch(1),
                     peer: Epoch(3),
                     ..
                 },
                 ..
-            }
+            })
         )
     );
     assert!(rt; !gateway.can_retry(Epoch(1)));
@@ -245,7 +291,6 @@ fn refuses_with_the_first_cause(rt: HostRuntime) -> Result<(), Fail> {
 fn halts_for_want_of_zones(rt: HostRuntime) -> Result<(), Fail> {
     let alloc = rt.alloc();
     let place = placement(&rt, alloc, 2)?;
-    let mut gateway = Gateway::new(alloc, NodeId(0), 2);
     let work = ObjWork::Create {
         oid: Oid::object(Vid(9), 2),
         policy: Policy::Copies(3),
@@ -253,12 +298,12 @@ fn halts_for_want_of_zones(rt: HostRuntime) -> Result<(), Fail> {
         offset: 0,
         bytes: Bytes::new(alloc),
     };
-    let act = gateway.start(7, work, 0, Epoch(1), &place)?;
+    let (mut gateway, act) = started(alloc, 2, work, &place)?;
     assert!(rt;
         matches!(
             &act,
             Act::Refused {
-                req: 7,
+                req: 4,
                 cause: Cause::Halt {
                     members: 2,
                     wanted: 3
@@ -267,5 +312,6 @@ fn halts_for_want_of_zones(rt: HostRuntime) -> Result<(), Fail> {
             }
         )
     );
+    assert!(rt; !gateway.can_retry(Epoch(2)) && lost(&mut gateway, 10)?.is_none());
     Ok(())
 }
