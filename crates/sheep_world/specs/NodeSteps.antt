@@ -64,7 +64,8 @@ world_after_step statements node input host so_far world = record world {
 -- a node steps on an input
 unfoldable pub node_stepped : List Statement → ℕ → Input → World → World
 node_stepped statements node input world =
-    option_map_or (λ (host : Host). world_after_step statements node input host (node_step input host.node) world) (host_at node world) world
+    option_map_or (λ (host : Host). world_after_step statements node input host (node_step input host.node) world)
+    (host_at node world) world
 
 -- no node steps
 abbrev pub at_rest : World → World
