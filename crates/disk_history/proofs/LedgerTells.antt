@@ -56,14 +56,14 @@ deleted_in None = false
 deleted_in (Some disk) = disk.deleted
 
 pub record Tells (events : List HistEvent) (ledger : Ledger) : Type 0 where
-  fates : ℕ → Fate
-  done : (req : ℕ) → was_done events req ≡ is_done_fate (fates req)
-  refused : (req : ℕ) → was_refused events req ≡ is_refused_fate (fates req)
-  lost : (req : ℕ) → was_lost events req ≡ is_lost_fate (fates req)
-  ended : (req : ℕ) → (ledger.requests req).ended ≡ is_answer (fates req)
-  deleted : (disk : ℕ) → deleted_in (ledger.disks disk) ≡ was_deleted events disk
-  counted : (disk : ℕ) → blocks_in (ledger.disks disk) ≡ block_count_of events disk
-  items : (disk : ℕ) → TellsDisk fates (writes_of events disk) (ledger.disks disk)
+  pub fates : ℕ → Fate
+  pub done : (req : ℕ) → was_done events req ≡ is_done_fate (fates req)
+  pub refused : (req : ℕ) → was_refused events req ≡ is_refused_fate (fates req)
+  pub lost : (req : ℕ) → was_lost events req ≡ is_lost_fate (fates req)
+  pub ended : (req : ℕ) → (ledger.requests req).ended ≡ is_answer (fates req)
+  pub deleted : (disk : ℕ) → deleted_in (ledger.disks disk) ≡ was_deleted events disk
+  pub counted : (disk : ℕ) → blocks_in (ledger.disks disk) ≡ block_count_of events disk
+  pub items : (disk : ℕ) → TellsDisk fates (writes_of events disk) (ledger.disks disk)
 
 -- ---- one event more
 

@@ -26,7 +26,7 @@ use Rattle.sheep_node.specs.Step.{is_due, node_step}
 use Rattle.sheep_node.proofs.StepLaws.{older_step, newer_step}
 use Rattle.sheep_world.specs.declared.name.MessageName.{MessageName}
 use Rattle.sheep_world.specs.World.{Packet, Request, Host, World, node_at, message_at}
-use Rattle.sheep_world.specs.NodeSteps.{world_after_step, host_stepped, node_stepped, at_rest}
+use Rattle.sheep_world.specs.NodeSteps.{world_after_step, node_stepped, at_rest}
 use Rattle.sheep_world.specs.Conditions.{may_deliver}
 use Rattle.sheep_world.specs.Messages.{request_got, request_delivered, delivered_as, message_delivered}
 use Rattle.sheep_world.specs.HistoryAdditions.{reply_grown, check_write_grown, check_write_by}
@@ -59,7 +59,7 @@ world_after_step-as_before script n input host rsp world =
 
 host-as_before : (script : List Statement) (n : ℕ) (input : Input) (o : Option Host) (node : Node) (rsp : PeerRsp) (world : World)
     → option_map (λ (s : Host). s.node) o ≡ Some node → node_step input node ≡ saying node rsp
-    → IsAsBefore input n node rsp (host_stepped script n input o world)
+    → IsAsBefore input n node rsp (option_map_or (λ (host : Host). world_after_step script n input host (node_step input host.node) world) o world)
 host-as_before script n input None node rsp world found says_so = absurd (cc (found))
 host-as_before script n input (Some host) node rsp world found says_so =
     let same : host.node ≡ node = same_Some host.node node found in

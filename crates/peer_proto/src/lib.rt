@@ -17,12 +17,12 @@ mod header;
 mod ids;
 mod laws;
 mod opcode;
-#[cfg(test)]
-mod rows;
 mod say;
 mod say_codec;
 mod say_head;
 mod sends;
+#[cfg(test)]
+mod table_tests;
 #[cfg(test)]
 mod tests;
 mod work;

@@ -333,8 +333,8 @@ module _ (input : Input) (node : Node) where
         → has_too_few_zones asked lined.node ≡ true → is_touched req lined.node.gateway ≡ false
         → tree.get lined.node.requests req ≡ request → (IsSoundStep input node → IsOfSession session request)
         → Change so_far (option_map_or
-        (λ (request : Request). course_refused request.session req (Halt (zones_of_members lined.node) (zones_for asked.work)) request.course
-        (without_denied_work session req asked lined))
+        (λ (request : Request). course_refused request.session req
+        (Halt (zones_of_members lined.node) (zones_for asked.work)) request.course (without_denied_work session req asked lined))
         request (without_denied_work session req asked lined))
     -- a work whose request isn't there goes on in the gateway alone, apart from other works; no node whose requests have one work each
     -- has such a work

@@ -30,7 +30,8 @@ next_begun number (Some waiting) so_far =
 abbrev pub course_begun : ℕ → ℕ → Course → StepState → StepState
 course_begun number req (Waiting ask) so_far =
     if may_run req (session_in number so_far).queue
-    then option_map_or (λ (disk : Disk). driver_stepped number req disk (begin_driver disk ask) so_far) (session_in number so_far).disk so_far
+    then option_map_or (λ (disk : Disk). driver_stepped number req disk (begin_driver disk ask) so_far)
+    (session_in number so_far).disk so_far
     else so_far
 course_begun number req (Driving driver) so_far = so_far
 course_begun number req (Commanding op) so_far = so_far

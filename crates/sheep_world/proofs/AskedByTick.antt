@@ -30,7 +30,7 @@ use Rattle.sheep_node.proofs.Numbers.{tick_numbers}
 use Rattle.sheep_world.specs.WireMatch.{asked_by_gateway, asked_by_recovery}
 use Rattle.sheep_node.specs.RecoveryRange.{RecoversInRange}
 use Rattle.std.proofs.lemmas.List.{nil_from_length}
-use Rattle.sheep_world.proofs.RecoveryRangeEvents.{stepped_range}
+use Rattle.sheep_world.proofs.RecoveryRangeEvents.{stepped_range, recovered_in_range}
 use Rattle.sheep_node.proofs.MessageNumbers.{Sends, asked_now}
 use Rattle.sheep_world.proofs.WireAfterSends.{Asking}
 
@@ -149,23 +149,9 @@ module _ (node : Node) (may : may_tick node ≡ true) where
       let state = recovery_state_of node in
       let count : node.sends ≤ SENDS_MAX = leb-true node.sends SENDS_MAX numbers in
       let room : node.sends ≤ 2 ^ 32 - 64 = omega (arith, count) in
-      let after = ticked_in_range node.sends state (record { work = may; room = room }) range.range in
-      let frame = frame_of_tick node.sends state in
-      record {
-        own = ap (λ (f : Frame). f.me) frame ∙ range.own;
-        range = record {
-          me = after.me;
-          epoch = after.epoch;
-          settled = range.range.settled;
-          waiting = after.waiting;
-          policies = range.range.policies;
-          targets = range.range.targets;
-          named = after.named;
-          kept = after.kept;
-          pending = after.pending;
-          search = after.search;
-        };
-      }
+      let after = recovered_in_range node (state_after_tick node.sends state) (ap (λ (f : Frame). f.me) (frame_of_tick node.sends state))
+      (ticked_in_range node.sends state (record { work = may; room = room }) range.range) range in
+      record { own = after.own; range = after.range }
 
   pub recovered_asks : has_numbers node ≡ true → RecoversInRange node → AsksFrom Any node (node_step inputs.RecoverTick node)
   unfolding node_step on_input

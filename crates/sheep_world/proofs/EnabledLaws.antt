@@ -252,20 +252,8 @@ enabled_events-makes statements world event h =
 
 -- Phase isn't looked at
 is_phase : Event → Bool
-is_phase (events.Guest session) = false
-is_phase (events.Deliver node number) = false
-is_phase (events.LoseRequest node number) = false
-is_phase (events.LoseReply node number) = false
-is_phase (events.LogNext node) = false
-is_phase (events.Put node) = false
-is_phase (events.RecoverTick node) = false
-is_phase (events.RetryTick node) = false
-is_phase (events.Lost node) = false
-is_phase (events.Leave node) = false
-is_phase (events.Join node) = false
-is_phase (events.Reweight node) = false
-is_phase (events.Back node) = false
 is_phase events.Phase = true
+is_phase _ = false
 
 abbrev IsOther : Event → Type 0
 IsOther event = is_phase event ≡ false

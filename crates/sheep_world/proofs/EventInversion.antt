@@ -1,6 +1,5 @@
 -- What each event makes is of one of the kinds.
-use Rattle.std.proofs.Common.{◌≡◌, arith, zero, suc, ◌<◌, drop, option_to_list, ℕ, ◌==◌, Bool, true, false, not, ◌&&◌, cond, nat_lt, List, [], ◌∷◌, ◌++◌, length, Option, Some, None, option_and_then, option_map, Result, Ok, Err, refl, sym, ap, subst, ◌∙◌}
-use Rattle.proof_tools.proofs.Booleans.{cond_either}
+use Rattle.std.proofs.Common.{◌≡◌, arith, zero, suc, ◌<◌, drop, option_to_list, ℕ, ◌==◌, true, false, not, ◌&&◌, nat_lt, List, [], ◌∷◌, ◌++◌, length, Option, Some, None, option_and_then, option_map, refl, sym, ap, ◌∙◌}
 use Rattle.proof_tools.proofs.FiniteMaps.{get-insert_same, insert-insert}
 use Rattle.std.specs.Ordering.{nat_cmp}
 use Rattle.std.specs.Option.{option_map_or}
@@ -16,12 +15,6 @@ use Rattle.cluster_script.specs.declared.statement.Statement.{Statement}
 use Rattle.cluster_script.specs.declared.statement.Statement.TheVariants as lines
 use Rattle.cluster_script.specs.NumberedRequests.{session_of, request_at}
 use Rattle.cluster_script.specs.Sessions.{ScriptSession, session_numbered, has_session_number, sessions_of, brings_back}
-use Rattle.peer_proto.specs.declared.ask.PeerReq.{PeerReq}
-use Rattle.peer_proto.specs.declared.fault.PeerFault.{PeerFault}
-use Rattle.peer_proto.specs.declared.say.PeerRsp.{PeerRsp}
-use Rattle.peer_proto.specs.Ask.{ask_in}
-use Rattle.peer_proto.specs.Say.{say_in}
-use Rattle.peer_service.specs.Serve.{reply_to}
 use Rattle.sheep_node.specs.declared.ask.Ask.{Ask}
 use Rattle.sheep_node.specs.declared.event.Event.{Event}
 use Rattle.sheep_node.specs.declared.event.Event.TheVariants as events
@@ -30,68 +23,26 @@ use Rattle.sheep_node.specs.declared.input.Input.TheVariants as inputs
 use Rattle.sheep_node.specs.State.{Node}
 use Rattle.sheep_node.specs.May as node_tests
 use Rattle.sheep_node.specs.LogReading.{is_epoch_member}
-use Rattle.sheep_node.specs.StepState.{StepState, at_first}
-use Rattle.sheep_node.specs.Step.{on_request, on_put, on_input, is_due, with_recovered, recovered_put, node_step}
+use Rattle.sheep_node.specs.Step.{node_step}
 use Rattle.sheep_world.specs.declared.name.MessageName.{MessageName}
 use Rattle.sheep_world.specs.World as worlds
-use Rattle.sheep_world.specs.World.{Packet, Request, Reply, Host, World, host_at, node_at, is_host_up, is_up, is_up_with, is_lost, message_at, receiver_of, are_ends_up, progress_at, next_control}
-use Rattle.sheep_world.specs.Conditions.{serves, has_gateway, next_request, may_begin_request, may_ask, may_guest, may_deliver, may_go, is_request_packet, may_lose_request, may_lose_reply, may_log_next, may_put, may_recover, may_retry, fails, joins, reweights, is_next_control, may_lose_node, may_leave, may_join, may_reweight, has_end_in_wire, may_come_back, may_end_phase}
+use Rattle.sheep_world.specs.World.{Host, World, host_at, node_at, is_host_up, is_up, is_lost, progress_at, next_control}
+use Rattle.sheep_world.specs.Conditions.{serves, has_gateway, next_request, may_begin_request, may_ask, may_guest, may_deliver, may_lose_request, may_lose_reply, may_log_next, may_put, may_recover, may_retry, fails, joins, reweights, is_next_control, may_lose_node, may_leave, may_join, may_reweight, has_end_in_wire, may_come_back, may_end_phase}
 use Rattle.sheep_world.specs.Asking.{ask_of_statement, input_by, input_of}
-use Rattle.sheep_world.specs.NodeSteps.{host_stepped, world_after_step, node_stepped, at_rest}
+use Rattle.sheep_world.specs.NodeSteps.{world_after_step, node_stepped, at_rest}
 use Rattle.sheep_world.specs.Effects.{request_started, next_input, guest_effect, next_entry, log_next_effect, put_done, put_effect, recover_tick_effect, retry_tick_effect}
-use Rattle.sheep_world.specs.Messages.{without_message, wire_with_reply, losses_after_loss, reply_sent, request_got, request_delivered, reply_got, reply_delivered, delivered_as, message_delivered, loss_used, loss_told, message_lost}
+use Rattle.sheep_world.specs.Messages.{message_delivered, message_lost}
 use Rattle.sheep_world.specs.MembershipChanges.{lost_host, control_taken, host_changed, without_replies, node_lost, node_left, node_joined, weight_in, node_reweighted, revived_host, log_handed, came_back, phase_ended}
 use Rattle.sheep_world.specs.Granted.{put_adds}
 use Rattle.sheep_world.specs.HistoryAdditions.{request_grown, replies_grown, writers_lost}
-use Rattle.sheep_world.specs.Enabled.{loss_of}
 use Rattle.sheep_world.specs.Step.{EventOutcome, step, only, with_replies, guest_made, put_made, loss_made, delivery_made}
 use Rattle.sheep_world.proofs.EnabledLaws.{looked_up}
 use Rattle.sheep_world.specs.NodeCauses as causes
-use Rattle.sheep_world.specs.NodeCauses.{NodeCause, GuestAsks, RequestComes, ReplyComes, LossIsTold, EntryIsRead, EntryIsPut, RecoveryTicks, WorkIsRetried, IsCause, world_after_cause, history_of_cause}
-use Rattle.sheep_world.specs.EventKinds.{log_after_return, world_after_return, EventKind, NodeStep, UntoldLoss, UnreadDelivery, NodeLoss, NodeLeave, NodeReweight, NodeJoin, NodeReturn, PhaseEnd}
+use Rattle.sheep_world.specs.NodeCauses.{GuestAsks, EntryIsRead, EntryIsPut, RecoveryTicks, WorkIsRetried, world_after_cause}
+use Rattle.sheep_world.specs.EventKinds.{log_after_return, world_after_return, EventKind, NodeStep, NodeLoss, NodeLeave, NodeReweight, NodeJoin, NodeReturn, PhaseEnd}
 use Rattle.sheep_world.proofs.AskedStatements.{next_asks}
-
-none_so : (b : Bool) → not b ≡ true → b ≡ false
-none_so true is = absurd (cc (is))
-none_so false is = refl
-
--- a node that is up and passes a test
-pub record IsThere (passes : Node → Bool) (n : ℕ) (world : World) : Type 0 where
-  pub host : Host
-  pub there : host_at n world ≡ Some host
-  pub up : is_host_up host ≡ true
-  pub passed : passes host.node ≡ true
-
-up_there : (passes : Node → Bool) (n : ℕ) (world : World) → is_up_with passes n world ≡ true → IsThere passes n world
-up_there passes n world may =
-    let (host, there, is) = looked_up (λ (host : Host). is_host_up host && passes host.node) (host_at n world) may in
-    let parts = and_parts (is_host_up host) (passes host.node) is in
-    record { host = host; there = there; up = parts.0; passed = parts.1 }
-
--- a node that is there steps
-steps_at : (statements : List Statement) (n : ℕ) (input : Input) (host : Host) (world : World) → host_at n world ≡ Some host
-    → node_stepped statements n input world ≡ world_after_step statements n input host (node_step input host.node) world
-unfolding node_stepped
-steps_at statements n input host world there = ap (λ (o : Option Host). host_stepped statements n input o world) there
-
--- what a node says on a request, and what it puts
-says_on_request : (request : PeerReq) (node : Node) → (node_step (inputs.Request request) node).outputs.say ≡ Some (reply_to node.peer request)
-unfolding node_step on_input recovered_put on_request
-says_on_request request node =
-    let so_far = on_request request (at_first node) in
-    cond_either (λ (so_far : StepState). so_far.outputs.say ≡ Some (reply_to node.peer request)) (is_due so_far.node) (with_recovered so_far) so_far refl refl
-
-puts_first : (node : Node) (entry : Entry) (later : List Entry) → node.outbox ≡ entry ∷ later → (node_step inputs.Put node).outputs.put ≡ Some entry
-unfolding node_step on_input recovered_put
-puts_first node entry later first = subst
-    (λ (outbox : List Entry). (cond (is_due (on_put outbox (at_first node)).node) (with_recovered (on_put outbox (at_first node))) (on_put outbox (at_first node))).outputs.put ≡ Some entry)
-    (sym first)
-    (let so_far = on_put (entry ∷ later) (at_first node) in
-    cond_either (λ (so_far : StepState). so_far.outputs.put ≡ Some entry) (is_due so_far.node) (with_recovered so_far) so_far refl refl)
-
--- what an event makes, where it may happen
-abbrev Made_by : Bool → EventOutcome → EventOutcome → Type 0
-Made_by b one made = (b ≡ true) × (one ≡ made)
+use Rattle.sheep_world.proofs.HostSteps.{none_so, up_there, steps_at, puts_first, Made_by}
+use Rattle.sheep_world.proofs.MessageInversion.{happens_deliver, happens_lose_request, happens_lose_reply}
 
 -- ---- Guest
 
@@ -167,162 +118,6 @@ happens_guest statements world made number (may, is) =
       event_so = ap (λ (k : ℕ). events.Guest k) same;
       made_so = sym ((λ i. record { world = world_so i; grown = guest_grown statements number world session found same req (world_so i) next i })) ∙ is;
     })
-
--- ---- messages
-
-module _ (statements : List Statement) (name : MessageName) (world : World) (made : EventOutcome) where
-  abbrev OfDelivery : Type 0
-  OfDelivery = EventKind statements (events.Deliver name.sender name.number) world made
-
-  request_world : (to : NodeId) (request : PeerReq) (host : Host) → host_at to.0 world ≡ Some host
-      → request_got statements name to (Ok request) (at_rest world) ≡ world_after_cause statements to.0 host (RequestComes name to request) world
-  request_world to request host there =
-      let input : Input = inputs.Request request in
-      let after = world_after_step statements to.0 input host (node_step input host.node) (at_rest world) in
-      ap (reply_sent name to) (steps_at statements to.0 input host (at_rest world) there)
-      ∙ ap (λ (say : Option PeerRsp). record after { wire = wire_with_reply name to (is_up name.sender.0 after) say after.wire })
-      (says_on_request request host.node)
-
-  happens_request : (to : NodeId) (bytes : List ℕ) (read : Result PeerReq PeerFault) → ask_in bytes ≡ read
-      → message_at name world ≡ Some (Request to bytes) → is_up to.0 world ≡ true
-      → delivery_made statements name world (request_got statements name to read (at_rest world)) ≡ made → OfDelivery
-  happens_request to bytes (Ok request) so there may is =
-      let (host, at, up) = looked_up is_host_up (host_at to.0 world) may in
-      NodeStep (record {
-        n = to.0;
-        host = host;
-        cause = RequestComes name to request;
-        there = at;
-        up = up;
-        caused = record { here = refl; bytes = bytes; there = there; read = so };
-        event_so = refl;
-        made_so = sym (ap (delivery_made statements name world) (request_world to request host at)) ∙ is;
-      })
-  happens_request to bytes (Err fault) so there may is =
-      UnreadDelivery (record { name = name; packet = Request to bytes; there = there; unread = (fault, so); event_so = refl; made_so = is })
-
-  happens_reply : (from : NodeId) (bytes : List ℕ) (read : Result PeerRsp PeerFault) → say_in bytes ≡ read
-      → message_at name world ≡ Some (Reply from bytes) → is_up name.sender.0 world ≡ true
-      → delivery_made statements name world (reply_got statements name read (at_rest world)) ≡ made → OfDelivery
-  happens_reply from bytes (Ok rsp) so there may is =
-      let (host, at, up) = looked_up is_host_up (host_at name.sender.0 world) may in
-      NodeStep (record {
-        n = name.sender.0;
-        host = host;
-        cause = ReplyComes name from rsp;
-        there = at;
-        up = up;
-        caused = record { here = refl; bytes = bytes; there = there; read = so };
-        event_so = refl;
-        made_so =
-            sym (ap (delivery_made statements name world)
-            (steps_at statements name.sender.0 (inputs.Reply rsp) host (without_message name (at_rest world)) at)) ∙ is;
-      })
-  happens_reply from bytes (Err fault) so there may is =
-      UnreadDelivery (record { name = name; packet = Reply from bytes; there = there; unread = (fault, so); event_so = refl; made_so = is })
-
-  happens_packet : (packet : Packet) → message_at name world ≡ Some packet → is_up (receiver_of name packet).0 world ≡ true
-      → delivery_made statements name world (delivered_as statements name (Some packet) world) ≡ made → OfDelivery
-  unfolding request_delivered reply_delivered
-  happens_packet (Request to bytes) there may is = happens_request to bytes (ask_in bytes) refl there may is
-  happens_packet (Reply from bytes) there may is = happens_reply from bytes (say_in bytes) refl there may is
-
-  happens_deliver : Made_by (may_deliver name world) (delivery_made statements name world (message_delivered statements name world)) made → OfDelivery
-  happens_deliver (may, is) =
-      let (packet, there, up) = looked_up (λ packet. is_up (receiver_of name packet).0 world) (message_at name world) may in
-      happens_packet packet there up
-      (sym (ap (λ (o : Option Packet). delivery_made statements name world (delivered_as statements name o world)) there) ∙ is)
-
-  -- a loss
-  abbrev gone : Packet → World
-  gone packet = record (at_rest world) { wire = tree.remove world.wire name; losses = losses_after_loss name packet world }
-
-  lost_so : (packet : Packet) → message_at name world ≡ Some packet → message_lost statements name world ≡ loss_told statements name (gone packet)
-  unfolding message_lost
-  lost_so packet there =
-      ap (λ (o : Option Packet). loss_told statements name (without_message name (loss_used name o (at_rest world)))) there
-
-  abbrev OfLoss : Packet → Type 0
-  OfLoss packet = EventKind statements (loss_of name packet) world made
-
-  happens_told : (packet : Packet) → message_at name world ≡ Some packet → may_go name packet world ≡ true
-      → (o : Option Host) → host_at name.sender.0 world ≡ o
-      → with_replies statements world (loss_told statements name (gone packet)) ≡ made → OfLoss packet
-  happens_told packet there may None at is = UntoldLoss (record {
-    name = name;
-    packet = packet;
-    there = there;
-    down = ap (λ (o : Option Host). option_map_or is_host_up o false) at;
-    may = may;
-    event_so = refl;
-    made_so =
-        sym (ap (λ (o : Option Host). with_replies statements world
-        (cond (option_map_or is_host_up o false) (node_stepped statements name.sender.0 (inputs.Lost name.number) (gone packet)) (gone packet))) at) ∙ is;
-  })
-  happens_told packet there may (Some host) at is = by_up (is_host_up host) refl
-    where
-      told_is : (b : Bool) → is_host_up host ≡ b → with_replies statements world (cond b (node_stepped statements name.sender.0 (inputs.Lost name.number) (gone packet)) (gone packet)) ≡ made
-      told_is b up =
-          sym (ap (λ (b : Bool). with_replies statements world
-          (cond b (node_stepped statements name.sender.0 (inputs.Lost name.number) (gone packet)) (gone packet)))
-          (ap (λ (o : Option Host). option_map_or is_host_up o false) at ∙ up)) ∙ is
-
-      by_up : (b : Bool) → is_host_up host ≡ b → OfLoss packet
-      by_up true up = NodeStep (record {
-        n = name.sender.0;
-        host = host;
-        cause = LossIsTold name packet;
-        there = at;
-        up = up;
-        caused = record { here = refl; there = there; may = may };
-        event_so = event_is packet;
-        made_so =
-            sym (ap (with_replies statements world) (steps_at statements name.sender.0 (inputs.Lost name.number) host (gone packet) at))
-            ∙ told_is true up;
-      })
-        where
-          event_is : (packet : Packet) → causes.event_of_cause name.sender.0 (LossIsTold name packet) ≡ loss_of name packet
-          event_is (Request to bytes) = refl
-          event_is (Reply from bytes) = refl
-      by_up false down = UntoldLoss (record {
-        name = name;
-        packet = packet;
-        there = there;
-        down = ap (λ (o : Option Host). option_map_or is_host_up o false) at ∙ down;
-        may = may;
-        event_so = refl;
-        made_so = told_is false down;
-      })
-
-  lost_at : (packet : Packet) → message_at name world ≡ Some packet → may_go name packet world ≡ true
-      → with_replies statements world (message_lost statements name world) ≡ made → OfLoss packet
-  lost_at packet there may is =
-      happens_told packet there may (host_at name.sender.0 world) refl
-      (sym (ap (with_replies statements world) (lost_so packet there)) ∙ is)
-
-  request_lost : (packet : Packet) → message_at name world ≡ Some packet → (is_request_packet packet && may_go name packet world) ≡ true
-      → with_replies statements world (message_lost statements name world) ≡ made
-      → EventKind statements (events.LoseRequest name.sender name.number) world made
-  request_lost (Request to bytes) there may is = lost_at (Request to bytes) there may is
-  request_lost (Reply from bytes) there may is = absurd (cc (may))
-
-  reply_lost : (packet : Packet) → message_at name world ≡ Some packet → (not (is_request_packet packet) && may_go name packet world) ≡ true
-      → with_replies statements world (message_lost statements name world) ≡ made
-      → EventKind statements (events.LoseReply name.sender name.number) world made
-  reply_lost (Request to bytes) there may is = absurd (cc (may))
-  reply_lost (Reply from bytes) there may is = lost_at (Reply from bytes) there may is
-
-  happens_lose_request : Made_by (may_lose_request name world) (with_replies statements world (message_lost statements name world)) made
-      → EventKind statements (events.LoseRequest name.sender name.number) world made
-  happens_lose_request (may, is) =
-      let (packet, there, goes) = looked_up (λ packet. is_request_packet packet && may_go name packet world) (message_at name world) may in
-      request_lost packet there goes is
-
-  happens_lose_reply : Made_by (may_lose_reply name world) (with_replies statements world (message_lost statements name world)) made
-      → EventKind statements (events.LoseReply name.sender name.number) world made
-  happens_lose_reply (may, is) =
-      let (packet, there, goes) = looked_up (λ packet. not (is_request_packet packet) && may_go name packet world) (message_at name world) may in
-      reply_lost packet there goes is
 
 -- ---- steps that no message brings
 

@@ -21,6 +21,8 @@ pub mod AskedInputs
 pub mod ReturningNodes
 pub mod SmallWorld
 pub mod AskedStatements
+pub mod HostSteps
+pub mod MessageInversion
 pub mod EventInversion
 pub mod HostChangeLaws
 pub mod BegunWorlds

@@ -26,6 +26,7 @@ use Rattle.peer_service.specs.State.{Peer, is_dead_object, length_of_rows}
 use Rattle.gateway.specs.State as gateways
 use Rattle.recovery.specs.Frame.{Frame}
 use Rattle.recovery.specs.Range.{IsInRange}
+use Rattle.recovery.specs.State.{RecoveryState}
 use Rattle.recovery.specs.Shown.{NodeView}
 use Rattle.recovery.specs.State.{Recovery}
 use Rattle.recovery.specs.Steps as recovery_steps
@@ -34,7 +35,7 @@ use Rattle.recovery.proofs.RangeLemmas.{ended_in_range}
 use Rattle.sheep_node.specs.declared.input.Input.{Input}
 use Rattle.sheep_node.specs.declared.input.Input.TheVariants as inputs
 use Rattle.sheep_node.specs.State.{Node}
-use Rattle.sheep_node.specs.RecoveryView.{recovery_state_of}
+use Rattle.sheep_node.specs.RecoveryView.{recovery_state_of, with_state}
 use Rattle.sheep_node.specs.StepState.{StepState, at_first}
 use Rattle.sheep_node.specs.Step.{recovery_stepped, on_put, node_step}
 use Rattle.sheep_node.specs.Changes.{input_received}
@@ -80,26 +81,32 @@ put_range node range = stepped_range inputs.Put node (by_outbox node.outbox)
     by_outbox [] = range
     by_outbox (entry ∷ later) = record { own = range.own; range = range.range }
 
+-- a step of a node's recovery, in the node's name and in range
+pub recovered_in_range : (node : Node) (state : RecoveryState) → state.recovery.me ≡ node.recovery.me → IsInRange state → RecoversInRange node
+    → RecoversInRange (with_state state node)
+recovered_in_range node state me_so after range = record {
+  own = me_so ∙ range.own;
+  range = record {
+    me = after.me;
+    epoch = after.epoch;
+    settled = range.range.settled;
+    waiting = after.waiting;
+    policies = range.range.policies;
+    targets = range.range.targets;
+    named = after.named;
+    kept = after.kept;
+    pending = after.pending;
+    search = after.search;
+  };
+}
+
 -- a loss
 recovery_range : (node : Node) (number : ℕ) → RecoversInRange node
     → RecoversInRange (recovery_stepped (recovery_steps.message_end number None (recovery_state_of node)) (at_first node)).node
 recovery_range node number range =
-    let after = ended_in_range number None (recovery_state_of node) tt range.range in
-    record {
-      own = ap (λ (f : Frame). f.me) (frame_of_end number None (recovery_state_of node)) ∙ range.own;
-      range = record {
-        me = after.me;
-        epoch = after.epoch;
-        settled = range.range.settled;
-        waiting = after.waiting;
-        policies = range.range.policies;
-        targets = range.range.targets;
-        named = after.named;
-        kept = after.kept;
-        pending = after.pending;
-        search = after.search;
-      };
-    }
+    recovered_in_range node (recovery_steps.message_end number None (recovery_state_of node))
+    (ap (λ (f : Frame). f.me) (frame_of_end number None (recovery_state_of node)))
+    (ended_in_range number None (recovery_state_of node) tt range.range) range
 
 pub told_range : (node : Node) (number : ℕ) → RecoversInRange node → RecoversInRange (node_step (inputs.Lost number) node).node
 unfolding recovery_steps.recovery_on_loss

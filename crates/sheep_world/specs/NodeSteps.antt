@@ -1,5 +1,6 @@
 -- One node's step in the world: what it sends enters the wire, and what it replied to is answered.
 use Rattle.std.specs.Prelude.{ℕ, ◌==◌, not, List, fold, filter, Option, Some, None, unwrap_or, find}
+use Rattle.std.specs.Option.{option_map_or}
 use Rattle.std.specs.Ordering.{nat_cmp}
 use Rattle.std.specs.FinMap as tree
 use Rattle.object_id.specs.declared.node.NodeId.{NodeId}
@@ -60,14 +61,11 @@ world_after_step statements node input host so_far world = record world {
   outputs = so_far.outputs;
 }
 
--- the node in a host steps on an input
-abbrev pub host_stepped : List Statement → ℕ → Input → Option Host → World → World
-host_stepped statements node input None world = world
-host_stepped statements node input (Some host) world = world_after_step statements node input host (node_step input host.node) world
-
 -- a node steps on an input
 unfoldable pub node_stepped : List Statement → ℕ → Input → World → World
-node_stepped statements node input world = host_stepped statements node input (host_at node world) world
+node_stepped statements node input world =
+    option_map_or (λ (host : Host). world_after_step statements node input host (node_step input host.node) world)
+    (host_at node world) world
 
 -- no node steps
 abbrev pub at_rest : World → World

@@ -17,17 +17,7 @@ RecoveriesAreInRange world = AllRecoverInRange world.hosts
 
 -- whether an event may tell a recovery what it doesn't know
 abbrev pub tells_recovery : Event → Bool
-tells_recovery (events.Guest session) = false
 tells_recovery (events.Deliver node number) = true
-tells_recovery (events.LoseRequest node number) = false
-tells_recovery (events.LoseReply node number) = false
 tells_recovery (events.LogNext node) = true
-tells_recovery (events.Put node) = false
-tells_recovery (events.RecoverTick node) = false
-tells_recovery (events.RetryTick node) = false
-tells_recovery (events.Lost node) = false
-tells_recovery (events.Leave node) = false
-tells_recovery (events.Join node) = false
-tells_recovery (events.Reweight node) = false
 tells_recovery (events.Back node) = true
-tells_recovery events.Phase = false
+tells_recovery _ = false

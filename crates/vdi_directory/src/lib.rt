@@ -30,9 +30,9 @@ mod references;
 mod reservations;
 mod reserving;
 #[cfg(test)]
-mod rows;
-#[cfg(test)]
 mod spelled;
+#[cfg(test)]
+mod table_tests;
 #[cfg(test)]
 mod tests;
 mod used_ids;
