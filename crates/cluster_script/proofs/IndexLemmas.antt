@@ -16,7 +16,7 @@ use Rattle.cluster_script.specs.Settings.{zone_set, setting_of, zone_of}
 use Rattle.cluster_script.specs.Phases.{Phase, is_barrier, is_control, losses_in, stretches, phases_of, phase_of_request}
 use Rattle.cluster_script.specs.Sessions.{sessions_from, sessions_of, has_session_number, session_numbered}
 use Rattle.cluster_script.specs.OneDisk.{IsOneDiskScript}
-use Rattle.cluster_script.specs.Index.{request_places, place_numbered, index_of, indexed_at, indexed_numbers, indexed_request, control_at, barrier_at, phase_request_at, phase_counts}
+use Rattle.cluster_script.specs.Index.{request_places, place_numbered, script_index, indexed_at, indexed_numbers, indexed_request, control_at, phase_barrier_at, phase_request_at, phase_counts}
 use Rattle.cluster_script.proofs.Shape.{AreAsked, has_shape}
 
 -- at a place both lists have nothing, or a place among the statements and the statement there
@@ -140,7 +140,7 @@ option_map-option_map f g (Some x) = refl
 
 -- a request in the index is that of its number
 pub indexed_at-request_at : (statements : List Statement) (number : ℕ)
-    → indexed_at (index_of statements) number ≡ option_map (λ s. indexed_request statements (number, s)) (request_at statements number)
+    → indexed_at (script_index statements) number ≡ option_map (λ s. indexed_request statements (number, s)) (request_at statements number)
 indexed_at-request_at statements zero = refl
 indexed_at-request_at statements (suc k) =
     slice_get-map (indexed_request statements) (numbered_requests statements) k
@@ -251,13 +251,13 @@ looks statements script = elim (has_shape statements script) [
 
 -- a request as the index has it
 pub request-there : (statements : List Statement) (number : ℕ) (s : Statement) → Looks statements → request_at statements number ≡ Some s
-    → indexed_at (index_of statements) number ≡ Some (record { statement = s; session = unwrap_or (session_of s) 0; phase = 0 })
+    → indexed_at (script_index statements) number ≡ Some (record { statement = s; session = unwrap_or (session_of s) 0; phase = 0 })
 request-there statements number s seen is =
     indexed_at-request_at statements number
     ∙ ap (option_map (λ line. indexed_request statements (number, line))) is
     ∙ ap (λ (phase : ℕ). Some (record { statement = s; session = unwrap_or (session_of s) 0; phase = phase })) (seen.first number s is)
 
-pub request-none : (statements : List Statement) (number : ℕ) → request_at statements number ≡ None → indexed_at (index_of statements) number ≡ None
+pub request-none : (statements : List Statement) (number : ℕ) → request_at statements number ≡ None → indexed_at (script_index statements) number ≡ None
 request-none statements number none =
     indexed_at-request_at statements number ∙ ap (option_map (λ line. indexed_request statements (number, line))) none
 
@@ -355,10 +355,10 @@ pub counts-past : (statements : List Statement) (place : ℕ) → length (phases
 counts-past statements place past = ap (option_map phase_counts) (get-past (phases_of statements) place past)
 
 pub barrier-there : (statements : List Statement) (place : ℕ) → Looks statements → place < length (phases_of statements)
-    → barrier_at statements place ≡ Some Settle
+    → phase_barrier_at statements place ≡ Some Settle
 barrier-there statements place seen within = ap (option_map (λ (found : Phase). found.barrier)) (phase-there statements place seen within)
 
-pub barrier-past : (statements : List Statement) (place : ℕ) → length (phases_of statements) ≤ place → barrier_at statements place ≡ None
+pub barrier-past : (statements : List Statement) (place : ℕ) → length (phases_of statements) ≤ place → phase_barrier_at statements place ≡ None
 barrier-past statements place past = ap (option_map (λ (found : Phase). found.barrier)) (get-past (phases_of statements) place past)
 
 pub phase_request-past : (statements : List Statement) (phase place : ℕ) → length (phases_of statements) ≤ phase
@@ -381,7 +381,7 @@ phase_request-there statements phase place seen within below =
 
 -- the index has the requests of each session, and the zone of each node
 pub indexed_numbers-numbers_of_session : (statements : List Statement) (session : ℕ) → 1 ≤ session → session ≤ SESSIONS_MAX
-    → indexed_numbers (index_of statements) session ≡ numbers_of_session statements session
+    → indexed_numbers (script_index statements) session ≡ numbers_of_session statements session
 indexed_numbers-numbers_of_session statements zero above below = absurd (omega (arith, above))
 indexed_numbers-numbers_of_session statements (suc place) above below =
     let e : 1 + place ≡ suc place = omega arith in
@@ -389,7 +389,7 @@ indexed_numbers-numbers_of_session statements (suc place) above below =
     ∙ ap (option_map (numbers_of_session statements)) (range-at 1 SESSIONS_MAX place (omega (arith, below)) ∙ ap Some e))
 
 pub zones-zone_of : (statements : List Statement) (node : ℕ) → node < NODES_MAX
-    → slice_get (index_of statements).zones node ≡ Some (zone_of statements node)
+    → slice_get (script_index statements).zones node ≡ Some (zone_of statements node)
 zones-zone_of statements node below =
     let e : 0 + node ≡ node = omega arith in
     slice_get-map (zone_of statements) (range_with_len 0 NODES_MAX) node

@@ -55,8 +55,8 @@ settings_of statements = record {
 }
 
 -- the index of a script
-abbrev pub index_of : List Statement → ScriptIndex
-index_of statements = record {
+abbrev pub script_index : List Statement → ScriptIndex
+script_index statements = record {
   settings = settings_of statements;
   zones = map (zone_of statements) (range_with_len 0 NODES_MAX);
   sessions = sessions_of statements;
@@ -86,8 +86,8 @@ phase_request_at statements phase place =
     option_and_then (λ (found : Phase). slice_get found.requests place) (slice_get (phases_of statements) phase)
 
 -- the barrier that ends a phase
-abbrev pub barrier_at : List Statement → ℕ → Option Statement
-barrier_at statements phase = option_map (λ (found : Phase). found.barrier) (slice_get (phases_of statements) phase)
+abbrev pub phase_barrier_at : List Statement → ℕ → Option Statement
+phase_barrier_at statements phase = option_map (λ (found : Phase). found.barrier) (slice_get (phases_of statements) phase)
 
 -- how many controls, losses and requests a phase has
 abbrev pub phase_counts : Phase → PhaseOfScript

@@ -17,7 +17,7 @@ ghost use Rattle.cluster_script.specs.Spelling.{IsSpelled, IsScriptText, IsBadLi
 ghost use Rattle.cluster_script.specs.Writing.{text_for};
 ghost use Rattle.cluster_script.specs.NumberedRequests.{session_of, payload_of, request_at, numbers_of_session};
 ghost use Rattle.cluster_script.specs.Settings.{zone_of};
-ghost use Rattle.cluster_script.specs.Index.{index_of, indexed_request, indexed_at, indexed_numbers};
+ghost use Rattle.cluster_script.specs.Index.{script_index, indexed_request, indexed_at, indexed_numbers};
 ghost use Rattle.cluster_script.specs.Phases.{Phase, phases_of};
 ghost use Rattle.cluster_script.specs.Sessions.{ScriptSession, sessions_of, session_numbered};
 
@@ -44,12 +44,12 @@ pub fn each_session_is_declared()
 
 /// The index of a script has of each request, each session's requests and each node's zone what the statements say.
 pub fn the_index_is_of_the_statements()
-    ensures requests { (statements : List Line) (number : ℕ) → indexed_at (index_of statements) number
+    ensures requests { (statements : List Line) (number : ℕ) → indexed_at (script_index statements) number
         ≡ option_map (λ s. indexed_request statements (number, s)) (request_at statements number) }
     ensures numbers { (statements : List Line) (session : ℕ) → 1 ≤ session → session ≤ SESSIONS_MAX
-        → indexed_numbers (index_of statements) session ≡ numbers_of_session statements session }
+        → indexed_numbers (script_index statements) session ≡ numbers_of_session statements session }
     ensures zones { (statements : List Line) (node : ℕ) → node < NODES_MAX
-        → slice_get (index_of statements).zones node ≡ Some (zone_of statements node) }
+        → slice_get (script_index statements).zones node ≡ Some (zone_of statements node) }
 {}
 
 /// A script of one disk is a script of the whole language.

@@ -5,7 +5,7 @@ ghost use Rattle.cluster_script.specs.Settings.{nodes_of, vnodes_of, tries_of, l
 ghost use Rattle.cluster_script.specs.NumberedRequests.{numbers_of_session};
 ghost use Rattle.cluster_script.specs.Phases.{phases_of};
 ghost use Rattle.cluster_script.specs.Sessions.{session_numbered};
-ghost use Rattle.cluster_script.specs.Index.{IsIndex, index_of, indexed_at, request_seen, session_seen, phase_counts, control_at, barrier_at, phase_request_at};
+ghost use Rattle.cluster_script.specs.Index.{IsIndex, script_index, indexed_at, request_seen, session_seen, phase_counts, control_at, phase_barrier_at, phase_request_at};
 ghost use Rattle.cluster_script.specs.Script.{AnswersText};
 ghost use Rattle.cluster_script.specs.OneDiskLines.{one_disk_script_in};
 
@@ -100,7 +100,7 @@ impl Script {
 
     /// The request of a number; the first one is number 1, and there is no number 0. So far all are of the first phase.
     pub fn request(&self, number: u32) -> Option<RequestOfScript<'_>>
-        ensures { option_map request_seen result ≡ indexed_at (index_of self.now) number }
+        ensures { option_map request_seen result ≡ indexed_at (script_index self.now) number }
     {
         let place = self.index.place_of(number)?;
         let statement = self.statements.get(place as usize)?;
@@ -190,7 +190,7 @@ impl Script {
 
     /// The barrier that ends the phase at a place, from 0. So far it ends by settling.
     pub fn barrier(&self, phase: usize) -> Option<Statement>
-        ensures { result ≡ barrier_at self.now phase }
+        ensures { result ≡ phase_barrier_at self.now phase }
     {
         let _ = &self.statements;
         if phase >= self.phase_count() {

@@ -79,53 +79,52 @@ fn has_the_settings_of_an_empty_text(rt: HostRuntime) -> Result<(), Fail> {
     assert_eq!(rt; script.vnodes(), 64);
     assert_eq!(rt; script.tries(), 8);
     assert_eq!(rt; script.limit(), 1_000_000);
+    assert_eq!(rt; script.zone(63), 63);
+    Ok(())
+}
+
+/// A script of three requests.
+const THREE: &[u8] =
+    b"# one disk\ncluster 1\nsession 1 node 0\n1 vdi create -c 1 a 1M\n1 vdi open a\n1 vdi read 0 1024\n";
+
+#[test]
+fn finds_a_request_by_its_number(rt: HostRuntime) -> Result<(), Fail> {
+    let script = parse(rt.alloc(), THREE).ok().ok_or("the text is a script")?;
+    let read = script.request(3).ok_or("there is a read")?;
+    assert!(rt; matches!(read.statement, Statement::Read { length: 1024, .. }));
+    assert_eq!(rt; (read.session, read.phase), (1, 0));
+    assert!(rt; script.request(0).is_none());
+    assert!(rt; script.request(4).is_none());
     Ok(())
 }
 
 #[test]
-fn looks_up_what_a_script_has(rt: HostRuntime) -> Result<(), Fail> {
-    let text =
-        b"# one disk\ncluster 1\nsession 1 node 0\n1 vdi create -c 1 a 1M\n1 vdi open a\n1 vdi read 0 1024\n";
-    let script = parse(rt.alloc(), text).ok().ok_or("the text is a script")?;
-    assert!(rt; script.request(0).is_none());
-    for number in 1..4 {
-        let request = script.request(number).ok_or("there is a request")?;
-        assert_eq!(rt; request.session, 1);
-        assert_eq!(rt; request.phase, 0);
-        assert_eq!(rt; script.request_of_session(1, number - 1), Some(number));
-        assert_eq!(rt; script.request_of_session(2, number - 1), None);
-        assert_eq!(rt; script.request_of_phase(0, number - 1), Some(number));
-        assert_eq!(rt; script.request_of_phase(1, number - 1), None);
-    }
-    let read = script.request(3).ok_or("there is a read")?;
-    assert!(rt; matches!(read.statement, Statement::Read { length: 1024, .. }));
-    assert!(rt; script.request(4).is_none());
+fn finds_the_requests_of_a_session(rt: HostRuntime) -> Result<(), Fail> {
+    let script = parse(rt.alloc(), THREE).ok().ok_or("the text is a script")?;
+    assert_eq!(rt; script.request_of_session(1, 2), Some(3));
     assert_eq!(rt; script.request_of_session(1, 3), None);
-    assert_eq!(rt; script.request_of_phase(0, 3), None);
+    assert_eq!(rt; script.request_of_session(2, 0), None);
+    Ok(())
+}
 
-    let session = SessionOfScript {
-        number: 1,
-        node: 0,
-        incarnation: 1,
-    };
-    assert_eq!(rt; script.session(1), Some(session));
-    assert_eq!(rt; script.session(0), None);
-    assert_eq!(rt; script.session(2), None);
+#[test]
+fn finds_a_session(rt: HostRuntime) -> Result<(), Fail> {
+    let script = parse(rt.alloc(), THREE).ok().ok_or("the text is a script")?;
+    let session = script.session(1).ok_or("it is declared")?;
+    assert_eq!(rt; (session.node, session.incarnation), (0, 1));
+    assert!(rt; script.session(2).is_none());
+    Ok(())
+}
 
-    let phase = PhaseOfScript {
-        controls: 0,
-        losses: 0,
-        requests: 3,
-    };
+#[test]
+fn finds_a_phase(rt: HostRuntime) -> Result<(), Fail> {
+    let script = parse(rt.alloc(), THREE).ok().ok_or("the text is a script")?;
     assert_eq!(rt; script.phase_count(), 1);
-    assert_eq!(rt; script.phase(0), Some(phase));
-    assert_eq!(rt; script.phase(1), None);
-    assert!(rt; script.control(0, 0).is_none());
+    let phase = script.phase(0).ok_or("there is a phase")?;
+    assert_eq!(rt; (phase.controls, phase.losses, phase.requests), (0, 0, 3));
+    assert_eq!(rt; script.request_of_phase(0, 2), Some(3));
     assert!(rt; matches!(script.barrier(0), Some(Statement::Settle)));
-    assert!(rt; script.barrier(1).is_none());
-    for node in 0..64 {
-        assert_eq!(rt; script.zone(node), node);
-    }
+    assert!(rt; script.control(0, 0).is_none());
     Ok(())
 }
 
@@ -135,10 +134,7 @@ fn has_no_phase_without_a_session(rt: HostRuntime) -> Result<(), Fail> {
         .ok()
         .ok_or("a setting is a script")?;
     assert_eq!(rt; script.phase_count(), 0);
-    assert_eq!(rt; script.phase(0), None);
-    assert!(rt; script.barrier(0).is_none());
-    assert_eq!(rt; script.session(1), None);
-    assert!(rt; script.request(1).is_none());
+    assert!(rt; script.session(1).is_none());
     Ok(())
 }
 

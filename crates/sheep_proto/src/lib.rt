@@ -28,6 +28,6 @@ pub use codes::{
 };
 pub use common::{Common, HEADER_BYTES, VERSION, put_common, read_common};
 pub use fault::HeaderFault;
-pub use laws::{replies_are_read_again, requests_are_read_again};
+pub use laws::{codes_in_numbers, replies_are_read_again, requests_are_read_again};
 pub use reply::{VdiRsp, decode_reply, encode_reply};
 pub use request::{ObjReq, Request, VdiReq, decode_request, encode_request};
