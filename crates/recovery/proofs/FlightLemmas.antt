@@ -319,7 +319,7 @@ pub any_reversed : (oid : ℕ) (oids : List ℕ) → list_any (λ other. other =
 any_reversed oid [] = refl
 any_reversed oid (x ∷ xs) =
     ap (list_any (λ other. other == oid)) (reverse-append (x ∷ []) xs)
-    ∙ list_any-append (reverse xs) (x ∷ [])
+    ∙ list_any-append (λ other. other == oid) (reverse xs) (x ∷ [])
     ∙ ap (λ b. b || ((x == oid) || false)) (any_reversed oid xs)
     ∙ turned (list_any (λ other. other == oid) xs) (x == oid)
   where

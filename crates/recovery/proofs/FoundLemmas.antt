@@ -37,12 +37,12 @@ pub valid_policy : (shown : NodeView) (oid : ℕ) (policy : Policy) → IfSome (
     → IsPolicy policy
 valid_policy shown oid policy may is = subst (λ (o : Option Policy). IfSome o IsPolicy) (live_known shown oid policy is) may
 
-wanted-most : (policy : Policy) (kind : Kind) → IsPolicy policy → wanted_of policy kind ≤ TARGETS_MAX
+pub wanted-most : (policy : Policy) (kind : Kind) → IsPolicy policy → wanted_of policy kind ≤ TARGETS_MAX
 wanted-most (Copies copies) kind is = is.1
 wanted-most (Coded d p) Block is = let few = width_most d is.0 in let most = is.2 in omega (arith, few, most)
 wanted-most (Coded d p) Inode is = let most = is.2 in omega (arith, most)
 
-asked-fits : (shown : NodeView) (oid level wanted : ℕ) (size : Option ℕ) (row : RowCopy) → shown.size_of oid ≡ size → wanted ≤ TARGETS_MAX
+pub asked-fits : (shown : NodeView) (oid level wanted : ℕ) (size : Option ℕ) (row : RowCopy) → shown.size_of oid ≡ size → wanted ≤ TARGETS_MAX
     → is_asked_row level wanted size row ≡ true → IsFittingRow shown oid row
 asked-fits shown oid level wanted None row is most asked = absurd (cc (asked))
 asked-fits shown oid level wanted (Some size) row is most asked =

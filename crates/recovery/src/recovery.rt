@@ -3,15 +3,17 @@ ghost use Rattle.std.specs.List.{list_any};
 ghost use Rattle.std.specs.Option.{option_copied, option_map};
 ghost use Rattle.object_id.specs.declared.limits.TheConstants.{NODES_MAX};
 ghost use Rattle.object_list.specs.Gathered.{has_node, is_same_node};
-ghost use Rattle.object_id.specs.Policy.{IsPolicy};
+ghost use Rattle.object_id.specs.Oid.{kind_of};
+ghost use Rattle.object_id.specs.Policy.{IsPolicy, wanted_of};
 ghost use Rattle.object_store.specs.Rows.{reaches};
-ghost use Rattle.recovery.specs.Shown.{NodeView, is_asked_row};
+ghost use Rattle.recovery.specs.Shown.{NodeView, live_policy, is_asked_row};
 ghost use Rattle.recovery.specs.State.{Message, initial_recovery, search_on, is_listed, all_unanswered, message_of, is_finished, can_tick, is_missing, recovery_awaits, MayBegin, MayTick};
 ghost use Rattle.recovery.specs.Fits.{is_list, is_recover_read, fits_recovery};
-ghost use Rattle.recovery.specs.Level.{is_of_search, with_part_found, with_object_missing};
-ghost use Rattle.recovery.specs.Tick.{lists_asked, level_messages, next_search, tick_sends, state_after_tick};
+ghost use Rattle.recovery.specs.Level.{is_of_search, with_part_found, with_object_missing, level_over};
+ghost use Rattle.peer_proto.specs.declared.ask.PeerAsk.TheVariants as asks;
+ghost use Rattle.recovery.specs.Tick.{messages_to, lists_asked, level_messages, next_search, tick_sends, state_after_tick};
 ghost use Rattle.recovery.specs.Steps.{recovery_from_epoch, recovery_on_reply, recovery_on_loss, message_end, messages_without, without_unanswered};
-ghost use Rattle.recovery.specs.Steps.{search_after_answer, after_list, after_read, with_list_of};
+ghost use Rattle.recovery.specs.Steps.{search_after_answer, after_list, after_read, after_ask, with_list_of};
 ghost use Rattle.recovery.specs.Kept.{state_of, ask_of, messages_in, fits_asked_row, fits_asked, level_end, state_after_level, level_over_after};
 ghost use Rattle.recovery.specs.Kept.{sent_to, sent_by, is_searched, IsSmallEnd};
 ghost use Rattle.recovery.specs.Step.{MayStep, MayEndLevel, SaysOfRow, IsFittingSay};
@@ -23,7 +25,7 @@ use crate::listing::{ids_when_listed, show_pending};
 use crate::rows::Rows;
 use crate::search::Search;
 use crate::sends::RecoverSends;
-use object_id::{Epoch, NoMemory, NodeId, Oid, TARGETS_MAX};
+use object_id::{Epoch, NoMemory, NodeId, Oid, Policy, TARGETS_MAX};
 use object_list::Lists;
 use object_store::{Key, OidList, RowCopy};
 use peer_proto::{PeerRsp, PeerSay, SendList};
@@ -77,8 +79,9 @@ fn other_members(
     members: &[NodeId],
     nodes: &[NodeId],
 ) -> Result<Vec<NodeId>, NoMemory>
-    ensures { IfOk result (λ others. others.items
+    ensures others { IfOk result (λ others. others.items
         ≡ filter (λ node. has_node node members.now && not (is_same_node me node)) nodes.now) }
+    ensures few { IfOk result (λ others. length others.items ≤ length nodes.now) }
 {
     let mut others = Vec::from_slice(alloc, nodes)?;
     others.retain(|node| is_member(members, *node) && *node != me);
@@ -254,7 +257,7 @@ impl Recovery {
     /// Asks each other member that hasn't named its objects for them, or once all have, the targets of the next level of the search for
     /// the smallest pending object; where a level has none to ask, it is over at once. The messages are numbered upwards from `first`.
     /// Costs the targets of one level, with a look at the members for each, and takes the messages. Without memory nothing changes.
-    #[tactic(auto, using(crate::proofs::TickLemmas::tick_none, crate::proofs::TickLemmas::none_current, crate::proofs::TickLemmas::lists_sends, crate::proofs::TickLemmas::after_lists))]
+    #[tactic(auto, using(crate::proofs::TickLemmas::tick_none))]
     pub fn tick<R: Rows>(&mut self, first: u32, rows: &mut R) -> Result<RecoverSends, NoMemory>
         requires may { MayTick first (state_of self.old (R.shown rows.old)) }
         requires step { MayStep (state_of self.old (R.shown rows.old)) }
@@ -266,7 +269,7 @@ impl Recovery {
         if self.lists.waiting().is_empty() {
             self.tick_search(first, rows)
         } else {
-            self.tick_lists(first)
+            self.tick_unlisted(first, rows)
         }
     }
 
@@ -290,6 +293,25 @@ impl Recovery {
         let list = flight.sends(self.alloc, self.me)?;
         self.flight = flight;
         Ok(RecoverSends { list })
+    }
+
+    /// The tick while a member hasn't named its objects.
+    fn tick_unlisted<R: Rows>(
+        &mut self,
+        first: u32,
+        _rows: &mut R,
+    ) -> Result<RecoverSends, NoMemory>
+        requires lacks { is_listed self.old ≡ false }
+        requires none { all_unanswered self.old ≡ [] }
+        requires room { first ≤ 2 ^ 32 - NODES_MAX }
+        requires few { length self.old.lists.waiting ≤ NODES_MAX }
+        ensures sends { IfOk result (λ sends. sends.list ≡ tick_sends first (state_of self.old (R.shown _rows.old))) }
+        ensures ok { OnOk result (state_of self.new (R.shown _rows.new) ≡ state_after_tick first (state_of self.old (R.shown _rows.old))) }
+        ensures err { OnErr result (state_of self.new (R.shown _rows.new) ≡ state_of self.old (R.shown _rows.old)) }
+        ensures rest { R.rest _rows.new ≡ R.rest _rows.old }
+    {
+        let sends = self.tick_lists(first)?;
+        Ok(sends)
     }
 
     /// The search that goes on, if its object is still pending.
@@ -326,10 +348,10 @@ impl Recovery {
     }
 
     /// Asks the targets of the next level, or ends it where there is none to ask.
+    #[tactic(auto, using(crate::proofs::TickLemmas::nothing_sends, crate::proofs::TickLemmas::nothing_asked, crate::proofs::MayLemmas::next_ends, crate::proofs::TickLemmas::tick_none, crate::proofs::TickLemmas::none_current, crate::proofs::TickLemmas::none_older))]
     fn tick_search<R: Rows>(&mut self, first: u32, rows: &mut R) -> Result<RecoverSends, NoMemory>
         requires listed { is_listed self.old ≡ true }
-        requires none { all_unanswered self.old ≡ [] }
-        requires room { first ≤ 2 ^ 32 - NODES_MAX }
+        requires may { MayTick first (state_of self.old (R.shown rows.old)) }
         requires step { MayStep (state_of self.old (R.shown rows.old)) }
         ensures sends { IfOk result (λ sends. sends.list ≡ tick_sends first (state_of self.old (R.shown rows.old))) }
         ensures ok { OnOk result (state_of self.new (R.shown rows.new) ≡ state_after_tick first (state_of self.old (R.shown rows.old))) }
@@ -344,7 +366,36 @@ impl Recovery {
         }
     }
 
+    /// A message to each member among the targets of a search's level, but for the node itself.
+    fn flight_to<R: Rows>(
+        &self,
+        first: u32,
+        search: &Search,
+        policy: Policy,
+        targets: &[NodeId],
+        _rows: &R,
+    ) -> Result<InFlight, NoMemory>
+        requires room { first ≤ 2 ^ 32 - NODES_MAX }
+        requires few { length targets.now ≤ TARGETS_MAX }
+        requires valid { IsPolicy policy }
+        requires policy { live_policy (R.shown _rows.now) search.now.oid ≡ Some policy }
+        requires targets { targets.now ≡ (R.shown _rows.now).targets search.now.level search.now.oid policy }
+        ensures messages { IfOk result (λ flight. messages_in self.now.me flight
+            ≡ level_messages first (state_of self.now (R.shown _rows.now)) search.now) }
+        ensures current { IfOk result (λ flight. flight.is_older ≡ false) }
+    {
+        let others = other_members(self.alloc, self.me, self.members.as_slice(), targets)?;
+        let asked = Asked::Rows {
+            oid: search.oid(),
+            level: search.level(),
+            wanted: policy.wanted(search.oid().kind()),
+        };
+        let flight = InFlight::to_all(self.alloc, asked, self.epoch, first, others.as_slice())?;
+        Ok(flight)
+    }
+
     /// The messages to a search's level; none where the object's id isn't known, or is dead.
+    #[tactic(auto, using(crate::proofs::FoundLemmas::live_known, crate::proofs::FoundLemmas::valid_policy))]
     fn level_flight<R: Rows>(
         &self,
         first: u32,
@@ -359,23 +410,44 @@ impl Recovery {
             ≡ level_messages first (state_of self.now (R.shown rows.now)) search.now) }
         ensures current { IfOk result (λ flight. flight.is_older ≡ false) }
     {
-        let oid = search.oid();
-        let level = search.level();
         let mut targets = [NodeId(0); TARGETS_MAX];
-        let Some((count, policy)) = rows.targets(level, oid, &mut targets) else {
+        let Some((count, policy)) = rows.targets(search.level(), search.oid(), &mut targets) else {
             return Ok(InFlight::none(self.alloc));
         };
-        let others = other_members(
-            self.alloc,
-            self.me,
-            self.members.as_slice(),
-            &targets[..count],
-        )?;
-        let wanted = policy.wanted(oid.kind());
-        let asked = Asked::Rows { oid, level, wanted };
-        InFlight::to_all(self.alloc, asked, self.epoch, first, others.as_slice())
+        self.flight_to(first, search, policy, &targets[..count], rows)
     }
 
+    /// These messages are sent, and the search goes on.
+    fn ask_level(&mut self, flight: InFlight, search: Search) -> Result<RecoverSends, NoMemory>
+        requires { flight.is_older ≡ false }
+        ensures sends { IfOk result (λ sends. sends.list
+            ≡ map (λ (message : Message). (message.to, message.request)) (messages_in self.old.me flight)) }
+        ensures ok { OnOk result (self.new ≡ record self.old {
+          search = Some search;
+          unanswered = messages_in self.old.me flight;
+          older = [];
+        }) }
+        ensures err { OnErr result (self.new ≡ self.old) }
+    {
+        let list = flight.sends(self.alloc, self.me)?;
+        self.flight = flight;
+        self.search = Some(search);
+        Ok(RecoverSends { list })
+    }
+
+    /// A search's level ends without a message.
+    #[tactic(auto, using(crate::proofs::EndLemmas::over_by_end))]
+    fn end_now<R: Rows>(&mut self, search: &Search, rows: &mut R) -> Result<(), NoMemory>
+        requires { MayEndLevel self.old.epoch (R.shown rows.old) search.now }
+        ensures ok { OnOk result (state_of self.new (R.shown rows.new) ≡ level_over search.now (state_of self.old (R.shown rows.old))) }
+        ensures err { OnErr result (state_of self.new (R.shown rows.new) ≡ state_of self.old (R.shown rows.old)) }
+        ensures rest { R.rest rows.new ≡ R.rest rows.old }
+    {
+        let end = level_end(self.alloc, self.me, self.epoch, search, rows)?;
+        self.end_level(search.oid(), end, rows)
+    }
+
+    #[tactic(auto, using(crate::proofs::TickLemmas::level_sends, crate::proofs::TickLemmas::tick_over, crate::proofs::TickLemmas::tick_asks, crate::proofs::TickLemmas::no_messages_in, crate::proofs::TickLemmas::some_messages_in))]
     fn tick_level<R: Rows>(
         &mut self,
         first: u32,
@@ -384,24 +456,24 @@ impl Recovery {
     ) -> Result<RecoverSends, NoMemory>
         requires listed { is_listed self.old ≡ true }
         requires next { next_search (state_of self.old (R.shown rows.old)) ≡ Some search }
-        requires none { all_unanswered self.old ≡ [] }
         requires room { first ≤ 2 ^ 32 - NODES_MAX }
-        requires step { MayStep (state_of self.old (R.shown rows.old)) }
+        requires none { self.old.unanswered ≡ [] }
+        requires older { self.old.older ≡ [] }
+        requires may { MayEndLevel self.old.epoch (R.shown rows.old) search }
         ensures sends { IfOk result (λ sends. sends.list ≡ tick_sends first (state_of self.old (R.shown rows.old))) }
         ensures ok { OnOk result (state_of self.new (R.shown rows.new) ≡ state_after_tick first (state_of self.old (R.shown rows.old))) }
         ensures err { OnErr result (state_of self.new (R.shown rows.new) ≡ state_of self.old (R.shown rows.old)) }
         ensures rest { R.rest rows.new ≡ R.rest rows.old }
     {
         let flight = self.level_flight(first, &search, rows)?;
-        let list = flight.sends(self.alloc, self.me)?;
         if flight.is_empty() {
-            let end = level_end(self.alloc, self.me, self.epoch, &search, rows)?;
-            self.end_level(search.oid(), end, rows)?;
+            self.end_now(&search, rows)?;
+            Ok(RecoverSends {
+                list: SendList::new(self.alloc),
+            })
         } else {
-            self.flight = flight;
-            self.search = Some(search);
+            self.ask_level(flight, search)
         }
-        Ok(RecoverSends { list })
     }
 
     /// A level has come to its end. Without memory nothing changes.
@@ -454,6 +526,7 @@ impl Recovery {
     /// A reply to a message came. Costs the logarithm of the messages, and takes what it tells. With the last list it takes and costs the
     /// ids of all objects; with the last answer of a level it looks at each answer for each target, and where there are enough rows takes
     /// the object's bytes by them. Without memory nothing changes.
+    #[tactic(auto, unfolding(crate::specs::Steps::recovery_on_reply))]
     pub fn on_reply<R: Rows>(&mut self, rsp: &PeerRsp, rows: &mut R) -> Result<(), NoMemory>
         requires fits { IsTrue (fits_recovery rsp.now (state_of self.old (R.shown rows.old))) }
         requires step { MayStep (state_of self.old (R.shown rows.old)) }
@@ -467,6 +540,7 @@ impl Recovery {
 
     /// A message, or the reply to it, was lost. Costs and takes what [`Recovery::on_reply`] does at the end of a level. Without memory
     /// nothing changes.
+    #[tactic(auto, unfolding(crate::specs::Steps::recovery_on_loss))]
     pub fn on_lost<R: Rows>(&mut self, number: u32, rows: &mut R) -> Result<(), NoMemory>
         requires waits { IsTrue (recovery_awaits number self.old) }
         requires step { MayStep (state_of self.old (R.shown rows.old)) }
@@ -518,19 +592,40 @@ impl Recovery {
         rows: &mut R,
     ) -> Result<(), NoMemory>
         requires step { MayStep (state_of self.old (R.shown rows.old)) }
-        requires fits { IfSome (option_copied said.entry) (λ say. IfSome (message_of number self.old.unanswered)
+        requires fits { IfSome (option_copied said) (λ say. IfSome (message_of number self.old.unanswered)
             (λ message. SaysOfRow (R.shown rows.old) message.request.ask say)) }
         ensures ok { OnOk result (state_of self.new (R.shown rows.new) ≡ message_end number (option_copied said.entry) (state_of self.old (R.shown rows.old))) }
         ensures err { OnErr result (state_of self.new (R.shown rows.new) ≡ state_of self.old (R.shown rows.old)) }
         ensures rest { R.rest rows.new ≡ R.rest rows.old }
     {
         match self.current(number) {
-            Some((from, Asked::Lists)) => self.list_end(number, from, said, rows),
-            Some((from, Asked::Rows { oid, .. })) => self.read_end(number, from, oid, said, rows),
+            Some((from, asked)) => self.asked_end(number, from, &asked, said, rows),
             None => {
                 self.forget(number);
                 Ok(())
             }
+        }
+    }
+
+    /// A message that asks for this has ended.
+    fn asked_end<R: Rows>(
+        &mut self,
+        number: u32,
+        from: NodeId,
+        asked: &Asked,
+        said: Option<&PeerSay>,
+        rows: &mut R,
+    ) -> Result<(), NoMemory>
+        requires step { MayStep (state_of self.old (R.shown rows.old)) }
+        requires fits { IfSome (option_copied said) (SaysOfRow (R.shown rows.old) (ask_of asked.now)) }
+        ensures ok { OnOk result (state_of self.new (R.shown rows.new)
+            ≡ after_ask (ask_of asked.now) from (option_copied said.entry) (without_unanswered number (state_of self.old (R.shown rows.old)))) }
+        ensures err { OnErr result (state_of self.new (R.shown rows.new) ≡ state_of self.old (R.shown rows.old)) }
+        ensures rest { R.rest rows.new ≡ R.rest rows.old }
+    {
+        match asked {
+            Asked::Lists => self.list_end(number, from, said, rows),
+            Asked::Rows { oid, .. } => self.read_end(number, from, *oid, said, rows),
         }
     }
 
@@ -549,14 +644,22 @@ impl Recovery {
         ensures rest { R.rest rows.new ≡ R.rest rows.old }
     {
         match said {
-            Some(PeerSay::Objects(oids)) => return self.add_list(number, from, oids, rows),
-            None => {}
-            Some(PeerSay::Success) => {}
-            Some(PeerSay::Piece(_)) => {}
-            Some(PeerSay::Row(_)) => {}
-            Some(PeerSay::NoRow) => {}
-            Some(PeerSay::Refused(_)) => {}
+            Some(PeerSay::Objects(oids)) => self.add_list(number, from, oids, rows),
+            None => self.forget_only(number, rows),
+            Some(PeerSay::Success) => self.forget_only(number, rows),
+            Some(PeerSay::Piece(_)) => self.forget_only(number, rows),
+            Some(PeerSay::Row(_)) => self.forget_only(number, rows),
+            Some(PeerSay::NoRow) => self.forget_only(number, rows),
+            Some(PeerSay::Refused(_)) => self.forget_only(number, rows),
         }
+    }
+
+    /// The message of a number is answered, and nothing comes of that.
+    fn forget_only<R: Rows>(&mut self, number: u32, _rows: &mut R) -> Result<(), NoMemory>
+        ensures ok { OnOk result (state_of self.new (R.shown _rows.new) ≡ without_unanswered number (state_of self.old (R.shown _rows.old))) }
+        ensures err { OnErr result (state_of self.new (R.shown _rows.new) ≡ state_of self.old (R.shown _rows.old)) }
+        ensures rest { R.rest _rows.new ≡ R.rest _rows.old }
+    {
         self.forget(number);
         Ok(())
     }
@@ -594,7 +697,6 @@ impl Recovery {
     }
 
     /// A RecoverRead of an object has ended.
-    #[tactic(auto, using(crate::proofs::ReplyLemmas::still_kept, crate::proofs::ReplyLemmas::read_ignored, crate::proofs::ReplyLemmas::read_noted, crate::proofs::ReplyLemmas::read_last))]
     fn read_end<R: Rows>(
         &mut self,
         number: u32,
@@ -604,15 +706,39 @@ impl Recovery {
         rows: &mut R,
     ) -> Result<(), NoMemory>
         requires step { MayStep (state_of self.old (R.shown rows.old)) }
-        requires fits { IfSome (option_copied said.entry) (IsFittingSay (R.shown rows.old) oid) }
-        ensures ok { OnOk result (state_of self.new (R.shown rows.new) ≡ after_read oid from (option_copied said.entry) (search_on (state_of self.old (R.shown rows.old))) (without_unanswered number (state_of self.old (R.shown rows.old)))) }
+        requires fits { IfSome (option_copied said) (IsFittingSay (R.shown rows.old) oid) }
+        ensures ok { OnOk result (state_of self.new (R.shown rows.new)
+            ≡ after_read oid from (option_copied said.entry) (search_on (state_of self.old (R.shown rows.old))) (without_unanswered number (state_of self.old (R.shown rows.old)))) }
         ensures err { OnErr result (state_of self.new (R.shown rows.new) ≡ state_of self.old (R.shown rows.old)) }
         ensures rest { R.rest rows.new ≡ R.rest rows.old }
     {
-        if !self.searches(oid, rows) {
+        if self.searches(oid, rows) {
+            self.searched_end(number, from, oid, said, rows)
+        } else {
             self.forget(number);
             Ok(())
-        } else if self.waits_for_others(oid, number) {
+        }
+    }
+
+    /// A RecoverRead of the object that is searched has ended.
+    #[tactic(auto, using(crate::proofs::ReplyLemmas::still_kept, crate::proofs::ReplyLemmas::read_last))]
+    fn searched_end<R: Rows>(
+        &mut self,
+        number: u32,
+        from: NodeId,
+        oid: Oid,
+        said: Option<&PeerSay>,
+        rows: &mut R,
+    ) -> Result<(), NoMemory>
+        requires step { MayStep (state_of self.old (R.shown rows.old)) }
+        requires fits { IfSome (option_copied said) (IsFittingSay (R.shown rows.old) oid) }
+        requires searched { is_searched oid (search_on (state_of self.old (R.shown rows.old))) ≡ true }
+        ensures ok { OnOk result (state_of self.new (R.shown rows.new)
+            ≡ after_read oid from (option_copied said.entry) (search_on (state_of self.old (R.shown rows.old))) (without_unanswered number (state_of self.old (R.shown rows.old)))) }
+        ensures err { OnErr result (state_of self.new (R.shown rows.new) ≡ state_of self.old (R.shown rows.old)) }
+        ensures rest { R.rest rows.new ≡ R.rest rows.old }
+    {
+        if self.waits_for_others(oid, number) {
             self.note(from, said)?;
             self.forget(number);
             Ok(())
@@ -631,7 +757,7 @@ impl Recovery {
         rows: &mut R,
     ) -> Result<(), NoMemory>
         requires step { MayStep (state_of self.old (R.shown rows.old)) }
-        requires fits { IfSome (option_copied said.entry) (IsFittingSay (R.shown rows.old) oid) }
+        requires fits { IfSome (option_copied said) (IsFittingSay (R.shown rows.old) oid) }
         requires searched { is_searched oid self.old.search ≡ true }
         ensures ok { OnOk result (state_of self.new (R.shown rows.new) ≡ level_over_after from (option_copied said.entry) self.old.search (without_unanswered number (state_of self.old (R.shown rows.old)))) }
         ensures err { OnErr result (state_of self.new (R.shown rows.new) ≡ state_of self.old (R.shown rows.old)) }
@@ -664,7 +790,7 @@ impl Recovery {
         rows: &R,
     ) -> Result<LevelEnd, NoMemory>
         requires { IfSome self.old.search (λ search.
-            MayEndLevel self.old.epoch (R.shown rows.now) (search_after_answer from (option_copied said.entry) search)) }
+            MayEndLevel self.old.epoch (R.shown rows.now) (search_after_answer from (option_copied said) search)) }
         ensures same { self.new ≡ self.old }
         ensures end { IfSome self.old.search (λ search. IfOk result (λ end.
             end ≡ level_end self.old.me self.old.epoch (R.shown rows.now) (search_after_answer from (option_copied said.entry) search))) }
