@@ -100,7 +100,7 @@ rows-fit me epoch shown search policy may =
     each-found (IsFittingRow shown search.oid) (row_of_target me (own_row shown search.oid search.level) search.answers)
     (shown.targets search.level search.oid policy)
     (λ node. target-fits shown search.oid me (own_row shown search.oid search.level) search.answers node
-      (own-fits shown search.oid search.level may.policy) may.answers)
+    (own-fits shown search.oid search.level may.policy) may.answers)
 
 each-weaker : (P Q : RowCopy → Type 0) (rows : List RowCopy) → ((row : RowCopy) → P row → Q row) → Each P rows → Each Q rows
 each-weaker P Q [] weaker all = tt
@@ -133,7 +133,7 @@ taken-size me epoch shown search policy may live count =
     let kind : Kind = kind_of search.oid in
     let fit : Each (IsFittingRow shown search.oid) (rows_taken policy kind rows)
     = each-taken (IsFittingRow shown search.oid) (need_of policy kind) (rows_in_order policy kind rows)
-      (each-ordered (IsFittingRow shown search.oid) policy kind rows (rows-fit me epoch shown search policy may)) in
+    (each-ordered (IsFittingRow shown search.oid) policy kind rows (rows-fit me epoch shown search policy may)) in
     one-size shown search.oid policy (rows_taken policy kind rows)
     (let some = need-some policy kind (valid_policy shown search.oid policy may.policy live) in omega (arith, some, count)) fit
     (λ size is. may.size policy size (live_known shown search.oid policy live) is)

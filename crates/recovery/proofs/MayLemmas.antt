@@ -105,10 +105,11 @@ read-may oid from said (Some search) state told reach may = by_object (search.oi
   where
     by_object : (b : Bool) → (search.oid == oid) ≡ b → MaySearch (cond b (searching (search_after_answer from said search) state) state)
     by_object true is =
-        searching-may (search_after_answer from said search) state
-        (subst (λ (l : ℕ). l < state.recovery.epoch) (sym (same-level from said search)) reach.0,
-        subst (λ (k : ℕ). AnswersFit state.shown k (search_after_answer from said search).answers) (sym (same-object from said search))
-        (answers-after state.shown from said search reach.1 (subst (λ (k : ℕ). IfSome said (IsFittingSay state.shown k)) (sym (eqb-true search.oid oid is)) told)))
+        searching-may (search_after_answer from said search) state (
+          subst (λ (l : ℕ). l < state.recovery.epoch) (sym (same-level from said search)) reach.0,
+          subst (λ (k : ℕ). AnswersFit state.shown k (search_after_answer from said search).answers) (sym (same-object from said search))
+              (answers-after state.shown from said search reach.1 (subst (λ (k : ℕ). IfSome said (IsFittingSay state.shown k)) (sym (eqb-true search.oid oid is)) told)),
+        )
         may
     by_object false is = may
 
@@ -224,10 +225,10 @@ may_after_begin epoch members state may below is =
     let entered : epoch ≤ state.shown.epoch = omega (arith, may.own_epoch) in
     let rest : Rest (when_listed (at_start epoch members state))
     = cond_either Rest (is_listed (at_start epoch members state).recovery)
-      (record (at_start epoch members state) { shown = shown_with_pending (to_recover (at_start epoch members state)) (at_start epoch members state).shown })
-      (at_start epoch members state)
-      (entered, is.sizes, tt, All-nil (λ (message : Message). message.wanted ≤ TARGETS_MAX))
-      (entered, is.sizes, tt, All-nil (λ (message : Message). message.wanted ≤ TARGETS_MAX)) in
+    (record (at_start epoch members state) { shown = shown_with_pending (to_recover (at_start epoch members state)) (at_start epoch members state).shown })
+    (at_start epoch members state)
+    (entered, is.sizes, tt, All-nil (λ (message : Message). message.wanted ≤ TARGETS_MAX))
+    (entered, is.sizes, tt, All-nil (λ (message : Message). message.wanted ≤ TARGETS_MAX)) in
     record {
       range = begun_in_range epoch members state may below is.range;
       entered = rest.0;
@@ -244,8 +245,8 @@ next_ends first state search may is next =
     let range : IsSearchInRange search = subst (λ (o : Option Search). IfSome o IsSearchInRange) next (next_search_fine state is.range may.work) in
     let reach : Reaches state.recovery.epoch state.shown search
     = subst (λ (o : Option Search). IfSome o (Reaches state.recovery.epoch state.shown)) next
-      (next-may state.recovery.epoch state.shown (first_in state.shown.pending) (search_on state) is.range.epoch.0
-      (still-may state.shown.pending state.recovery.search state.recovery.epoch state.shown is.search)) in
+    (next-may state.recovery.epoch state.shown (first_in state.shown.pending) (search_on state) is.range.epoch.0
+    (still-may state.shown.pending state.recovery.search state.recovery.epoch state.shown is.search)) in
     record {
       epoch_from = is.range.epoch.0;
       epoch_to = is.entered;

@@ -73,7 +73,7 @@ read_last oid from said (Some search) state is others =
 pub last_end : (number oid : ℕ) (from : NodeId) (said : Option PeerSay) (o : Option Search) (search : Search) (state : RecoveryState)
     → o ≡ Some search → search.oid ≡ oid
     → without_unanswered number (state_after_level oid
-      (level_end state.recovery.me state.recovery.epoch state.shown (search_after_answer from said search)) state)
+    (level_end state.recovery.me state.recovery.epoch state.shown (search_after_answer from said search)) state)
     ≡ level_over_after from said o (without_unanswered number state)
 last_end number oid from said o search state is object =
     let next : Search = search_after_answer from said search in

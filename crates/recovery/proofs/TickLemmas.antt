@@ -45,10 +45,10 @@ first-asked : (recovery : Recovery) (wanted : ℕ) (search : Search) (n : ℕ) (
 first-asked recovery wanted search n [] = refl
 first-asked recovery wanted search n (node ∷ nodes) =
     ap (λ b. b || list_any (is_of_search search.oid)
-      (map (request_message recovery wanted (asks.RecoverRead search.oid (record { 0 = search.level }))) (enumerate_from (n + 1) nodes)))
+    (map (request_message recovery wanted (asks.RecoverRead search.oid (record { 0 = search.level }))) (enumerate_from (n + 1) nodes)))
     (eq-eqb search.oid search.oid refl)
     ∙ sym (ap not (ne_eqb (suc (length (map (request_message recovery wanted (asks.RecoverRead search.oid (record { 0 = search.level }))) (enumerate_from (n + 1) nodes)))) 0
-      (λ same. absurd (omega (arith, same)))))
+    (λ same. absurd (omega (arith, same)))))
 
 any-asked : (first : ℕ) (state : RecoveryState) (search : Search) → list_any (is_of_search search.oid) (level_messages first state search)
     ≡ not (length (level_messages first state search) == 0)
@@ -74,7 +74,7 @@ module _ (first : ℕ) (search : Search) (state : RecoveryState) (listed : is_li
   unfolding state_after_tick
   after-level =
       ap (λ b. cond b (option_map_or (λ (s : Search). searching s (with_messages (tick_messages first state) state)) (next_search state) (with_messages (tick_messages first state) state))
-        (with_messages (tick_messages first state) state)) listed
+      (with_messages (tick_messages first state) state)) listed
       ∙ ap (λ (o : Option Search). option_map_or (λ (s : Search). searching s (with_messages (tick_messages first state) state)) o (with_messages (tick_messages first state) state)) next
       ∙ ap (λ (ms : List Message). searching search (with_messages ms state)) level_asks
 
@@ -112,7 +112,7 @@ pub after_lists : (first : ℕ) (state : RecoveryState) → is_listed state.reco
 unfolding state_after_tick
 after_lists first state lacks none =
     ap (λ b. cond b (option_map_or (λ (s : Search). searching s (with_messages (tick_messages first state) state)) (next_search state) (with_messages (tick_messages first state) state))
-      (with_messages (tick_messages first state) state)) lacks
+    (with_messages (tick_messages first state) state)) lacks
     ∙ ap (λ (ms : List Message). with_messages ms state) (lists_ask first state lacks)
     ∙ ap (λ (ms : List Message). record state { recovery = record state.recovery { unanswered = ms ++ lists_asked first state.recovery } }) none
 
@@ -129,9 +129,9 @@ unfolding state_after_tick tick_messages
 nothing_asked first state listed none =
     let messages : tick_messages first state ≡ []
     = ap (λ b. cond b (option_map_or (level_messages first state) (next_search state) []) (lists_asked first state.recovery)) listed
-      ∙ ap (λ (o : Option Search). option_map_or (level_messages first state) o []) none in
+    ∙ ap (λ (o : Option Search). option_map_or (level_messages first state) o []) none in
     ap (λ b. cond b (option_map_or (λ (s : Search). searching s (with_messages (tick_messages first state) state)) (next_search state) (with_messages (tick_messages first state) state))
-      (with_messages (tick_messages first state) state)) listed
+    (with_messages (tick_messages first state) state)) listed
     ∙ ap (λ (o : Option Search). option_map_or (λ (s : Search). searching s (with_messages (tick_messages first state) state)) o (with_messages (tick_messages first state) state)) none
     ∙ ap (λ (ms : List Message). with_messages ms state) messages ∙ with-none state
 

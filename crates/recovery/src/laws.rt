@@ -31,7 +31,8 @@ ghost use Rattle.recovery.specs.Level.{row_of_target, by_index, rows_taken, inde
 ghost use Rattle.recovery.specs.Level.{level_over, is_of_search, searching};
 ghost use Rattle.recovery.specs.Tick.{with_messages, tick_messages, tick_sends, state_after_tick};
 ghost use Rattle.recovery.specs.Frame.{frame, WaitsForLists};
-ghost use Rattle.recovery.specs.Steps.{to_recover, recovery_from_epoch, without_unanswered, search_after_answer, message_end, recovery_on_reply, recovery_on_loss};
+ghost use Rattle.recovery.specs.Steps.{to_recover, recovery_from_epoch, without_unanswered};
+ghost use Rattle.recovery.specs.Steps.{search_after_answer, message_end, recovery_on_reply, recovery_on_loss};
 ghost use Rattle.peer_proto.specs.Ask.{IsPeerReq};
 ghost use Rattle.peer_proto.specs.declared.say.PeerRsp.{PeerRsp};
 ghost use Rattle.recovery.specs.Fits.{fits_recovery};

@@ -6,7 +6,7 @@ use Rattle.recovery.specs.Shown.{NodeView}
 use Rattle.recovery.specs.State.{Search, Recovery, RecoveryState, search_on}
 use Rattle.recovery.specs.Level.{is_of_search}
 use Rattle.recovery.specs.Steps.{search_after_answer, without_unanswered}
-use Rattle.recovery.specs.Kept.{state_of}
+use Rattle.recovery.specs.Kept.{recovery_state}
 use Rattle.recovery.proofs.ReplyLemmas.{still_kept, read_noted}
 use Rattle.recovery.proofs.recovery.Recovery.searched_end.Goals as goal
 
@@ -15,11 +15,11 @@ returns-in_ok-note-clause-ok g c =
     let shown : NodeView = g.R.Rows.shown c.args.rows.now in
     let said : Option PeerSay = option_copied c.args.said in
     let now : Recovery = c.args.self.now in
-    let let_go : RecoveryState = without_unanswered c.args.number (state_of now shown) in
-    let kept : search_on (state_of now shown) ≡ now.search = still_kept shown.pending now.search c.args.oid c.requires.searched in
+    let let_go : RecoveryState = without_unanswered c.args.number (recovery_state now shown) in
+    let kept : search_on (recovery_state now shown) ≡ now.search = still_kept shown.pending now.search c.args.oid c.requires.searched in
     let others : list_any (is_of_search c.args.oid) let_go.recovery.unanswered ≡ true
     = sym c.waits_for_others.ensures ∙ c.if-waits_for_others.true in
     c.forget.ensures shown
-    ∙ ap (λ (r : Recovery). without_unanswered c.args.number (state_of r shown)) c.in_ok-note.ensures.ok
+    ∙ ap (λ (r : Recovery). without_unanswered c.args.number (recovery_state r shown)) c.in_ok-note.ensures.ok
     ∙ ap (λ (o : Option Search). record let_go { recovery = record let_go.recovery { search = option_map (search_after_answer c.args.from said) o } }) (sym kept)
-    ∙ sym (read_noted c.args.oid c.args.from said (search_on (state_of now shown)) let_go c.requires.searched others)
+    ∙ sym (read_noted c.args.oid c.args.from said (search_on (recovery_state now shown)) let_go c.requires.searched others)
