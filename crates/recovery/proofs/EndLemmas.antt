@@ -50,9 +50,9 @@ module _ (search : Search) (state : RecoveryState) where
   by_policy (Some policy) =
       by_enough policy (rows_found state policy search) (are_enough policy (kind_of search.oid) (rows_found state policy search))
 
-  pub over-by_end : level_over search state ≡ state_after_level search.oid (level_end state.recovery.me state.recovery.epoch state.shown search) state
-    unfolding level_over
-  over-by_end = by_policy (live_policy state.shown search.oid)
+  pub over_by_end : level_over search state ≡ state_after_level search.oid (level_end state.recovery.me state.recovery.epoch state.shown search) state
+  unfolding level_over
+  over_by_end = by_policy (live_policy state.shown search.oid)
 
 -- the message that ended may be let go before or after
 pub end-without : (oid number : ℕ) (end : LevelEnd) (state : RecoveryState)
@@ -73,7 +73,7 @@ same-object from (Some (says.Row row)) search = refl
 same-object from (Some says.NoRow) search = refl
 same-object from (Some (says.Refused refusal)) search = refl
 
-same-level : (from : NodeId) (said : Option PeerSay) (search : Search) → (search_after_answer from said search).level ≡ search.level
+pub same-level : (from : NodeId) (said : Option PeerSay) (search : Search) → (search_after_answer from said search).level ≡ search.level
 same-level from None search = refl
 same-level from (Some says.Success) search = refl
 same-level from (Some (says.Piece bytes)) search = refl

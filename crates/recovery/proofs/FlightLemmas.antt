@@ -17,7 +17,7 @@ use Rattle.recovery.specs.declared.in_flight.Asked.TheVariants as asked_for
 use Rattle.recovery.specs.State.{Message, has_number, message_of, all_unanswered}
 use Rattle.recovery.specs.Steps.{messages_without}
 use Rattle.recovery.specs.Level.{is_of_search}
-use Rattle.recovery.specs.Kept.{InFlight, number_of, has_sent_number, node_of, nodes_without, flight_without, has_others, message_to, messages_in, current_in, older_in, current_node, is_current_read, is_read_by, AscendByNumber, ask_of, sent_by, sent_to, fits_asked}
+use Rattle.recovery.specs.Kept.{InFlight, sent_number, has_sent_number, node_of, sent_without, flight_without, has_others, message_to, messages_in, current_in, older_in, current_node, is_current_read, is_read_by, AscendByNumber, ask_of, sent_by, sent_to, fits_asked}
 use Rattle.recovery.specs.Shown.{NodeView}
 use Rattle.recovery.specs.Fits.{fits_message}
 use Rattle.peer_proto.specs.declared.say.PeerSay.{PeerSay}
@@ -48,45 +48,45 @@ none-in number (x ∷ xs) none apart =
 
 -- what is kept of messages where one of them goes, or none
 none-goes : (number : ℕ) (sent : List Sent) (none : Sent) → ((k : ℕ) → k < length sent → (get_or sent k none).0 ≡ number → ⊥)
-    → nodes_without number sent ≡ sent
+    → sent_without number sent ≡ sent
 none-goes number [] none apart = refl
 none-goes number (x ∷ xs) none apart =
-    ap (λ b. cond (not b) (x ∷ nodes_without number xs) (nodes_without number xs)) (ne_eqb x.0 number (apart 0 (omega arith)))
+    ap (λ b. cond (not b) (x ∷ sent_without number xs) (sent_without number xs)) (ne_eqb x.0 number (apart 0 (omega arith)))
     ∙ ap (λ rest. x ∷ rest) (none-goes number xs none (λ k within. apart (suc k) (omega arith)))
 
 one-goes : (number place : ℕ) (sent : List Sent) (none : Sent) → ((k : ℕ) → k < place → (get_or sent k none).0 < number)
     → place < length sent → (get_or sent place none).0 ≡ number
     → ((k : ℕ) → place < k → k < length sent → number < (get_or sent k none).0)
-    → nodes_without number sent ≡ take place sent ++ drop (suc place) sent
+    → sent_without number sent ≡ take place sent ++ drop (suc place) sent
 one-goes number place [] none low within here high = absurd (omega arith)
 one-goes number zero (x ∷ xs) none low within here high =
-    ap (λ b. cond (not b) (x ∷ nodes_without number xs) (nodes_without number xs)) (eq-eqb x.0 number here)
+    ap (λ b. cond (not b) (x ∷ sent_without number xs) (sent_without number xs)) (eq-eqb x.0 number here)
     ∙ none-goes number xs none (λ k inside same. let more = high (suc k) (omega arith) (omega arith) in absurd (omega (arith, more, same)))
 one-goes number (suc place) (x ∷ xs) none low within here high =
     let less = low 0 (omega arith) in
-    ap (λ b. cond (not b) (x ∷ nodes_without number xs) (nodes_without number xs)) (ne_eqb x.0 number (λ same. absurd (omega (arith, less, same))))
+    ap (λ b. cond (not b) (x ∷ sent_without number xs) (sent_without number xs)) (ne_eqb x.0 number (λ same. absurd (omega (arith, less, same))))
     ∙ ap (λ rest. x ∷ rest) (one-goes number place xs none (λ k below. low (suc k) (omega arith)) (omega arith) here
     (λ k over inside. high (suc k) (omega arith) (omega arith)))
 
 -- they don't fall
-pub numbers-rise : (sent : List Sent) → AscendByNumber sent → IsNonDecreasingBy number_of sent
+pub numbers-rise : (sent : List Sent) → AscendByNumber sent → IsNonDecreasingBy sent_number sent
 numbers-rise sent ascend i j d most within =
-    let long : length (map number_of sent) ≡ length sent = length-map sent number_of in
-    let low : get_or (map number_of sent) i 0 ≡ (get_or sent i d).0 = get_or-map number_of sent i d 0 (omega (arith, most, within)) in
-    let high : get_or (map number_of sent) j 0 ≡ (get_or sent j d).0 = get_or-map number_of sent j d 0 within in
-    let up : get_or (map number_of sent) i 0 ≤ get_or (map number_of sent) j 0
-    = IsNonDecreasing-from_strict (map number_of sent) ascend i j 0 most (omega (arith, long, within)) in
+    let long : length (map sent_number sent) ≡ length sent = length-map sent sent_number in
+    let low : get_or (map sent_number sent) i 0 ≡ (get_or sent i d).0 = get_or-map sent_number sent i d 0 (omega (arith, most, within)) in
+    let high : get_or (map sent_number sent) j 0 ≡ (get_or sent j d).0 = get_or-map sent_number sent j d 0 within in
+    let up : get_or (map sent_number sent) i 0 ≤ get_or (map sent_number sent) j 0
+    = IsNonDecreasing-from_strict (map sent_number sent) ascend i j 0 most (omega (arith, long, within)) in
     omega (arith, low, high, up)
 
 -- the numbers ascend behind a place
 behind-place : (place : ℕ) (sent : List Sent) (none : Sent) (k : ℕ) → AscendByNumber sent → place < k → k < length sent
     → (get_or sent place none).0 < (get_or sent k none).0
 behind-place place sent none k ascend over within =
-    let long : length (map number_of sent) ≡ length sent = length-map sent number_of in
-    let far : get_or (map number_of sent) place 0 < get_or (map number_of sent) k 0
-    = IsStrictlyIncreasing-far (map number_of sent) place k ascend over (omega (arith, long, within)) in
-    let low : get_or (map number_of sent) place 0 ≡ (get_or sent place none).0 = get_or-map number_of sent place none 0 (omega (arith, over, within)) in
-    let high : get_or (map number_of sent) k 0 ≡ (get_or sent k none).0 = get_or-map number_of sent k none 0 within in
+    let long : length (map sent_number sent) ≡ length sent = length-map sent sent_number in
+    let far : get_or (map sent_number sent) place 0 < get_or (map sent_number sent) k 0
+    = IsStrictlyIncreasing-far (map sent_number sent) place k ascend over (omega (arith, long, within)) in
+    let low : get_or (map sent_number sent) place 0 ≡ (get_or sent place none).0 = get_or-map sent_number sent place none 0 (omega (arith, over, within)) in
+    let high : get_or (map sent_number sent) k 0 ≡ (get_or sent k none).0 = get_or-map sent_number sent k none 0 within in
     omega (arith, far, low, high)
 
 module _ (number place : ℕ) (sent : List Sent) (none : Sent) (low : (k : ℕ) → k < place → (get_or sent k none).0 < number)
@@ -95,13 +95,13 @@ module _ (number place : ℕ) (sent : List Sent) (none : Sent) (low : (k : ℕ) 
   apart-from-all other k within same = elim (cases_lt k place) [
     | inl before ↦ (let less = low k before in absurd (omega (arith, less, same)))
     | inr from ↦ (elim (cases_eq k place) [
-        | inl here ↦ other (omega (arith, here, within)) (ap (λ (j : ℕ). (get_or sent j none).0) (sym here) ∙ same)
-        | inr more ↦ (
+      | inl here ↦ other (omega (arith, here, within)) (ap (λ (j : ℕ). (get_or sent j none).0) (sym here) ∙ same)
+      | inr more ↦ (
           let over : place < k = omega (arith, from, more) in
           let least = high place (omega arith) (omega (arith, over, within)) in
           let less = behind-place place sent none k ascend over within in
           absurd (omega (arith, least, less, same)))
-      ])
+    ])
   ]
 
   pub node-at : place < length sent → (get_or sent place none).0 ≡ number → node_of number sent ≡ Some (get_or sent place none).1
@@ -110,11 +110,11 @@ module _ (number place : ℕ) (sent : List Sent) (none : Sent) (low : (k : ℕ) 
   pub no-node : (place < length sent → (get_or sent place none).0 ≡ number → ⊥) → node_of number sent ≡ None
   no-node other = ap (option_map (λ (x : Sent). x.1)) (none-in number sent none (apart-from-all other))
 
-  pub without-one : place < length sent → (get_or sent place none).0 ≡ number → nodes_without number sent ≡ take place sent ++ drop (suc place) sent
+  pub without-one : place < length sent → (get_or sent place none).0 ≡ number → sent_without number sent ≡ take place sent ++ drop (suc place) sent
   without-one within here = one-goes number place sent none low within here
       (λ k over inside. let less = behind-place place sent none k ascend over inside in omega (arith, less, here))
 
-  pub without-none : (place < length sent → (get_or sent place none).0 ≡ number → ⊥) → nodes_without number sent ≡ sent
+  pub without-none : (place < length sent → (get_or sent place none).0 ≡ number → ⊥) → sent_without number sent ≡ sent
   without-none other = none-goes number sent none (apart-from-all other)
 
 module _ (number place : ℕ) (sent : List Sent) (none : Sent) (low : (k : ℕ) → k < place → (get_or sent k none).0 < number)
@@ -122,9 +122,9 @@ module _ (number place : ℕ) (sent : List Sent) (none : Sent) (low : (k : ℕ) 
   place-cases : ((place < length sent) × ((get_or sent place none).0 ≡ number)) ⊎ (place < length sent → (get_or sent place none).0 ≡ number → ⊥)
   place-cases = elim (cases_lt place (length sent)) [
     | inl within ↦ (elim (cases_eq (get_or sent place none).0 number) [
-        | inl here ↦ inl (within, here)
-        | inr other ↦ inr (λ _ same. other same)
-      ])
+      | inl here ↦ inl (within, here)
+      | inr other ↦ inr (λ _ same. other same)
+    ])
     | inr past ↦ inr (λ within same. absurd (omega (arith, past, within)))
   ]
 
@@ -134,7 +134,7 @@ module _ (number place : ℕ) (sent : List Sent) (none : Sent) (low : (k : ℕ) 
     | inr other ↦ (let no = no-node number place sent none low high ascend other in absurd (cc (some, no)))
   ]
 
-  pub stays : is_some (node_of number sent) ≡ false → nodes_without number sent ≡ sent
+  pub stays : is_some (node_of number sent) ≡ false → sent_without number sent ≡ sent
   stays lacks = elim place-cases [
     | inl both ↦ (let at = node-at number place sent none low high ascend both.0 both.1 in absurd (cc (lacks, at)))
     | inr other ↦ without-none number place sent none low high ascend other
@@ -142,29 +142,29 @@ module _ (number place : ℕ) (sent : List Sent) (none : Sent) (low : (k : ℕ) 
 
 -- ---- numbers that are kept, and numbers upwards, ascend
 
-numbers-without : (number : ℕ) (sent : List Sent) → map number_of (nodes_without number sent) ≡ filter (λ k. not (k == number)) (map number_of sent)
+numbers-without : (number : ℕ) (sent : List Sent) → map sent_number (sent_without number sent) ≡ filter (λ k. not (k == number)) (map sent_number sent)
 numbers-without number [] = refl
 numbers-without number (x ∷ xs) = by_test (x.0 == number) (numbers-without number xs)
   where
-    by_test : (b : Bool) → map number_of (nodes_without number xs) ≡ filter (λ k. not (k == number)) (map number_of xs)
-        → map number_of (cond (not b) (x ∷ nodes_without number xs) (nodes_without number xs))
-        ≡ cond (not b) (x.0 ∷ filter (λ k. not (k == number)) (map number_of xs)) (filter (λ k. not (k == number)) (map number_of xs))
+    by_test : (b : Bool) → map sent_number (sent_without number xs) ≡ filter (λ k. not (k == number)) (map sent_number xs)
+        → map sent_number (cond (not b) (x ∷ sent_without number xs) (sent_without number xs))
+        ≡ cond (not b) (x.0 ∷ filter (λ k. not (k == number)) (map sent_number xs)) (filter (λ k. not (k == number)) (map sent_number xs))
     by_test true rest = rest
     by_test false rest = ap (λ (ks : List ℕ). x.0 ∷ ks) rest
 
-pub ascend-without : (number : ℕ) (sent : List Sent) → AscendByNumber sent → AscendByNumber (nodes_without number sent)
+pub ascend-without : (number : ℕ) (sent : List Sent) → AscendByNumber sent → AscendByNumber (sent_without number sent)
 ascend-without number sent ascend =
-    subst IsStrictlyIncreasing (sym (numbers-without number sent)) (IsStrictlyIncreasing-filter (λ k. not (k == number)) (map number_of sent) ascend)
+    subst IsStrictlyIncreasing (sym (numbers-without number sent)) (IsStrictlyIncreasing-filter (λ k. not (k == number)) (map sent_number sent) ascend)
 
-above-all : (m n : ℕ) (nodes : List NodeId) → m < n → All (λ k. m < k) (map number_of (enumerate_from n nodes))
+above-all : (m n : ℕ) (nodes : List NodeId) → m < n → All (λ k. m < k) (map sent_number (enumerate_from n nodes))
 above-all m n [] less = All-nil (λ k. m < k)
 above-all m n (node ∷ nodes) less =
-    All-cons (λ k. m < k) n (map number_of (enumerate_from (n + 1) nodes)) less (above-all m (n + 1) nodes (omega (arith, less)))
+    All-cons (λ k. m < k) n (map sent_number (enumerate_from (n + 1) nodes)) less (above-all m (n + 1) nodes (omega (arith, less)))
 
 pub ascend-upwards : (n : ℕ) (nodes : List NodeId) → AscendByNumber (enumerate_from n nodes)
 ascend-upwards n [] = IsStrictlyIncreasing-nil
 ascend-upwards n (node ∷ nodes) =
-    IsStrictlyIncreasing-cons n (map number_of (enumerate_from (n + 1) nodes)) (above-all n (n + 1) nodes (omega arith)) (ascend-upwards (n + 1) nodes)
+    IsStrictlyIncreasing-cons n (map sent_number (enumerate_from (n + 1) nodes)) (above-all n (n + 1) nodes (omega arith)) (ascend-upwards (n + 1) nodes)
 
 pub enumerate-push : (n : ℕ) (xs : List NodeId) (x : NodeId) → enumerate_from n (xs ++ x ∷ []) ≡ enumerate_from n xs ++ (n + length xs, x) ∷ []
 enumerate-push n [] x = let e : n ≡ n + 0 = omega arith in ap (λ k. (k, x) ∷ []) e
@@ -212,13 +212,13 @@ module _ (me : NodeId) (epoch : ℕ) (asked : Asked) where
       by_test false rest = rest
 
   pub without-message : (number : ℕ) (sent : List Sent)
-      → messages_without number (messages-kept sent) ≡ messages-kept (nodes_without number sent)
+      → messages_without number (messages-kept sent) ≡ messages-kept (sent_without number sent)
   without-message number [] = refl
   without-message number (x ∷ xs) = by_test (x.0 == number) (without-message number xs)
     where
-      by_test : (b : Bool) → messages_without number (messages-kept xs) ≡ messages-kept (nodes_without number xs)
+      by_test : (b : Bool) → messages_without number (messages-kept xs) ≡ messages-kept (sent_without number xs)
           → cond (not b) (message_to me epoch asked x ∷ messages_without number (messages-kept xs)) (messages_without number (messages-kept xs))
-          ≡ messages-kept (cond (not b) (x ∷ nodes_without number xs) (nodes_without number xs))
+          ≡ messages-kept (cond (not b) (x ∷ sent_without number xs) (sent_without number xs))
       by_test true rest = rest
       by_test false rest = ap (λ (ms : List Message). message_to me epoch asked x ∷ ms) rest
 
@@ -319,7 +319,7 @@ pub any_reversed : (oid : ℕ) (oids : List ℕ) → list_any (λ other. other =
 any_reversed oid [] = refl
 any_reversed oid (x ∷ xs) =
     ap (list_any (λ other. other == oid)) (reverse-append (x ∷ []) xs)
-    ∙ list_any-append (reverse xs) (x ∷ [])
+    ∙ list_any-append (λ other. other == oid) (reverse xs) (x ∷ [])
     ∙ ap (λ b. b || ((x == oid) || false)) (any_reversed oid xs)
     ∙ turned (list_any (λ other. other == oid) xs) (x == oid)
   where

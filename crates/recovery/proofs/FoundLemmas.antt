@@ -37,12 +37,12 @@ pub valid_policy : (shown : NodeView) (oid : ℕ) (policy : Policy) → IfSome (
     → IsPolicy policy
 valid_policy shown oid policy may is = subst (λ (o : Option Policy). IfSome o IsPolicy) (live_known shown oid policy is) may
 
-wanted-most : (policy : Policy) (kind : Kind) → IsPolicy policy → wanted_of policy kind ≤ TARGETS_MAX
+pub wanted-most : (policy : Policy) (kind : Kind) → IsPolicy policy → wanted_of policy kind ≤ TARGETS_MAX
 wanted-most (Copies copies) kind is = is.1
 wanted-most (Coded d p) Block is = let few = width_most d is.0 in let most = is.2 in omega (arith, few, most)
 wanted-most (Coded d p) Inode is = let most = is.2 in omega (arith, most)
 
-asked-fits : (shown : NodeView) (oid level wanted : ℕ) (size : Option ℕ) (row : RowCopy) → shown.size_of oid ≡ size → wanted ≤ TARGETS_MAX
+pub asked-fits : (shown : NodeView) (oid level wanted : ℕ) (size : Option ℕ) (row : RowCopy) → shown.size_of oid ≡ size → wanted ≤ TARGETS_MAX
     → is_asked_row level wanted size row ≡ true → IsFittingRow shown oid row
 asked-fits shown oid level wanted None row is most asked = absurd (cc (asked))
 asked-fits shown oid level wanted (Some size) row is most asked =
@@ -100,7 +100,7 @@ rows-fit me epoch shown search policy may =
     each-found (IsFittingRow shown search.oid) (row_of_target me (own_row shown search.oid search.level) search.answers)
     (shown.targets search.level search.oid policy)
     (λ node. target-fits shown search.oid me (own_row shown search.oid search.level) search.answers node
-      (own-fits shown search.oid search.level may.policy) may.answers)
+    (own-fits shown search.oid search.level may.policy) may.answers)
 
 each-weaker : (P Q : RowCopy → Type 0) (rows : List RowCopy) → ((row : RowCopy) → P row → Q row) → Each P rows → Each Q rows
 each-weaker P Q [] weaker all = tt
@@ -133,7 +133,7 @@ taken-size me epoch shown search policy may live count =
     let kind : Kind = kind_of search.oid in
     let fit : Each (IsFittingRow shown search.oid) (rows_taken policy kind rows)
     = each-taken (IsFittingRow shown search.oid) (need_of policy kind) (rows_in_order policy kind rows)
-      (each-ordered (IsFittingRow shown search.oid) policy kind rows (rows-fit me epoch shown search policy may)) in
+    (each-ordered (IsFittingRow shown search.oid) policy kind rows (rows-fit me epoch shown search policy may)) in
     one-size shown search.oid policy (rows_taken policy kind rows)
     (let some = need-some policy kind (valid_policy shown search.oid policy may.policy live) in omega (arith, some, count)) fit
     (λ size is. may.size policy size (live_known shown search.oid policy live) is)

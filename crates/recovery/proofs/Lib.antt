@@ -12,3 +12,5 @@ pub mod TakenParts
 pub mod FoundLemmas
 pub mod ReplyLemmas
 pub mod TickLemmas
+pub mod MayLemmas
+pub mod ListedLemmas

@@ -80,7 +80,7 @@ record IsTick (recovery : Recovery) (messages : List Message) : Type 0 where
 
 -- ---- the search that a tick goes on with
 
-abbrev IsFine : Option Search → Type 0
+abbrev pub IsFine : Option Search → Type 0
 IsFine search = IfSome search IsSearchInRange
 
 still_fine : (pending : Option (List ℕ)) (search : Option Search) → IsFine search → IsFine (still_on pending search)
@@ -105,7 +105,7 @@ above_1 state range may =
     let low : 1 ≤ state.recovery.epoch = range.epoch.0 in
     omega (arith, low, apart)
 
-next_search_fine : (state : RecoveryState) → IsInRange state → can_tick state ≡ true → IsFine (next_search state)
+pub next_search_fine : (state : RecoveryState) → IsInRange state → can_tick state ≡ true → IsFine (next_search state)
 next_search_fine state range may =
     next_fine state.recovery.epoch state.shown.pending (search_on state) (above_1 state range may) range.epoch.1 range.pending
     (still_fine state.shown.pending state.recovery.search range.search)

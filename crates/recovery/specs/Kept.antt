@@ -1,5 +1,6 @@
 -- How the code of a recovery keeps its messages and its search, and what the end of a level comes to.
-use Rattle.std.specs.Prelude.{ℕ, suc, ◌-◌, ◌^◌, ◌==◌, ◌<◌, nat_lt, Bool, true, false, not, ◌&&◌, List, [], ◌∷◌, ◌++◌, length, map, take, filter, All}
+use Rattle.std.specs.Prelude.{ℕ, suc, ◌-◌, ◌^◌, ◌==◌, ◌<◌, nat_lt, Bool, true, false}
+use Rattle.std.specs.Prelude.{not, ◌&&◌, List, [], ◌∷◌, ◌++◌, length, map, take, filter, All}
 use Rattle.std.specs.Prelude.{Option, None, Some, unwrap_or, if◌then◌else◌}
 use Rattle.std.specs.Borrow.{Bor}
 use Rattle.std.specs.List.{find, filter_map, list_any}
@@ -27,13 +28,14 @@ use Rattle.recovery.specs.declared.level_end.LevelEnd.TheVariants as ends
 use Rattle.recovery.specs.Shown.{NodeView, live_policy, index_in, own_row, is_asked_row, is_to_recover, shown_with_pending}
 use Rattle.recovery.specs.declared.search.RowAnswer.{RowAnswer}
 use Rattle.recovery.specs.State.{Message, Search, Recovery, RecoveryState}
-use Rattle.recovery.specs.Level.{row_of_target, put_by_index, rows_taken, are_enough, part_from_rows, with_part_found, with_object_missing, to_ask, level_over}
+use Rattle.recovery.specs.Level.{row_of_target, put_by_index, rows_taken, are_enough}
+use Rattle.recovery.specs.Level.{part_from_rows, with_part_found, with_object_missing, to_ask, level_over}
 use Rattle.recovery.specs.Steps.{search_after_answer}
 use Rattle.recovery.specs.Fits.{is_list, is_recover_read}
 
 -- a recovery and what it sees of its node
-abbrev pub state_of : Recovery → NodeView → RecoveryState
-state_of recovery shown = record { recovery = recovery; shown = shown }
+abbrev pub recovery_state : Recovery → NodeView → RecoveryState
+recovery_state recovery shown = record { recovery = recovery; shown = shown }
 
 -- ---- the messages of a tick, which all ask for the same
 
@@ -58,8 +60,8 @@ pub record InFlight : Type 0 where
 abbrev pub no_messages : InFlight
 no_messages = record { asked = asked_for.Lists; epoch = 1; is_older = false; nodes = [] }
 
-abbrev pub number_of : ℕ × NodeId → ℕ
-number_of sent = sent.0
+abbrev pub sent_number : ℕ × NodeId → ℕ
+sent_number sent = sent.0
 
 abbrev pub has_sent_number : ℕ → ℕ × NodeId → Bool
 has_sent_number number sent = sent.0 == number
@@ -68,15 +70,15 @@ has_sent_number number sent = sent.0 == number
 abbrev pub node_of : ℕ → List (ℕ × NodeId) → Option NodeId
 node_of number nodes = option_map (λ (sent : ℕ × NodeId). sent.1) (find (has_sent_number number) nodes)
 
-abbrev pub nodes_without : ℕ → List (ℕ × NodeId) → List (ℕ × NodeId)
-nodes_without number nodes = filter (λ (sent : ℕ × NodeId). not (has_sent_number number sent)) nodes
+abbrev pub sent_without : ℕ → List (ℕ × NodeId) → List (ℕ × NodeId)
+sent_without number nodes = filter (λ (sent : ℕ × NodeId). not (has_sent_number number sent)) nodes
 
 -- whether there is a message beside that of a number
 abbrev pub has_others : ℕ → List (ℕ × NodeId) → Bool
 has_others number nodes = list_any (λ (sent : ℕ × NodeId). not (has_sent_number number sent)) nodes
 
 abbrev pub flight_without : ℕ → InFlight → InFlight
-flight_without number flight = record flight { nodes = nodes_without number flight.nodes }
+flight_without number flight = record flight { nodes = sent_without number flight.nodes }
 
 -- a message, as its node's recovery knows it
 abbrev pub message_to : NodeId → ℕ → Asked → ℕ × NodeId → Message
@@ -109,7 +111,7 @@ abbrev pub is_current_read : ℕ → InFlight → Bool
 is_current_read oid flight = if flight.is_older then false else is_read_by oid flight.asked
 
 abbrev pub AscendByNumber : List (ℕ × NodeId) → Type 0
-AscendByNumber nodes = IsStrictlyIncreasing (map number_of nodes)
+AscendByNumber nodes = IsStrictlyIncreasing (map sent_number nodes)
 
 -- ---- what a message of this ask may be told
 
@@ -161,14 +163,14 @@ has_index_at index None = false
 has_index_at index (Some row) = row.index == index
 
 -- rows with one more, in the order in which they are taken
-abbrev pub put_in_order : Policy → Kind → List RowCopy → RowCopy → List RowCopy
-put_in_order (Copies copies) kind rows row = rows ++ row ∷ []
-put_in_order (Coded d p) Block rows row = put_by_index rows row
-put_in_order (Coded d p) Inode rows row = rows ++ row ∷ []
+abbrev pub with_row_in_order : Policy → Kind → List RowCopy → RowCopy → List RowCopy
+with_row_in_order (Copies copies) kind rows row = rows ++ row ∷ []
+with_row_in_order (Coded d p) Block rows row = put_by_index rows row
+with_row_in_order (Coded d p) Inode rows row = rows ++ row ∷ []
 
 abbrev pub put_if_some : Policy → Kind → List RowCopy → Option RowCopy → List RowCopy
 put_if_some policy kind rows None = rows
-put_if_some policy kind rows (Some row) = put_in_order policy kind rows row
+put_if_some policy kind rows (Some row) = with_row_in_order policy kind rows row
 
 -- the rows that count, by what the node sees
 abbrev pub rows_at : NodeId → NodeView → Policy → Search → List RowCopy

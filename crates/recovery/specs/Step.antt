@@ -67,5 +67,6 @@ pub record MayStep (state : RecoveryState) : Type 0 where
   pub entered : state.recovery.epoch ≤ state.shown.epoch
   pub sizes : (oid : ℕ) (policy : Policy) (size : ℕ) → state.shown.policy_of oid ≡ Some policy → state.shown.size_of oid ≡ Some size
       → IsPartSize policy oid size
-  pub search : IfSome state.recovery.search (λ search. (search.level < state.recovery.epoch) × AnswersFit state.shown search.oid search.answers)
+  pub search : IfSome state.recovery.search (λ search.
+      (search.level < state.recovery.epoch) × AnswersFit state.shown search.oid search.answers)
   pub wanted : All (λ (message : Message). message.wanted ≤ TARGETS_MAX) state.recovery.unanswered

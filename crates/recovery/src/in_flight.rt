@@ -7,7 +7,8 @@ ghost use Rattle.std.specs.List.{enumerate_from, find};
 ghost use Rattle.std.specs.Option.{option_map};
 ghost use Rattle.object_id.specs.declared.node.NodeId.{NodeId as TheNode};
 ghost use Rattle.recovery.specs.State.{Message};
-ghost use Rattle.recovery.specs.Kept.{ask_of, message_to, messages_in, no_messages, node_of, nodes_without, has_sent_number, has_others as has_other_nodes};
+ghost use Rattle.recovery.specs.Kept.{ask_of, message_to, messages_in, no_messages};
+ghost use Rattle.recovery.specs.Kept.{node_of, sent_without, has_sent_number, has_others as has_other_nodes};
 ghost use Rattle.recovery.specs.Kept.{flight_without, current_node, is_current_read, AscendByNumber};
 
 use object_id::{Epoch, NoMemory, NodeId, Oid};
@@ -21,11 +22,7 @@ pub enum Asked {
     /// The ids of all objects that the node has rows of.
     Lists,
     /// The object's row that holds the level, of an index below the wanted number.
-    Rows {
-        oid: Oid,
-        level: Epoch,
-        wanted: u8,
-    },
+    Rows { oid: Oid, level: Epoch, wanted: u8 },
 }
 
 /// The messages that aren't answered. Contracts see a record.
@@ -118,7 +115,7 @@ fn find(sent: &[(u32, NodeId)], number: u32) -> Option<NodeId>
 /// Removes the message of a number. Costs the logarithm of the messages, and a move of those behind it.
 fn remove(sent: &mut Vec<(u32, NodeId)>, number: u32)
     requires { AscendByNumber sent.old.items }
-    ensures { sent.new.items ≡ nodes_without number sent.old.items }
+    ensures { sent.new.items ≡ sent_without number sent.old.items }
 {
     let place = place_of(sent.as_slice(), number);
     if find(sent.as_slice(), number).is_some() {

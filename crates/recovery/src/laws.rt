@@ -31,9 +31,13 @@ ghost use Rattle.recovery.specs.Level.{row_of_target, by_index, rows_taken, inde
 ghost use Rattle.recovery.specs.Level.{level_over, is_of_search, searching};
 ghost use Rattle.recovery.specs.Tick.{with_messages, tick_messages, tick_sends, state_after_tick};
 ghost use Rattle.recovery.specs.Frame.{frame, WaitsForLists};
-ghost use Rattle.recovery.specs.Steps.{to_recover, recovery_from_epoch, without_unanswered, search_after_answer, message_end};
+ghost use Rattle.recovery.specs.Steps.{to_recover, recovery_from_epoch, without_unanswered};
+ghost use Rattle.recovery.specs.Steps.{search_after_answer, message_end, recovery_on_reply, recovery_on_loss};
 ghost use Rattle.peer_proto.specs.Ask.{IsPeerReq};
+ghost use Rattle.peer_proto.specs.declared.say.PeerRsp.{PeerRsp};
+ghost use Rattle.recovery.specs.Fits.{fits_recovery};
 ghost use Rattle.recovery.specs.Range.{IsInRange, NamesIds};
+ghost use Rattle.recovery.specs.Step.{MayStep};
 ghost use Rattle.recovery.specs.Example.{object, request, in_epoch_3, with_object_named, with_object_pending, found_at_both};
 ghost use Rattle.recovery.specs.Example.{with_level_half_answered, heard_of_none, none_at_all};
 
@@ -100,6 +104,17 @@ pub fn what_is_asked_can_be_spelled()
     ensures tick { (first : ℕ) (state : RecoveryState) → MayTick first state → IsInRange state → IsInRange (state_after_tick first state) }
     ensures end { (number : ℕ) (said : Option PeerSay) (state : RecoveryState) → IfSome said NamesIds → IsInRange state
         → IsInRange (message_end number said state) }
+{}
+
+/// What a recovery and its node are to be so that a tick, an answer or a loss can be made is there after each of them, as long as
+/// replies fit what was asked, and name objects only by their ids.
+pub fn what_a_step_needs_stays()
+    ensures begin { (epoch : ℕ) (members : List NodeId) (state : RecoveryState) → MayBegin epoch members state → epoch < 2 ^ 32
+        → MayStep state → MayStep (recovery_from_epoch epoch members state) }
+    ensures tick { (first : ℕ) (state : RecoveryState) → MayTick first state → MayStep state → MayStep (state_after_tick first state) }
+    ensures reply { (rsp : PeerRsp) (state : RecoveryState) → fits_recovery rsp state ≡ true → NamesIds rsp.say
+        → MayStep state → MayStep (recovery_on_reply rsp state) }
+    ensures loss { (number : ℕ) (state : RecoveryState) → MayStep state → MayStep (recovery_on_loss number state) }
 {}
 
 /// A level is left only once each of its messages is answered, none by a refusal or a loss.

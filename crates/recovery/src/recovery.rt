@@ -1,18 +1,24 @@
-ghost use Rattle.std.specs.Prelude.{◌≡◌, ◌≤◌, ◌<◌, ◌^◌, ◌-◌, ◌&&◌, [], length, map, true, false, not, filter, IfOk, OnOk, OnErr, IsTrue, Some, IfSome};
+ghost use Rattle.std.specs.Prelude.{◌≡◌, ◌≤◌, ◌<◌, ◌^◌, ◌-◌, ◌&&◌, [], length, map};
+ghost use Rattle.std.specs.Prelude.{true, false, not, filter, IfOk, OnOk, OnErr, IsTrue, Some, IfSome};
 ghost use Rattle.std.specs.List.{list_any};
 ghost use Rattle.std.specs.Option.{option_copied, option_map};
 ghost use Rattle.object_id.specs.declared.limits.TheConstants.{NODES_MAX};
 ghost use Rattle.object_list.specs.Gathered.{has_node, is_same_node};
-ghost use Rattle.object_id.specs.Policy.{IsPolicy};
+ghost use Rattle.object_id.specs.Oid.{kind_of};
+ghost use Rattle.object_id.specs.Policy.{IsPolicy, wanted_of};
 ghost use Rattle.object_store.specs.Rows.{reaches};
-ghost use Rattle.recovery.specs.Shown.{NodeView, is_asked_row};
-ghost use Rattle.recovery.specs.State.{Message, initial_recovery, search_on, is_listed, all_unanswered, message_of, is_finished, can_tick, is_missing, recovery_awaits, MayBegin, MayTick};
+ghost use Rattle.recovery.specs.Shown.{NodeView, live_policy, is_asked_row};
+ghost use Rattle.recovery.specs.State.{Message, initial_recovery, search_on, is_listed, all_unanswered, message_of};
+ghost use Rattle.recovery.specs.State.{is_finished, can_tick, is_missing, recovery_awaits, MayBegin, MayTick};
 ghost use Rattle.recovery.specs.Fits.{is_list, is_recover_read, fits_recovery};
-ghost use Rattle.recovery.specs.Level.{is_of_search, with_part_found, with_object_missing};
-ghost use Rattle.recovery.specs.Tick.{lists_asked, level_messages, next_search, tick_sends, state_after_tick};
-ghost use Rattle.recovery.specs.Steps.{recovery_from_epoch, recovery_on_reply, recovery_on_loss, message_end, messages_without, without_unanswered};
-ghost use Rattle.recovery.specs.Steps.{search_after_answer, after_list, after_read, with_list_of};
-ghost use Rattle.recovery.specs.Kept.{state_of, ask_of, messages_in, fits_asked_row, fits_asked, level_end, state_after_level, level_over_after};
+ghost use Rattle.recovery.specs.Level.{is_of_search, with_part_found, with_object_missing, level_over};
+ghost use Rattle.peer_proto.specs.declared.ask.PeerAsk.TheVariants as asks;
+ghost use Rattle.recovery.specs.Tick.{messages_to, lists_asked, level_messages, next_search, tick_sends, state_after_tick};
+ghost use Rattle.recovery.specs.Steps.{recovery_from_epoch, recovery_on_reply, recovery_on_loss};
+ghost use Rattle.recovery.specs.Steps.{message_end, messages_without, without_unanswered};
+ghost use Rattle.recovery.specs.Steps.{search_after_answer, after_list, after_read, after_ask, with_list_of};
+ghost use Rattle.recovery.specs.Kept.{recovery_state, ask_of, messages_in, fits_asked_row};
+ghost use Rattle.recovery.specs.Kept.{fits_asked, level_end, state_after_level, level_over_after};
 ghost use Rattle.recovery.specs.Kept.{sent_to, sent_by, is_searched, IsSmallEnd};
 ghost use Rattle.recovery.specs.Step.{MayStep, MayEndLevel, SaysOfRow, IsFittingSay};
 
@@ -23,7 +29,7 @@ use crate::listing::{ids_when_listed, show_pending};
 use crate::rows::Rows;
 use crate::search::Search;
 use crate::sends::RecoverSends;
-use object_id::{Epoch, NoMemory, NodeId, Oid, TARGETS_MAX};
+use object_id::{Epoch, NoMemory, NodeId, Oid, Policy, TARGETS_MAX};
 use object_list::Lists;
 use object_store::{Key, OidList, RowCopy};
 use peer_proto::{PeerRsp, PeerSay, SendList};
@@ -77,8 +83,9 @@ fn other_members(
     members: &[NodeId],
     nodes: &[NodeId],
 ) -> Result<Vec<NodeId>, NoMemory>
-    ensures { IfOk result (λ others. others.items
+    ensures others { IfOk result (λ others. others.items
         ≡ filter (λ node. has_node node members.now && not (is_same_node me node)) nodes.now) }
+    ensures few { IfOk result (λ others. length others.items ≤ length nodes.now) }
 {
     let mut others = Vec::from_slice(alloc, nodes)?;
     others.retain(|node| is_member(members, *node) && *node != me);
@@ -101,10 +108,7 @@ fn is_asked_row(level: Epoch, wanted: u8, size: Option<u32>, row: &RowCopy) -> b
 {
     match size {
         Some(size) => {
-            row.from <= level
-                && reaches(level, row.to)
-                && row.index < wanted
-                && row.length == size
+            row.from <= level && reaches(level, row.to) && row.index < wanted && row.length == size
         }
         None => false,
     }
@@ -181,7 +185,7 @@ impl Recovery {
     /// logarithm of the messages, and a look-up of the length of the object's rows.
     #[tactic(auto, using(crate::proofs::FlightLemmas::fits_all))]
     pub fn fits<R: Rows>(&self, rsp: &PeerRsp, rows: &R) -> bool
-        ensures { result ≡ fits_recovery rsp.now (state_of self.now (R.shown rows.now)) }
+        ensures { result ≡ fits_recovery rsp.now (recovery_state self.now (R.shown rows.now)) }
     {
         if self.waits_for(rsp.number) {
             fits_asked(self.flight.asked(), &rsp.say, rows)
@@ -200,7 +204,7 @@ impl Recovery {
 
     /// Whether no recovery was begun, or all that is to be recovered is known and nothing of it is pending. Takes no memory.
     pub fn finished<R: Rows>(&self, rows: &R) -> bool
-        ensures { result ≡ is_finished (state_of self.now (R.shown rows.now)) }
+        ensures { result ≡ is_finished (recovery_state self.now (R.shown rows.now)) }
     {
         if self.epoch.0 == 1 {
             true
@@ -214,7 +218,7 @@ impl Recovery {
     /// Whether the recovery isn't finished and has no unanswered message. Takes no memory.
     #[tactic(auto, using(crate::proofs::FlightLemmas::length_kept))]
     pub fn can_tick<R: Rows>(&self, rows: &R) -> bool
-        ensures { result ≡ can_tick (state_of self.now (R.shown rows.now)) }
+        ensures { result ≡ can_tick (recovery_state self.now (R.shown rows.now)) }
     {
         if self.finished(rows) {
             false
@@ -231,10 +235,10 @@ impl Recovery {
         members: &[NodeId],
         rows: &mut R,
     ) -> Result<(), NoMemory>
-        requires { MayBegin epoch.0 members.now (state_of self.old (R.shown rows.old)) }
-        ensures ok { OnOk result (state_of self.new (R.shown rows.new)
-            ≡ recovery_from_epoch epoch.0 members.now (state_of self.old (R.shown rows.old))) }
-        ensures err { OnErr result (state_of self.new (R.shown rows.new) ≡ state_of self.old (R.shown rows.old)) }
+        requires { MayBegin epoch.0 members.now (recovery_state self.old (R.shown rows.old)) }
+        ensures ok { OnOk result (recovery_state self.new (R.shown rows.new)
+            ≡ recovery_from_epoch epoch.0 members.now (recovery_state self.old (R.shown rows.old))) }
+        ensures err { OnErr result (recovery_state self.new (R.shown rows.new) ≡ recovery_state self.old (R.shown rows.old)) }
         ensures rest { R.rest rows.new ≡ R.rest rows.old }
     {
         let lists = Lists::new(self.alloc, self.me, members)?;
@@ -254,19 +258,20 @@ impl Recovery {
     /// Asks each other member that hasn't named its objects for them, or once all have, the targets of the next level of the search for
     /// the smallest pending object; where a level has none to ask, it is over at once. The messages are numbered upwards from `first`.
     /// Costs the targets of one level, with a look at the members for each, and takes the messages. Without memory nothing changes.
-    #[tactic(auto, using(crate::proofs::TickLemmas::tick_none, crate::proofs::TickLemmas::none_current, crate::proofs::TickLemmas::lists_sends, crate::proofs::TickLemmas::after_lists))]
+    #[tactic(auto, using(crate::proofs::TickLemmas::tick_none))]
     pub fn tick<R: Rows>(&mut self, first: u32, rows: &mut R) -> Result<RecoverSends, NoMemory>
-        requires may { MayTick first (state_of self.old (R.shown rows.old)) }
-        requires step { MayStep (state_of self.old (R.shown rows.old)) }
-        ensures sends { IfOk result (λ sends. sends.list ≡ tick_sends first (state_of self.old (R.shown rows.old))) }
-        ensures ok { OnOk result (state_of self.new (R.shown rows.new) ≡ state_after_tick first (state_of self.old (R.shown rows.old))) }
-        ensures err { OnErr result (state_of self.new (R.shown rows.new) ≡ state_of self.old (R.shown rows.old)) }
+        requires may { MayTick first (recovery_state self.old (R.shown rows.old)) }
+        requires step { MayStep (recovery_state self.old (R.shown rows.old)) }
+        ensures sends { IfOk result (λ sends. sends.list ≡ tick_sends first (recovery_state self.old (R.shown rows.old))) }
+        ensures ok { OnOk result (recovery_state self.new (R.shown rows.new)
+            ≡ state_after_tick first (recovery_state self.old (R.shown rows.old))) }
+        ensures err { OnErr result (recovery_state self.new (R.shown rows.new) ≡ recovery_state self.old (R.shown rows.old)) }
         ensures rest { R.rest rows.new ≡ R.rest rows.old }
     {
         if self.lists.waiting().is_empty() {
             self.tick_search(first, rows)
         } else {
-            self.tick_lists(first)
+            self.tick_unlisted(first, rows)
         }
     }
 
@@ -276,7 +281,8 @@ impl Recovery {
         requires none { all_unanswered self.old ≡ [] }
         requires room { first ≤ 2 ^ 32 - NODES_MAX }
         requires few { length self.old.lists.waiting ≤ NODES_MAX }
-        ensures sends { IfOk result (λ sends. sends.list ≡ map (λ (message : Message). (message.to, message.request)) (lists_asked first self.old)) }
+        ensures sends { IfOk result (λ sends. sends.list
+            ≡ map (λ (message : Message). (message.to, message.request)) (lists_asked first self.old)) }
         ensures ok { OnOk result (self.new ≡ record self.old { unanswered = lists_asked first self.old }) }
         ensures err { OnErr result (self.new ≡ self.old) }
     {
@@ -292,9 +298,29 @@ impl Recovery {
         Ok(RecoverSends { list })
     }
 
+    /// The tick while a member hasn't named its objects.
+    fn tick_unlisted<R: Rows>(
+        &mut self,
+        first: u32,
+        _rows: &mut R,
+    ) -> Result<RecoverSends, NoMemory>
+        requires lacks { is_listed self.old ≡ false }
+        requires none { all_unanswered self.old ≡ [] }
+        requires room { first ≤ 2 ^ 32 - NODES_MAX }
+        requires few { length self.old.lists.waiting ≤ NODES_MAX }
+        ensures sends { IfOk result (λ sends. sends.list ≡ tick_sends first (recovery_state self.old (R.shown _rows.old))) }
+        ensures ok { OnOk result (recovery_state self.new (R.shown _rows.new)
+            ≡ state_after_tick first (recovery_state self.old (R.shown _rows.old))) }
+        ensures err { OnErr result (recovery_state self.new (R.shown _rows.new) ≡ recovery_state self.old (R.shown _rows.old)) }
+        ensures rest { R.rest _rows.new ≡ R.rest _rows.old }
+    {
+        let sends = self.tick_lists(first)?;
+        Ok(sends)
+    }
+
     /// The search that goes on, if its object is still pending.
     fn current_search<R: Rows>(&self, rows: &R) -> Option<&Search>
-        ensures { option_copied result ≡ search_on (state_of self.now (R.shown rows.now)) }
+        ensures { option_copied result ≡ search_on (recovery_state self.now (R.shown rows.now)) }
     {
         match &self.search {
             Some(search) => {
@@ -310,7 +336,7 @@ impl Recovery {
 
     /// The search whose level a tick asks.
     fn next_search<R: Rows>(&self, rows: &R) -> Option<Search>
-        ensures { result ≡ next_search (state_of self.now (R.shown rows.now)) }
+        ensures { result ≡ next_search (recovery_state self.now (R.shown rows.now)) }
     {
         match self.current_search(rows) {
             Some(search) => Some(Search::at(self.alloc, search.oid(), search.level())),
@@ -326,14 +352,15 @@ impl Recovery {
     }
 
     /// Asks the targets of the next level, or ends it where there is none to ask.
+    #[tactic(auto, using(crate::proofs::TickLemmas::nothing_sends, crate::proofs::TickLemmas::nothing_asked, crate::proofs::MayLemmas::next_ends, crate::proofs::TickLemmas::tick_none, crate::proofs::TickLemmas::none_current, crate::proofs::TickLemmas::none_older))]
     fn tick_search<R: Rows>(&mut self, first: u32, rows: &mut R) -> Result<RecoverSends, NoMemory>
         requires listed { is_listed self.old ≡ true }
-        requires none { all_unanswered self.old ≡ [] }
-        requires room { first ≤ 2 ^ 32 - NODES_MAX }
-        requires step { MayStep (state_of self.old (R.shown rows.old)) }
-        ensures sends { IfOk result (λ sends. sends.list ≡ tick_sends first (state_of self.old (R.shown rows.old))) }
-        ensures ok { OnOk result (state_of self.new (R.shown rows.new) ≡ state_after_tick first (state_of self.old (R.shown rows.old))) }
-        ensures err { OnErr result (state_of self.new (R.shown rows.new) ≡ state_of self.old (R.shown rows.old)) }
+        requires may { MayTick first (recovery_state self.old (R.shown rows.old)) }
+        requires step { MayStep (recovery_state self.old (R.shown rows.old)) }
+        ensures sends { IfOk result (λ sends. sends.list ≡ tick_sends first (recovery_state self.old (R.shown rows.old))) }
+        ensures ok { OnOk result (recovery_state self.new (R.shown rows.new)
+            ≡ state_after_tick first (recovery_state self.old (R.shown rows.old))) }
+        ensures err { OnErr result (recovery_state self.new (R.shown rows.new) ≡ recovery_state self.old (R.shown rows.old)) }
         ensures rest { R.rest rows.new ≡ R.rest rows.old }
     {
         match self.next_search(rows) {
@@ -344,7 +371,36 @@ impl Recovery {
         }
     }
 
+    /// A message to each member among the targets of a search's level, but for the node itself.
+    fn flight_to<R: Rows>(
+        &self,
+        first: u32,
+        search: &Search,
+        policy: Policy,
+        targets: &[NodeId],
+        _rows: &R,
+    ) -> Result<InFlight, NoMemory>
+        requires room { first ≤ 2 ^ 32 - NODES_MAX }
+        requires few { length targets.now ≤ TARGETS_MAX }
+        requires valid { IsPolicy policy }
+        requires policy { live_policy (R.shown _rows.now) search.now.oid ≡ Some policy }
+        requires targets { targets.now ≡ (R.shown _rows.now).targets search.now.level search.now.oid policy }
+        ensures messages { IfOk result (λ flight. messages_in self.now.me flight
+            ≡ level_messages first (recovery_state self.now (R.shown _rows.now)) search.now) }
+        ensures current { IfOk result (λ flight. flight.is_older ≡ false) }
+    {
+        let others = other_members(self.alloc, self.me, self.members.as_slice(), targets)?;
+        let asked = Asked::Rows {
+            oid: search.oid(),
+            level: search.level(),
+            wanted: policy.wanted(search.oid().kind()),
+        };
+        let flight = InFlight::to_all(self.alloc, asked, self.epoch, first, others.as_slice())?;
+        Ok(flight)
+    }
+
     /// The messages to a search's level; none where the object's id isn't known, or is dead.
+    #[tactic(auto, using(crate::proofs::FoundLemmas::live_known, crate::proofs::FoundLemmas::valid_policy))]
     fn level_flight<R: Rows>(
         &self,
         first: u32,
@@ -356,26 +412,48 @@ impl Recovery {
         requires to { search.now.level ≤ (R.shown rows.now).epoch }
         requires policy { IfSome ((R.shown rows.now).policy_of search.now.oid) IsPolicy }
         ensures messages { IfOk result (λ flight. messages_in self.now.me flight
-            ≡ level_messages first (state_of self.now (R.shown rows.now)) search.now) }
+            ≡ level_messages first (recovery_state self.now (R.shown rows.now)) search.now) }
         ensures current { IfOk result (λ flight. flight.is_older ≡ false) }
     {
-        let oid = search.oid();
-        let level = search.level();
         let mut targets = [NodeId(0); TARGETS_MAX];
-        let Some((count, policy)) = rows.targets(level, oid, &mut targets) else {
+        let Some((count, policy)) = rows.targets(search.level(), search.oid(), &mut targets) else {
             return Ok(InFlight::none(self.alloc));
         };
-        let others = other_members(
-            self.alloc,
-            self.me,
-            self.members.as_slice(),
-            &targets[..count],
-        )?;
-        let wanted = policy.wanted(oid.kind());
-        let asked = Asked::Rows { oid, level, wanted };
-        InFlight::to_all(self.alloc, asked, self.epoch, first, others.as_slice())
+        self.flight_to(first, search, policy, &targets[..count], rows)
     }
 
+    /// These messages are sent, and the search goes on.
+    fn ask_level(&mut self, flight: InFlight, search: Search) -> Result<RecoverSends, NoMemory>
+        requires { flight.is_older ≡ false }
+        ensures sends { IfOk result (λ sends. sends.list
+            ≡ map (λ (message : Message). (message.to, message.request)) (messages_in self.old.me flight)) }
+        ensures ok { OnOk result (self.new ≡ record self.old {
+          search = Some search;
+          unanswered = messages_in self.old.me flight;
+          older = [];
+        }) }
+        ensures err { OnErr result (self.new ≡ self.old) }
+    {
+        let list = flight.sends(self.alloc, self.me)?;
+        self.flight = flight;
+        self.search = Some(search);
+        Ok(RecoverSends { list })
+    }
+
+    /// A search's level ends without a message.
+    #[tactic(auto, using(crate::proofs::EndLemmas::over_by_end))]
+    fn end_now<R: Rows>(&mut self, search: &Search, rows: &mut R) -> Result<(), NoMemory>
+        requires { MayEndLevel self.old.epoch (R.shown rows.old) search.now }
+        ensures ok { OnOk result (recovery_state self.new (R.shown rows.new)
+            ≡ level_over search.now (recovery_state self.old (R.shown rows.old))) }
+        ensures err { OnErr result (recovery_state self.new (R.shown rows.new) ≡ recovery_state self.old (R.shown rows.old)) }
+        ensures rest { R.rest rows.new ≡ R.rest rows.old }
+    {
+        let end = level_end(self.alloc, self.me, self.epoch, search, rows)?;
+        self.end_level(search.oid(), end, rows)
+    }
+
+    #[tactic(auto, using(crate::proofs::TickLemmas::level_sends, crate::proofs::TickLemmas::tick_over, crate::proofs::TickLemmas::tick_asks, crate::proofs::TickLemmas::no_messages_in, crate::proofs::TickLemmas::some_messages_in))]
     fn tick_level<R: Rows>(
         &mut self,
         first: u32,
@@ -383,41 +461,42 @@ impl Recovery {
         rows: &mut R,
     ) -> Result<RecoverSends, NoMemory>
         requires listed { is_listed self.old ≡ true }
-        requires next { next_search (state_of self.old (R.shown rows.old)) ≡ Some search }
-        requires none { all_unanswered self.old ≡ [] }
+        requires next { next_search (recovery_state self.old (R.shown rows.old)) ≡ Some search }
         requires room { first ≤ 2 ^ 32 - NODES_MAX }
-        requires step { MayStep (state_of self.old (R.shown rows.old)) }
-        ensures sends { IfOk result (λ sends. sends.list ≡ tick_sends first (state_of self.old (R.shown rows.old))) }
-        ensures ok { OnOk result (state_of self.new (R.shown rows.new) ≡ state_after_tick first (state_of self.old (R.shown rows.old))) }
-        ensures err { OnErr result (state_of self.new (R.shown rows.new) ≡ state_of self.old (R.shown rows.old)) }
+        requires none { self.old.unanswered ≡ [] }
+        requires older { self.old.older ≡ [] }
+        requires may { MayEndLevel self.old.epoch (R.shown rows.old) search }
+        ensures sends { IfOk result (λ sends. sends.list ≡ tick_sends first (recovery_state self.old (R.shown rows.old))) }
+        ensures ok { OnOk result (recovery_state self.new (R.shown rows.new)
+            ≡ state_after_tick first (recovery_state self.old (R.shown rows.old))) }
+        ensures err { OnErr result (recovery_state self.new (R.shown rows.new) ≡ recovery_state self.old (R.shown rows.old)) }
         ensures rest { R.rest rows.new ≡ R.rest rows.old }
     {
         let flight = self.level_flight(first, &search, rows)?;
-        let list = flight.sends(self.alloc, self.me)?;
         if flight.is_empty() {
-            let end = level_end(self.alloc, self.me, self.epoch, &search, rows)?;
-            self.end_level(search.oid(), end, rows)?;
+            self.end_now(&search, rows)?;
+            Ok(RecoverSends {
+                list: SendList::new(self.alloc),
+            })
         } else {
-            self.flight = flight;
-            self.search = Some(search);
+            self.ask_level(flight, search)
         }
-        Ok(RecoverSends { list })
     }
 
     /// A level has come to its end. Without memory nothing changes.
-    fn end_level<R: Rows>(
-        &mut self,
-        oid: Oid,
-        end: LevelEnd,
-        rows: &mut R,
-    ) -> Result<(), NoMemory>
+    fn end_level<R: Rows>(&mut self, oid: Oid, end: LevelEnd, rows: &mut R) -> Result<(), NoMemory>
         requires { IsSmallEnd end }
-        ensures ok { OnOk result (state_of self.new (R.shown rows.new) ≡ state_after_level oid end (state_of self.old (R.shown rows.old))) }
-        ensures err { OnErr result (state_of self.new (R.shown rows.new) ≡ state_of self.old (R.shown rows.old)) }
+        ensures ok { OnOk result (recovery_state self.new (R.shown rows.new)
+            ≡ state_after_level oid end (recovery_state self.old (R.shown rows.old))) }
+        ensures err { OnErr result (recovery_state self.new (R.shown rows.new) ≡ recovery_state self.old (R.shown rows.old)) }
         ensures rest { R.rest rows.new ≡ R.rest rows.old }
     {
         match end {
-            LevelEnd::Found { index, bytes } => self.put_part(Key { oid, index }, bytes.as_slice(), rows),
+            LevelEnd::Found { index, bytes } => self.put_part(
+                Key { oid, index },
+                bytes.as_slice(),
+                rows,
+            ),
             LevelEnd::Missing => self.give_up(oid, rows),
             LevelEnd::Asks(level) => {
                 self.search = Some(Search::at(self.alloc, oid, level));
@@ -430,8 +509,9 @@ impl Recovery {
     /// The node has its part, and the search ends.
     fn put_part<R: Rows>(&mut self, key: Key, bytes: &[u8], rows: &mut R) -> Result<(), NoMemory>
         requires { length bytes.now < 2 ^ 32 }
-        ensures ok { OnOk result (state_of self.new (R.shown rows.new) ≡ with_part_found key.oid key.index bytes.now (state_of self.old (R.shown rows.old))) }
-        ensures err { OnErr result (state_of self.new (R.shown rows.new) ≡ state_of self.old (R.shown rows.old)) }
+        ensures ok { OnOk result (recovery_state self.new (R.shown rows.new)
+            ≡ with_part_found key.oid key.index bytes.now (recovery_state self.old (R.shown rows.old))) }
+        ensures err { OnErr result (recovery_state self.new (R.shown rows.new) ≡ recovery_state self.old (R.shown rows.old)) }
         ensures rest { R.rest rows.new ≡ R.rest rows.old }
     {
         rows.put_row(key, bytes.len() as u32, bytes)?;
@@ -441,8 +521,9 @@ impl Recovery {
 
     /// The object is missing, and the search ends.
     fn give_up<R: Rows>(&mut self, oid: Oid, rows: &mut R) -> Result<(), NoMemory>
-        ensures ok { OnOk result (state_of self.new (R.shown rows.new) ≡ with_object_missing oid (state_of self.old (R.shown rows.old))) }
-        ensures err { OnErr result (state_of self.new (R.shown rows.new) ≡ state_of self.old (R.shown rows.old)) }
+        ensures ok { OnOk result (recovery_state self.new (R.shown rows.new)
+            ≡ with_object_missing oid (recovery_state self.old (R.shown rows.old))) }
+        ensures err { OnErr result (recovery_state self.new (R.shown rows.new) ≡ recovery_state self.old (R.shown rows.old)) }
         ensures rest { R.rest rows.new ≡ R.rest rows.old }
     {
         self.missing.push(oid)?;
@@ -454,12 +535,13 @@ impl Recovery {
     /// A reply to a message came. Costs the logarithm of the messages, and takes what it tells. With the last list it takes and costs the
     /// ids of all objects; with the last answer of a level it looks at each answer for each target, and where there are enough rows takes
     /// the object's bytes by them. Without memory nothing changes.
+    #[tactic(auto, unfolding(crate::specs::Steps::recovery_on_reply))]
     pub fn on_reply<R: Rows>(&mut self, rsp: &PeerRsp, rows: &mut R) -> Result<(), NoMemory>
-        requires fits { IsTrue (fits_recovery rsp.now (state_of self.old (R.shown rows.old))) }
-        requires step { MayStep (state_of self.old (R.shown rows.old)) }
-        ensures ok { OnOk result (state_of self.new (R.shown rows.new)
-            ≡ recovery_on_reply rsp.now (state_of self.old (R.shown rows.old))) }
-        ensures err { OnErr result (state_of self.new (R.shown rows.new) ≡ state_of self.old (R.shown rows.old)) }
+        requires fits { IsTrue (fits_recovery rsp.now (recovery_state self.old (R.shown rows.old))) }
+        requires step { MayStep (recovery_state self.old (R.shown rows.old)) }
+        ensures ok { OnOk result (recovery_state self.new (R.shown rows.new)
+            ≡ recovery_on_reply rsp.now (recovery_state self.old (R.shown rows.old))) }
+        ensures err { OnErr result (recovery_state self.new (R.shown rows.new) ≡ recovery_state self.old (R.shown rows.old)) }
         ensures rest { R.rest rows.new ≡ R.rest rows.old }
     {
         self.message_end(rsp.number, Some(&rsp.say), rows)
@@ -467,12 +549,13 @@ impl Recovery {
 
     /// A message, or the reply to it, was lost. Costs and takes what [`Recovery::on_reply`] does at the end of a level. Without memory
     /// nothing changes.
+    #[tactic(auto, unfolding(crate::specs::Steps::recovery_on_loss))]
     pub fn on_lost<R: Rows>(&mut self, number: u32, rows: &mut R) -> Result<(), NoMemory>
         requires waits { IsTrue (recovery_awaits number self.old) }
-        requires step { MayStep (state_of self.old (R.shown rows.old)) }
-        ensures ok { OnOk result (state_of self.new (R.shown rows.new)
-            ≡ recovery_on_loss number (state_of self.old (R.shown rows.old))) }
-        ensures err { OnErr result (state_of self.new (R.shown rows.new) ≡ state_of self.old (R.shown rows.old)) }
+        requires step { MayStep (recovery_state self.old (R.shown rows.old)) }
+        ensures ok { OnOk result (recovery_state self.new (R.shown rows.new)
+            ≡ recovery_on_loss number (recovery_state self.old (R.shown rows.old))) }
+        ensures err { OnErr result (recovery_state self.new (R.shown rows.new) ≡ recovery_state self.old (R.shown rows.old)) }
         ensures rest { R.rest rows.new ≡ R.rest rows.old }
     {
         self.message_end(number, None, rows)
@@ -492,7 +575,7 @@ impl Recovery {
     /// The message of a number is answered.
     #[tactic(auto, using(crate::proofs::FlightLemmas::without_current, crate::proofs::FlightLemmas::without_older))]
     fn forget(&mut self, number: u32)
-        ensures { (shown : NodeView) → state_of self.new shown ≡ without_unanswered number (state_of self.old shown) }
+        ensures { (shown : NodeView) → recovery_state self.new shown ≡ without_unanswered number (recovery_state self.old shown) }
     {
         self.flight.remove(number);
     }
@@ -517,20 +600,43 @@ impl Recovery {
         said: Option<&PeerSay>,
         rows: &mut R,
     ) -> Result<(), NoMemory>
-        requires step { MayStep (state_of self.old (R.shown rows.old)) }
-        requires fits { IfSome (option_copied said.entry) (λ say. IfSome (message_of number self.old.unanswered)
+        requires step { MayStep (recovery_state self.old (R.shown rows.old)) }
+        requires fits { IfSome (option_copied said) (λ say. IfSome (message_of number self.old.unanswered)
             (λ message. SaysOfRow (R.shown rows.old) message.request.ask say)) }
-        ensures ok { OnOk result (state_of self.new (R.shown rows.new) ≡ message_end number (option_copied said.entry) (state_of self.old (R.shown rows.old))) }
-        ensures err { OnErr result (state_of self.new (R.shown rows.new) ≡ state_of self.old (R.shown rows.old)) }
+        ensures ok { OnOk result (recovery_state self.new (R.shown rows.new)
+            ≡ message_end number (option_copied said.entry) (recovery_state self.old (R.shown rows.old))) }
+        ensures err { OnErr result (recovery_state self.new (R.shown rows.new) ≡ recovery_state self.old (R.shown rows.old)) }
         ensures rest { R.rest rows.new ≡ R.rest rows.old }
     {
         match self.current(number) {
-            Some((from, Asked::Lists)) => self.list_end(number, from, said, rows),
-            Some((from, Asked::Rows { oid, .. })) => self.read_end(number, from, oid, said, rows),
+            Some((from, asked)) => self.asked_end(number, from, &asked, said, rows),
             None => {
                 self.forget(number);
                 Ok(())
             }
+        }
+    }
+
+    /// A message that asks for this has ended.
+    fn asked_end<R: Rows>(
+        &mut self,
+        number: u32,
+        from: NodeId,
+        asked: &Asked,
+        said: Option<&PeerSay>,
+        rows: &mut R,
+    ) -> Result<(), NoMemory>
+        requires step { MayStep (recovery_state self.old (R.shown rows.old)) }
+        requires fits { IfSome (option_copied said) (SaysOfRow (R.shown rows.old) (ask_of asked.now)) }
+        ensures ok { OnOk result (recovery_state self.new (R.shown rows.new)
+            ≡ after_ask (ask_of asked.now) from (option_copied said.entry)
+            (without_unanswered number (recovery_state self.old (R.shown rows.old)))) }
+        ensures err { OnErr result (recovery_state self.new (R.shown rows.new) ≡ recovery_state self.old (R.shown rows.old)) }
+        ensures rest { R.rest rows.new ≡ R.rest rows.old }
+    {
+        match asked {
+            Asked::Lists => self.list_end(number, from, said, rows),
+            Asked::Rows { oid, .. } => self.read_end(number, from, *oid, said, rows),
         }
     }
 
@@ -544,19 +650,29 @@ impl Recovery {
     ) -> Result<(), NoMemory>
         requires from { 1 ≤ self.old.epoch }
         requires to { self.old.epoch ≤ (R.shown rows.old).epoch }
-        ensures ok { OnOk result (state_of self.new (R.shown rows.new) ≡ after_list from (option_copied said.entry) (without_unanswered number (state_of self.old (R.shown rows.old)))) }
-        ensures err { OnErr result (state_of self.new (R.shown rows.new) ≡ state_of self.old (R.shown rows.old)) }
+        ensures ok { OnOk result (recovery_state self.new (R.shown rows.new)
+            ≡ after_list from (option_copied said.entry) (without_unanswered number (recovery_state self.old (R.shown rows.old)))) }
+        ensures err { OnErr result (recovery_state self.new (R.shown rows.new) ≡ recovery_state self.old (R.shown rows.old)) }
         ensures rest { R.rest rows.new ≡ R.rest rows.old }
     {
         match said {
-            Some(PeerSay::Objects(oids)) => return self.add_list(number, from, oids, rows),
-            None => {}
-            Some(PeerSay::Success) => {}
-            Some(PeerSay::Piece(_)) => {}
-            Some(PeerSay::Row(_)) => {}
-            Some(PeerSay::NoRow) => {}
-            Some(PeerSay::Refused(_)) => {}
+            Some(PeerSay::Objects(oids)) => self.add_list(number, from, oids, rows),
+            None => self.forget_only(number, rows),
+            Some(PeerSay::Success) => self.forget_only(number, rows),
+            Some(PeerSay::Piece(_)) => self.forget_only(number, rows),
+            Some(PeerSay::Row(_)) => self.forget_only(number, rows),
+            Some(PeerSay::NoRow) => self.forget_only(number, rows),
+            Some(PeerSay::Refused(_)) => self.forget_only(number, rows),
         }
+    }
+
+    /// The message of a number is answered, and nothing comes of that.
+    fn forget_only<R: Rows>(&mut self, number: u32, _rows: &mut R) -> Result<(), NoMemory>
+        ensures ok { OnOk result (recovery_state self.new (R.shown _rows.new)
+            ≡ without_unanswered number (recovery_state self.old (R.shown _rows.old))) }
+        ensures err { OnErr result (recovery_state self.new (R.shown _rows.new) ≡ recovery_state self.old (R.shown _rows.old)) }
+        ensures rest { R.rest _rows.new ≡ R.rest _rows.old }
+    {
         self.forget(number);
         Ok(())
     }
@@ -571,8 +687,9 @@ impl Recovery {
     ) -> Result<(), NoMemory>
         requires from { 1 ≤ self.old.epoch }
         requires to { self.old.epoch ≤ (R.shown rows.old).epoch }
-        ensures ok { OnOk result (state_of self.new (R.shown rows.new) ≡ with_list_of from oids.now (without_unanswered number (state_of self.old (R.shown rows.old)))) }
-        ensures err { OnErr result (state_of self.new (R.shown rows.new) ≡ state_of self.old (R.shown rows.old)) }
+        ensures ok { OnOk result (recovery_state self.new (R.shown rows.new)
+            ≡ with_list_of from oids.now (without_unanswered number (recovery_state self.old (R.shown rows.old)))) }
+        ensures err { OnErr result (recovery_state self.new (R.shown rows.new) ≡ recovery_state self.old (R.shown rows.old)) }
         ensures rest { R.rest rows.new ≡ R.rest rows.old }
     {
         let lists = self.lists.with_answer(from, oids)?;
@@ -585,7 +702,7 @@ impl Recovery {
 
     /// Whether the search for an object goes on.
     fn searches<R: Rows>(&self, oid: Oid, rows: &R) -> bool
-        ensures { result ≡ is_searched oid (search_on (state_of self.now (R.shown rows.now))) }
+        ensures { result ≡ is_searched oid (search_on (recovery_state self.now (R.shown rows.now))) }
     {
         match self.current_search(rows) {
             Some(search) => search.oid() == oid,
@@ -594,7 +711,6 @@ impl Recovery {
     }
 
     /// A RecoverRead of an object has ended.
-    #[tactic(auto, using(crate::proofs::ReplyLemmas::still_kept, crate::proofs::ReplyLemmas::read_ignored, crate::proofs::ReplyLemmas::read_noted, crate::proofs::ReplyLemmas::read_last))]
     fn read_end<R: Rows>(
         &mut self,
         number: u32,
@@ -603,16 +719,42 @@ impl Recovery {
         said: Option<&PeerSay>,
         rows: &mut R,
     ) -> Result<(), NoMemory>
-        requires step { MayStep (state_of self.old (R.shown rows.old)) }
-        requires fits { IfSome (option_copied said.entry) (IsFittingSay (R.shown rows.old) oid) }
-        ensures ok { OnOk result (state_of self.new (R.shown rows.new) ≡ after_read oid from (option_copied said.entry) (search_on (state_of self.old (R.shown rows.old))) (without_unanswered number (state_of self.old (R.shown rows.old)))) }
-        ensures err { OnErr result (state_of self.new (R.shown rows.new) ≡ state_of self.old (R.shown rows.old)) }
+        requires step { MayStep (recovery_state self.old (R.shown rows.old)) }
+        requires fits { IfSome (option_copied said) (IsFittingSay (R.shown rows.old) oid) }
+        ensures ok { OnOk result (recovery_state self.new (R.shown rows.new)
+            ≡ after_read oid from (option_copied said.entry) (search_on (recovery_state self.old (R.shown rows.old)))
+            (without_unanswered number (recovery_state self.old (R.shown rows.old)))) }
+        ensures err { OnErr result (recovery_state self.new (R.shown rows.new) ≡ recovery_state self.old (R.shown rows.old)) }
         ensures rest { R.rest rows.new ≡ R.rest rows.old }
     {
-        if !self.searches(oid, rows) {
+        if self.searches(oid, rows) {
+            self.searched_end(number, from, oid, said, rows)
+        } else {
             self.forget(number);
             Ok(())
-        } else if self.waits_for_others(oid, number) {
+        }
+    }
+
+    /// A RecoverRead of the object that is searched has ended.
+    #[tactic(auto, using(crate::proofs::ReplyLemmas::still_kept, crate::proofs::ReplyLemmas::read_last))]
+    fn searched_end<R: Rows>(
+        &mut self,
+        number: u32,
+        from: NodeId,
+        oid: Oid,
+        said: Option<&PeerSay>,
+        rows: &mut R,
+    ) -> Result<(), NoMemory>
+        requires step { MayStep (recovery_state self.old (R.shown rows.old)) }
+        requires fits { IfSome (option_copied said) (IsFittingSay (R.shown rows.old) oid) }
+        requires searched { is_searched oid (search_on (recovery_state self.old (R.shown rows.old))) ≡ true }
+        ensures ok { OnOk result (recovery_state self.new (R.shown rows.new)
+            ≡ after_read oid from (option_copied said.entry) (search_on (recovery_state self.old (R.shown rows.old)))
+            (without_unanswered number (recovery_state self.old (R.shown rows.old)))) }
+        ensures err { OnErr result (recovery_state self.new (R.shown rows.new) ≡ recovery_state self.old (R.shown rows.old)) }
+        ensures rest { R.rest rows.new ≡ R.rest rows.old }
+    {
+        if self.waits_for_others(oid, number) {
             self.note(from, said)?;
             self.forget(number);
             Ok(())
@@ -630,11 +772,13 @@ impl Recovery {
         said: Option<&PeerSay>,
         rows: &mut R,
     ) -> Result<(), NoMemory>
-        requires step { MayStep (state_of self.old (R.shown rows.old)) }
-        requires fits { IfSome (option_copied said.entry) (IsFittingSay (R.shown rows.old) oid) }
+        requires step { MayStep (recovery_state self.old (R.shown rows.old)) }
+        requires fits { IfSome (option_copied said) (IsFittingSay (R.shown rows.old) oid) }
         requires searched { is_searched oid self.old.search ≡ true }
-        ensures ok { OnOk result (state_of self.new (R.shown rows.new) ≡ level_over_after from (option_copied said.entry) self.old.search (without_unanswered number (state_of self.old (R.shown rows.old)))) }
-        ensures err { OnErr result (state_of self.new (R.shown rows.new) ≡ state_of self.old (R.shown rows.old)) }
+        ensures ok { OnOk result (recovery_state self.new (R.shown rows.new)
+            ≡ level_over_after from (option_copied said.entry) self.old.search
+            (without_unanswered number (recovery_state self.old (R.shown rows.old)))) }
+        ensures err { OnErr result (recovery_state self.new (R.shown rows.new) ≡ recovery_state self.old (R.shown rows.old)) }
         ensures rest { R.rest rows.new ≡ R.rest rows.old }
     {
         let end = self.end_after(from, said, rows)?;
@@ -664,7 +808,7 @@ impl Recovery {
         rows: &R,
     ) -> Result<LevelEnd, NoMemory>
         requires { IfSome self.old.search (λ search.
-            MayEndLevel self.old.epoch (R.shown rows.now) (search_after_answer from (option_copied said.entry) search)) }
+            MayEndLevel self.old.epoch (R.shown rows.now) (search_after_answer from (option_copied said) search)) }
         ensures same { self.new ≡ self.old }
         ensures end { IfSome self.old.search (λ search. IfOk result (λ end.
             end ≡ level_end self.old.me self.old.epoch (R.shown rows.now) (search_after_answer from (option_copied said.entry) search))) }

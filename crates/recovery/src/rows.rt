@@ -15,6 +15,7 @@ pub trait Rows {
 
     /// What else the node is: a recovery reads nothing of it, and changes nothing.
     ghost Rest: { Type 0 };
+
     ghost rest: { Self → Rest };
 
     /// The ids of the objects that have rows.

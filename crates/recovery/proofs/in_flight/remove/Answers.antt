@@ -15,7 +15,7 @@ remove-requires c =
     = λ k below. subst (λ (xs : List Sent). (get_or xs k none).0 < c.args.number) same (c.place_of-place.ensures.before k none below) in
     let high : (k : ℕ) → place ≤ k → k < length sent → c.args.number ≤ (get_or sent k none).0
     = λ k from within. subst (λ (xs : List Sent). c.args.number ≤ (get_or xs k none).0) same
-      (c.place_of-place.ensures.behind k none from (subst (λ (xs : List Sent). k < length xs) (sym same) within)) in
+    (c.place_of-place.ensures.behind k none from (subst (λ (xs : List Sent). k < length xs) (sym same) within)) in
     let some : is_some (node_of c.args.number sent) ≡ true
     = sym (ap is_some (c.find.ensures ∙ ap (node_of c.args.number) c.as_slice-2.ensures.value)) ∙ sym c.is_some.ensures ∙ c.if-is_some.true in
     let found = found-at c.args.number place sent none low high c.requires some in
@@ -30,7 +30,7 @@ returns-then-is_some c =
     = λ k below. subst (λ (xs : List Sent). (get_or xs k none).0 < c.args.number) same (c.place_of-place.ensures.before k none below) in
     let high : (k : ℕ) → place ≤ k → k < length sent → c.args.number ≤ (get_or sent k none).0
     = λ k from within. subst (λ (xs : List Sent). c.args.number ≤ (get_or xs k none).0) same
-      (c.place_of-place.ensures.behind k none from (subst (λ (xs : List Sent). k < length xs) (sym same) within)) in
+    (c.place_of-place.ensures.behind k none from (subst (λ (xs : List Sent). k < length xs) (sym same) within)) in
     let some : is_some (node_of c.args.number sent) ≡ true
     = sym (ap is_some (c.find.ensures ∙ ap (node_of c.args.number) c.as_slice-2.ensures.value)) ∙ sym c.is_some.ensures ∙ c.if-is_some.true in
     let found = found-at c.args.number place sent none low high c.requires some in
@@ -45,7 +45,7 @@ returns-else-is_some c =
     = λ k below. subst (λ (xs : List Sent). (get_or xs k none).0 < c.args.number) same (c.place_of-place.ensures.before k none below) in
     let high : (k : ℕ) → place ≤ k → k < length sent → c.args.number ≤ (get_or sent k none).0
     = λ k from within. subst (λ (xs : List Sent). c.args.number ≤ (get_or xs k none).0) same
-      (c.place_of-place.ensures.behind k none from (subst (λ (xs : List Sent). k < length xs) (sym same) within)) in
+    (c.place_of-place.ensures.behind k none from (subst (λ (xs : List Sent). k < length xs) (sym same) within)) in
     let lacks : is_some (node_of c.args.number sent) ≡ false
     = sym (ap is_some (c.find.ensures ∙ ap (node_of c.args.number) c.as_slice-2.ensures.value)) ∙ sym c.is_some.ensures ∙ c.if-is_some.false in
     sym (stays c.args.number place sent none low high c.requires lacks)
