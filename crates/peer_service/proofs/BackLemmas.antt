@@ -5,7 +5,7 @@ use Rattle.std.proofs.lemmas.List.Folds.{list_any-append}
 use Rattle.std.proofs.lemmas.List.Elements.{All-nil, All-cons}
 use Rattle.std.specs.List.{All, Contains, list_any}
 use Rattle.std.specs.Ordering.{nat_cmp}
-use Rattle.std.specs.Cmp.{nat_cmp-IsAntisymmetric}
+use Rattle.std.specs.FinMap.{nat_cmp-IsAntisymmetric}
 use Rattle.std.specs.FinMap as tree
 use Rattle.proof_tools.proofs.FiniteMaps.{keys-contain}
 use Rattle.proof_tools.proofs.Lists.{list_any-none}
@@ -21,6 +21,7 @@ use Rattle.object_store.proofs.StoreLaws.{rows_of-each}
 use Rattle.vdi_directory.specs.References.{has_vid}
 use Rattle.vdi_directory.specs.Effects.{holder_of}
 use Rattle.vdi_directory.specs.Decisions.{log_effects}
+use Rattle.vdi_directory.specs.Dead.{is_dead}
 use Rattle.vdi_directory.specs.DirectoryState.{AreLocks}
 use Rattle.vdi_directory.proofs.StateLemmas.{log_effects-none}
 use Rattle.peer_service.specs.State.{Peer, is_dead_object}
@@ -29,7 +30,7 @@ use Rattle.peer_service.specs.Epochs.{peer_settled_to}
 use Rattle.peer_service.specs.Back.{closed_at_end, come_back}
 use Rattle.peer_service.proofs.EpochLemmas.{but_none}
 use Rattle.peer_service.proofs.RowLemmas.{each-alike}
-use Rattle.peer_service.proofs.DropLemmas.{is_of_disk}
+use Rattle.peer_service.proofs.DropLemmas.{is_of_disk, peer_of}
 
 -- ---- a directory that reads a log
 
@@ -121,3 +122,23 @@ back_left settled last all oid is =
     rows_of-each (λ q. purged settled) (each (λ q. closed_all last) all) oid refl
     ∙ ap (purged settled) (rows_of-each (λ q. closed_all last) all oid refl)
     ∙ ap (λ (rows : List SeenRow). purged settled (closed_all last rows)) is
+
+pub dead_next : (oids : List ℕ) (k first : ℕ) (old dead : List Vid) (is_dead : ℕ → Bool) → take (k + 1) oids ≡ take k oids ++ first ∷ []
+    → ((vid : ℕ) → has_vid vid dead ≡ (has_vid vid old || (vid_of first == vid && is_dead vid)))
+    → DeadSoFar old (take k oids) is_dead → DeadSoFar dead (take (k + 1) oids) is_dead
+dead_next oids k first old dead is_dead more new had =
+    subst (λ (so_far : List ℕ). DeadSoFar dead so_far is_dead) (sym more) (dead_so_far old dead (take k oids) first is_dead new had)
+
+pub back_made : (entries directory : List Entry) (peer : Peer) (dead : List Vid) (epoch settled : ℕ) (rows : AllRows) (pending : List ℕ)
+    → epoch ≡ epoch_of entries → settled ≡ settled_of entries → directory ≡ entries → pending ≡ []
+    → rows ≡ each (rows_but (is_of_disk dead)) (each (λ q. purged settled) (each (λ q. closed_all peer.epoch) peer.rows))
+    → DeadSoFar dead (tree.keys peer.rows) (is_dead (log_effects directory))
+    → peer_of epoch settled rows (Some pending) directory ≡ come_back entries peer
+unfolding come_back without_objects peer_settled_to closed_at_end
+back_made entries directory peer dead epoch settled rows pending at_epoch at_settled read none left had =
+    let rows_are =
+    left
+    ∙ dead_rows_go dead (is_dead (log_effects directory)) peer.rows (each (λ q. purged settled) (each (λ q. closed_all peer.epoch) peer.rows))
+    (back_left settled peer.epoch peer.rows) had
+    ∙ ap₂ (λ (log : List Entry) (level : ℕ). each (rows_but (λ oid. is_dead (log_effects log) (vid_of oid))) (each (λ q. purged level) (each (λ q. closed_all peer.epoch) peer.rows))) read at_settled in
+    λ i. peer_of (at_epoch i) (at_settled i) (rows_are i) (Some (none i)) (read i)

@@ -1,5 +1,5 @@
 -- The rows of some disks go, a disk at a time; and which disks are dead.
-use Rattle.std.proofs.Common.{◌≡◌, ◌≢◌, ◌↔◌, ℕ, ◌==◌, Bool, true, false, not, cond, ◌&&◌, ◌||◌, nat_eq, IsTrue, List, [], ◌∷◌, ◌++◌, filter, map, take, Option, Some, None, refl, ap, ap₂, sym, ◌∙◌, subst, arith}
+use Rattle.std.proofs.Common.{◌≡◌, ◌≢◌, ◌↔◌, ℕ, ◌+◌, ◌==◌, Bool, true, false, not, cond, ◌&&◌, ◌||◌, nat_eq, IsTrue, List, [], ◌∷◌, ◌++◌, length, filter, map, take, Option, Some, None, refl, ap, ap₂, sym, ◌∙◌, subst, arith}
 use Rattle.std.proofs.lemmas.Bool.Decides.{nat_tests}
 use Rattle.std.proofs.lemmas.List.Folds.{list_any-append}
 use Rattle.std.specs.List.{list_any}
@@ -10,8 +10,9 @@ use Rattle.object_id.specs.declared.entry.Entry.{Entry}
 use Rattle.object_store.specs.Rows.{without_disk}
 use Rattle.object_store.specs.Store.{AllRows, SeenRow, rows_of, each}
 use Rattle.object_store.proofs.StoreLaws.{rows_of-each}
-use Rattle.vdi_directory.specs.declared.effect.Effect.{Effect}
 use Rattle.vdi_directory.specs.References.{has_vid}
+use Rattle.vdi_directory.specs.Decisions.{log_effects}
+use Rattle.vdi_directory.specs.Dead.{is_dead}
 use Rattle.peer_service.specs.State.{Peer, HaveRows, with_entry}
 use Rattle.peer_service.specs.LogReading.{kills_object, rows_but, without_objects, read_entry}
 use Rattle.peer_service.proofs.EpochLemmas.{but_none}
@@ -68,9 +69,10 @@ one_disk_more vids vid all =
 
 -- ---- what goes with no disk
 
-pub nothing_pending_gone : (vids : List Vid) (pending : Option (List ℕ)) → vids ≡ [] → pending ≡ option_map (filter (λ oid. not (is_of_disk vids oid))) pending
-nothing_pending_gone vids None is = refl
-nothing_pending_gone vids (Some oids) is = ap Some (sym (ap (λ (vids : List Vid). filter (λ oid. not (is_of_disk vids oid)) oids) is ∙ all_stay oids))
+pub nothing_pending_gone : (vids : List Vid) (pending : Option (List ℕ)) → length vids ≡ 0 → pending ≡ option_map (filter (λ oid. not (is_of_disk vids oid))) pending
+nothing_pending_gone (vid ∷ vids) pending none = absurd (cc (none))
+nothing_pending_gone [] None none = refl
+nothing_pending_gone [] (Some oids) none = ap Some (sym (all_stay oids))
   where
     all_stay : (oids : List ℕ) → filter (λ oid. not (is_of_disk [] oid)) oids ≡ oids
     all_stay [] = refl
@@ -80,3 +82,31 @@ nothing_pending_gone vids (Some oids) is = ap Some (sym (ap (λ (vids : List Vid
 
 pub without_same : (goes others : ℕ → Bool) (peer : Peer) → ((oid : ℕ) → goes oid ≡ others oid) → without_objects goes peer ≡ without_objects others peer
 without_same goes others peer same = ap (λ (test : ℕ → Bool). without_objects test peer) (λ i oid. same oid i)
+
+-- two tests of the same
+pub same_test : {P : Type 0} (a b : Bool) → (IsTrue a ↔ P) → (IsTrue b ↔ P) → a ≡ b
+same_test true true one other = refl
+same_test true false one other = sym (other.1 (one.0 refl))
+same_test false true one other = one.1 (other.0 refl)
+same_test false false one other = refl
+
+-- ---- what the calls make
+
+-- a peer of its parts
+abbrev pub peer_of : ℕ → ℕ → AllRows → Option (List ℕ) → List Entry → Peer
+peer_of epoch settled rows pending entries = record { epoch = epoch; settled = settled; rows = rows; pending = pending; entries = entries }
+
+pub dropped_next : (vids : List Vid) (k : ℕ) (vid : Vid) (first once twice : AllRows) → take (k + 1) vids ≡ take k vids ++ vid ∷ []
+    → once ≡ each (rows_but (is_of_disk (take k vids))) first → twice ≡ each (without_disk vid.0) once
+    → twice ≡ each (rows_but (is_of_disk (take (k + 1) vids))) first
+dropped_next vids k vid first once twice more so_far then_one =
+    then_one ∙ ap (each (without_disk vid.0)) so_far ∙ one_disk_more (take k vids) vid first
+    ∙ ap (λ (gone : List Vid). each (rows_but (is_of_disk gone)) first) (sym more)
+
+pub read_made : (told dead : List Vid) (entry : Entry) (peer left new : Peer) → left ≡ with_entry entry peer
+    → dead ≡ told → ((vid : ℕ) → has_vid vid told ≡ (is_dead (log_effects (peer.entries ++ entry ∷ [])) vid && not (is_dead (log_effects peer.entries) vid)))
+    → new ≡ without_objects (is_of_disk dead) left → new ≡ read_entry entry peer
+unfolding read_entry
+read_made told dead entry peer left new with_it same are made =
+    made ∙ ap (without_objects (is_of_disk dead)) with_it
+    ∙ without_same (is_of_disk dead) (kills_object entry peer) (with_entry entry peer) (λ oid. ap (has_vid (vid_of oid)) same ∙ are (vid_of oid))

@@ -5,7 +5,7 @@ use Rattle.std.proofs.lemmas.List.Folds.{list_any-append}
 use Rattle.std.specs.List.{list_any, AllByRecursion, Contains}
 use Rattle.std.specs.Option.{option_map_or, option_and_then}
 use Rattle.std.specs.Ordering.{nat_cmp}
-use Rattle.std.specs.Cmp.{nat_cmp-IsAntisymmetric}
+use Rattle.std.specs.FinMap.{nat_cmp-IsAntisymmetric}
 use Rattle.std.specs.FinMap as tree
 use Rattle.proof_tools.proofs.FiniteMaps.{keys-contain}
 use Rattle.proof_tools.proofs.Lists.{list_any-none}
@@ -14,10 +14,12 @@ use Rattle.object_id.specs.declared.policy.Policy.{Policy}
 use Rattle.object_id.specs.Oid.{kind_of}
 use Rattle.gf256.specs.Part.{index_among}
 use Rattle.object_store.specs.declared.key.Key.{Key}
-use Rattle.object_store.specs.Rows.{is_open, is_kept}
-use Rattle.object_store.specs.Store.{AllRows, SeenRow, rows_of}
+use Rattle.object_store.specs.Rows.{is_open, is_kept, advanced}
+use Rattle.object_store.specs.Store.{AllRows, SeenRow, rows_of, each}
 use Rattle.peer_service.specs.State.{Peer, object_policy}
-use Rattle.peer_service.specs.Epochs.{has_at, stays_open, kept_index, AreKept}
+use Rattle.peer_service.specs.Epochs.{has_at, stays_open, kept_index, AreKept, peer_in_next_epoch}
+use Rattle.peer_service.proofs.EpochLemmas.{entered_call}
+use Rattle.peer_service.proofs.DropLemmas.{peer_of}
 
 pub stays-kept_index : (me : NodeId) (targets : ℕ → ℕ → Policy → List NodeId) (peer : Peer) (oid index : ℕ)
     → stays_open me targets peer oid index ≡ option_map_or (λ own. own == index) (kept_index me targets peer oid) false
@@ -105,3 +107,20 @@ kept_of_all keys me targets peer had oid = go (tree.get peer.rows oid) refl
         let there : list_any (λ other. other == oid) (tree.keys peer.rows) ≡ true
         = found_key (tree.keys peer.rows) oid (keys-contain nat_cmp-IsAntisymmetric peer.rows oid rows is) in
         every_row _ (λ row opened. had oid row.index ∙ ap (λ b. b && stays_open me targets peer oid row.index) there) rows
+
+pub kept_next : (me : NodeId) (targets : ℕ → ℕ → Policy → List NodeId) (peer : Peer) (oids : List ℕ) (k first : ℕ) (index : Option ℕ) (old keys : List Key)
+    → take (k + 1) oids ≡ take k oids ++ first ∷ [] → index ≡ kept_index me targets peer first
+    → ((other at : ℕ) → is_kept keys other at ≡ (is_kept old other at || (first == other && option_map_or (λ own. own == at) index false)))
+    → KeptSoFar old (take k oids) (stays_open me targets peer) → KeptSoFar keys (take (k + 1) oids) (stays_open me targets peer)
+kept_next me targets peer oids k first index old keys more is new had =
+    subst (λ (so_far : List ℕ). KeptSoFar keys so_far (stays_open me targets peer)) (sym more)
+    (kept_so_far old keys (take k oids) first (stays_open me targets peer)
+    (λ other at. new other at ∙ ap (λ b. is_kept old other at || (first == other && b))
+    (ap (λ (found : Option ℕ). option_map_or (λ own. own == at) found false) is ∙ sym (stays-kept_index me targets peer first at))) had)
+
+pub entered_made : (keeps : List Key) (me : NodeId) (targets : ℕ → ℕ → Policy → List NodeId) (peer : Peer) (rows : AllRows) → AreKept keeps me targets peer
+    → rows ≡ each (advanced keeps (peer.epoch + 1)) peer.rows
+    → peer_of (peer.epoch + 1) peer.settled rows peer.pending peer.entries ≡ peer_in_next_epoch me targets peer
+unfolding peer_in_next_epoch
+entered_made keeps me targets peer rows kept is =
+    ap (λ (all : AllRows). peer_of (peer.epoch + 1) peer.settled all peer.pending peer.entries) (is ∙ entered_call keeps me targets peer kept)

@@ -89,6 +89,7 @@ impl<O: ObjStore> PeerState<O> {
     /// Goes to the next epoch, which the placement has entered: an open row stays open where its object is known and has this node at
     /// the row's index among its targets there, and else it ends with the epoch before. No row is dropped. Without memory nothing
     /// changes. Costs for each object of the node a look-up of its disk and of its targets, and what [`ObjStore::advance`] costs.
+    #[tactic(auto, unfolding(crate::specs::Epochs::peer_in_next_epoch))]
     pub fn enter(&mut self, me: NodeId, place: &Placement) -> Result<(), NoMemory>
         requires { IsTrue (is_entered place.now (self.old.epoch + 1)) }
         ensures ok { OnOk result (self.new ≡ peer_in_next_epoch me (targets_in place.now) self.old) }

@@ -1,6 +1,6 @@
 //! Reading the log: the next entry of it, and the whole of it where a node comes back.
 
-ghost use Rattle.std.specs.Prelude.{◌≡◌, ℕ, ◌==◌, ◌&&◌, ◌||◌, true, not, filter, IfOk, IsTrue, OnOk, OnErr};
+ghost use Rattle.std.specs.Prelude.{◌≡◌, ℕ, ◌==◌, ◌∷◌, ◌++◌, ◌&&◌, ◌||◌, [], true, not, filter, IfOk, IsTrue, OnOk, OnErr};
 ghost use Rattle.std.specs.List.{All, list_any};
 ghost use Rattle.std.specs.Option.{option_map};
 ghost use Rattle.object_id.specs.Oid.{vid_of};
@@ -18,7 +18,7 @@ ghost use Rattle.peer_service.specs.Back.{come_back};
 use crate::peer_state::PeerState;
 use disk_lock::Locks;
 use epoch_log::Tally;
-use object_id::{Entry, NoMemory, Oid, Vid};
+use object_id::{Cause, Entry, NoMemory, Oid, Vid};
 use object_store::{ObjStore, OidList};
 use std::alloc::Global;
 use vdi_directory::{Decision, Directory};
@@ -40,13 +40,23 @@ fn drop_rows<O: ObjStore>(store: &mut O, vids: &[Vid])
     }
 }
 
-/// The objects of these disks are pending no more.
-fn drop_pending(pending: &mut Option<OidList>, vids: &[Vid])
+/// Of what is pending the objects of these disks go, with a look at each.
+fn keep_others(pending: &mut Option<OidList>, vids: &[Vid])
     ensures { pending.new ≡ option_map (filter (λ oid. not (has_vid (vid_of oid) vids.now))) pending.old }
 {
     if let Some(oids) = pending {
         oids.retain(|oid| !has_vid(oid.vid(), vids));
     }
+}
+
+/// The objects of these disks are pending no more. Where there is no disk, this costs nothing.
+fn drop_pending(pending: &mut Option<OidList>, vids: &[Vid])
+    ensures { pending.new ≡ option_map (filter (λ oid. not (has_vid (vid_of oid) vids.now))) pending.old }
+{
+    if vids.is_empty() {
+        return;
+    }
+    keep_others(pending, vids);
 }
 
 /// Whether an id is dead. Costs the logarithm of the known ids.
@@ -89,6 +99,24 @@ fn dead_disks(alloc: Global, directory: &Directory, oids: &[Oid]) -> Result<Vec<
     Ok(dead)
 }
 
+/// A refusal is read like any other decision.
+fn pass_over(_cause: Cause) {}
+
+/// The directory reads the next entry, whatever it decides.
+fn read_next(directory: &mut Directory, locks: &mut Locks, entry: &Entry) -> Result<(), NoMemory>
+    requires reservable { IsReservable entry.now }
+    requires locks { AreLocks (log_effects directory.old) locks.old }
+    ensures directory { OnOk result (directory.new ≡ directory.old ++ entry.now ∷ []) }
+    ensures locks { OnOk result (AreLocks (log_effects directory.new) locks.new) }
+{
+    match directory.read_entry(entry, locks)? {
+        Decision::Refused(cause) => pass_over(cause),
+        Decision::Granted { .. } => {}
+        Decision::None => {}
+    }
+    Ok(())
+}
+
 /// A directory that has read these entries, with their locks.
 fn directory_of(alloc: Global, entries: &[Entry]) -> Result<(Directory, Locks), NoMemory>
     requires { All IsReservable entries.now }
@@ -98,20 +126,19 @@ fn directory_of(alloc: Global, entries: &[Entry]) -> Result<(Directory, Locks), 
     let mut directory = Directory::new(alloc);
     let mut locks = Locks::new(alloc);
     for entry in entries {
-        directory.read_entry(entry, &mut locks)?;
+        read_next(&mut directory, &mut locks, entry)?;
     }
     Ok((directory, locks))
 }
 
 impl<O: ObjStore> PeerState<O> {
     /// The rows of the objects of these disks go, and they are pending no more. Where there is no disk, this costs nothing.
+    #[tactic(auto, unfolding(crate::specs::LogReading::without_objects))]
     fn drop_disks(&mut self, vids: &[Vid])
         ensures { self.new ≡ without_objects (λ oid. has_vid (vid_of oid) vids.now) self.old }
     {
         drop_rows(&mut self.store, vids);
-        if !vids.is_empty() {
-            drop_pending(&mut self.pending, vids);
-        }
+        drop_pending(&mut self.pending, vids);
     }
 
     /// Reads the next entry of the log, and decides on it as [`Directory::read_entry`] does. The rows of the ids that it makes dead go,
@@ -156,11 +183,13 @@ impl<O: ObjStore> PeerState<O> {
         let (directory, held) = directory_of(self.alloc, entries)?;
         let objects = self.store.list()?;
         let dead = dead_disks(self.alloc, &directory, objects.as_slice())?;
+        let newest = tally.epoch(entries);
+        let level = tally.settled(entries);
         self.store.close_all(self.epoch);
-        self.store.purge_below(tally.settled(entries));
+        self.store.purge_below(level);
         drop_rows(&mut self.store, dead.as_slice());
-        self.epoch = tally.epoch(entries);
-        self.settled = tally.settled(entries);
+        self.epoch = newest;
+        self.settled = level;
         self.pending = Some(OidList::new(self.alloc));
         self.directory = directory;
         *locks = held;

@@ -154,6 +154,7 @@ impl<O: ObjStore> PeerState<O> {
     }
 
     /// The settled epoch rises: the closed rows that ended below it go. Takes no memory. Costs a look at each row.
+    #[tactic(auto, unfolding(crate::specs::Epochs::peer_settled_to))]
     pub fn settle(&mut self, settled: Epoch)
         ensures { self.new ≡ peer_settled_to settled.0 self.old }
     {

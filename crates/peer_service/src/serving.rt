@@ -15,7 +15,6 @@ impl<O: ObjStore> PeerState<O> {
     /// Answers a request, first by its epoch and then by what it asks. A refusal changes nothing. Nor does want of memory, which is
     /// never answered in a refusal's place. Costs a look-up in the store and among what is pending, and the bytes of the piece; a Create
     /// also the bytes up to the piece's end, a List the ids of the objects, and a RecoverRead a look at each row of the object.
-    #[tactic(auto, unfolding(crate::specs::Serve::peer_step))]
     pub fn serve(&mut self, req: &PeerReq) -> Result<PeerRsp, NoMemory>
         requires { MayServe self.old req.now.ask }
         ensures reply { IfOk result (λ reply. reply ≡ reply_to self.old req.now) }
@@ -25,10 +24,7 @@ impl<O: ObjStore> PeerState<O> {
         ensures memory { OnErr result (is_refusal (peer_step self.old req.now).say ≡ false) }
     {
         let epoch = self.epoch;
-        let say = match self.admits(req.epoch) {
-            Ok(()) => self.answer(&req.ask)?,
-            Err(refusal) => PeerSay::Refused(refusal),
-        };
+        let say = self.answer(req)?;
         Ok(PeerRsp {
             number: req.number,
             epoch,
@@ -36,9 +32,24 @@ impl<O: ObjStore> PeerState<O> {
         })
     }
 
+    /// Answers a request, first by its epoch.
+    #[tactic(auto, unfolding(crate::specs::Serve::peer_step))]
+    fn answer(&mut self, req: &PeerReq) -> Result<PeerSay, NoMemory>
+        requires { MayServe self.old req.now.ask }
+        ensures say { IfOk result (λ say. say ≡ (peer_step self.old req.now).say) }
+        ensures peer { OnOk result (self.new ≡ (peer_step self.old req.now).peer) }
+        ensures err { OnErr result (self.new ≡ self.old) }
+        ensures memory { OnErr result (is_refusal (peer_step self.old req.now).say ≡ false) }
+    {
+        match self.admits(req.epoch) {
+            Ok(()) => self.own_answer(&req.ask),
+            Err(refusal) => Ok(PeerSay::Refused(refusal)),
+        }
+    }
+
     /// Answers what is asked in the node's own epoch.
     #[tactic(auto, unfolding(crate::specs::Serve::own_epoch_step))]
-    fn answer(&mut self, ask: &PeerAsk) -> Result<PeerSay, NoMemory>
+    fn own_answer(&mut self, ask: &PeerAsk) -> Result<PeerSay, NoMemory>
         requires { MayServe self.old ask.now }
         ensures say { IfOk result (λ say. say ≡ (own_epoch_step ask.now self.old).say) }
         ensures peer { OnOk result (self.new ≡ (own_epoch_step ask.now self.old).peer) }

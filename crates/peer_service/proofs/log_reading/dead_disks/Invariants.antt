@@ -5,4 +5,4 @@ use Rattle.peer_service.proofs.BackLemmas.{DeadSoFar}
 use Rattle.peer_service.proofs.log_reading.dead_disks.Given as goal
 
 abbrev pub invariant-loop-oid : goal.invariant-loop-oid
-invariant-loop-oid l = DeadSoFar l.dead.items (take l.oid-index l.oids) (is_dead (log_effects l.directory.now))
+invariant-loop-oid l = DeadSoFar l.dead.items (take l.oid-index l.oids) (is_dead (log_effects l.directory))
