@@ -1,7 +1,8 @@
 -- Which keys an entering peer keeps.
-use Rattle.std.proofs.Common.{◌≡◌, ℕ, ◌+◌, ◌==◌, Bool, true, false, cond, ◌&&◌, ◌||◌, nat_eq, List, [], ◌∷◌, ◌++◌, take, Option, Some, None, unwrap_or, refl, ap, ap₂, sym, ◌∙◌, subst, arith}
+use Rattle.std.proofs.Common.{◌≡◌, ℕ, ◌+◌, ◌≤◌, ◌==◌, Bool, true, false, cond, ◌&&◌, ◌||◌, nat_eq, List, [], ◌∷◌, ◌++◌, length, take, Option, Some, None, unwrap_or, refl, ap, ap₂, sym, ◌∙◌, subst, arith}
 use Rattle.std.proofs.lemmas.Bool.Decides.{nat_tests}
 use Rattle.std.proofs.lemmas.List.Folds.{list_any-append}
+use Rattle.std.proofs.Math.Seq.{take-length}
 use Rattle.std.specs.List.{list_any, AllByRecursion, Contains}
 use Rattle.std.specs.Option.{option_map_or, option_and_then}
 use Rattle.std.specs.Ordering.{nat_cmp}
@@ -91,6 +92,11 @@ found_key oids oid there = go (list_any (λ other. other == oid) oids) refl
         let no : (oid == oid) ≡ false = list_any-none (λ other. other == oid) oids oid is there in
         let yes : (oid == oid) ≡ true = grind (arith, nat_tests) in
         absurd (cc (no, yes))
+
+pub all_taken : (oids : List ℕ) (k : ℕ) → k ≤ length oids → length oids ≤ k → take k oids ≡ oids
+all_taken oids k within past =
+    let whole : k ≡ length oids = omega arith in
+    ap (λ n. take n oids) whole ∙ take-length oids
 
 every_row : (P : SeenRow → Type 0) → ((row : SeenRow) → P row) → (rows : List SeenRow) → AllByRecursion P rows
 every_row P each [] = tt

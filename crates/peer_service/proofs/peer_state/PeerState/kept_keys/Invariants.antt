@@ -5,4 +5,4 @@ use Rattle.peer_service.proofs.EnteringLemmas.{KeptSoFar}
 use Rattle.peer_service.proofs.peer_state.PeerState.kept_keys.Given as goal
 
 abbrev pub invariant-loop-oid : goal.invariant-loop-oid
-invariant-loop-oid g l = KeptSoFar l.keys.items (take l.oid-index l.oid-items) (stays_open l.me (targets_in l.place) l.self.now)
+invariant-loop-oid g l = KeptSoFar l.keys.items (take l.oid-index l.oid-items) (stays_open l.me (targets_in l.place) l.self)
