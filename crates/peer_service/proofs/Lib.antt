@@ -8,4 +8,3 @@ pub mod DropLemmas
 pub mod EnteringLemmas
 pub mod BackLemmas
 pub mod ServingLemmas
-pub mod TrialLemmas

@@ -9,7 +9,7 @@ use Rattle.peer_proto.specs.declared.say.PeerSay.{PeerSay}
 use Rattle.peer_proto.specs.declared.say.PeerSay.TheVariants as says
 use Rattle.peer_service.specs.State.{Peer, ArePeerRows, initial_peer}
 use Rattle.peer_service.specs.Pending.{row_made}
-use Rattle.peer_service.specs.Serve.{own_epoch_step, peer_step, is_refusal}
+use Rattle.peer_service.specs.Serve.{own_epoch_step, peer_step, tells_refusal}
 use Rattle.peer_service.proofs.ServeLemmas.{create_call, served_refusal}
 use Rattle.peer_service.proofs.PeerRowLemmas.{made_rows}
 
@@ -26,10 +26,10 @@ created_rows epoch all new key size offset bytes ends had is =
     (ap (λ (r : Result AllRows StoreFault). result_unwrap_or r new) (sym (create_makes (initial_peer all epoch) key size offset bytes ends) ∙ is))
     (made_rows key size offset bytes (initial_peer all epoch) had)
 
-pub refusal_keeps : (peer : Peer) (request : PeerReq) → is_refusal (peer_step peer request).say ≡ true → (peer_step peer request).peer ≡ peer
+pub refusal_keeps : (peer : Peer) (request : PeerReq) → tells_refusal (peer_step peer request).say ≡ true → (peer_step peer request).peer ≡ peer
 refusal_keeps peer request = go (peer_step peer request).say refl
   where
-    go : (say : PeerSay) → (peer_step peer request).say ≡ say → is_refusal say ≡ true → (peer_step peer request).peer ≡ peer
+    go : (say : PeerSay) → (peer_step peer request).say ≡ say → tells_refusal say ≡ true → (peer_step peer request).peer ≡ peer
     go says.Success is says_so = absurd (cc (says_so))
     go (says.Piece bytes) is says_so = absurd (cc (says_so))
     go (says.Objects oids) is says_so = absurd (cc (says_so))

@@ -99,6 +99,6 @@ may_serve peer asks.List = true
 may_serve peer (asks.RecoverRead oid level) = true
 
 -- whether an answer is a refusal
-abbrev pub is_refusal : PeerSay → Bool
-is_refusal (says.Refused refusal) = true
-is_refusal _ = false
+abbrev pub tells_refusal : PeerSay → Bool
+tells_refusal (says.Refused refusal) = true
+tells_refusal _ = false

@@ -85,19 +85,19 @@ abbrev pub with_entry : Entry → Peer → Peer
 with_entry entry peer = record peer { entries = peer.entries ++ entry ∷ [] }
 
 -- the policy of an object whose id is known and not dead
-abbrev pub live_policy : Peer → ℕ → Option Policy
-live_policy peer oid = if is_dead_object peer oid then None else object_policy peer oid
+abbrev pub policy_unless_dead : Peer → ℕ → Option Policy
+policy_unless_dead peer oid = if is_dead_object peer oid then None else object_policy peer oid
 
 -- whether an object is pending: none is while the list is unfinished
-abbrev pub is_pending : ℕ → Option (List ℕ) → Bool
-is_pending oid None = false
-is_pending oid (Some oids) = list_any (λ other. other == oid) oids
+abbrev pub is_listed_pending : ℕ → Option (List ℕ) → Bool
+is_listed_pending oid None = false
+is_listed_pending oid (Some oids) = list_any (λ other. other == oid) oids
 
 -- the smallest pending object
-abbrev pub first_in : Option (List ℕ) → Option ℕ
-first_in None = None
-first_in (Some []) = None
-first_in (Some (oid ∷ rest)) = Some oid
+abbrev pub first_listed : Option (List ℕ) → Option ℕ
+first_listed None = None
+first_listed (Some []) = None
+first_listed (Some (oid ∷ rest)) = Some oid
 
 -- no object is there without rows
 abbrev pub HaveRows : AllRows → Type 0

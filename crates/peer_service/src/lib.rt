@@ -19,10 +19,6 @@ mod log_reading;
 mod peer_state;
 mod recovering;
 mod serving;
-#[cfg(test)]
-mod tests;
-#[cfg(test)]
-mod trial;
 
 pub use laws::{
     a_peer_worked_out, conditions_are_tests, entering_drops_no_row, lists_and_rows_are_always_told,

@@ -4,7 +4,7 @@ ghost use Rattle.std.specs.Prelude.{◌≡◌, IfOk};
 ghost use Rattle.std.specs.FinMap as tree;
 ghost use Rattle.object_id.specs.Spec.{IsSpec};
 ghost use Rattle.object_store.specs.Store.{copy_at};
-ghost use Rattle.peer_service.specs.State.{object_size, row_size, length_of_rows, live_policy, is_pending, first_in};
+ghost use Rattle.peer_service.specs.State.{object_size, row_size, length_of_rows, policy_unless_dead, is_listed_pending, first_listed};
 
 use crate::log_reading::is_dead;
 use crate::peer_state::PeerState;
@@ -62,7 +62,7 @@ impl<O: ObjStore> PeerState<O> {
     /// The policy of an object; `None` exactly where its id isn't known or is dead. Takes no memory. Costs the logarithm of the known
     /// ids.
     pub fn live_policy(&self, oid: Oid) -> Option<Policy>
-        ensures { result ≡ live_policy self.now oid }
+        ensures { result ≡ policy_unless_dead self.now oid }
     {
         if is_dead(&self.directory, oid.vid()) {
             return None;
@@ -75,7 +75,7 @@ impl<O: ObjStore> PeerState<O> {
 
     /// Whether an object is pending: none is while the list is unfinished. Costs the logarithm of what is pending.
     pub fn is_pending(&self, oid: Oid) -> bool
-        ensures { result ≡ is_pending oid self.now.pending }
+        ensures { result ≡ is_listed_pending oid self.now.pending }
     {
         match &self.pending {
             None => false,
@@ -85,7 +85,7 @@ impl<O: ObjStore> PeerState<O> {
 
     /// The smallest pending object; `None` exactly where nothing is pending. Costs nothing.
     pub fn first_pending(&self) -> Option<Oid>
-        ensures { result ≡ first_in self.now.pending }
+        ensures { result ≡ first_listed self.now.pending }
     {
         match &self.pending {
             None => None,

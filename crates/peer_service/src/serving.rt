@@ -4,7 +4,7 @@ ghost use Rattle.std.specs.Prelude.{◌≡◌, ◌+◌, length, true, false, IfO
 ghost use Rattle.object_store.specs.Store.{copy_at, open_row, read_at, write_at};
 ghost use Rattle.peer_proto.specs.declared.ask.PeerAsk.TheVariants as asks;
 ghost use Rattle.peer_service.specs.Serve.{MayServe, EndsInside, own_epoch_step, peer_write_step, piece_or_refusal, peer_step, reply_to};
-ghost use Rattle.peer_service.specs.Serve.{row_or_none, is_refusal};
+ghost use Rattle.peer_service.specs.Serve.{row_or_none, tells_refusal};
 
 use crate::peer_state::PeerState;
 use object_id::{Bytes, Epoch, NoMemory, Oid};
@@ -19,9 +19,9 @@ impl<O: ObjStore> PeerState<O> {
         requires { MayServe self.old req.now.ask }
         ensures reply { IfOk result (λ reply. reply ≡ reply_to self.old req.now) }
         ensures peer { OnOk result (self.new ≡ (peer_step self.old req.now).peer) }
-        ensures refused { is_refusal (peer_step self.old req.now).say ≡ true → self.new ≡ self.old }
+        ensures refused { tells_refusal (peer_step self.old req.now).say ≡ true → self.new ≡ self.old }
         ensures err { OnErr result (self.new ≡ self.old) }
-        ensures memory { OnErr result (is_refusal (peer_step self.old req.now).say ≡ false) }
+        ensures memory { OnErr result (tells_refusal (peer_step self.old req.now).say ≡ false) }
     {
         let epoch = self.epoch;
         let say = self.answer(req)?;
@@ -39,7 +39,7 @@ impl<O: ObjStore> PeerState<O> {
         ensures say { IfOk result (λ say. say ≡ (peer_step self.old req.now).say) }
         ensures peer { OnOk result (self.new ≡ (peer_step self.old req.now).peer) }
         ensures err { OnErr result (self.new ≡ self.old) }
-        ensures memory { OnErr result (is_refusal (peer_step self.old req.now).say ≡ false) }
+        ensures memory { OnErr result (tells_refusal (peer_step self.old req.now).say ≡ false) }
     {
         match self.admits(req.epoch) {
             Ok(()) => self.own_answer(&req.ask),
@@ -54,7 +54,7 @@ impl<O: ObjStore> PeerState<O> {
         ensures say { IfOk result (λ say. say ≡ (own_epoch_step ask.now self.old).say) }
         ensures peer { OnOk result (self.new ≡ (own_epoch_step ask.now self.old).peer) }
         ensures err { OnErr result (self.new ≡ self.old) }
-        ensures memory { OnErr result (is_refusal (own_epoch_step ask.now self.old).say ≡ false) }
+        ensures memory { OnErr result (tells_refusal (own_epoch_step ask.now self.old).say ≡ false) }
     {
         match ask {
             PeerAsk::Create {
@@ -84,7 +84,7 @@ impl<O: ObjStore> PeerState<O> {
         ensures say { IfOk result (λ say. say ≡ (own_epoch_step (asks.Write key.now offset bytes.now) self.old).say) }
         ensures peer { OnOk result (self.new ≡ (own_epoch_step (asks.Write key.now offset bytes.now) self.old).peer) }
         ensures err { OnErr result (self.new ≡ self.old) }
-        ensures memory { OnErr result (is_refusal (own_epoch_step (asks.Write key.now offset bytes.now) self.old).say ≡ false) }
+        ensures memory { OnErr result (tells_refusal (own_epoch_step (asks.Write key.now offset bytes.now) self.old).say ≡ false) }
     {
         if self.is_waiting(key.oid) {
             Ok(PeerSay::Refused(Refusal::Recovery))
@@ -99,7 +99,8 @@ impl<O: ObjStore> PeerState<O> {
         ensures say { IfOk result (λ say. say ≡ (peer_write_step (write_at self.old.rows key.now offset bytes.now) self.old).say) }
         ensures peer { OnOk result (self.new ≡ (peer_write_step (write_at self.old.rows key.now offset bytes.now) self.old).peer) }
         ensures err { OnErr result (self.new ≡ self.old) }
-        ensures memory { OnErr result (is_refusal (peer_write_step (write_at self.old.rows key.now offset bytes.now) self.old).say ≡ false) }
+        ensures memory { OnErr result (tells_refusal (peer_write_step (write_at self.old.rows key.now offset bytes.now) self.old).say
+            ≡ false) }
     {
         if !self.has_open(key) {
             return Ok(PeerSay::Refused(Refusal::NoObj));
@@ -123,7 +124,7 @@ impl<O: ObjStore> PeerState<O> {
     fn read(&self, key: &Key, offset: u32, size: u32) -> Result<PeerSay, NoMemory>
         requires { EndsInside (offset + size) (open_row self.now.rows key.now) }
         ensures say { IfOk result (λ say. say ≡ (own_epoch_step (asks.Read key.now offset size) self.now).say) }
-        ensures memory { OnErr result (is_refusal (own_epoch_step (asks.Read key.now offset size) self.now).say ≡ false) }
+        ensures memory { OnErr result (tells_refusal (own_epoch_step (asks.Read key.now offset size) self.now).say ≡ false) }
     {
         if self.is_waiting(key.oid) {
             Ok(PeerSay::Refused(Refusal::Recovery))
@@ -136,7 +137,7 @@ impl<O: ObjStore> PeerState<O> {
     fn piece(&self, key: &Key, offset: u32, size: u32) -> Result<PeerSay, NoMemory>
         requires { EndsInside (offset + size) (open_row self.now.rows key.now) }
         ensures say { IfOk result (λ say. say ≡ piece_or_refusal (read_at self.now.rows key.now offset size)) }
-        ensures memory { OnErr result (is_refusal (piece_or_refusal (read_at self.now.rows key.now offset size)) ≡ false) }
+        ensures memory { OnErr result (tells_refusal (piece_or_refusal (read_at self.now.rows key.now offset size)) ≡ false) }
     {
         if !self.has_open(key) {
             return Ok(PeerSay::Refused(Refusal::NoObj));
