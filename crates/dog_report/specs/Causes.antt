@@ -63,7 +63,7 @@ details_of (NewEpoch node own peer) =
     codes "node" ∷ decimal node.0 ∷ codes "own" ∷ decimal own.0 ∷ codes "peer" ∷ decimal peer.0 ∷ []
 details_of (Recovery node epoch) = codes "node" ∷ decimal node.0 ∷ codes "epoch" ∷ decimal epoch.0 ∷ []
 details_of (Link node) = codes "node" ∷ decimal node.0 ∷ []
-details_of (NoObj node oid) = codes "node" ∷ decimal node.0 ∷ hex 16 oid ∷ []
+details_of (NoObj node oid) = codes "node" ∷ decimal node.0 ∷ codes "oid" ∷ hex 16 oid ∷ []
 
 -- the words of a refusal behind `refused`
 abbrev pub cause_words : Cause → Words

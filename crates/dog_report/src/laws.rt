@@ -88,7 +88,7 @@ pub fn requests_lines_spelled_out()
     ensures link { spaced_words (line_words (Told 7 (Answered (replies.Refused (causes.Link (record { 0 = 2 }))))))
         ≡ codes "7 refused 84 LINK node 2" }
     ensures no_obj { spaced_words (line_words (Told 7 (Answered (replies.Refused
-        (causes.NoObj (record { 0 = 2 }) 0x8001ec8c00000000))))) ≡ codes "7 refused 02 NO_OBJ node 2 8001ec8c00000000" }
+        (causes.NoObj (record { 0 = 2 }) 0x8001ec8c00000000))))) ≡ codes "7 refused 02 NO_OBJ node 2 oid 8001ec8c00000000" }
     ensures checked { spaced_words (line_words (Told 5 (Answered (replies.Checked (record { objects = 1; inherited = 0; differed = [] })))))
         ≡ codes "5 ok objects 1 inherited 0 differed 0" }
     ensures differed { spaced_words (line_words (Told 5 (Answered (replies.Checked (record {

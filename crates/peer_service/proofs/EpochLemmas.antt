@@ -95,7 +95,7 @@ settled_stays settled peer oid row late had = row_stays peer.rows (PurgeBelow se
 
 -- ---- the dead
 
-but_none : (goes : ℕ → Bool) (oid : ℕ) → rows_but goes oid [] ≡ []
+pub but_none : (goes : ℕ → Bool) (oid : ℕ) → rows_but goes oid [] ≡ []
 but_none goes oid = go (goes oid)
   where
     nothing : List SeenRow
@@ -164,7 +164,7 @@ put_up_to last all oid rows had new q =
     go true = new
     go false = had q
 
-made_up_to : (key : Key) (size offset : ℕ) (bytes : List ℕ) (peer : Peer) → OpenUpTo peer.epoch peer.rows
+pub made_up_to : (key : Key) (size offset : ℕ) (bytes : List ℕ) (peer : Peer) → OpenUpTo peer.epoch peer.rows
     → OpenUpTo peer.epoch (row_made key size offset bytes peer).rows
 made_up_to key size offset bytes peer had =
     let itself : peer.epoch ≤ peer.epoch = omega arith in
@@ -210,7 +210,7 @@ pub settled_up_to : (settled : ℕ) (peer : Peer) → IsUpTo peer → IsUpTo (pe
 unfolding peer_settled_to
 settled_up_to settled peer had = OpenUpTo-purge peer.epoch peer.rows settled had
 
-without_up_to : (goes : ℕ → Bool) (last : ℕ) (all : AllRows) → OpenUpTo last all → OpenUpTo last (each (rows_but goes) all)
+pub without_up_to : (goes : ℕ → Bool) (last : ℕ) (all : AllRows) → OpenUpTo last all → OpenUpTo last (each (rows_but goes) all)
 without_up_to goes last all had =
     OpenUpTo-change last (rows_but goes) (but_none goes) (λ q rows. OpenFrom-left (λ from. from ≤ last) (goes q) rows) all had
 

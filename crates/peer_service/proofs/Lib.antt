@@ -3,3 +3,8 @@ pub mod ServeLemmas
 pub mod StepLemmas
 pub mod EpochLemmas
 pub mod ExampleLemmas
+pub mod PeerRowLemmas
+pub mod DropLemmas
+pub mod EnteringLemmas
+pub mod BackLemmas
+pub mod ServingLemmas

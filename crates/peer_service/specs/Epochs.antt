@@ -1,6 +1,6 @@
 -- Going to the next epoch, and settling one.
 use Rattle.std.specs.Prelude.{◌≡◌, ℕ, ◌+◌, ◌==◌, Bool, true, false, List, map, Option, None, Some, if◌then◌else◌}
-use Rattle.std.specs.Option.{option_map_or}
+use Rattle.std.specs.Option.{option_map_or, option_and_then}
 use Rattle.std.specs.List.{AllByRecursion}
 use Rattle.object_id.specs.declared.node.NodeId.{NodeId}
 use Rattle.object_id.specs.declared.policy.Policy.{Policy}
@@ -42,3 +42,8 @@ AreKept keeps me targets peer = (oid : ℕ)
 -- an epoch is settled: the closed rows that ended below it are dropped
 unfoldable pub peer_settled_to : ℕ → Peer → Peer
 peer_settled_to settled peer = record peer { settled = settled; rows = each (λ oid. purged settled) peer.rows }
+
+-- the index of an object whose open row stays open in the next epoch, if there is one
+abbrev pub kept_index : NodeId → (ℕ → ℕ → Policy → List NodeId) → Peer → ℕ → Option ℕ
+kept_index me targets peer oid =
+    option_and_then (λ policy. index_among me (targets (peer.epoch + 1) oid policy) policy (kind_of oid)) (object_policy peer oid)

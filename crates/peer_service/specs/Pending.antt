@@ -1,5 +1,5 @@
 -- What is still to be recovered, and how it ends.
-use Rattle.std.specs.Prelude.{ℕ, ◌==◌, not, List, filter, None, Some}
+use Rattle.std.specs.Prelude.{ℕ, ◌≤◌, ◌==◌, not, List, length, filter, None, Some}
 use Rattle.std.specs.Option.{option_map}
 use Rattle.std.specs.FinMap as tree
 use Rattle.object_store.specs.declared.key.Key.{Key}
@@ -28,3 +28,7 @@ row_made key size offset piece peer =
 -- a row that was recovered is made from its first bytes on, the others 0
 abbrev pub row_put : Key → ℕ → List ℕ → Peer → Peer
 row_put key size bytes peer = row_made key size 0 bytes peer
+
+-- the bytes of a recovered row are no more than its length
+abbrev pub FitsRow : ℕ → List ℕ → Type 0
+FitsRow size bytes = length bytes ≤ size

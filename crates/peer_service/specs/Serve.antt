@@ -1,5 +1,5 @@
 -- The answer to a peer's request, and what it leaves.
-use Rattle.std.specs.Prelude.{ℕ, ◌+◌, ◌≤◌, Bool, true, nat_le, List, length, Option, None, Some, Result, Ok, Err, if◌then◌else◌}
+use Rattle.std.specs.Prelude.{ℕ, ◌+◌, ◌≤◌, Bool, true, false, nat_le, List, length, Option, None, Some, Result, Ok, Err, if◌then◌else◌}
 use Rattle.std.specs.FinMap as tree
 use Rattle.object_store.specs.declared.fault.StoreFault.{StoreFault}
 use Rattle.object_store.specs.declared.row.RowCopy.{RowCopy}
@@ -97,3 +97,8 @@ may_serve peer (asks.Write key offset bytes) = ends_inside (offset + length byte
 may_serve peer (asks.Read key offset size) = ends_inside (offset + size) (open_row peer.rows key)
 may_serve peer asks.List = true
 may_serve peer (asks.RecoverRead oid level) = true
+
+-- whether an answer is a refusal
+abbrev pub tells_refusal : PeerSay → Bool
+tells_refusal (says.Refused refusal) = true
+tells_refusal _ = false

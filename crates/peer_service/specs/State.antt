@@ -1,7 +1,8 @@
 -- What a node's peers reach of it, and what it knows of an object by the entries that it has read.
-use Rattle.std.specs.Prelude.{ℕ, ◌^◌, ◌==◌, Bool, true, List, [], ◌∷◌, ◌++◌, Option, None, Some, is_some}
+use Rattle.std.specs.Prelude.{◌≢◌, ℕ, ◌^◌, ◌==◌, Bool, true, false, List, [], ◌∷◌, ◌++◌, Option, None, Some, is_some, if◌then◌else◌}
 use Rattle.std.specs.List.{list_any}
 use Rattle.std.specs.Option.{option_map}
+use Rattle.std.specs.FinMap as tree
 use Rattle.object_id.specs.Oid.{vid_of, kind_of}
 use Rattle.object_id.specs.declared.oid.Kind.{Kind}
 use Rattle.object_id.specs.declared.oid.Kind.TheVariants.{Block, Inode}
@@ -9,7 +10,7 @@ use Rattle.object_id.specs.declared.policy.Policy.{Policy}
 use Rattle.object_id.specs.declared.entry.VdiSpec.{VdiSpec}
 use Rattle.object_id.specs.declared.entry.Entry.{Entry}
 use Rattle.gf256.specs.Part.{part_size}
-use Rattle.object_store.specs.Store.{AllRows}
+use Rattle.object_store.specs.Store.{AllRows, OpenUpTo}
 use Rattle.inode.specs.declared.layout.TheConstants.{INODE_BYTES}
 use Rattle.vdi_directory.specs.declared.header.Header.{Header}
 use Rattle.vdi_directory.specs.declared.effect.Effect.{Effect}
@@ -82,3 +83,27 @@ is_waiting peer oid = is_object_awaited oid peer.pending
 -- the peer has read one entry more
 abbrev pub with_entry : Entry → Peer → Peer
 with_entry entry peer = record peer { entries = peer.entries ++ entry ∷ [] }
+
+-- the policy of an object whose id is known and not dead
+abbrev pub policy_unless_dead : Peer → ℕ → Option Policy
+policy_unless_dead peer oid = if is_dead_object peer oid then None else object_policy peer oid
+
+-- whether an object is pending: none is while the list is unfinished
+abbrev pub is_listed_pending : ℕ → Option (List ℕ) → Bool
+is_listed_pending oid None = false
+is_listed_pending oid (Some oids) = list_any (λ other. other == oid) oids
+
+-- the smallest pending object
+abbrev pub first_listed : Option (List ℕ) → Option ℕ
+first_listed None = None
+first_listed (Some []) = None
+first_listed (Some (oid ∷ rest)) = Some oid
+
+-- no object is there without rows
+abbrev pub HaveRows : AllRows → Type 0
+HaveRows rows = (oid : ℕ) → tree.get rows oid ≢ Some []
+
+-- what holds of a peer's rows at any time: no open one is from an epoch above the peer's, and no object is there without rows
+pub record ArePeerRows (epoch : ℕ) (rows : AllRows) : Type 0 where
+  pub opened : OpenUpTo epoch rows
+  pub there : HaveRows rows
