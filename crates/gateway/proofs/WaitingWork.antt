@@ -16,8 +16,8 @@ pub AreAskers-waiting : (askers : Numbers) (req : ℕ) (work : Work) → open_me
 AreAskers-waiting askers req work none =
     AreAskers-quiet askers tree.empty req work
     (λ number other there at awaited.
-        let wrong : Some there ≡ None = sym at ∙ tree.get-empty nat_cmp other in
-        absurd (cc (wrong)))
+    let wrong : Some there ≡ None = sym at ∙ tree.get-empty nat_cmp other in
+    absurd (cc (wrong)))
     (λ number. ap (list_any (is_awaited_message number)) none)
 
 -- the numbers of the messages of all open attempts of these works
