@@ -1,10 +1,9 @@
-ghost use Rattle.std.specs.Prelude.{◌≡◌, ◌&&◌, nat_lt, false, true, Some, IfOk, IfSome, OnErr, IsTrue, not};
-ghost use Rattle.std.specs.List.{list_all};
+ghost use Rattle.std.specs.Prelude.{◌≡◌, ◌&&◌, false, Some, IfOk, IfSome, OnErr, IsTrue, not};
 ghost use Rattle.std.specs.Option.{option_map};
 ghost use Rattle.peer_proto.specs.Work.{IsWork};
 ghost use Rattle.gateway.specs.Work.{is_making as makes_something};
 ghost use Rattle.gateway.specs.Attempt.{is_unanswered, may_be_made, status_by};
-ghost use Rattle.gateway.specs.State.{initial_gateway, asker, has_work, gateway_awaits, fits_work, fits_gateway, can_retry, open_numbers};
+ghost use Rattle.gateway.specs.State.{initial_gateway, asker, has_work, gateway_awaits, fits_work, fits_gateway, can_retry};
 ghost use Rattle.gateway.specs.State.{MaySend, MayStart};
 ghost use Rattle.gateway.specs.Messages.{IsPieceFor};
 ghost use Rattle.gateway.specs.Kept.{next_req};
@@ -29,13 +28,13 @@ use vnode_table::Placement;
 /// The works of a node's requests on single objects, and which requests are touched.
 #[derive(Drop)]
 pub struct Gateway {
-    alloc: Global,
-    me: NodeId,
-    tries: u32,
-    works: Works,
-    touched: Touched,
+    pub(crate) alloc: Global,
+    pub(crate) me: NodeId,
+    pub(crate) tries: u32,
+    pub(crate) works: Works,
+    pub(crate) touched: Touched,
     /// Of which request each unanswered message is. It may have numbers of messages that were never sent, since memory was wanted.
-    askers: Askers,
+    pub(crate) askers: Askers,
 }
 
 impl Model for Gateway {
@@ -298,25 +297,5 @@ impl Gateway {
         ensures { self.new ≡ without_touch req self.old }
     {
         self.touched.forget(req);
-    }
-}
-
-#[cfg(test)]
-impl Gateway {
-    /// A gateway of node 0 in which a work of request 4 waits for its first attempt.
-    pub(crate) fn waiting(alloc: Global, work: ObjWork) -> Result<Gateway, NoMemory>
-        requires { IsWork work }
-        ensures { IfOk result (λ gateway. list_all (λ number. nat_lt number 10) (open_numbers gateway) ≡ true) }
-    {
-        let mut works = Works::new(alloc);
-        works.put(4, OpenWork::new(work, Stage::Ended))?;
-        Ok(Gateway {
-            alloc,
-            me: NodeId(0),
-            tries: 8,
-            works,
-            touched: Touched::new(alloc),
-            askers: Askers::new(alloc),
-        })
     }
 }

@@ -1,10 +1,17 @@
 //! What no clause says: that each call comes through with ample memory.
 
-ghost use Rattle.std.specs.Prelude.{IfOk, IsTrue};
+ghost use Rattle.std.specs.Prelude.{◌≡◌, nat_lt, true, IfOk, IsTrue};
+ghost use Rattle.std.specs.List.{list_all};
 ghost use Rattle.vnode_table.specs.Epochs.{is_entered};
 ghost use Rattle.peer_proto.specs.Work.{IsWork};
+ghost use Rattle.gateway.specs.State.{open_numbers};
 
 use super::*;
+use crate::askers::Askers;
+use crate::open_work::OpenWork;
+use crate::stage::Stage;
+use crate::touched::Touched;
+use crate::works::Works;
 use hash_ring::are_weighted;
 use object_id::{Bytes, Cause, Epoch, Member, NoMemory, NodeId, Oid, Policy, Vid};
 use peer_proto::{ObjWork, PeerAsk, PeerReq, PeerRsp, PeerSay, Refusal, SendList};
@@ -128,6 +135,23 @@ fn started(
     Ok((gateway, act))
 }
 
+/// A gateway of node 0 in which a work of request 4 waits for its first attempt.
+fn waiting(alloc: Global, work: ObjWork) -> Result<Gateway, NoMemory>
+    requires { IsWork work }
+    ensures { IfOk result (λ gateway. list_all (λ number. nat_lt number 10) (open_numbers gateway) ≡ true) }
+{
+    let mut works = Works::new(alloc);
+    works.put(4, OpenWork::new(work, Stage::Ended))?;
+    Ok(Gateway {
+        alloc,
+        me: NodeId(0),
+        tries: 8,
+        works,
+        touched: Touched::new(alloc),
+        askers: Askers::new(alloc),
+    })
+}
+
 /// The reply to a message.
 fn reply(number: u32, say: PeerSay) -> PeerRsp {
     PeerRsp {
@@ -220,7 +244,7 @@ fn begins_the_next_attempt(rt: HostRuntime) -> Result<(), Fail> {
     let alloc = rt.alloc();
     let place = placement(&rt, alloc, 3)?;
     let work = a_write(alloc)?;
-    let mut gateway = Gateway::waiting(alloc, work)?;
+    let mut gateway = waiting(alloc, work)?;
     let act = gateway.retry(10, Epoch(1), &place)?;
     assert_eq!(rt; sends(&act), 2);
     assert!(rt; gateway.waits_for(11));

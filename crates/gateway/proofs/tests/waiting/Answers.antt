@@ -4,7 +4,7 @@ use Rattle.std.specs.FinMap as tree
 use Rattle.gateway.specs.State.{Work, Ended}
 use Rattle.gateway.specs.Kept.{AreAskers, Works}
 use Rattle.gateway.proofs.WaitingWork.{AreAskers-waiting, numbers_of, numbers-waiting}
-use Rattle.gateway.proofs.gateway.Gateway.waiting.Goals as goal
+use Rattle.gateway.proofs.tests.waiting.Goals as goal
 
 pub invariant_of-result : goal.invariant_of-result
 invariant_of-result c =
