@@ -30,10 +30,6 @@ mod references;
 mod reservations;
 mod reserving;
 #[cfg(test)]
-mod spelled;
-#[cfg(test)]
-mod table_tests;
-#[cfg(test)]
 mod tests;
 mod used_ids;
 mod vid_range;

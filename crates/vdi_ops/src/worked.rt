@@ -2,17 +2,24 @@
 //! three objects of 4,096 bytes, so 4,676 bytes of their inodes are ever written.
 
 use super::*;
-use crate::trial::{A, Node, SPEC, bytes, is_inode};
+use crate::trial::{
+    A, SPEC, bytes, clone_b, close_a, course, create_a, decided, is_inode, make_snapshot, open_a,
+    take_snapshot,
+};
+use disk_lock::Locks;
 use inode::Inode;
 use object_id::{Cause, Entry, NodeId, Origin, Policy, Vid};
 use peer_proto::ObjWork;
 use std::test::Fail;
+use vdi_directory::{Directory, nobody_holds_at_first};
 
 #[test]
 fn creates_a_disk(rt: HostRuntime) -> Result<(), Fail> {
     let alloc = rt.alloc();
-    let mut node = Node::new(alloc);
-    let course = node.create_a()?;
+    let mut directory = Directory::new(alloc);
+    let mut locks = Locks::new(alloc);
+    nobody_holds_at_first();
+    let course = create_a(alloc, &mut directory, &mut locks)?;
     let acts = course.acts.as_slice();
     assert!(rt;
         matches!(acts.get(0), Some(OpAct::Append(Entry::Reserve { by: NodeId(3), session: 1, name, origin: Origin::Fresh { .. } }))
@@ -41,9 +48,11 @@ fn creates_a_disk(rt: HostRuntime) -> Result<(), Fail> {
 #[test]
 fn opens_a_disk(rt: HostRuntime) -> Result<(), Fail> {
     let alloc = rt.alloc();
-    let mut node = Node::new(alloc);
-    node.create_a()?;
-    let course = node.open_a(None)?;
+    let mut directory = Directory::new(alloc);
+    let mut locks = Locks::new(alloc);
+    nobody_holds_at_first();
+    create_a(alloc, &mut directory, &mut locks)?;
+    let course = open_a(alloc, None, &mut directory, &mut locks)?;
     let acts = course.acts.as_slice();
     assert!(rt;
         matches!(acts.get(0), Some(OpAct::Append(Entry::Lock { by: NodeId(3), session: 1, name, tag: None }))
@@ -73,10 +82,12 @@ fn opens_a_disk(rt: HostRuntime) -> Result<(), Fail> {
 #[test]
 fn takes_a_snapshot(rt: HostRuntime) -> Result<(), Fail> {
     let alloc = rt.alloc();
-    let mut node = Node::new(alloc);
-    node.create_a()?;
-    let opened = node.open_a(None)?;
-    let course = node.take_snapshot(opened.op.into_inode())?;
+    let mut directory = Directory::new(alloc);
+    let mut locks = Locks::new(alloc);
+    nobody_holds_at_first();
+    create_a(alloc, &mut directory, &mut locks)?;
+    let opened = open_a(alloc, None, &mut directory, &mut locks)?;
+    let course = take_snapshot(alloc, opened.op.into_inode(), &mut directory, &mut locks)?;
     assert!(rt; course.is_some());
     if let Some(course) = course {
         let acts = course.acts.as_slice();
@@ -117,9 +128,11 @@ fn takes_a_snapshot(rt: HostRuntime) -> Result<(), Fail> {
 #[test]
 fn makes_a_clone(rt: HostRuntime) -> Result<(), Fail> {
     let alloc = rt.alloc();
-    let mut node = Node::new(alloc);
-    node.make_snapshot()?;
-    let course = node.clone_b([A, 0x01_f1a5, 7])?;
+    let mut directory = Directory::new(alloc);
+    let mut locks = Locks::new(alloc);
+    nobody_holds_at_first();
+    make_snapshot(alloc, &mut directory, &mut locks)?;
+    let course = clone_b(alloc, [A, 0x01_f1a5, 7], &mut directory, &mut locks)?;
     let acts = course.acts.as_slice();
     assert!(rt;
         matches!(acts.get(1), Some(OpAct::Work(ObjWork::Read { oid, offset: 0, length: 4_676, .. }))
@@ -146,10 +159,12 @@ fn makes_a_clone(rt: HostRuntime) -> Result<(), Fail> {
 #[test]
 fn opens_a_snapshot(rt: HostRuntime) -> Result<(), Fail> {
     let alloc = rt.alloc();
-    let mut node = Node::new(alloc);
-    node.make_snapshot()?;
+    let mut directory = Directory::new(alloc);
+    let mut locks = Locks::new(alloc);
+    nobody_holds_at_first();
+    make_snapshot(alloc, &mut directory, &mut locks)?;
     let tag = bytes(alloc, b"t")?;
-    let course = node.open_a(Some(tag))?;
+    let course = open_a(alloc, Some(tag), &mut directory, &mut locks)?;
     let acts = course.acts.as_slice();
     assert!(rt; matches!(acts.get(1), Some(OpAct::Work(ObjWork::Read { .. }))));
     assert!(rt; matches!(acts.get(2), Some(OpAct::Reply(GuestRsp::Done))));
@@ -160,10 +175,12 @@ fn opens_a_snapshot(rt: HostRuntime) -> Result<(), Fail> {
 #[test]
 fn refuses_a_tag_that_no_snapshot_has(rt: HostRuntime) -> Result<(), Fail> {
     let alloc = rt.alloc();
-    let mut node = Node::new(alloc);
-    node.create_a()?;
+    let mut directory = Directory::new(alloc);
+    let mut locks = Locks::new(alloc);
+    nobody_holds_at_first();
+    create_a(alloc, &mut directory, &mut locks)?;
     let tag = bytes(alloc, b"t")?;
-    let course = node.open_a(Some(tag))?;
+    let course = open_a(alloc, Some(tag), &mut directory, &mut locks)?;
     assert!(rt;
         matches!(
             course.acts.as_slice().get(1),
@@ -176,10 +193,12 @@ fn refuses_a_tag_that_no_snapshot_has(rt: HostRuntime) -> Result<(), Fail> {
 #[test]
 fn closes_a_disk(rt: HostRuntime) -> Result<(), Fail> {
     let alloc = rt.alloc();
-    let mut node = Node::new(alloc);
-    node.create_a()?;
-    let opened = node.open_a(None)?;
-    let course = node.close_a(opened.op.into_inode())?;
+    let mut directory = Directory::new(alloc);
+    let mut locks = Locks::new(alloc);
+    nobody_holds_at_first();
+    create_a(alloc, &mut directory, &mut locks)?;
+    let opened = open_a(alloc, None, &mut directory, &mut locks)?;
+    let course = close_a(alloc, opened.op.into_inode(), &mut directory, &mut locks)?;
     assert!(rt; course.is_some());
     if let Some(course) = course {
         let acts = course.acts.as_slice();
@@ -202,13 +221,15 @@ fn closes_a_disk(rt: HostRuntime) -> Result<(), Fail> {
 #[test]
 fn deletes_a_disk(rt: HostRuntime) -> Result<(), Fail> {
     let alloc = rt.alloc();
-    let mut node = Node::new(alloc);
-    node.create_a()?;
+    let mut directory = Directory::new(alloc);
+    let mut locks = Locks::new(alloc);
+    nobody_holds_at_first();
+    create_a(alloc, &mut directory, &mut locks)?;
     let ask = VdiAsk::Delete {
         name: bytes(alloc, b"a")?,
         tag: None,
     };
-    let course = node.course(ask, &[], None)?;
+    let course = course(alloc, ask, &[], None, &mut directory, &mut locks)?;
     let acts = course.acts.as_slice();
     assert!(rt;
         matches!(acts.get(0), Some(OpAct::Append(Entry::Delete { by: NodeId(3), session: 1, name, tag: None }))
@@ -222,12 +243,14 @@ fn deletes_a_disk(rt: HostRuntime) -> Result<(), Fail> {
 #[test]
 fn ends_with_the_refusal_of_its_work(rt: HostRuntime) -> Result<(), Fail> {
     let alloc = rt.alloc();
-    let mut node = Node::new(alloc);
+    let mut directory = Directory::new(alloc);
+    let mut locks = Locks::new(alloc);
+    nobody_holds_at_first();
     let name = bytes(alloc, b"a")?;
     let ask = VdiAsk::Create { name, spec: SPEC };
     let (mut op, act) = begin_vdi(alloc, NodeId(3), 1, ask, None)?;
     assert!(rt; op.bytes_wanted().is_none());
-    node.decide(&mut op, &act, None)?;
+    decided(alloc, &mut op, &act, None, &mut directory, &mut locks)?;
     assert_eq!(rt; op.bytes_wanted(), Some(0));
     if op.bytes_wanted().is_some() {
         let halt = Cause::Halt {
