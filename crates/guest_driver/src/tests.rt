@@ -313,9 +313,11 @@ fn works_on_the_inode_go_in_line(rt: HostRuntime) -> Result<(), Fail> {
     let mut queue = InodeQueue::new(rt.alloc());
     let inode = read_of(Oid::inode(Vid(5)));
     let block = read_of(Oid::object(Vid(5), 0));
-    assert!(rt; queue.start().is_none() && queue.may_open(&inode));
+    assert!(rt; queue.start().is_none());
+    assert!(rt; queue.may_open(&inode));
     queue.open(1, &inode);
-    assert!(rt; queue.may_open(&block) && !queue.may_open(&inode));
+    assert!(rt; queue.may_open(&block));
+    assert!(rt; !queue.may_open(&inode));
     queue.wait(2, read_of(Oid::inode(Vid(5))))?;
     queue.wait(3, read_of(Oid::inode(Vid(5))))?;
     queue.end(&block);
