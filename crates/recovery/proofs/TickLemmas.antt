@@ -153,3 +153,8 @@ kept_few p (x ∷ xs) = by_test (p x) (kept_few p xs)
     by_test : (b : Bool) → length (filter p xs) ≤ length xs → length (cond b (x ∷ filter p xs) (filter p xs)) ≤ length (x ∷ xs)
     by_test true rest = omega (arith, rest)
     by_test false rest = omega (arith, rest)
+
+-- what the search for the next level's targets is shown by, and what a level's messages or its end are shown by
+pub ruleset search_rules = (nothing_sends, nothing_asked, tick_none, none_current, none_older)
+
+pub ruleset level_rules = (level_sends, tick_over, tick_asks, no_messages_in, some_messages_in)

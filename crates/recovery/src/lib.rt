@@ -11,17 +11,21 @@
 //! `laws.rt` say what these mean, and work one recovery out step by step (`specs/Example.antt`).
 #![tactic(auto)]
 
+mod fits;
 mod in_flight;
 mod laws;
 mod level;
 mod level_end;
+mod level_over;
 mod listing;
 mod recovery;
+mod replies;
 mod rows;
 mod search;
 mod sends;
 #[cfg(test)]
 mod tests;
+mod ticks;
 
 pub use laws::{
     a_recovery_worked_out, levels_are_left_after_all_answers, lists_come_before_searches,

@@ -3,7 +3,7 @@ use Rattle.std.proofs.lemmas.Fn.{filter_same}
 use Rattle.object_id.specs.declared.node.NodeId.{NodeId}
 use Rattle.object_list.specs.Gathered.{has_node, is_same_node}
 use Rattle.recovery.proofs.TickLemmas.{kept_few}
-use Rattle.recovery.proofs.recovery.other_members.Goals as goal
+use Rattle.recovery.proofs.ticks.other_members.Goals as goal
 
 pub returns-clause-others : goal.returns-clause-others
 returns-clause-others c =
