@@ -1,9 +1,8 @@
 -- What the end of a level makes of a recovery, and what is needed so that it can end.
-use Rattle.std.proofs.Common.{◌≡◌, ℕ, ◌-◌, ◌<◌, ◌≤◌, ◌==◌, nat_lt, Bool, true, false, cond, List, [], ◌∷◌, ◌++◌, Option, Some, None, refl, ap, sym, subst, ◌∙◌}
+use Rattle.std.proofs.Common.{◌≡◌, ℕ, ◌-◌, ◌<◌, ◌≤◌, ◌==◌, nat_lt, Bool, true, false, cond, List, [], ◌∷◌, ◌++◌, Option, Some, None, refl, sym, subst}
 use Rattle.std.specs.Option.{option_map_or, IfSome}
 use Rattle.object_id.specs.declared.node.NodeId.{NodeId}
 use Rattle.object_id.specs.declared.policy.Policy.{Policy}
-use Rattle.object_id.specs.Policy.{IsPolicy}
 use Rattle.object_id.specs.Oid.{kind_of}
 use Rattle.object_store.specs.declared.row.RowCopy.{RowCopy}
 use Rattle.peer_proto.specs.declared.say.PeerSay.{PeerSay}
@@ -12,11 +11,10 @@ use Rattle.recovery.specs.declared.level_end.LevelEnd.{LevelEnd}
 use Rattle.recovery.specs.declared.level_end.LevelEnd.TheVariants as ends
 use Rattle.recovery.specs.declared.search.RowAnswer.{RowAnswer}
 use Rattle.recovery.specs.Shown.{NodeView, live_policy, is_pending_object}
-use Rattle.recovery.specs.State.{Search, RecoveryState, search_on, still_on}
+use Rattle.recovery.specs.State.{Search, RecoveryState, still_on}
 use Rattle.recovery.specs.Level.{rows_found, rows_taken, are_enough, own_index, own_part, with_part_found, with_object_missing, to_ask, one_lower, level_without_part, level_over_by, level_over}
 use Rattle.recovery.specs.Steps.{search_after_answer, without_unanswered}
-use Rattle.recovery.specs.Range.{IsSearchInRange}
-use Rattle.recovery.specs.Kept.{rows_at, part_end, end_without_part, end_with_rows, level_end, state_after_level, level_over_after, is_searched}
+use Rattle.recovery.specs.Kept.{rows_at, part_end, end_without_part, end_with_rows, level_end, state_after_level, is_searched}
 use Rattle.recovery.specs.Step.{IsFittingRow, IsFittingSay, AnswersFit, MayEndLevel, MayStep}
 
 -- ---- a level is over with its end
@@ -103,19 +101,19 @@ pub may-end : (state : RecoveryState) (search : Search) (from : NodeId) (said : 
     → state.recovery.search ≡ Some search → IfSome said (IsFittingSay state.shown search.oid)
     → MayEndLevel state.recovery.epoch state.shown (search_after_answer from said search)
 may-end state search from said may is told =
-    let range : IsSearchInRange search = subst (λ (o : Option Search). IfSome o IsSearchInRange) is may.range.search in
-    let reach : (search.level < state.recovery.epoch) × AnswersFit state.shown search.oid search.answers
-    = subst (λ (o : Option Search). IfSome o (λ (s : Search). (s.level < state.recovery.epoch) × AnswersFit state.shown s.oid s.answers)) is may.search in
+    let reach : (1 ≤ search.level) × (search.level < state.recovery.epoch) × AnswersFit state.shown search.oid search.answers
+    = subst (λ (o : Option Search). IfSome o (λ (s : Search). (1 ≤ s.level) × (s.level < state.recovery.epoch) × AnswersFit state.shown s.oid s.answers))
+    is may.search in
     let object = same-object from said search in
     let level = same-level from said search in
     record {
-      epoch_from = may.range.epoch.0;
+      epoch_from = may.epoch;
       epoch_to = may.entered;
-      from = subst (λ (l : ℕ). 1 ≤ l) (sym level) range.level.0;
-      to = subst (λ (l : ℕ). l < state.recovery.epoch) (sym level) reach.0;
+      from = subst (λ (l : ℕ). 1 ≤ l) (sym level) reach.0;
+      to = subst (λ (l : ℕ). l < state.recovery.epoch) (sym level) reach.1;
       answers = subst (λ (oid : ℕ). AnswersFit state.shown oid (search_after_answer from said search).answers) (sym object)
-          (answers-after state.shown from said search reach.1 told);
-      policy = may.range.policies (search_after_answer from said search).oid;
+          (answers-after state.shown from said search reach.2 told);
+      policy = may.policies (search_after_answer from said search).oid;
       size = may.sizes (search_after_answer from said search).oid;
     }
 

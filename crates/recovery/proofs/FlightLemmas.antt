@@ -1,23 +1,22 @@
 -- The messages in flight, by their numbers.
-use Rattle.std.proofs.Common.{◌≡◌, ℕ, zero, suc, ◌+◌, ◌<◌, ◌≤◌, ◌==◌, not, ◌&&◌, ◌||◌, ◌⊎◌, inl, inr, All, Bool, true, false, cond, List, [], ◌∷◌, ◌++◌, length, take, drop, map, filter, get_or, slice_get, Option, None, Some, is_some, refl, ap, ap₂, sym, subst, ◌∙◌, arith, append-nil, reverse}
+use Rattle.std.proofs.Common.{◌≡◌, ℕ, zero, suc, ◌+◌, ◌<◌, ◌≤◌, ◌==◌, not, ◌&&◌, ◌||◌, ◌⊎◌, inl, inr, All, Bool, true, false, cond, List, [], ◌∷◌, ◌++◌, length, take, drop, map, filter, get_or, Option, None, Some, is_some, refl, ap, ap₂, sym, subst, ◌∙◌, arith, append-nil, reverse}
 use Rattle.std.specs.List.{find, list_any, enumerate_from}
 use Rattle.std.specs.List.Sorted.{IsStrictlyIncreasing, IsNonDecreasingBy}
-use Rattle.std.specs.Option.{option_map, option_map_or}
+use Rattle.std.specs.Option.{option_map}
 use Rattle.std.proofs.lemmas.List.{length-map, get_or-map, reverse-append}
 use Rattle.std.proofs.lemmas.List.Folds.{list_any-append}
 use Rattle.std.proofs.lemmas.List.Elements.{All-nil, All-cons}
 use Rattle.std.proofs.lemmas.List.Kept.{IsStrictlyIncreasing-filter}
-use Rattle.std.proofs.lemmas.Bool.{ne_eqb, eq-eqb, eqb-true, cases_eq, cases_lt}
+use Rattle.std.proofs.lemmas.Bool.{ne_eqb, eq-eqb, cases_eq, cases_lt}
 use Rattle.proof_tools.proofs.AscendingWithout.{IsNonDecreasing-from_strict}
 use Rattle.proof_tools.proofs.AscendingNumbers.{IsStrictlyIncreasing-nil, IsStrictlyIncreasing-cons, IsStrictlyIncreasing-far}
 use Rattle.object_id.specs.declared.node.NodeId.{NodeId}
-use Rattle.peer_proto.specs.declared.ask.PeerAsk.{PeerAsk}
 use Rattle.recovery.specs.declared.in_flight.Asked.{Asked}
 use Rattle.recovery.specs.declared.in_flight.Asked.TheVariants as asked_for
-use Rattle.recovery.specs.State.{Message, has_number, message_of, all_unanswered}
+use Rattle.recovery.specs.State.{Message, message_of}
 use Rattle.recovery.specs.Steps.{messages_without}
 use Rattle.recovery.specs.Level.{is_of_search}
-use Rattle.recovery.specs.Kept.{InFlight, sent_number, has_sent_number, node_of, sent_without, flight_without, has_others, message_to, messages_in, current_in, older_in, current_node, is_current_read, is_read_by, AscendByNumber, ask_of, sent_by, sent_to, fits_asked}
+use Rattle.recovery.specs.Kept.{InFlight, sent_number, has_sent_number, node_of, sent_without, flight_without, has_others, message_to, messages_in, current_in, older_in, current_node, is_current_read, is_read_by, AscendByNumber, sent_by, sent_to, fits_asked}
 use Rattle.recovery.specs.Shown.{NodeView}
 use Rattle.recovery.specs.Fits.{fits_message}
 use Rattle.peer_proto.specs.declared.say.PeerSay.{PeerSay}

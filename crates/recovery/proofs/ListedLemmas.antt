@@ -1,9 +1,9 @@
 -- What comes of lists, and of a recovery that begins.
-use Rattle.std.proofs.Common.{◌≡◌, ℕ, ◌==◌, Bool, true, false, cond, List, [], length, Some, None, refl}
+use Rattle.std.proofs.Common.{◌≡◌, ℕ, ◌==◌, Bool, true, false, cond, List, length, Some, None, refl}
 use Rattle.object_id.specs.declared.node.NodeId.{NodeId}
 use Rattle.object_list.specs.Gathered.{GatheredLists, gathered_of_none, gathered_with_answer}
 use Rattle.recovery.specs.Shown.{NodeView, shown_with_unfinished_list, shown_with_pending}
-use Rattle.recovery.specs.State.{Recovery, RecoveryState, all_unanswered}
+use Rattle.recovery.specs.State.{Recovery, RecoveryState}
 use Rattle.recovery.specs.Steps.{to_recover, when_listed, at_start, without_unanswered, with_list_of}
 use Rattle.recovery.specs.Kept.{recovery_state, ids_to_recover, ids_when_listed, shown_with_list}
 

@@ -10,14 +10,11 @@ use Rattle.std.proofs.lemmas.Map.Keys.{sorted_from_strictly_increasing}
 use Rattle.std.proofs.lemmas.Map.Views.{length-le_from_below}
 use Rattle.proof_tools.proofs.Booleans.{cond_either}
 use Rattle.proof_tools.proofs.FiniteMaps.{All-keys-insert}
+use Rattle.object_id.specs.declared.limits.TheConstants.{NODES_MAX}
 use Rattle.object_id.specs.declared.node.NodeId.{NodeId}
-use Rattle.object_id.specs.declared.oid.Kind.{Kind}
-use Rattle.object_id.specs.declared.oid.Kind.TheVariants.{Block, Inode}
 use Rattle.object_id.specs.declared.policy.Policy.{Policy}
-use Rattle.object_id.specs.declared.policy.Policy.TheVariants.{Copies, Coded}
 use Rattle.object_id.specs.Oid.{IsOid, kind_of}
 use Rattle.object_id.specs.Policy.{IsPolicy, wanted_of}
-use Rattle.gf256.proofs.Widths.{by_cases}
 use Rattle.object_store.specs.Store.{AllRows, create_in, rows_of}
 use Rattle.object_list.specs.Gathered.{is_same_node, has_node, nodes_without, gathered_with_answer}
 use Rattle.object_list.specs.Union.{union}
@@ -35,7 +32,9 @@ use Rattle.recovery.specs.Level.{with_part_found, with_object_missing, to_ask, o
 use Rattle.recovery.specs.Tick.{request_message, messages_to, lists_asked, asked_of, level_asked, or_next, next_search, level_messages, tick_messages, tick_sends, with_messages, state_after_tick}
 use Rattle.recovery.specs.Steps.{to_recover, when_listed, at_start, recovery_from_epoch, without_unanswered, with_list_of, search_after_answer, after_list, after_read, after_ask, message_end}
 use Rattle.recovery.specs.Range.{IsSearchInRange, IsInRange, NamesIds}
+use Rattle.recovery.proofs.FoundLemmas.{wanted-most}
 use Rattle.recovery.proofs.StepLemmas.{numbers_of_tick}
+use Rattle.recovery.proofs.TickLemmas.{kept_few}
 
 -- ---- what is asked
 
@@ -56,22 +55,6 @@ count_messages : (recovery : Recovery) (first wanted : ℕ) (ask : PeerAsk) (nod
     → length (messages_to recovery first wanted ask nodes) ≡ length nodes
 count_messages recovery first wanted ask [] = refl
 count_messages recovery first wanted ask (node ∷ nodes) = ap (λ (n : ℕ). suc n) (count_messages recovery (first + 1) wanted ask nodes)
-
-kept_few : {X : Type 0} (p : X → Bool) (xs : List X) → length (filter p xs) ≤ length xs
-kept_few p [] = omega arith
-kept_few p (x ∷ xs) = by_test (p x) (kept_few p xs)
-  where
-    by_test : (b : Bool) → length (filter p xs) ≤ length xs → length (cond b (x ∷ filter p xs) (filter p xs)) ≤ length (x ∷ xs)
-    by_test true rest = omega (arith, rest)
-    by_test false rest = omega (arith, rest)
-
-wanted_few : (policy : Policy) (kind : Kind) → IsPolicy policy → wanted_of policy kind ≤ 31
-wanted_few (Copies copies) kind is = is.1
-wanted_few (Coded d p) Block is =
-    let narrow : d ≤ 16 = by_cases (λ (n : ℕ). n ≤ 16) (omega arith) (omega arith) (omega arith) (omega arith) d is.0 in
-    let few : p ≤ 15 = is.2 in
-    omega (arith, narrow, few)
-wanted_few (Coded d p) Inode is = let few : p ≤ 15 = is.2 in omega (arith, few)
 
 -- the messages of a tick: no more than there may be members
 record IsTick (recovery : Recovery) (messages : List Message) : Type 0 where
@@ -96,18 +79,17 @@ next_fine epoch (Some (oid ∷ rest)) None above below ids fine =
     record { oid = All-head IsOid oid rest ids; level = (omega (arith, above), omega (arith, below)) }
 
 -- a recovery that may tick is of a later epoch than the first
-above_1 : (state : RecoveryState) → IsInRange state → can_tick state ≡ true → 2 ≤ state.recovery.epoch
-above_1 state range may =
+pub above_1 : (state : RecoveryState) → 1 ≤ state.recovery.epoch → can_tick state ≡ true → 2 ≤ state.recovery.epoch
+above_1 state low may =
     let unfinished : is_finished state ≡ false
     = not-true (is_finished state) (and_parts (not (is_finished state)) (length (all_unanswered state.recovery) == 0) may).0 in
     let apart = eqb-false state.recovery.epoch 1
     (or_parts (state.recovery.epoch == 1) (is_listed state.recovery && not (is_some (first_in state.shown.pending))) unfinished).0 in
-    let low : 1 ≤ state.recovery.epoch = range.epoch.0 in
     omega (arith, low, apart)
 
 pub next_search_fine : (state : RecoveryState) → IsInRange state → can_tick state ≡ true → IsFine (next_search state)
 next_search_fine state range may =
-    next_fine state.recovery.epoch state.shown.pending (search_on state) (above_1 state range may) range.epoch.1 range.pending
+    next_fine state.recovery.epoch state.shown.pending (search_on state) (above_1 state range.epoch.0 may) range.epoch.1 range.pending
     (still_fine state.shown.pending state.recovery.search range.search)
 
 -- ---- the requests of a tick
@@ -135,7 +117,7 @@ tick_is first state range fine =
         let kept : length nodes ≤ length (state.shown.targets search.level search.oid policy)
         = kept_few (λ (node : NodeId). has_node node state.recovery.members && not (is_same_node state.recovery.me node)) (state.shown.targets search.level search.oid policy) in
         let within : length (state.shown.targets search.level search.oid policy) ≤ wanted = range.targets search.level search.oid policy in
-        let few : wanted ≤ 31 = wanted_few policy (kind_of search.oid) known in
+        let few : wanted ≤ 31 = wanted-most policy (kind_of search.oid) known in
         record {
           few = subst (λ (n : ℕ). n ≤ 64) (sym (count_messages state.recovery first wanted ask nodes)) (omega (arith, kept, within, few));
           asking = messages_ask state.recovery first wanted ask nodes (fine.oid, fine.level);
@@ -330,24 +312,30 @@ listed_range state range =
     (union_all IsOid state.recovery.lists.objects (tree.keys state.shown.rows) range.named range.kept)) range)
     range
 
-pub begun_in_range : (epoch : ℕ) (members : List NodeId) (state : RecoveryState) → MayBegin epoch members state → epoch < 2 ^ 32
-    → IsInRange state → IsInRange (recovery_from_epoch epoch members state)
-unfolding recovery_from_epoch
-begun_in_range epoch members state may below range =
-    let others = nodes_without state.recovery.me members in
-    let kept : length others ≤ length members = kept_few (λ (other : NodeId). not (is_same_node state.recovery.me other)) members in
+-- no more than there may be members are asked for their lists
+pub others_few : (epoch : ℕ) (members : List NodeId) (state : RecoveryState) → MayBegin epoch members state
+    → length (nodes_without state.recovery.me members) ≤ NODES_MAX
+others_few epoch members state may =
+    let kept : length (nodes_without state.recovery.me members) ≤ length members
+    = kept_few (λ (other : NodeId). not (is_same_node state.recovery.me other)) members in
     let numbers : length (map (λ (node : NodeId). node.0) members) ≤ 64
     = length-le_from_below 64 (map (λ (node : NodeId). node.0) members)
     (sorted_from_strictly_increasing (map (λ (node : NodeId). node.0) members) may.ascend)
     (All-map (λ (n : ℕ). n < 64) (λ (node : NodeId). node.0) members may.nodes) in
     let few : length members ≤ 64 = subst (λ (n : ℕ). n ≤ 64) (length-map members (λ (node : NodeId). node.0)) numbers in
+    omega (arith, kept, few)
+
+pub begun_in_range : (epoch : ℕ) (members : List NodeId) (state : RecoveryState) → MayBegin epoch members state → epoch < 2 ^ 32
+    → IsInRange state → IsInRange (recovery_from_epoch epoch members state)
+unfolding recovery_from_epoch
+begun_in_range epoch members state may below range =
     let above : 1 < epoch = may.above_1 in
     listed_range (at_start epoch members state)
     (record {
       me = range.me;
       epoch = (omega (arith, above), below);
       settled = range.settled;
-      waiting = omega (arith, kept, few);
+      waiting = others_few epoch members state may;
       policies = range.policies;
       targets = range.targets;
       named = All-nil IsOid;

@@ -1,5 +1,5 @@
 -- What the end of a message makes of a recovery, case by case.
-use Rattle.std.proofs.Common.{◌≡◌, ◌≤◌, [], ◌∷◌, ◌++◌, All, unwrap_or, ℕ, ◌==◌, Bool, true, false, cond, List, Option, Some, None, refl, ap, sym, subst, ◌∙◌}
+use Rattle.std.proofs.Common.{◌≡◌, ◌≤◌, [], ◌∷◌, ◌++◌, All, unwrap_or, ℕ, Bool, true, false, cond, List, Option, Some, None, refl, ap, sym, subst, ◌∙◌}
 use Rattle.std.specs.List.{list_any, find}
 use Rattle.std.specs.Option.{option_map, option_map_or, option_or, IfSome}
 use Rattle.std.proofs.lemmas.Bool.{eqb-true}
@@ -21,7 +21,7 @@ use Rattle.recovery.specs.declared.level_end.LevelEnd.{LevelEnd}
 use Rattle.recovery.specs.Shown.{NodeView, is_pending_object}
 use Rattle.recovery.specs.State.{Message, Search, RecoveryState, still_on, has_number, message_of}
 use Rattle.recovery.specs.Level.{is_of_search, level_over, searching}
-use Rattle.recovery.specs.Steps.{search_after_answer, without_unanswered, messages_without, after_read, after_ask, message_end}
+use Rattle.recovery.specs.Steps.{search_after_answer, without_unanswered, after_read, after_ask, message_end}
 use Rattle.recovery.specs.Kept.{level_end, state_after_level, level_over_after, is_searched, sent_to}
 use Rattle.recovery.proofs.EndLemmas.{over_by_end, end-without, same-object}
 

@@ -1,5 +1,5 @@
 -- The bytes of the rows that are taken at a level, and that they are parts of different indexes.
-use Rattle.std.proofs.Common.{◌≡◌, ◌⊎◌, inl, inr, ◌==◌, le_trans, ltb-true, nat_lt, Bool, true, false, cond, ℕ, zero, suc, ◌+◌, ◌-◌, ◌*◌, ◌/◌, ◌^◌, ◌<◌, ◌≤◌, List, [], ◌∷◌, ◌++◌, length, take, map, fold, flat_map, All, refl, ap, ap₂, sym, subst, ◌∙◌, arith}
+use Rattle.std.proofs.Common.{◌≡◌, inl, inr, ◌==◌, le_trans, ltb-true, nat_lt, Bool, true, false, cond, ℕ, zero, suc, ◌+◌, ◌-◌, ◌*◌, ◌/◌, ◌<◌, ◌≤◌, List, [], ◌∷◌, ◌++◌, length, take, map, fold, flat_map, All, refl, ap, ap₂, sym, ◌∙◌, arith}
 use Rattle.std.specs.Borrow.{Bor}
 use Rattle.std.proofs.lemmas.Bool.{ltb-false, eqb-false, cases_lt}
 use Rattle.std.proofs.lemmas.List.{length-append, length-take, length-replicate}
@@ -11,7 +11,7 @@ use Rattle.object_id.specs.declared.oid.Kind.TheVariants.{Block, Inode}
 use Rattle.object_id.specs.declared.policy.Policy.{Policy}
 use Rattle.object_id.specs.declared.policy.Policy.TheVariants.{Copies, Coded}
 use Rattle.object_id.specs.Policy.{IsPolicy, need_of}
-use Rattle.gf256.specs.Part.{part_size, parts_in, bytes_of_parts}
+use Rattle.gf256.specs.Part.{part_size, parts_in}
 use Rattle.gf256.specs.Polynomial.{ArePoints}
 use Rattle.gf256.proofs.Points.{Avoids, Points, points_to}
 use Rattle.gf256.proofs.PartLaws.{parts_in-laid}

@@ -1,5 +1,5 @@
 -- What a tick makes of a recovery, case by case.
-use Rattle.std.proofs.Common.{◌≡◌, ◌≤◌, filter, ℕ, suc, ◌+◌, ◌==◌, ◌||◌, not, Bool, true, false, cond, List, [], ◌∷◌, ◌++◌, length, map, Option, Some, None, refl, ap, ap₂, sym, subst, ◌∙◌, append-nil, arith}
+use Rattle.std.proofs.Common.{◌≡◌, ◌≤◌, filter, ℕ, suc, ◌+◌, ◌==◌, ◌||◌, not, Bool, true, false, cond, List, [], ◌∷◌, ◌++◌, length, map, Option, Some, None, refl, ap, sym, ◌∙◌, append-nil, arith}
 use Rattle.std.specs.List.{list_any, enumerate_from}
 use Rattle.std.specs.Option.{option_map_or}
 use Rattle.std.proofs.lemmas.Bool.{and_parts, eqb-true, eq-eqb, ne_eqb}
@@ -7,10 +7,9 @@ use Rattle.std.proofs.lemmas.List.{length-map}
 use Rattle.recovery.specs.Kept.{InFlight, message_to, messages_in}
 use Rattle.object_id.specs.declared.node.NodeId.{NodeId}
 use Rattle.object_id.specs.declared.policy.Policy.{Policy}
-use Rattle.peer_proto.specs.declared.ask.PeerAsk.{PeerAsk}
 use Rattle.peer_proto.specs.declared.ask.PeerAsk.TheVariants as asks
-use Rattle.recovery.specs.Shown.{NodeView, live_policy}
-use Rattle.recovery.specs.State.{Message, Search, Recovery, RecoveryState, is_listed, is_finished, all_unanswered, can_tick, MayTick}
+use Rattle.recovery.specs.Shown.{live_policy}
+use Rattle.recovery.specs.State.{Message, Search, Recovery, RecoveryState, is_listed, is_finished, all_unanswered, MayTick}
 use Rattle.recovery.specs.Level.{is_of_search, level_over, searching}
 use Rattle.recovery.specs.Tick.{request_message, lists_asked, level_asked, level_messages, next_search, tick_messages, tick_sends, with_messages, state_after_tick}
 

@@ -1,13 +1,12 @@
 -- How the code of a recovery keeps its messages and its search, and what the end of a level comes to.
 use Rattle.std.specs.Prelude.{ℕ, suc, ◌-◌, ◌^◌, ◌==◌, ◌<◌, nat_lt, Bool, true, false}
-use Rattle.std.specs.Prelude.{not, ◌&&◌, List, [], ◌∷◌, ◌++◌, length, map, take, filter, All}
+use Rattle.std.specs.Prelude.{not, List, [], ◌∷◌, ◌++◌, length, map, filter}
 use Rattle.std.specs.Prelude.{Option, None, Some, unwrap_or, if◌then◌else◌}
 use Rattle.std.specs.Borrow.{Bor}
 use Rattle.std.specs.List.{find, filter_map, list_any}
 use Rattle.std.specs.List.Sorted.{IsStrictlyIncreasing}
 use Rattle.std.specs.Option.{option_map, option_map_or}
 use Rattle.std.specs.FinMap as tree
-use Rattle.object_id.specs.declared.node.Epoch.{Epoch}
 use Rattle.object_id.specs.declared.node.NodeId.{NodeId}
 use Rattle.object_id.specs.declared.policy.Policy.{Policy}
 use Rattle.object_id.specs.declared.policy.Policy.TheVariants.{Copies, Coded}
@@ -26,7 +25,6 @@ use Rattle.recovery.specs.declared.in_flight.Asked.TheVariants as asked_for
 use Rattle.recovery.specs.declared.level_end.LevelEnd.{LevelEnd}
 use Rattle.recovery.specs.declared.level_end.LevelEnd.TheVariants as ends
 use Rattle.recovery.specs.Shown.{NodeView, live_policy, index_in, own_row, is_asked_row, is_to_recover, shown_with_pending}
-use Rattle.recovery.specs.declared.search.RowAnswer.{RowAnswer}
 use Rattle.recovery.specs.State.{Message, Search, Recovery, RecoveryState}
 use Rattle.recovery.specs.Level.{row_of_target, put_by_index, rows_taken, are_enough}
 use Rattle.recovery.specs.Level.{part_from_rows, with_part_found, with_object_missing, to_ask, level_over}

@@ -1,7 +1,7 @@
 -- What a recovery and its node are to be so that the recovery can make a step.
-use Rattle.std.specs.Prelude.{◌≡◌, ℕ, ◌*◌, ◌^◌, ◌<◌, ◌≤◌, List, [], ◌∷◌, All, Some}
+use Rattle.std.specs.Prelude.{◌≡◌, ℕ, ◌*◌, ◌^◌, ◌<◌, ◌≤◌, List, [], ◌∷◌, length, All, Some}
 use Rattle.std.specs.Option.{IfSome}
-use Rattle.object_id.specs.declared.limits.TheConstants.{TARGETS_MAX}
+use Rattle.object_id.specs.declared.limits.TheConstants.{NODES_MAX, TARGETS_MAX}
 use Rattle.object_id.specs.declared.policy.Policy.{Policy}
 use Rattle.object_id.specs.Oid.{kind_of}
 use Rattle.object_id.specs.Policy.{IsPolicy, need_of}
@@ -14,7 +14,6 @@ use Rattle.peer_proto.specs.declared.say.PeerSay.TheVariants as says
 use Rattle.recovery.specs.Shown.{NodeView}
 use Rattle.recovery.specs.declared.search.RowAnswer.{RowAnswer}
 use Rattle.recovery.specs.State.{Message, Search, RecoveryState}
-use Rattle.recovery.specs.Range.{IsInRange}
 
 abbrev pub HaveSize : ℕ → List RowCopy → Type 0
 HaveSize size [] = Unit {0}
@@ -60,13 +59,17 @@ pub record MayEndLevel (epoch : ℕ) (shown : NodeView) (search : Search) : Type
   pub size : (policy : Policy) (size : ℕ) → shown.policy_of search.oid ≡ Some policy → shown.size_of search.oid ≡ Some size
       → IsPartSize policy search.oid size
 
--- what a recovery and its node are to be at each tick and at each end of a message, beside the range: the node has entered the epoch
--- that is recovered, what is searched was kept in an epoch before, and rows have the length that the object's rows have
+-- what a recovery and its node are to be at each tick and at each end of a message: the node has entered the epoch that is recovered and
+-- has read a settled one, what is searched was kept in an epoch before, the answers that a search keeps and the object's rows are of one
+-- length, parts of whole blocks, and no more nodes were asked or wanted than there may be
 pub record MayStep (state : RecoveryState) : Type 0 where
-  pub range : IsInRange state
+  pub epoch : 1 ≤ state.recovery.epoch
   pub entered : state.recovery.epoch ≤ state.shown.epoch
+  pub settled : 1 ≤ state.shown.settled
+  pub waiting : length state.recovery.lists.waiting ≤ NODES_MAX
+  pub policies : (oid : ℕ) → IfSome (state.shown.policy_of oid) IsPolicy
   pub sizes : (oid : ℕ) (policy : Policy) (size : ℕ) → state.shown.policy_of oid ≡ Some policy → state.shown.size_of oid ≡ Some size
       → IsPartSize policy oid size
   pub search : IfSome state.recovery.search (λ search.
-      (search.level < state.recovery.epoch) × AnswersFit state.shown search.oid search.answers)
+      (1 ≤ search.level) × (search.level < state.recovery.epoch) × AnswersFit state.shown search.oid search.answers)
   pub wanted : All (λ (message : Message). message.wanted ≤ TARGETS_MAX) state.recovery.unanswered

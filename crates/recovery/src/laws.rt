@@ -107,12 +107,12 @@ pub fn what_is_asked_can_be_spelled()
 {}
 
 /// What a recovery and its node are to be so that a tick, an answer or a loss can be made is there after each of them, as long as
-/// replies fit what was asked, and name objects only by their ids.
+/// replies fit what was asked.
 pub fn what_a_step_needs_stays()
-    ensures begin { (epoch : ℕ) (members : List NodeId) (state : RecoveryState) → MayBegin epoch members state → epoch < 2 ^ 32
+    ensures begin { (epoch : ℕ) (members : List NodeId) (state : RecoveryState) → MayBegin epoch members state
         → MayStep state → MayStep (recovery_from_epoch epoch members state) }
     ensures tick { (first : ℕ) (state : RecoveryState) → MayTick first state → MayStep state → MayStep (state_after_tick first state) }
-    ensures reply { (rsp : PeerRsp) (state : RecoveryState) → fits_recovery rsp state ≡ true → NamesIds rsp.say
+    ensures reply { (rsp : PeerRsp) (state : RecoveryState) → fits_recovery rsp state ≡ true
         → MayStep state → MayStep (recovery_on_reply rsp state) }
     ensures loss { (number : ℕ) (state : RecoveryState) → MayStep state → MayStep (recovery_on_loss number state) }
 {}

@@ -9,6 +9,6 @@ unfolding recovery_on_reply recovery_on_loss
 returns c = record {
   begin = may_after_begin;
   tick = may_after_tick;
-  reply = λ rsp state fits ids is. may_after_end rsp.number (Some rsp.say) state ids (reply_fits rsp state fits is.wanted) is;
-  loss = λ number state is. may_after_end number None state tt tt is;
+  reply = λ rsp state fits is. may_after_end rsp.number (Some rsp.say) state (reply_fits rsp state fits is.wanted) is;
+  loss = λ number state is. may_after_end number None state tt is;
 }

@@ -1,4 +1,4 @@
-use Rattle.std.proofs.Common.{◌≡◌, ◌≤◌, ◌&&◌, not, List, length, filter, ap, sym, subst, ◌∙◌, rules}
+use Rattle.std.proofs.Common.{◌≤◌, ◌&&◌, not, List, length, filter, ap, sym, subst, ◌∙◌, rules}
 use Rattle.std.proofs.lemmas.Fn.{filter_same}
 use Rattle.object_id.specs.declared.node.NodeId.{NodeId}
 use Rattle.object_list.specs.Gathered.{has_node, is_same_node}

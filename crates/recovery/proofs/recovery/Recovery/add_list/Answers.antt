@@ -1,4 +1,4 @@
-use Rattle.std.proofs.Common.{◌≡◌, reverse, ap, ap₂, ◌∙◌}
+use Rattle.std.proofs.Common.{reverse, ap, ap₂, ◌∙◌}
 use Rattle.object_list.specs.Gathered.{GatheredLists}
 use Rattle.recovery.specs.Shown.{NodeView}
 use Rattle.recovery.specs.State.{Recovery}

@@ -1,4 +1,4 @@
-use Rattle.std.proofs.Common.{◌≡◌, [], ◌&&◌, not, ℕ, List, Option, filter, map, reverse, ap, sym, subst, ◌∙◌}
+use Rattle.std.proofs.Common.{◌≡◌, [], ◌&&◌, not, List, Option, filter, map, reverse, ap, sym, subst, ◌∙◌}
 use Rattle.std.specs.List.{enumerate_from}
 use Rattle.std.specs.Option.{option_map_or}
 use Rattle.object_id.specs.declared.node.NodeId.{NodeId}

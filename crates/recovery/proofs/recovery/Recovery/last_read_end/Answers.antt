@@ -1,9 +1,9 @@
-use Rattle.std.proofs.Common.{◌≡◌, ℕ, Option, Some, ap, sym, subst, ◌∙◌}
+use Rattle.std.proofs.Common.{◌≡◌, ℕ, Option, ap, sym, subst, ◌∙◌}
 use Rattle.std.specs.Option.{IfSome, option_copied}
 use Rattle.peer_proto.specs.declared.say.PeerSay.{PeerSay}
 use Rattle.recovery.specs.declared.level_end.LevelEnd.{LevelEnd}
 use Rattle.recovery.specs.Shown.{NodeView}
-use Rattle.recovery.specs.State.{Search, Recovery, RecoveryState}
+use Rattle.recovery.specs.State.{Search, Recovery}
 use Rattle.recovery.specs.Steps.{search_after_answer, without_unanswered}
 use Rattle.recovery.specs.Kept.{recovery_state, level_end, state_after_level}
 use Rattle.recovery.specs.Step.{IsFittingSay, MayEndLevel}

@@ -1,4 +1,4 @@
-use Rattle.std.proofs.Common.{◌≡◌, false, Option, sym, ◌∙◌}
+use Rattle.std.proofs.Common.{◌≡◌, false, sym, ◌∙◌}
 use Rattle.std.specs.Option.{option_copied}
 use Rattle.recovery.specs.Shown.{NodeView}
 use Rattle.recovery.specs.State.{search_on}

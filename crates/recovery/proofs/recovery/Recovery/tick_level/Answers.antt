@@ -1,10 +1,8 @@
-use Rattle.std.proofs.Common.{◌≡◌, ◌==◌, [], List, length, map, true, IfOk, ap, sym, subst, ◌∙◌}
+use Rattle.std.proofs.Common.{◌≡◌, List, map, IfOk, ap, sym, subst, ◌∙◌}
 use Rattle.object_id.specs.declared.node.NodeId.{NodeId}
 use Rattle.peer_proto.specs.declared.ask.PeerReq.{PeerReq}
-use Rattle.recovery.specs.Shown.{NodeView}
 use Rattle.recovery.specs.State.{Message, RecoveryState}
-use Rattle.recovery.specs.Tick.{level_messages}
-use Rattle.recovery.specs.Kept.{recovery_state, messages_in}
+use Rattle.recovery.specs.Kept.{recovery_state}
 use Rattle.recovery.proofs.TickLemmas.{level_sends, no_messages_in}
 use Rattle.recovery.proofs.recovery.Recovery.tick_level.Goals as goal
 

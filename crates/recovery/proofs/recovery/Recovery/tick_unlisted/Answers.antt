@@ -1,4 +1,4 @@
-use Rattle.std.proofs.Common.{◌≡◌, ap, sym, ◌∙◌}
+use Rattle.std.proofs.Common.{ap, sym, ◌∙◌}
 use Rattle.recovery.specs.Shown.{NodeView}
 use Rattle.recovery.specs.State.{Recovery, RecoveryState}
 use Rattle.recovery.specs.Kept.{recovery_state}
