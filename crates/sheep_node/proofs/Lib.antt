@@ -5,6 +5,8 @@ pub mod StartLaws
 pub mod AwaitedWorks
 pub mod OneWorkParts
 pub mod OneWorkChanges
+pub mod ReachedSteps
+pub mod EndedWorks
 pub mod StepChain
 pub mod MessageNumbers
 pub mod NumberChanges
@@ -18,6 +20,10 @@ pub mod StepEffects
 pub mod StepResults
 pub mod LogLaws
 mod RefusalLaws
+pub mod PolicySteps
+pub mod MessageCounts
+pub mod PolicyChanges
+pub mod PolicyLaws
 pub mod NodeLaws
 pub mod OutsideAskLaws
 mod MayTestLaws

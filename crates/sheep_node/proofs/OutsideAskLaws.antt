@@ -39,7 +39,7 @@ use Rattle.sheep_node.specs.CheckWrites.{CheckWrite, write_at_stage, write_of_co
 use Rattle.sheep_node.specs.declared.ask.Ask.TheVariants as asks
 
 -- the spec of what a node knows is valid
-known_spec : (peer : Peer) (oid : ℕ) (spec : VdiSpec) → All IsReservable peer.entries → spec_of peer oid ≡ Some spec → IsSpec spec
+pub known_spec : (peer : Peer) (oid : ℕ) (spec : VdiSpec) → All IsReservable peer.entries → spec_of peer oid ≡ Some spec → IsSpec spec
 known_spec peer oid spec reservable known = by_header (header_at peer oid) refl known
   where
     by_header : (o : Option Header) → header_at peer oid ≡ o → option_map (λ (header : Header). header.spec) o ≡ Some spec → IsSpec spec

@@ -40,6 +40,7 @@ use Rattle.sheep_node.specs.Changes as changes
 use Rattle.sheep_node.specs.Changes.{Outcome, ToWork, ToEntry, ToReply, Arrival, RequestSteps, DiskBegins, DiskGoesOn, CommandBegins, CommandGoesOn, CommandDecided, WorkIsNext, AtOnce, InTurn, Again, AgainAlone, input_received, Change, CheckBegins, CheckGoesOn, ObjectBegins, ObjectIsDone, EntryBegins, EntryDecided}
 use Rattle.sheep_node.proofs.RefusedCourses.{course_refused-keeps, request_refused-keeps}
 use Rattle.sheep_node.proofs.OneWorkParts.{Sessions}
+use Rattle.sheep_node.proofs.ReachedSteps.{QueuesStayShort}
 use Rattle.sheep_node.proofs.StepChain.{kept_by_chain, step_chain}
 use Rattle.disk_check.specs.Check.{begin_check}
 
@@ -203,3 +204,9 @@ queues_short_at_opening me tries = none_short
 pub queues_stay_short : (input : Input) (node : Node) → May input node → QueuesAreShort node → QueuesAreShort (node_step input node).node
 queues_stay_short input node may all =
     kept_by_chain QueuesAreShortIn (λ so_far next change. change_keeps_short so_far next change may) (step_chain input node) (received_short input node all)
+
+-- and so as the step goes on
+pub queues_stay_short_along : (input : Input) (node : Node) → May input node → QueuesAreShort node
+    → QueuesStayShort input node (input_received input (at_first node))
+queues_stay_short_along input node may all so_far leads =
+    kept_by_chain QueuesAreShortIn (λ so_far next change. change_keeps_short so_far next change may) leads (received_short input node all)

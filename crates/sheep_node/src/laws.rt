@@ -1,5 +1,5 @@
 //! Laws of a step, for the proofs of the layers above: each is the contract of a function that does nothing.
-ghost use Rattle.std.specs.Prelude.{◌≡◌, ◌⊎◌, ℕ, Bool, ◌+◌, ◌<◌, true, false, List, [], ◌∷◌, ◌++◌, length, Option, Some, None, IsTrue, ◌↔◌};
+ghost use Rattle.std.specs.Prelude.{◌≡◌, ◌⊎◌, ℕ, Bool, ◌+◌, ◌<◌, ◌≤◌, true, false, List, [], ◌∷◌, ◌++◌, length, Option, Some, None, IsTrue, ◌↔◌};
 ghost use Rattle.std.specs.Prelude.{All};
 ghost use Rattle.std.specs.FinMap.{contains_key};
 ghost use Rattle.object_id.specs.declared.cause.Cause.{Cause};
@@ -25,6 +25,7 @@ ghost use Rattle.sheep_node.specs.declared.input.Input.{Input};
 ghost use Rattle.sheep_node.specs.declared.input.Input.TheVariants as inputs;
 ghost use Rattle.sheep_node.specs.State.{Node, Commanding, initial_node, Checking, DoingWork, AwaitingDecision};
 ghost use Rattle.sheep_node.specs.StepState.{StepState, at_first, session_in, with_sole_request, request_ended};
+ghost use Rattle.sheep_node.specs.RecoveryRange.{RecoversInRange};
 ghost use Rattle.sheep_node.specs.NodeInvariant.{IsSoundNode};
 ghost use Rattle.sheep_node.specs.OneWork.{HasOneWorkPerRequest};
 ghost use Rattle.sheep_node.specs.OwnEntries.{AsksForOwn, HasOnlyOwnEntries};
@@ -57,6 +58,13 @@ pub fn sends_are_numbered()
     ensures numbers { (input : Input) (node : Node) → AreNumberedFrom node.sends (node_step input node).outputs.sends }
     ensures count { (input : Input) (node : Node)
         → (node_step input node).node.sends ≡ node.sends + length (node_step input node).outputs.sends }
+{}
+
+/// A step sends 1,000 messages at most: one to each member, at most 64, at a tick; else no more than 18 attempts begin in it, each with 31
+/// messages at most.
+pub fn a_step_sends_at_most_1000()
+    ensures { (input : Input) (node : Node) → May input node → IsSoundNode node → RecoversInRange node
+        → length (node_step input node).outputs.sends ≤ 1000 }
 {}
 
 /// Only an entry of the log, and coming back, change what a node has read; and it stays itself.
@@ -200,8 +208,8 @@ pub fn a_create_begins_with_its_reservation()
 {}
 
 /// A node opens as one, and each step that it may take leaves it one: its requests have one work each at most, its entries
-/// are its own, its queues are its reads and writes, no more than there may be at once, it is in the epoch of what it has read, and no
-/// `Recovered` is due.
+/// are its own, its queues are its reads and writes, no more than there may be at once, it is in the epoch of what it has read, no
+/// `Recovered` is due, and it works by policies that there may be.
 pub fn a_node_stays_one()
     ensures opens { (me : NodeId) (tries : ℕ) → IsSoundNode (initial_node me tries) }
     ensures stays { (input : Input) (node : Node) → May input node → IsSoundNode node → IsSoundNode (node_step input node).node }

@@ -12,7 +12,7 @@
 //! is known where it happens (`specs/Changes.antt`). So what holds of a node and is kept by each of these holds from its
 //! opening on (`proofs/StepChain.antt`: `kept_by_chain`): each request has one work at most (`specs/OneWork.antt`), the
 //! entries that it puts are its own (`specs/OwnEntries.antt`), and a session's queue is its reads and writes
-//! (`specs/SessionQueues.antt`), no more than there may be at once.
+//! (`specs/SessionQueues.antt`), no more than there may be at once. A step is of so few changes that it sends 1,000 messages at most.
 //!
 //! The laws of `laws.rt` say this, and what holds of every step: its sends are numbered upwards, so no two of a node are
 //! numbered alike; what it has read comes from the log alone, and its epochs and their members are those of what it has
