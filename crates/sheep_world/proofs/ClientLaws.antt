@@ -21,7 +21,8 @@ use Rattle.sheep_world.specs.ClientAsks.{answer_of}
 use Rattle.sheep_world.specs.ClientSteps.{ask_effect, brings_answers, next_driven, world_with_event, world_driven}
 use Rattle.sheep_world.specs.Enabled.{enabled_events}
 use Rattle.sheep_world.specs.Run.{Moment, next, run_from, initial_moment, run}
-use Rattle.sheep_world.specs.RunsWithAsks.{Move, Happens, Asks, may_read_object, next_move, moves_from, run_with_asks}
+use Rattle.sheep_world.specs.RunsWithAsks.{Move, Happens, Asks, may_read_object, next_move, moves_from, run_with_asks, BeganWithAsks}
+use Rattle.sheep_world.specs.Began.{Began}
 
 -- ---- runs with asks
 
@@ -40,6 +41,14 @@ moves-events statements (event ∷ events) moment =
 
 pub run-events : (statements : List Statement) (events : List Event) → run_with_asks statements (map Happens events) ≡ run statements events
 run-events statements events = moves-events statements events (initial_moment statements)
+
+pub began-asks : (statements : List Statement) (world : World) → Began statements world → BeganWithAsks statements world
+began-asks statements world began = record {
+  moves = map Happens began.events;
+  moment = began.moment;
+  runs = run-events statements began.events ∙ began.runs;
+  world_so = began.world_so;
+}
 
 pub asks-silent : (statements : List Statement) (node : NodeId) (ask : Ask) (moment after : Moment)
     → next_move statements (Asks node ask) moment ≡ Some after → after.history ≡ moment.history

@@ -1,5 +1,5 @@
 -- Runs in which a client reads objects between the events.
-use Rattle.std.specs.Prelude.{ℕ, Bool, true, false, ◌&&◌, List, [], ◌∷◌, Option, Some, None, if◌then◌else◌}
+use Rattle.std.specs.Prelude.{◌≡◌, ℕ, Bool, true, false, ◌&&◌, List, [], ◌∷◌, Option, Some, None, if◌then◌else◌}
 use Rattle.std.specs.Option.{option_and_then}
 use Rattle.object_id.specs.declared.node.NodeId.{NodeId}
 use Rattle.cluster_script.specs.declared.statement.Statement.{Statement}
@@ -10,6 +10,7 @@ use Rattle.sheep_node.specs.declared.ask.Ask.TheVariants as asks
 use Rattle.sheep_node.specs.declared.event.Event.{Event}
 use Rattle.sheep_world.specs.ClientAsks.{may_client_ask, may_be_asked}
 use Rattle.sheep_world.specs.ClientSteps.{ask_effect}
+use Rattle.sheep_world.specs.World.{World}
 use Rattle.sheep_world.specs.Run.{Moment, initial_moment, next}
 
 -- what a run with asks is made of: events, and a client's asks of nodes
@@ -49,3 +50,10 @@ moves_from statements (move ∷ moves) moment = option_and_then (moves_from stat
 -- the run with asks of these moves
 abbrev pub run_with_asks : List Statement → List Move → Option Moment
 run_with_asks statements moves = moves_from statements moves (initial_moment statements)
+
+-- a run with asks of the script ends in this world
+pub record BeganWithAsks (statements : List Statement) (world : World) : Type 0 where
+  pub moves : List Move
+  pub moment : Moment
+  pub runs : run_with_asks statements moves ≡ Some moment
+  pub world_so : moment.world ≡ world

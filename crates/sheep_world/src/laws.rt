@@ -43,7 +43,7 @@ ghost use Rattle.sheep_world.specs.WireMatch.{WireMatchesNodes};
 ghost use Rattle.sheep_world.specs.Ranges.{RecoveriesAreInRange, tells_recovery};
 ghost use Rattle.sheep_world.specs.BegunRequests.{RequestsWereBegun};
 ghost use Rattle.sheep_world.specs.OneWork.{NodesHaveOneWorkPerRequest, IsSentInRange, IsNewRequest};
-ghost use Rattle.sheep_world.specs.RunsWithAsks.{Happens, Asks, next_move, run_with_asks};
+ghost use Rattle.sheep_world.specs.RunsWithAsks.{Happens, Asks, next_move, run_with_asks, BeganWithAsks};
 ghost use Rattle.sheep_world.specs.ClientAsks.{answer_of};
 ghost use Rattle.sheep_world.specs.ClientSteps.{brings_answers, next_driven, world_driven};
 ghost use Rattle.sheep_node.specs.CheckWrites.{CheckWrite};
@@ -215,10 +215,12 @@ pub fn a_small_world_worked_out()
     ensures { enabled_events small_script (initial_world small_script) ≡ events.Guest 1 ∷ [] }
 {}
 
-/// A run of events is a run with asks of these events; an ask adds nothing to the history.
+/// A run of events is a run with asks of these events, so each world that a run reaches is reached with asks too; an ask adds nothing
+/// to the history.
 pub fn asks_stand_between_the_events_of_a_run()
     ensures events { (statements : List Statement) (events : List Event)
         → run_with_asks statements (map Happens events) ≡ run statements events }
+    ensures began { (statements : List Statement) (world : World) → Began statements world → BeganWithAsks statements world }
     ensures silent { (statements : List Statement) (node : NodeId) (ask : Ask) (moment after : Moment)
         → next_move statements (Asks node ask) moment ≡ Some after → after.history ≡ moment.history }
 {}
