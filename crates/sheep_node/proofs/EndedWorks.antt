@@ -1,11 +1,12 @@
 -- A step goes on as a message is known, or a work is tried again: a work is done or refused, and its request goes on.
-use Rattle.std.proofs.Common.{◌≡◌, ℕ, suc, ◌+◌, arith, Bool, true, false, cond, List, Option, Some, None, refl, sym, ap, subst}
+use Rattle.std.proofs.Common.{◌≡◌, ℕ, suc, ◌+◌, arith, Bool, true, false, cond, List, Option, Some, None, refl, sym, ap, subst, ◌∙◌}
 use Rattle.std.specs.Ordering.{nat_cmp}
 use Rattle.std.specs.List.{list_any}
 use Rattle.std.specs.FinMap as tree
 use Rattle.std.specs.FinSet.{FinSet}
+use Rattle.std.proofs.lemmas.Option.{same_Some}
 use Rattle.proof_tools.proofs.Lists.{find-contains}
-use Rattle.proof_tools.proofs.FiniteMaps.{get-entry, get-insert_other, get-remove_other}
+use Rattle.proof_tools.proofs.FiniteMaps.{get-entry, get-insert_other, get-insert_same, get-remove_other, get-remove_same}
 use Rattle.object_id.specs.declared.cause.Cause.{Cause}
 use Rattle.object_id.specs.declared.cause.Cause.TheVariants.{Halt}
 use Rattle.object_id.specs.declared.node.Epoch.{Epoch}
@@ -139,7 +140,11 @@ module _ {input : Input} {node : Node} {first : StepState} {n : ℕ} where
         gone_walk : IsReached input node first (17 + suc n) (with_gateway (without_work req gateway) so_far)
         gone_walk =
             settled_by walk (changes.Strays req work (without_work req gateway) there none
-            (record { own = refl; others = λ other apart. get-remove_other so_far.node.gateway.works req other apart }))
+            (record {
+              own = refl;
+              same = λ now got. let gone = get-remove_same so_far.node.gateway.works req in absurd (cc (got, gone));
+              others = λ other apart. get-remove_other so_far.node.gateway.works req other apart;
+            }))
 
         stray_done_walk : (bytes : List ℕ) → Settled (done_step gateway req work.work bytes)
         stray_done_walk bytes =
@@ -155,7 +160,16 @@ module _ {input : Input} {node : Node} {first : StepState} {n : ℕ} where
         stray_failure_walk None =
             let later : Work = record work { ended = work.ended + 1; stage = Ended } in
             settled_by walk (changes.Strays req work (with_work req later gateway) there none
-            (record { own = refl; others = λ other apart. get-insert_other so_far.node.gateway.works req later other apart }))
+            (record {
+              own = refl;
+              same = λ now got. (
+                work,
+                there,
+                ap (λ (w : Work). w.work)
+                    (sym (same_Some later now (sym (get-insert_same so_far.node.gateway.works req later) ∙ got))),
+              );
+              others = λ other apart. get-insert_other so_far.node.gateway.works req later other apart;
+            }))
         stray_failure_walk (Some cause) = stray_refused_walk cause
 
     module _ (number : ℕ) (status : Status) (settled : IsSoundStep input node → is_unanswered status ≡ false) (told : IsTold input number status) (req : ℕ) (work : Work)

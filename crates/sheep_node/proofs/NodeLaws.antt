@@ -9,7 +9,7 @@ use Rattle.sheep_node.specs.RecoveryRange.{RecoversInRange}
 use Rattle.sheep_node.specs.NodeInvariant.{IsSoundNode}
 use Rattle.sheep_node.proofs.NumberChanges.{one_work_at_opening, one_work_stays}
 use Rattle.sheep_node.proofs.OwnEntryChanges.{own_entries_at_opening, own_entries_stay, asks_for_own}
-use Rattle.sheep_node.proofs.PolicyLaws.{policies_at_opening, policies_stay, sends_few}
+use Rattle.sheep_node.proofs.PolicyLaws.{policies_at_opening, policies_stay, sends_few, valid_input}
 use Rattle.sheep_node.proofs.QueueChanges.{none_queued, queues_stay}
 use Rattle.sheep_node.proofs.QueueLengths.{queues_short_at_opening, queues_stay_short}
 use Rattle.sheep_node.proofs.LogLaws.{opening_follows, step_follows}
@@ -34,9 +34,10 @@ IsSoundNode-step input node may is = record {
   short_queues = queues_stay_short input node may is.short_queues;
   by_the_log = step_follows input node may is.by_the_log;
   none_due = step_not_due input node;
-  policies = policies_stay input node may is.one_work is.policies;
+  policies = policies_stay input node (valid_input input node may.condition is.policies.read) is.policies;
 }
 
 pub sends_at_most_1000 : (input : Input) (node : Node) → May input node → IsSoundNode node → RecoversInRange node
     → length (node_step input node).outputs.sends ≤ 1000
-sends_at_most_1000 input node may is range = sends_few input node may is.one_work is.policies is.short_queues range
+sends_at_most_1000 input node may is range =
+    sends_few input node (valid_input input node may.condition is.policies.read) is.policies may is.short_queues range

@@ -1,17 +1,22 @@
 -- Every change leaves a node's works, requests and sessions with policies that there may be, and sends 31 messages at most: so few does an
 -- attempt have by such a policy.
-use Rattle.std.proofs.Common.{◌≡◌, ◌≢◌, ℕ, ◌+◌, ◌*◌, ◌≤◌, [], ◌∷◌, ◌++◌, length, map, All, Option, Some, None, IfSome, unwrap_or, refl, sym, ap, subst, ◌∙◌, ⊎_elim, arith}
+use Rattle.std.proofs.Common.{◌≡◌, ◌≢◌, ℕ, ◌+◌, ◌*◌, ◌≤◌, List, [], ◌∷◌, ◌++◌, length, map, All, Option, Some, None, IfSome, unwrap_or, refl, sym, ap, subst, ◌∙◌, ⊎_elim, arith}
 use Rattle.std.specs.Ordering.{nat_cmp}
 use Rattle.std.specs.FinMap as tree
+use Rattle.std.specs.Option.{option_map_or}
 use Rattle.std.proofs.lemmas.Bool.{cases_eq}
 use Rattle.std.proofs.lemmas.List.{length-append, length-map}
 use Rattle.std.proofs.lemmas.List.Elements.{All-head, All-nil, All-push, All-tail}
 use Rattle.proof_tools.proofs.FiniteMaps.{get-insert_cases, get-remove_other, get-remove_same}
 use Rattle.object_id.specs.declared.cause.Cause.TheVariants.{Halt}
+use Rattle.object_id.specs.declared.cause.Cause.{Cause}
 use Rattle.object_id.specs.declared.entry.Entry.{Entry}
+use Rattle.object_id.specs.declared.entry.Entry.TheVariants.{Recovered}
+use Rattle.epoch_log.specs.Appending.{IsReservable}
 use Rattle.inode.specs.Layout.{Content}
 use Rattle.peer_proto.specs.declared.work.ObjWork.{ObjWork}
 use Rattle.peer_proto.specs.declared.guest.GuestRsp.{GuestRsp}
+use Rattle.peer_proto.specs.declared.guest.GuestRsp.TheVariants.{Refused}
 use Rattle.peer_service.specs.State.{Peer, effects_of}
 use Rattle.peer_service.specs.LogReading.{decision_on}
 use Rattle.gateway.specs.declared.message.Status.{Status}
@@ -24,23 +29,23 @@ use Rattle.guest_driver.specs.declared.disk.Disk.{Disk}
 use Rattle.guest_driver.specs.InodeQueue as lines
 use Rattle.guest_driver.specs.Driver.{DriverStep, begin_driver}
 use Rattle.vdi_ops.specs.Op.{Stays, Opens, Closes, OpStage, Asked, Working, Publishing, Answered, disk_change_at, OpStep}
+use Rattle.vdi_ops.specs.Entries.{unlock_of}
+use Rattle.vdi_ops.specs.Steps.{refused_at, on_refusal}
 use Rattle.disk_check.specs.Check.{begin_check}
-use Rattle.sheep_node.specs.declared.ask.Ask.TheVariants as asks
 use Rattle.sheep_node.specs.declared.input.Input.{Input}
 use Rattle.sheep_node.specs.declared.input.Input.TheVariants as inputs
 use Rattle.sheep_node.specs.State.{Course, Waiting, Driving, Commanding, Checking, DoingWork, AwaitingDecision, Request, Session, Node, new_session}
-use Rattle.sheep_node.specs.StepState.{StepState, with_session, session_in, with_course, with_sole_request, request_ended}
+use Rattle.sheep_node.specs.StepState.{StepState, with_session, session_in, with_course, with_sole_request, with_optional_entry, request_ended}
 use Rattle.sheep_node.specs.Courses.{after_driver_step, disk_after, inode_open, after_command_step}
+use Rattle.sheep_node.specs.RequestWorks.{command_refused, course_refused}
 use Rattle.sheep_node.specs.Guests.{queued_as}
 use Rattle.sheep_node.specs.LogReading.{entry_read}
-use Rattle.sheep_node.specs.Policies.{WorkHasPolicy, InodeHasPolicy, StageHasPolicy, CourseHasPolicy, SessionHasPolicies, EachIs, HavePolicies}
+use Rattle.sheep_node.specs.Policies.{IsValidInput, WorkHasPolicy, IsValidInode, StageHasPolicy, CourseHasPolicy, SessionHasPolicies, EachIs, HavePolicies}
 use Rattle.sheep_node.specs.Changes as changes
-use Rattle.sheep_node.specs.Changes.{IsSoundStep, without_ended_work, without_denied_work, zones_of_members, attempt_in, Outcome, ToWork, ToEntry, ToReply, RequestSteps, DiskBegins, DiskGoesOn, CommandBegins, CommandGoesOn, CommandDecided, CheckBegins, CheckGoesOn, ObjectBegins, ObjectIsDone, EntryBegins, EntryDecided, WorkIsNext, AtOnce, InTurn, Again, AgainAlone, Change, Leads, Still, Then, outcome_of_driver, outcome_of_command}
-use Rattle.sheep_node.proofs.OneWorkChanges.{StepHasOneWork, never_alone, change_keeps_one_work}
+use Rattle.sheep_node.specs.Changes.{without_ended_work, without_denied_work, zones_of_members, attempt_in, Outcome, ToWork, ToEntry, ToReply, RequestSteps, DiskBegins, DiskGoesOn, CommandBegins, CommandGoesOn, CommandDecided, CheckBegins, CheckGoesOn, ObjectBegins, ObjectIsDone, EntryBegins, EntryDecided, WorkIsNext, AtOnce, InTurn, Again, AgainAlone, Change, Leads, Still, Then, outcome_of_driver, outcome_of_command}
 use Rattle.sheep_node.proofs.MessageCounts.{attempt_few}
 use Rattle.sheep_node.proofs.PolicySteps.{OutcomeHasPolicy, DriverStepHasPolicy, CommandStepHasPolicy, HeadersHavePolicies, driver_begins-policy, driver_goes_on-policy, check_begins-policy, check_goes_on-policy, command_begins-policy, command_goes_on-policy, command_decided-policy}
 use Rattle.sheep_node.proofs.ReachedSteps.{changes_in}
-use Rattle.sheep_node.proofs.RefusedCourses.{course_refused-keeps, request_refused-keeps}
 
 -- ---- maps of which each value is so
 
@@ -64,14 +69,19 @@ none_is {V} P key value got = let none = tree.get-empty {X = V} nat_cmp key in a
 
 -- ---- a step in the making
 
--- no more than so many messages were sent
+-- no more than so many messages were sent, and what is to be put may stand in the log
+pub record IsWithin (most count : ℕ) (outbox : List Entry) : Type 0 where
+  pub few : count ≤ most
+  pub to_put : All IsReservable outbox
+
 abbrev pub InPolicy : ℕ → StepState → Type 0
 InPolicy most so_far =
-    HavePolicies so_far.node.gateway.works so_far.node.requests so_far.node.sessions × (length so_far.outputs.sends ≤ most)
+    HavePolicies so_far.node.gateway.works so_far.node.requests so_far.node.sessions
+    × IsWithin most (length so_far.outputs.sends) so_far.node.outbox
 
 -- what a command leaves open
-left_has : (stage : OpStage) (disk : Option Disk) → StageHasPolicy stage → IfSome disk (λ (disk : Disk). InodeHasPolicy disk.inode)
-    → IfSome (disk_after (disk_change_at stage) disk) (λ (disk : Disk). InodeHasPolicy disk.inode)
+left_has : (stage : OpStage) (disk : Option Disk) → StageHasPolicy stage → IfSome disk (λ (disk : Disk). IsValidInode disk.inode)
+    → IfSome (disk_after (disk_change_at stage) disk) (λ (disk : Disk). IsValidInode disk.inode)
 left_has (Asked entry) disk so was = was
 left_has (Working vid task) disk so was = was
 left_has (Publishing entry opened) disk so was = was
@@ -81,9 +91,10 @@ left_has (Answered Closes) disk so was = tt
 
 module _ {most : ℕ} where
   -- 31 more aren't either
-  more : {works : tree.FinMap nat_cmp Work} {requests : tree.FinMap nat_cmp Request} {sessions : tree.FinMap nat_cmp Session}
-      {count : ℕ} → HavePolicies works requests sessions × (count ≤ most) → HavePolicies works requests sessions × (count ≤ 31 + most)
-  more all = let few = all.1 in (all.0, omega (arith, few))
+  more : {works : tree.FinMap nat_cmp Work} {requests : tree.FinMap nat_cmp Request} {sessions : tree.FinMap nat_cmp Session} {count : ℕ}
+      {outbox : List Entry} → HavePolicies works requests sessions × IsWithin most count outbox
+      → HavePolicies works requests sessions × IsWithin (31 + most) count outbox
+  more all = let few = all.1.few in (all.0, record { few = omega (arith, few); to_put = all.1.to_put })
 
   session_has : (session : ℕ) (so_far : StepState) → InPolicy most so_far → SessionHasPolicies (session_in session so_far)
   session_has session so_far all = by_got (tree.get so_far.node.sessions session) refl
@@ -94,14 +105,14 @@ module _ {most : ℕ} where
 
   -- what it has open
   open_has : (session : ℕ) (so_far : StepState) (disk : Disk) → (session_in session so_far).disk ≡ Some disk → InPolicy most so_far
-      → InodeHasPolicy disk.inode
+      → IsValidInode disk.inode
   open_has session so_far disk on all =
-      subst (λ (o : Option Disk). IfSome o (λ (disk : Disk). InodeHasPolicy disk.inode)) on (session_has session so_far all).disk
+      subst (λ (o : Option Disk). IfSome o (λ (disk : Disk). IsValidInode disk.inode)) on (session_has session so_far all).disk
 
-  inode_has : (session : ℕ) (so_far : StepState) → InPolicy most so_far → IfSome (inode_open (session_in session so_far).disk) InodeHasPolicy
+  inode_has : (session : ℕ) (so_far : StepState) → InPolicy most so_far → IfSome (inode_open (session_in session so_far).disk) IsValidInode
   inode_has session so_far all = by_disk (session_in session so_far).disk (session_has session so_far all).disk
     where
-      by_disk : (disk : Option Disk) → IfSome disk (λ (disk : Disk). InodeHasPolicy disk.inode) → IfSome (inode_open disk) InodeHasPolicy
+      by_disk : (disk : Option Disk) → IfSome disk (λ (disk : Disk). IsValidInode disk.inode) → IfSome (inode_open disk) IsValidInode
       by_disk None is = tt
       by_disk (Some disk) is = is
 
@@ -123,7 +134,7 @@ module _ {most : ℕ} where
       let before = session_has session so_far all in
       session_put session one so_far
       (record {
-        disk = subst (λ (o : Option Disk). IfSome o (λ (disk : Disk). InodeHasPolicy disk.inode)) (sym same_disk) before.disk;
+        disk = subst (λ (o : Option Disk). IfSome o (λ (disk : Disk). IsValidInode disk.inode)) (sym same_disk) before.disk;
         waiting = subst (All (λ (waiting : lines.Waiting). WorkHasPolicy waiting.work)) (sym same_line) before.waiting;
       }) all
 
@@ -179,6 +190,31 @@ module _ {most : ℕ} where
         all.1,
       )
 
+  -- a request ends with the refusal of its work; a command gives its id back
+  refused : (session req : ℕ) (cause : Cause) (course : Course) (so_far : StepState) → InPolicy most so_far
+      → InPolicy most (course_refused session req cause course so_far)
+  unfolding on_refusal
+  refused session req cause (Waiting ask) so_far all = all
+  refused session req cause (Driving driver) so_far all = ended_in_policy session req (Refused cause) so_far all
+  refused session req cause (Commanding op) so_far all = by_stage op.stage
+    where
+      by_stage : (stage : OpStage) → InPolicy most (command_refused session req (refused_at cause op stage) so_far)
+      by_stage (Asked entry) = all
+      by_stage (Working vid task) =
+          let unlock = unlock_of op.by op.session vid.0 in
+          ended_in_policy session req (Refused cause) (with_optional_entry (Some unlock) so_far)
+          (all.0, record { few = all.1.few; to_put = All-push IsReservable so_far.node.outbox unlock all.1.to_put tt })
+      by_stage (Publishing entry opened) = all
+      by_stage (Answered change) = all
+  refused session req cause (Checking check) so_far all = ended_in_policy session req (Refused cause) so_far all
+  refused session req cause (DoingWork work) so_far all = ended_in_policy session req (Refused cause) so_far all
+  refused session req cause (AwaitingDecision entry) so_far all = all
+
+  refused_if_there : (req : ℕ) (cause : Cause) (request : Option Request) (so_far : StepState) → InPolicy most so_far
+      → InPolicy most (option_map_or (λ (request : Request). course_refused request.session req cause request.course so_far) request so_far)
+  refused_if_there req cause None so_far all = all
+  refused_if_there req cause (Some request) so_far all = refused request.session req cause request.course so_far all
+
   -- a work is at the gateway
   work_put : (req : ℕ) (now : Work) (so_far : StepState) → WorkHasPolicy now.work → InPolicy most so_far
       → HavePolicies (tree.insert so_far.node.gateway.works req now) so_far.node.requests so_far.node.sessions
@@ -225,12 +261,12 @@ module _ {most : ℕ} where
       let same : length (map send messages) ≡ length messages = length-map messages send in
       let sum : length (lined.outputs.sends ++ map send messages) ≡ length lined.outputs.sends + length (map send messages)
       = length-append lined.outputs.sends (map send messages) in
-      let before = all.1 in
-      (work_put req (record asked { stage = Open (attempt_in asked lined.node) }) lined so all, omega (arith, few, same, sum, before))
+      let before = all.1.few in
+      (work_put req (record asked { stage = Open (attempt_in asked lined.node) }) lined so all, record { few = omega (arith, few, same, sum, before); to_put = all.1.to_put })
 
 module _ {input : Input} {node : Node} {most : ℕ}
     (known : (entry : Entry) → input ≡ inputs.LogEntry entry → HeadersHavePolicies (effects_of (entry_read entry node).peer))
-    (asked_so : (req session : ℕ) (work : ObjWork) → input ≡ inputs.Guest req session (asks.Object work) → WorkHasPolicy work) where
+    (valid : IsValidInput input) where
   steps_policies : (so_far : StepState) (session req : ℕ) (next : Outcome) (moved : StepState) → RequestSteps input node so_far session req next moved
       → InPolicy most so_far → InPolicy most moved × OutcomeHasPolicy next
   steps_policies so_far session req next moved (DiskBegins ask disk there on may) all =
@@ -242,7 +278,8 @@ module _ {input : Input} {node : Node} {most : ℕ}
       (freed session req work status so_far all)
   steps_policies so_far session req next moved (CommandBegins ask step arrival is) all =
       commanded session req step so_far
-      (command_begins-policy so_far.node.me session ask (inode_open (session_in session so_far).disk) step is) all
+      (command_begins-policy so_far.node.me session ask (inode_open (session_in session so_far).disk) step is
+      (subst IsValidInput arrival.from valid) (inode_has session so_far all)) all
   steps_policies so_far session req next moved (CommandGoesOn number work attempt status bytes op step ends is) all =
       commanded session req step (without_ended_work session req work status so_far)
       (command_goes_on-policy bytes op step is (course_of session req (Commanding op) so_far ends.ends.request all))
@@ -253,16 +290,17 @@ module _ {input : Input} {node : Node} {most : ℕ}
       (subst (λ (peer : Peer). HeadersHavePolicies (effects_of peer)) (sym read) (known entry from)) (inode_has session so_far all)
       (decision_on entry node.peer) is (course_of session req (Commanding op) so_far there all)) all
   steps_policies so_far session req next moved (CheckBegins inode arrival on) all =
-      let so = check_begins-policy inode (subst (λ (o : Option Content). IfSome o InodeHasPolicy) on (inode_has session so_far all)) in
+      let so = check_begins-policy inode (subst (λ (o : Option Content). IfSome o IsValidInode) on (inode_has session so_far all)) in
       (sole_put session req (Checking (begin_check inode).check) so_far so.0 all, so.1)
   steps_policies so_far session req next moved (CheckGoesOn number work attempt status bytes check step ends is) all =
       let so = check_goes_on-policy bytes check step is (course_of session req (Checking check) so_far ends.ends.request all) in
       (sole_put session req (Checking step.check) (without_ended_work session req work status so_far) so.0 (freed session req work status so_far all), so.1)
   steps_policies so_far session req next moved (ObjectBegins asked arrival) all =
-      (sole_put session req (DoingWork asked) so_far tt all, asked_so req session asked arrival.from)
+      (sole_put session req (DoingWork asked) so_far tt all, subst IsValidInput arrival.from valid)
   steps_policies so_far session req next moved (ObjectIsDone number work attempt status bytes asked ends) all =
       (freed session req work status so_far all, tt)
-  steps_policies so_far session req next moved (EntryBegins entry arrival) all = (sole_put session req (AwaitingDecision entry) so_far tt all, tt)
+  steps_policies so_far session req next moved (EntryBegins entry arrival) all =
+      (sole_put session req (AwaitingDecision entry) so_far tt all, subst IsValidInput arrival.from valid)
   steps_policies so_far session req next moved (EntryDecided entry wanted from read there waits) all = (all, tt)
 
   next_policies : (so_far : StepState) (session req : ℕ) (asked : Work) (lined : StepState) → WorkIsNext input node so_far session req asked lined
@@ -285,33 +323,45 @@ module _ {input : Input} {node : Node} {most : ℕ}
   next_policies so_far session req asked lined (Again work course from next there request) all = (all, all.0.open_works req asked there)
   next_policies so_far session req asked lined (AgainAlone work from next there none) all = (all, all.0.open_works req asked there)
 
-  change_policies : (so_far next : StepState) → Change input node so_far next → StepHasOneWork so_far → InPolicy most so_far → InPolicy (31 + most) next
-  change_policies so_far next (changes.Marks req number work attempt status learns over) good all =
+  change_policies : (so_far next : StepState) → Change input node so_far next → InPolicy most so_far → InPolicy (31 + most) next
+  change_policies so_far next (changes.Marks req number work attempt status learns over) all =
       more (
         work_put req (record work { stage = Open (attempt_with_status number status attempt) }) so_far
             (all.0.open_works req work learns.there) all,
         all.1,
       )
-  change_policies so_far next (changes.Fails session req number work attempt status course ends done why) good all =
+  change_policies so_far next (changes.Fails session req number work attempt status course ends done why) all =
       more (work_put req (record work { ended = work.ended + 1; stage = Ended }) so_far (all.0.open_works req work ends.learns.there) all, all.1)
-  change_policies so_far next (changes.Stops session req number work attempt status course bytes ends over) good all =
+  change_policies so_far next (changes.Stops session req number work attempt status course bytes ends over) all =
       more (freed session req work status so_far all)
-  change_policies so_far next (changes.Refuses session req number work attempt status course cause ends done why) good all =
-      more (course_refused-keeps (InPolicy most) ended_in_policy (λ entry before now. now) session req cause course
-      (without_ended_work session req work status so_far) (freed session req work status so_far all))
-  change_policies so_far next (changes.Opens session req asked lined comes short) good all =
+  change_policies so_far next (changes.Refuses session req number work attempt status course cause ends done why) all =
+      more (refused session req cause course (without_ended_work session req work status so_far)
+      (freed session req work status so_far all))
+  change_policies so_far next (changes.Opens session req asked lined comes short) all =
       let (there, so) = next_policies so_far session req asked lined comes all in
       opened_policies req asked lined there so
-  change_policies so_far next (changes.Holds session req asked lined comes short touched) good all =
+  change_policies so_far next (changes.Holds session req asked lined comes short touched) all =
       let (there, so) = next_policies so_far session req asked lined comes all in
       more (work_put req (record asked { stage = WaitsForMembers (record { 0 = lined.node.peer.epoch }) }) lined so there, there.1)
-  change_policies so_far next (changes.Denies session req asked lined request comes short untouched there own) good all =
+  change_policies so_far next (changes.Denies session req asked lined request comes short untouched there own) all =
       let now = (next_policies so_far session req asked lined comes all).0 in
-      more (request_refused-keeps (InPolicy most) ended_in_policy (λ entry before now. now) req
-      (Halt (zones_of_members lined.node) (zones_for asked.work)) request (without_denied_work session req asked lined)
+      more (refused_if_there req (Halt (zones_of_members lined.node) (zones_for asked.work)) request (without_denied_work session req asked lined)
       (off session req asked.work lined now, now.1))
-  change_policies so_far next (changes.Strays req work gateway there none apart) good all = absurd (never_alone req work so_far there none good)
-  change_policies so_far next (changes.Lines session req work moved steps waits) good all =
+  change_policies so_far next (changes.Strays req work gateway there none apart) all =
+      more (
+        record {
+          open_works = λ q now got. ⊎_elim
+              (λ (own : q ≡ req).
+              let (was, before, same) = apart.same now (ap (tree.get gateway.works) (sym own) ∙ got) in
+              subst WorkHasPolicy (sym same) (all.0.open_works req was before))
+              (λ (other : q ≢ req). all.0.open_works q now (sym (apart.others q other) ∙ got))
+              (cases_eq q req);
+          courses = all.0.courses;
+          each_session = all.0.each_session;
+        },
+        all.1,
+      )
+  change_policies so_far next (changes.Lines session req work moved steps waits) all =
       let (there, so) = steps_policies so_far session req (ToWork work) moved steps all in
       let before = session_has session moved there in
       more (session_put session (record (session_in session moved) { inode_queue = lines.queue_with_waiting (session_in session moved).inode_queue req work }) moved
@@ -320,26 +370,31 @@ module _ {input : Input} {node : Node} {most : ℕ}
         waiting = All-push (λ (waiting : lines.Waiting). WorkHasPolicy waiting.work) (session_in session moved).inode_queue.waiting
             (record { req = req; work = work }) before.waiting so;
       }) there)
-  change_policies so_far next (changes.Appends session req entry moved steps) good all =
-      more ((steps_policies so_far session req (ToEntry entry) moved steps all).0.0, (steps_policies so_far session req (ToEntry entry) moved steps all).0.1)
-  change_policies so_far next (changes.Replies session req reply moved steps) good all =
+  change_policies so_far next (changes.Appends session req entry moved steps) all =
+      let (there, so) = steps_policies so_far session req (ToEntry entry) moved steps all in
+      more (there.0, record { few = there.1.few; to_put = All-push IsReservable moved.node.outbox entry there.1.to_put so })
+  change_policies so_far next (changes.Replies session req reply moved steps) all =
       more (ended_in_policy session req reply moved (steps_policies so_far session req (ToReply reply) moved steps all).0)
-  change_policies so_far next (changes.Arrives session req ask disk arrival on) good all =
+  change_policies so_far next (changes.Arrives session req ask disk arrival on) all =
       more (session_stays session (record (session_in session so_far) {
         queue = (session_in session so_far).queue ++ queued_as disk.inode.spec.shift req ask ∷ [];
       }) (with_course session req (Waiting ask) so_far) refl refl (course_put session req (Waiting ask) so_far tt all))
-  change_policies so_far next (changes.Rejects session req ask cause arrival) good all = more (all.0, all.1)
-  change_policies so_far next (changes.Recovers due) good all = more (all.0, all.1)
+  change_policies so_far next (changes.Rejects session req ask cause arrival) all = more (all.0, all.1)
+  change_policies so_far next (changes.Recovers due) all =
+      more (
+        all.0,
+        record {
+          few = all.1.few;
+          to_put = All-push IsReservable so_far.node.outbox (Recovered so_far.node.me (record { 0 = so_far.node.recovery.epoch })) all.1.to_put tt;
+        },
+      )
 
 -- along a chain each change may send 31 messages
 pub chain_policies : {input : Input} {node : Node} {first so_far : StepState} (most : ℕ)
     → ((entry : Entry) → input ≡ inputs.LogEntry entry → HeadersHavePolicies (effects_of (entry_read entry node).peer))
-    → ((req session : ℕ) (work : ObjWork) → input ≡ inputs.Guest req session (asks.Object work) → WorkHasPolicy work)
-    → IsSoundStep input node → (leads : Leads input node first so_far) → StepHasOneWork first → InPolicy most first
-    → StepHasOneWork so_far × InPolicy (31 * changes_in leads + most) so_far
-chain_policies most known asked_so sound Still good all = let few = all.1 in (good, (all.0, omega (arith, few)))
-chain_policies most known asked_so sound (Then {so_far} {next} leads change) good all =
-    let before = chain_policies most known asked_so sound leads good all in
-    let now = change_policies known asked_so so_far next change before.0 before.1 in
-    let few = now.1 in
-    (change_keeps_one_work so_far next change sound before.0, (now.0, omega (arith, few)))
+    → IsValidInput input → (leads : Leads input node first so_far) → InPolicy most first → InPolicy (31 * changes_in leads + most) so_far
+chain_policies most known valid Still all = let few = all.1.few in (all.0, record { few = omega (arith, few); to_put = all.1.to_put })
+chain_policies most known valid (Then {so_far} {next} leads change) all =
+    let now = change_policies known valid so_far next change (chain_policies most known valid leads all) in
+    let few = now.1.few in
+    (now.0, record { few = omega (arith, few); to_put = now.1.to_put })

@@ -3,7 +3,7 @@
 use Rattle.std.proofs.Common.{◌≡◌, ℕ, ◌+◌, ◌*◌, ◌≤◌, List, [], ◌∷◌, ◌++◌, length, All, sym, ap, subst, ◌∙◌, append_assoc, append-nil}
 use native.Mathlib.Omega.{arith}
 use Rattle.std.specs.FinMap as tree
-use Rattle.std.proofs.lemmas.List.Elements.{All-nil, All-push}
+use Rattle.std.proofs.lemmas.List.Elements.{All-nil, All-push, All-tail}
 use Rattle.proof_tools.proofs.Booleans.{cond_either}
 use Rattle.object_id.specs.Policy.{IsPolicy}
 use Rattle.object_id.specs.declared.node.NodeId.{NodeId}
@@ -12,11 +12,11 @@ use Rattle.object_id.specs.declared.entry.Entry.TheVariants.{Format, Join, Leave
 use Rattle.epoch_log.specs.Appending.{IsReservable}
 use Rattle.vdi_directory.proofs.ValidLemmas.{header-valid}
 use Rattle.peer_proto.specs.Work.{oid_of}
-use Rattle.peer_proto.specs.declared.work.ObjWork.{ObjWork}
 use Rattle.peer_service.specs.State.{effects_of}
 use Rattle.gateway.specs.State as gateways
 use Rattle.gateway.specs.State.{Work}
 use Rattle.recovery.specs.Steps as recovery_steps
+use Rattle.sheep_node.specs.declared.ask.Ask.{Ask}
 use Rattle.sheep_node.specs.declared.ask.Ask.TheVariants as asks
 use Rattle.sheep_node.specs.declared.input.Input.{Input}
 use Rattle.sheep_node.specs.declared.input.Input.TheVariants as inputs
@@ -27,14 +27,12 @@ use Rattle.sheep_node.specs.StepState.{StepState, at_first}
 use Rattle.sheep_node.specs.LogReading.{entry_read, on_back}
 use Rattle.sheep_node.specs.Step.{on_request, recovery_stepped, on_put, on_recover_tick, node_step}
 use Rattle.sheep_node.specs.StepFacts.{read_after}
-use Rattle.sheep_node.specs.May.{MayRead, MayReadAll, Meets, May}
-use Rattle.sheep_node.specs.OneWork.{HasOneWorkPerRequest}
+use Rattle.sheep_node.specs.May.{IsGuestAsk, MayRead, MayReadAll, Meets, May}
+use Rattle.sheep_node.specs.OutsideAsks.{IsEntryAsk}
 use Rattle.sheep_node.specs.SessionQueues.{QueuesAreShort}
-use Rattle.sheep_node.specs.Policies.{WorkHasPolicy, CourseHasPolicy, SessionHasPolicies, HavePolicies, HasSoundPolicies}
+use Rattle.sheep_node.specs.Policies.{IsValidAsk, IsValidInput, WorkHasPolicy, CourseHasPolicy, SessionHasPolicies, HavePolicies, HasSoundPolicies}
 use Rattle.sheep_node.specs.Changes.{input_received}
 use Rattle.sheep_node.proofs.MessageCounts.{tick_few}
-use Rattle.sheep_node.proofs.NumberChanges.{meets_numbers}
-use Rattle.sheep_node.proofs.OneWorkChanges.{received_one_work}
 use Rattle.sheep_node.proofs.OutsideAskLaws.{known_spec}
 use Rattle.sheep_node.proofs.PeerLog.{entries_reading}
 use Rattle.sheep_node.proofs.PolicyChanges.{none_is, InPolicy, chain_policies}
@@ -46,7 +44,7 @@ use Rattle.sheep_node.proofs.StepResults.{step_reads}
 
 -- ---- what may be read reserves for such disks
 
-read_reservable : (before : List Entry) (entry : Entry) → MayRead before entry → IsReservable entry
+pub read_reservable : (before : List Entry) (entry : Entry) → MayRead before entry → IsReservable entry
 read_reservable (first ∷ later) entry may = may.reservable
 read_reservable [] (Format members) may = tt
 read_reservable [] (Join node zone vnodes) may = absurd may
@@ -67,24 +65,56 @@ all_reservable before (entry ∷ later) are may =
     subst (All IsReservable) (append_assoc before (entry ∷ []) later)
     (all_reservable (before ++ entry ∷ []) later (All-push IsReservable before entry are (read_reservable before entry may.0)) may.1)
 
-reservable_after : (input : Input) (node : Node) → Meets input node → All IsReservable node.peer.entries
-    → All IsReservable (read_after input node.peer.entries)
-reservable_after (inputs.Guest req session ask) node meets are = are
-reservable_after (inputs.Request request) node meets are = are
-reservable_after (inputs.Reply rsp) node meets are = are
-reservable_after (inputs.Lost number) node meets are = are
-reservable_after (inputs.LogEntry entry) node meets are =
-    All-push IsReservable node.peer.entries entry are (read_reservable node.peer.entries entry meets)
-reservable_after inputs.Put node meets are = are
-reservable_after inputs.RecoverTick node meets are = are
-reservable_after inputs.RetryTick node meets are = are
-reservable_after (inputs.Back entries) node meets are =
+reservable_after : (input : Input) (read : List Entry) → IsValidInput input → All IsReservable read → All IsReservable (read_after input read)
+reservable_after (inputs.Guest req session ask) read valid are = are
+reservable_after (inputs.Request request) read valid are = are
+reservable_after (inputs.Reply rsp) read valid are = are
+reservable_after (inputs.Lost number) read valid are = are
+reservable_after (inputs.LogEntry entry) read valid are = All-push IsReservable read entry are valid
+reservable_after inputs.Put read valid are = are
+reservable_after inputs.RecoverTick read valid are = are
+reservable_after inputs.RetryTick read valid are = are
+reservable_after (inputs.Back entries) read valid are = valid
+
+-- a lock, or its end, is what a client asks for
+asked_reservable : (me : NodeId) (entry : Entry) → IsEntryAsk me entry → IsReservable entry
+asked_reservable me (Lock by session name tag) may = tt
+asked_reservable me (Unlock by session vid) may = tt
+asked_reservable me (Format members) may = absurd may
+asked_reservable me (Join node zone vnodes) may = absurd may
+asked_reservable me (Leave node) may = absurd may
+asked_reservable me (Reweight node vnodes) may = absurd may
+asked_reservable me (Recovered node epoch) may = absurd may
+asked_reservable me (Reserve by session name origin) may = absurd may
+asked_reservable me (Publish by vid) may = absurd may
+asked_reservable me (Clone by vid) may = absurd may
+asked_reservable me (Snapshot by old vid) may = absurd may
+asked_reservable me (Delete by session name tag) may = absurd may
+
+valid_ask : (node : Node) (ask : Ask) → IsGuestAsk node ask → All IsReservable node.peer.entries → IsValidAsk ask
+valid_ask node (asks.Disk ask) may are = tt
+valid_ask node (asks.Vdi ask) may are = may
+valid_ask node (asks.Object work) may are =
+    subst IsPolicy (sym may.policy) (known_spec node.peer (oid_of work) may.spec are may.known).policy
+valid_ask node (asks.Entry entry) may are = asked_reservable node.me entry may
+
+-- what a node may step on is valid
+pub valid_input : (input : Input) (node : Node) → Meets input node → All IsReservable node.peer.entries → IsValidInput input
+valid_input (inputs.Guest req session ask) node meets are = valid_ask node ask meets.asked are
+valid_input (inputs.Request request) node meets are = tt
+valid_input (inputs.Reply rsp) node meets are = tt
+valid_input (inputs.Lost number) node meets are = tt
+valid_input (inputs.LogEntry entry) node meets are = read_reservable node.peer.entries entry meets
+valid_input inputs.Put node meets are = tt
+valid_input inputs.RecoverTick node meets are = tt
+valid_input inputs.RetryTick node meets are = tt
+valid_input (inputs.Back entries) node meets are =
     subst (All IsReservable) (sym meets.goes_on) (all_reservable node.peer.entries meets.later are meets.read)
 
 -- ---- the beginning of a step
 
 abbrev NodeHasPolicies : Node → Type 0
-NodeHasPolicies node = HavePolicies node.gateway.works node.requests node.sessions
+NodeHasPolicies node = HavePolicies node.gateway.works node.requests node.sessions × All IsReservable node.outbox
 
 none_have : HavePolicies tree.empty tree.empty tree.empty
 none_have = record {
@@ -104,14 +134,14 @@ received_policies (inputs.Lost number) node all =
     cond_either (λ (start : StepState). NodeHasPolicies start.node) (gateways.gateway_awaits number node.gateway) (at_first node)
     (recovery_stepped (recovery_steps.recovery_on_loss number (recovery_state_of node)) (at_first node)) all all
 received_policies (inputs.LogEntry entry) node all = all
-received_policies inputs.Put node all = by_outbox node.outbox
+received_policies inputs.Put node all = by_outbox node.outbox all.1
   where
-    by_outbox : (outbox : List Entry) → NodeHasPolicies (on_put outbox (at_first node)).node
-    by_outbox [] = all
-    by_outbox (entry ∷ later) = all
+    by_outbox : (outbox : List Entry) → All IsReservable outbox → NodeHasPolicies (on_put outbox (at_first node)).node
+    by_outbox [] are = all
+    by_outbox (entry ∷ later) are = (all.0, All-tail IsReservable entry later are)
 received_policies inputs.RecoverTick node all = all
 received_policies inputs.RetryTick node all = all
-received_policies (inputs.Back entries) node all = none_have
+received_policies (inputs.Back entries) node all = (none_have, All-nil IsReservable)
 
 -- only a tick sends by itself
 received_sends : (input : Input) (node : Node) → RecoversInRange node → length (input_received input (at_first node)).outputs.sends ≤ 64
@@ -136,38 +166,33 @@ received_sends (inputs.Back entries) node range = omega arith
 
 -- ---- a step
 
-module _ (input : Input) (node : Node) (may : May input node) (driven : HasOneWorkPerRequest node) (sound : HasSoundPolicies node) where
+module _ (input : Input) (node : Node) (valid : IsValidInput input) (sound : HasSoundPolicies node) where
   reservable : All IsReservable (read_after input node.peer.entries)
-  reservable = reservable_after input node may.condition sound.read
+  reservable = reservable_after input node.peer.entries valid sound.read
 
   known : (entry : Entry) → input ≡ inputs.LogEntry entry → HeadersHavePolicies (effects_of (entry_read entry node).peer)
   known entry from vid header there =
       let entries : read_after input node.peer.entries ≡ (entry_read entry node).peer.entries
       = ap (λ (input : Input). read_after input node.peer.entries) from ∙ sym (entries_reading entry node) in
-      (header-valid (entry_read entry node).peer.entries (subst (All IsReservable) entries reservable) vid header there).spec.policy
-
-  asked_so : (req session : ℕ) (work : ObjWork) → input ≡ inputs.Guest req session (asks.Object work) → WorkHasPolicy work
-  asked_so req session work from =
-      let asked = (subst (λ (input : Input). May input node) from may).condition.asked in
-      subst IsPolicy (sym asked.policy) (known_spec node.peer (oid_of work) asked.spec sound.read asked.known).policy
+      let is = header-valid (entry_read entry node).peer.entries (subst (All IsReservable) entries reservable) vid header there in
+      (is.spec.policy, is.name)
 
   step_in_policy : (most : ℕ) → length (input_received input (at_first node)).outputs.sends ≤ most
       → InPolicy (31 * changes_in (step_chain input node) + most) (node_step input node)
   step_in_policy most few =
-      (chain_policies most known asked_so (meets_numbers input node may.condition, driven) (step_chain input node)
-      (received_one_work input node driven.driven) (received_policies input node sound.kept, few)).1
+      let received = received_policies input node (sound.kept, sound.to_put) in
+      chain_policies most known valid (step_chain input node) (received.0, record { few = few; to_put = received.1 })
 
   pub policies_stay : HasSoundPolicies (node_step input node).node
-  policies_stay = record {
-    read = subst (All IsReservable) (sym (step_reads input node)) reservable;
-    kept = (step_in_policy (length (input_received input (at_first node)).outputs.sends) (omega arith)).0;
-  }
+  policies_stay =
+      let now = step_in_policy (length (input_received input (at_first node)).outputs.sends) (omega arith) in
+      record { read = subst (All IsReservable) (sym (step_reads input node)) reservable; to_put = now.1.to_put; kept = now.0 }
 
-  pub sends_few : QueuesAreShort node → RecoversInRange node → length (node_step input node).outputs.sends ≤ 1000
-  sends_few short range =
-      let few = (step_in_policy 64 (received_sends input node range)).1 in
+  pub sends_few : May input node → QueuesAreShort node → RecoversInRange node → length (node_step input node).outputs.sends ≤ 1000
+  sends_few may short range =
+      let few = (step_in_policy 64 (received_sends input node range)).1.few in
       let changes : changes_in (step_chain input node) ≤ 19 = changes_in-step_chain input node (queues_stay_short_along input node may short) in
       omega (arith, few, changes)
 
 pub policies_at_opening : (me : NodeId) (tries : ℕ) → HasSoundPolicies (initial_node me tries)
-policies_at_opening me tries = record { read = All-nil IsReservable; kept = none_have }
+policies_at_opening me tries = record { read = All-nil IsReservable; to_put = All-nil IsReservable; kept = none_have }

@@ -10,10 +10,12 @@ use Rattle.object_id.specs.declared.entry.Entry.{Entry}
 use Rattle.object_id.specs.declared.entry.Entry.TheVariants.{Format, Join, Leave, Reweight, Recovered, Reserve, Publish, Clone, Snapshot, Delete, Lock, Unlock}
 use Rattle.object_id.specs.declared.entry.Origin.{Origin}
 use Rattle.object_id.specs.declared.entry.Origin.TheVariants.{Fresh, SnapshotOf, CloneOf}
+use Rattle.epoch_log.specs.Appending.{IsReservable}
 use Rattle.inode.specs.Layout.{Content}
 use Rattle.peer_proto.specs.declared.guest.DiskAsk.{DiskAsk}
 use Rattle.peer_proto.specs.declared.guest.DiskAsk.TheVariants as asks
 use Rattle.peer_proto.specs.declared.guest.VdiAsk.{VdiAsk}
+use Rattle.peer_proto.specs.declared.guest.VdiAsk.TheVariants as commands
 use Rattle.vdi_directory.specs.declared.header.Header.{Header}
 use Rattle.vdi_directory.specs.declared.effect.Effect.{Effect}
 use Rattle.vdi_directory.specs.declared.decision.Decision.{Decision}
@@ -26,31 +28,31 @@ use Rattle.guest_driver.specs.PieceWorks.{Backing, Hole, Own, Inherited, entry_o
 use Rattle.guest_driver.specs.Refusals.{refusal_on}
 use Rattle.guest_driver.specs.Driver as drivers
 use Rattle.guest_driver.specs.Driver.{DriverStage, InPlace, Fetching, Creating, Entering, Driver, Reads, Writes, DriverStep, work_step, read_on, write_piece_on, write_on, begin_unless_refused, begin_driver, write_done, driver_on_done}
-use Rattle.vdi_ops.specs.Entries.{first_entry}
+use Rattle.vdi_ops.specs.Entries.{IsVdiAsk, first_entry}
 use Rattle.vdi_ops.specs.Op.{Task, Opening, WritingBack, Tagging, Copying, Making, OpStage, Asked, Working, Publishing, Answered, Op, OpStep}
 use Rattle.vdi_ops.specs.Steps.{first_step, begin_command, tag_step, copy_step, change_without_grant, step_after_grant, step_after_decision, decided_at, on_decision, task_done, done_at, op_on_done}
 use Rattle.disk_check.specs.Table.{own_indexes}
 use Rattle.disk_check.specs.Check as checks
 use Rattle.disk_check.specs.Check.{Check, CheckStage, CheckStep, Comparing, WritingBack as Writing, check_on, begun_check, begin_check, check_done_at, check_on_done}
 use Rattle.sheep_node.specs.Changes.{Outcome, ToWork, ToEntry, ToReply, outcome_of_driver, outcome_of_command, outcome_of_check}
-use Rattle.sheep_node.specs.Policies.{WorkHasPolicy, InodeHasPolicy, TaskHasPolicy, ChangeHasPolicy, StageHasPolicy}
+use Rattle.sheep_node.specs.Policies.{WorkHasPolicy, IsValidInode, IsValidHeader, TaskHasPolicy, ChangeHasPolicy, StageHasPolicy}
 
--- a work that is come to is by such a policy
+-- a work that is come to is by such a policy, and an entry may stand in the log
 abbrev pub OutcomeHasPolicy : Outcome → Type 0
 OutcomeHasPolicy (ToWork work) = WorkHasPolicy work
-OutcomeHasPolicy (ToEntry entry) = Unit {0}
+OutcomeHasPolicy (ToEntry entry) = IsReservable entry
 OutcomeHasPolicy (ToReply reply) = Unit {0}
 
 -- what is given is so
-given : {X : Type 0} (P : X → Type 0) {x y : X} → Some x ≡ Some y → P x → P y
+pub given : {X : Type 0} (P : X → Type 0) {x y : X} → Some x ≡ Some y → P x → P y
 given P {x} {y} same is = subst P (same_Some x y same) is
 
 -- ---- a read or write
 
 abbrev pub DriverStepHasPolicy : DriverStep → Type 0
-DriverStepHasPolicy step = InodeHasPolicy step.inode × OutcomeHasPolicy (outcome_of_driver step.act)
+DriverStepHasPolicy step = IsValidInode step.inode × OutcomeHasPolicy (outcome_of_driver step.act)
 
-module _ (inode : Content) (is : InodeHasPolicy inode) where
+module _ (inode : Content) (is : IsValidInode inode) where
   read_has : (told : List ℕ) (rest : List Piece) → DriverStepHasPolicy (read_on inode told rest)
   unfolding read_on
   read_has told [] = (is, tt)
@@ -60,13 +62,13 @@ module _ (inode : Content) (is : InodeHasPolicy inode) where
           → DriverStepHasPolicy (cond b (read_on inode (told ++ zeros piece.size) rest)
           (work_step inode (Reads told piece rest) (read_piece inode piece (entry_of inode piece))))
       by_hole true later = later
-      by_hole false later = (is, is)
+      by_hole false later = (is, is.0)
 
   piece_has : (payload : List ℕ) (piece : Piece) (rest : List Piece) (backing : Backing)
       → DriverStepHasPolicy (write_piece_on inode payload piece rest backing)
-  piece_has payload piece rest Hole = (is, is)
-  piece_has payload piece rest Own = (is, is)
-  piece_has payload piece rest (Inherited vid) = (is, is)
+  piece_has payload piece rest Hole = (is, is.0)
+  piece_has payload piece rest Own = (is, is.0)
+  piece_has payload piece rest (Inherited vid) = (is, is.0)
 
   write_has : (payload : List ℕ) (rest : List Piece) → DriverStepHasPolicy (write_on inode payload rest)
   write_has payload [] = (is, tt)
@@ -77,19 +79,19 @@ module _ (inode : Content) (is : InodeHasPolicy inode) where
   begun_has (asks.Read offset size) None = read_has [] (pieces inode.spec.shift offset size)
   begun_has (asks.Write offset payload) None = write_has payload (pieces inode.spec.shift offset (length payload))
 
-pub driver_begins-policy : (disk : Disk) (ask : DiskAsk) → InodeHasPolicy disk.inode → DriverStepHasPolicy (begin_driver disk ask)
+pub driver_begins-policy : (disk : Disk) (ask : DiskAsk) → IsValidInode disk.inode → DriverStepHasPolicy (begin_driver disk ask)
 unfolding begin_driver
 driver_begins-policy disk ask is = begun_has disk.inode is ask (refusal_on disk false ask)
 
-write_done-policy : (inode : Content) (bytes payload : List ℕ) (piece : Piece) (rest : List Piece) (stage : DriverStage) → InodeHasPolicy inode
+write_done-policy : (inode : Content) (bytes payload : List ℕ) (piece : Piece) (rest : List Piece) (stage : DriverStage) → IsValidInode inode
     → DriverStepHasPolicy (write_done inode bytes payload piece rest stage)
 write_done-policy inode bytes payload piece rest InPlace is = write_has inode is payload rest
-write_done-policy inode bytes payload piece rest Fetching is = (is, is)
-write_done-policy inode bytes payload piece rest Creating is = (is, is)
+write_done-policy inode bytes payload piece rest Fetching is = (is, is.0)
+write_done-policy inode bytes payload piece rest Creating is = (is, is.0)
 write_done-policy inode bytes payload piece rest Entering is = write_has (table_with_entry inode piece) is payload rest
 
 pub driver_goes_on-policy : (inode : Content) (bytes : List ℕ) (driver : Driver) (step : DriverStep) → driver_on_done inode bytes driver ≡ Some step
-    → InodeHasPolicy inode → DriverStepHasPolicy step
+    → IsValidInode inode → DriverStepHasPolicy step
 unfolding driver_on_done
 driver_goes_on-policy inode bytes (Reads told piece rest) step next is =
     given DriverStepHasPolicy next (read_has inode is (told ++ bytes) rest)
@@ -107,9 +109,9 @@ check_on-policy : (check : Check) (left : List ℕ) → IsPolicy check.spec.poli
 check_on-policy check [] is = (is, tt)
 check_on-policy check (index ∷ later) is = (is, is)
 
-pub check_begins-policy : (inode : Content) → InodeHasPolicy inode → CheckStepHasPolicy (begin_check inode)
+pub check_begins-policy : (inode : Content) → IsValidInode inode → CheckStepHasPolicy (begin_check inode)
 unfolding begin_check
-check_begins-policy inode is = check_on-policy (begun_check inode) (own_indexes inode) is
+check_begins-policy inode is = check_on-policy (begun_check inode) (own_indexes inode) is.0
 
 pub check_goes_on-policy : (bytes : List ℕ) (check : Check) (step : CheckStep) → check_on_done bytes check ≡ Some step → IsPolicy check.spec.policy
     → CheckStepHasPolicy step
@@ -126,22 +128,36 @@ check_goes_on-policy bytes check step next is = by_stage check.stage next
 abbrev pub CommandStepHasPolicy : OpStep → Type 0
 CommandStepHasPolicy step = StageHasPolicy step.op.stage × OutcomeHasPolicy (outcome_of_command step.act)
 
+-- its first entry may stand in the log, if it is asked as it may be, and what is open is valid
+first_reservable : (by : NodeId) (session : ℕ) (disk : Option Content) (ask : VdiAsk) (entry : Entry) → first_entry by session disk ask ≡ Some entry
+    → IsVdiAsk ask → IfSome disk IsValidInode → IsReservable entry
+first_reservable by session disk (commands.Create name spec) entry first may opened = given IsReservable first may
+first_reservable by session disk (commands.Attach name tag) entry first may opened = given IsReservable first tt
+first_reservable by session None commands.Close entry first may opened = absurd (cc (first))
+first_reservable by session (Some inode) commands.Close entry first may opened = given IsReservable first tt
+first_reservable by session None (commands.Snapshot tag) entry first may opened = absurd (cc (first))
+first_reservable by session (Some inode) (commands.Snapshot tag) entry first may opened = given IsReservable first (opened.1, may)
+first_reservable by session disk (commands.Clone base tag name) entry first may opened = given IsReservable first (may.2, (may.0, may.1))
+first_reservable by session disk (commands.Delete name tag) entry first may opened = given IsReservable first tt
+first_reservable by session disk commands.Check entry first may opened = absurd (cc (first))
+
 pub command_begins-policy : (by : NodeId) (session : ℕ) (ask : VdiAsk) (disk : Option Content) (step : OpStep)
-    → begin_command by session ask disk ≡ Some step → CommandStepHasPolicy step
+    → begin_command by session ask disk ≡ Some step → IsVdiAsk ask → IfSome disk IsValidInode → CommandStepHasPolicy step
 unfolding begin_command
-command_begins-policy by session ask disk step is = by_entry (first_entry by session disk ask) is
+command_begins-policy by session ask disk step is may opened = by_entry (first_entry by session disk ask) refl is
   where
-    by_entry : (entry : Option Entry) → option_map (first_step by session) entry ≡ Some step → CommandStepHasPolicy step
-    by_entry None is = absurd (cc (is))
-    by_entry (Some entry) is = given CommandStepHasPolicy is (tt, tt)
+    by_entry : (entry : Option Entry) → first_entry by session disk ask ≡ entry → option_map (first_step by session) entry ≡ Some step
+        → CommandStepHasPolicy step
+    by_entry None first is = absurd (cc (is))
+    by_entry (Some entry) first is = given CommandStepHasPolicy is (tt, first_reservable by session disk ask entry first may opened)
 
 task_done-policy : (op : Op) (vid : Vid) (bytes : List ℕ) (task : Task) → TaskHasPolicy task → CommandStepHasPolicy (task_done op vid bytes task)
 task_done-policy op vid bytes (Opening true ids header) is = (is, tt)
-task_done-policy op vid bytes (Opening false ids header) is = (is, is)
+task_done-policy op vid bytes (Opening false ids header) is = (is, is.0)
 task_done-policy op vid bytes (WritingBack inode) is = (is, tt)
-task_done-policy op vid bytes (Tagging old inode) is = (is, is)
-task_done-policy op vid bytes (Copying ids header) is = (tt, is)
-task_done-policy op vid bytes (Making entry opened) is = (is, tt)
+task_done-policy op vid bytes (Tagging old inode) is = ((tt, is), is.0)
+task_done-policy op vid bytes (Copying ids header) is = ((tt, tt), is.0)
+task_done-policy op vid bytes (Making entry opened) is = (is.1, is.0)
 
 pub command_goes_on-policy : (bytes : List ℕ) (op : Op) (step : OpStep) → op_on_done bytes op ≡ Some step → StageHasPolicy op.stage
     → CommandStepHasPolicy step
@@ -169,23 +185,23 @@ without_grant-policy (Lock by session name tag) = tt
 without_grant-policy (Unlock by session vid) = tt
 
 -- what is granted goes on by the header that the directory has
-module _ (op : Op) (vid : Vid) (chain : List ℕ) (disk : Option Content) (header : Header) (step : OpStep) (is : IsPolicy header.spec.policy)
-    (opened : IfSome disk InodeHasPolicy) where
+module _ (op : Op) (vid : Vid) (chain : List ℕ) (disk : Option Content) (header : Header) (step : OpStep) (is : IsValidHeader header)
+    (opened : IfSome disk IsValidInode) where
   abbrev Granted : Entry → Type 0
   Granted entry = step_after_grant op vid chain disk entry header ≡ Some step → CommandStepHasPolicy step
 
   reserved-policy : (by : NodeId) (session : ℕ) (name : List ℕ) (origin : Origin) → Granted (Reserve by session name origin)
-  reserved-policy by session name (Fresh spec) next = given CommandStepHasPolicy next (tt, is)
+  reserved-policy by session name (Fresh spec) next = given CommandStepHasPolicy next ((tt, tt), is.0)
   reserved-policy by session name (SnapshotOf tag) next = by_disk disk opened next
     where
-      by_disk : (disk : Option Content) → IfSome disk InodeHasPolicy → option_map (tag_step op vid tag header) disk ≡ Some step → CommandStepHasPolicy step
+      by_disk : (disk : Option Content) → IfSome disk IsValidInode → option_map (tag_step op vid tag header) disk ≡ Some step → CommandStepHasPolicy step
       by_disk None opened next = absurd (cc (next))
-      by_disk (Some old) opened next = given CommandStepHasPolicy next (is, opened)
+      by_disk (Some old) opened next = given CommandStepHasPolicy next (is, opened.0)
   reserved-policy by session name (CloneOf base tag) next = by_parent header.parent next
     where
       by_parent : (parent : Option Vid) → option_map (copy_step op vid chain header) parent ≡ Some step → CommandStepHasPolicy step
       by_parent None next = absurd (cc (next))
-      by_parent (Some parent) next = given CommandStepHasPolicy next (is, is)
+      by_parent (Some parent) next = given CommandStepHasPolicy next (is, is.0)
 
   granted-policy : (entry : Entry) → Granted entry
   granted-policy (Format members) next = absurd (cc (next))
@@ -198,15 +214,15 @@ module _ (op : Op) (vid : Vid) (chain : List ℕ) (disk : Option Content) (heade
   granted-policy (Clone by vid) next = absurd (cc (next))
   granted-policy (Snapshot by old vid) next = absurd (cc (next))
   granted-policy (Delete by session name tag) next = given CommandStepHasPolicy next (tt, tt)
-  granted-policy (Lock by session name tag) next = given CommandStepHasPolicy next (is, is)
+  granted-policy (Lock by session name tag) next = given CommandStepHasPolicy next (is, is.0)
   granted-policy (Unlock by session vid) next = given CommandStepHasPolicy next (tt, tt)
 
--- each header that is known has such a policy
+-- each header that is known is valid
 abbrev pub HeadersHavePolicies : List Effect → Type 0
-HeadersHavePolicies known = (vid : ℕ) (header : Header) → header_of known vid ≡ Some header → IsPolicy header.spec.policy
+HeadersHavePolicies known = (vid : ℕ) (header : Header) → header_of known vid ≡ Some header → IsValidHeader header
 
 module _ (known : List Effect) (disk : Option Content) (op : Op) (step : OpStep) (headers : HeadersHavePolicies known)
-    (opened : IfSome disk InodeHasPolicy) where
+    (opened : IfSome disk IsValidInode) where
   decision-policy : (entry : Entry) (decision : Decision) → step_after_decision known disk op entry decision ≡ Some step → CommandStepHasPolicy step
   decision-policy entry decisions.None next = given CommandStepHasPolicy next (without_grant-policy entry, tt)
   decision-policy entry (decisions.Granted vid) next = by_header (header_of known vid.0) refl next
@@ -221,7 +237,7 @@ module _ (known : List Effect) (disk : Option Content) (op : Op) (step : OpStep)
   unfolding on_decision
   command_decided-policy decision next is = by_stage op.stage next is
     where
-      by_opened : (entry : Entry) (made : Option Content) → IfSome made InodeHasPolicy → decided_at known disk decision op (Publishing entry made) ≡ Some step
+      by_opened : (entry : Entry) (made : Option Content) → IfSome made IsValidInode → decided_at known disk decision op (Publishing entry made) ≡ Some step
           → CommandStepHasPolicy step
       by_opened entry None is next = given CommandStepHasPolicy next (tt, tt)
       by_opened entry (Some inode) is next = given CommandStepHasPolicy next (is, tt)

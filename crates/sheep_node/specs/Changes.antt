@@ -191,9 +191,10 @@ MeetsNumbers (inputs.Back entries) node = Unit {0}
 abbrev pub IsSoundStep : Input → Node → Type 0
 IsSoundStep input node = MeetsNumbers input node × HasOneWorkPerRequest node
 
--- a gateway is as it was, but for the work of one request and for what was touched
+-- a gateway is as it was, but for what was touched and for the work of one request, which is the same where it is still there
 pub record IsApart (req : ℕ) (old new : Gateway) : Type 0 where
   pub own : new.me ≡ old.me
+  pub same : (now : Work) → tree.get new.works req ≡ Some now → (was : Work) × (tree.get old.works req ≡ Some was) × (now.work ≡ was.work)
   pub others : (other : ℕ) → other ≢ req → tree.get new.works other ≡ tree.get old.works other
 
 -- what happens as a node steps on an input, once that was received

@@ -1,44 +1,55 @@
--- By which policies a node works: each is one that there may be. So an attempt has no more than 31 messages.
+-- What a node has of disks is valid: policies and names are such as there may be. So an attempt has no more than 31 messages, and what
+-- the node puts may stand in the log.
 use Rattle.std.specs.Prelude.{◌≡◌, ℕ, All, Some}
 use Rattle.std.specs.Ordering.{nat_cmp}
 use Rattle.std.specs.Option.{IfSome}
 use Rattle.std.specs.FinMap as tree
 use Rattle.object_id.specs.Policy.{IsPolicy}
+use Rattle.object_id.specs.Spec.{IsName}
 use Rattle.epoch_log.specs.Appending.{IsReservable}
 use Rattle.inode.specs.Layout.{Content}
 use Rattle.peer_proto.specs.Work.{policy_of}
 use Rattle.peer_proto.specs.declared.work.ObjWork.{ObjWork}
+use Rattle.vdi_directory.specs.declared.header.Header.{Header}
 use Rattle.gateway.specs.State.{Work}
 use Rattle.guest_driver.specs.declared.disk.Disk.{Disk}
 use Rattle.guest_driver.specs.InodeQueue as lines
 use Rattle.vdi_ops.specs.Op.{Task, Opening, WritingBack, Tagging, Copying, Making, DiskChange, Stays, Opens, Closes}
 use Rattle.vdi_ops.specs.Op.{OpStage, Asked, Working, Publishing, Answered}
+use Rattle.vdi_ops.specs.Entries.{IsVdiAsk}
+use Rattle.sheep_node.specs.declared.ask.Ask.{Ask}
+use Rattle.sheep_node.specs.declared.ask.Ask.TheVariants as asks
+use Rattle.sheep_node.specs.declared.input.Input.{Input}
+use Rattle.sheep_node.specs.declared.input.Input.TheVariants as inputs
 use Rattle.sheep_node.specs.State.{Course, Waiting, Driving, Commanding, Checking, DoingWork, AwaitingDecision, Request, Session, Node}
 
 abbrev pub WorkHasPolicy : ObjWork → Type 0
 WorkHasPolicy work = IsPolicy (policy_of work)
 
-abbrev pub InodeHasPolicy : Content → Type 0
-InodeHasPolicy inode = IsPolicy inode.spec.policy
+abbrev pub IsValidInode : Content → Type 0
+IsValidInode inode = IsPolicy inode.spec.policy × IsName inode.name
 
--- what a command has is made by such a policy
+abbrev pub IsValidHeader : Header → Type 0
+IsValidHeader header = IsPolicy header.spec.policy × IsName header.name
+
+-- what a command has is valid, and so is its entry
 abbrev pub TaskHasPolicy : Task → Type 0
-TaskHasPolicy (Opening snapshot ids header) = IsPolicy header.spec.policy
-TaskHasPolicy (WritingBack inode) = InodeHasPolicy inode
-TaskHasPolicy (Tagging old inode) = InodeHasPolicy inode
-TaskHasPolicy (Copying ids header) = IsPolicy header.spec.policy
-TaskHasPolicy (Making entry opened) = IfSome opened InodeHasPolicy
+TaskHasPolicy (Opening snapshot ids header) = IsValidHeader header
+TaskHasPolicy (WritingBack inode) = IsValidInode inode
+TaskHasPolicy (Tagging old inode) = IsValidInode inode
+TaskHasPolicy (Copying ids header) = IsValidHeader header
+TaskHasPolicy (Making entry opened) = IsReservable entry × IfSome opened IsValidInode
 
 -- and what it leaves open
 abbrev pub ChangeHasPolicy : DiskChange → Type 0
 ChangeHasPolicy Stays = Unit {0}
-ChangeHasPolicy (Opens snapshot inode) = InodeHasPolicy inode
+ChangeHasPolicy (Opens snapshot inode) = IsValidInode inode
 ChangeHasPolicy Closes = Unit {0}
 
 abbrev pub StageHasPolicy : OpStage → Type 0
 StageHasPolicy (Asked entry) = Unit {0}
 StageHasPolicy (Working vid task) = TaskHasPolicy task
-StageHasPolicy (Publishing entry opened) = IfSome opened InodeHasPolicy
+StageHasPolicy (Publishing entry opened) = IfSome opened IsValidInode
 StageHasPolicy (Answered change) = ChangeHasPolicy change
 
 abbrev pub CourseHasPolicy : Course → Type 0
@@ -51,7 +62,7 @@ CourseHasPolicy (AwaitingDecision entry) = Unit {0}
 
 -- the disk that a session has open, and the works that wait in its line
 pub record SessionHasPolicies (session : Session) : Type 0 where
-  pub disk : IfSome session.disk (λ (disk : Disk). InodeHasPolicy disk.inode)
+  pub disk : IfSome session.disk (λ (disk : Disk). IsValidInode disk.inode)
   pub waiting : All (λ (waiting : lines.Waiting). WorkHasPolicy waiting.work) session.inode_queue.waiting
 
 -- each value of a map is so
@@ -65,7 +76,27 @@ pub record HavePolicies (works : tree.FinMap nat_cmp Work) (requests : tree.FinM
   pub courses : EachIs (λ (request : Request). CourseHasPolicy request.course) requests
   pub each_session : EachIs SessionHasPolicies sessions
 
--- a node's are, and the entries that it has read reserve only for such disks
+-- a node's are, and the entries that it has read, and those that it has still to put, reserve only for such disks
 pub record HasSoundPolicies (node : Node) : Type 0 where
   pub read : All IsReservable node.peer.entries
+  pub to_put : All IsReservable node.outbox
   pub kept : HavePolicies node.gateway.works node.requests node.sessions
+
+-- what is asked is valid
+abbrev pub IsValidAsk : Ask → Type 0
+IsValidAsk (asks.Disk ask) = Unit {0}
+IsValidAsk (asks.Vdi ask) = IsVdiAsk ask
+IsValidAsk (asks.Object work) = WorkHasPolicy work
+IsValidAsk (asks.Entry entry) = IsReservable entry
+
+-- and so is what an input brings to be read
+abbrev pub IsValidInput : Input → Type 0
+IsValidInput (inputs.Guest req session ask) = IsValidAsk ask
+IsValidInput (inputs.Request request) = Unit {0}
+IsValidInput (inputs.Reply rsp) = Unit {0}
+IsValidInput (inputs.Lost number) = Unit {0}
+IsValidInput (inputs.LogEntry entry) = IsReservable entry
+IsValidInput inputs.Put = Unit {0}
+IsValidInput inputs.RecoverTick = Unit {0}
+IsValidInput inputs.RetryTick = Unit {0}
+IsValidInput (inputs.Back entries) = All IsReservable entries

@@ -30,6 +30,7 @@ pub mod LogFrontLaws
 pub mod ControlLaws
 pub mod ScriptControls
 pub mod MembersOfLog
+pub mod ValidNodes
 pub mod PuttableEntries
 pub mod LogAtEvents
 pub mod LogAtOpening

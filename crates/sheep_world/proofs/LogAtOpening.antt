@@ -1,6 +1,7 @@
 -- In the opening world of a script the log is one, and its members are the nodes that are there.
 use Rattle.std.proofs.Common.{◌≡◌, ◌≢◌, ⊎_elim, find, arith, ℕ, zero, suc, ◌+◌, ◌<◌, ◌≤◌, ◌==◌, nat_lt, Bool, true, false, ◌||◌, cond, List, [], ◌∷◌, ◌++◌, length, map, All, Option, Some, is_some, refl, sym, ap, subst, ◌∙◌}
 use Rattle.std.specs.Prelude.{unwrap_or}
+use Rattle.std.specs.FinMap as tree
 use Rattle.std.specs.List.{range_with_len, slice_index}
 use Rattle.std.specs.Option.{option_map_or}
 use Rattle.std.specs.List.Sorted.{IsStrictlyIncreasing}
@@ -14,6 +15,7 @@ use Rattle.cluster_script.specs.declared.statement.Statement.{Statement}
 use Rattle.cluster_script.specs.declared.statement.Statement.TheVariants.{Cluster, Vnodes}
 use Rattle.cluster_script.specs.Language.{MayStand, EachMayStand, IsScript}
 use Rattle.cluster_script.specs.Settings.{nodes_set, vnodes_set, setting_of, nodes_of, vnodes_of, new_member}
+use Rattle.sheep_node.specs.Policies.{HasSoundPolicies}
 use Rattle.sheep_world.specs.World.{Host, World}
 use Rattle.sheep_world.specs.Opening.{initial_world}
 use Rattle.sheep_world.specs.MembershipChanges.{weight_among}
@@ -22,6 +24,9 @@ use Rattle.sheep_world.specs.LogHolds.{MayGrow, LogHolds}
 use Rattle.sheep_world.proofs.EventInversion.{happens}
 use Rattle.sheep_world.proofs.BegunWorlds.{by_induction}
 use Rattle.sheep_world.proofs.ScriptControls.{seated_at_first, controls-fit}
+use Rattle.sheep_world.specs.HostChanges.{HoldsOfEachHost}
+use Rattle.sheep_world.proofs.HostChangeLaws.{each_opens, each_kept}
+use Rattle.sheep_world.proofs.ValidNodes.{IsValidHost, hosts_stay_valid}
 use Rattle.sheep_world.proofs.PuttableEntries.{each_puts}
 use Rattle.sheep_world.proofs.LogAtEvents.{keeps_log}
 
@@ -159,11 +164,23 @@ module _ (statements : List Statement) (script : IsScript statements) where
             seated_at_first statements q ∙ lt_so q count (omega (arith, below));
       }
 
-  -- the log of each world that a run reaches is one, as long as outboxes name what may be named, and there is room
-  pub log-holds : ((world : World) → Began statements world → MayGrow world) → (world : World) → Began statements world → LogHolds world
-  log-holds grows world = by_induction statements LogHolds (record {
-    opens = opens_log;
-    keeps = λ event world made began is holds.
-        keeps_log statements weight_at_first event world made (each_puts statements world began (grows world began)) (grows world began).room (controls-fit statements world script began) holds
-        (happens statements event world made is);
+  abbrev LogAndNodes : World → Type 0
+  LogAndNodes world = LogHolds world × HoldsOfEachHost IsValidHost world
+
+  -- in each world that a run reaches the log is one, and what nodes have of disks is valid, as long as there is room
+  pub log-and-nodes : ((world : World) → Began statements world → MayGrow world) → (world : World) → Began statements world → LogAndNodes world
+  log-and-nodes grows world = by_induction statements LogAndNodes (record {
+    opens = (opens_log, each_opens statements LogHolds IsValidHost (hosts_stay_valid statements script));
+    keeps = λ event world made began is holds. (
+      keeps_log statements weight_at_first event world made (each_puts statements world began holds.1) (grows world began).room (controls-fit statements world script began) holds.0
+          (happens statements event world made is),
+      each_kept statements LogHolds IsValidHost (hosts_stay_valid statements script) event world made is holds.0 holds.1,
+    );
   }) world
+
+  pub log-holds : ((world : World) → Began statements world → MayGrow world) → (world : World) → Began statements world → LogHolds world
+  log-holds grows world began = (log-and-nodes grows world began).0
+
+  pub nodes-valid : ((world : World) → Began statements world → MayGrow world) → (world : World) → Began statements world
+      → (n : ℕ) (host : Host) → tree.get world.hosts n ≡ Some host → HasSoundPolicies host.node
+  nodes-valid grows world began = (log-and-nodes grows world began).1

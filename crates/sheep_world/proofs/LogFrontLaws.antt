@@ -18,10 +18,7 @@ use Rattle.sheep_world.specs.EventKinds.{log_after_return, EventKind, NodeStep, 
 use Rattle.sheep_world.specs.HostChanges.{HostsKeep}
 use Rattle.sheep_world.specs.Began.{Began}
 use Rattle.sheep_world.specs.LogFronts.{IsFront, ReadsTheLog, AllReadTheLog}
-use Rattle.sheep_world.proofs.BegunWorlds.{each_where}
-use Rattle.sheep_world.proofs.TogetherInRuns.{holds_together}
-use Rattle.sheep_world.specs.HoldsTogether.{MessagesAreInRange, HoldsTogether}
-use Rattle.cluster_script.specs.Language.{IsScript}
+use Rattle.sheep_world.proofs.BegunWorlds.{each_began}
 
 -- a log is a front of itself, and of what it grows to
 whole : (log : List Entry) → IsFront log log
@@ -82,7 +79,7 @@ reads_by statements world n host (EntryIsPut entry) so front = front
 reads_by statements world n host RecoveryTicks so front = front
 reads_by statements world n host WorkIsRetried so front = front
 
-pub reads_kept : (statements : List Statement) → HostsKeep statements (HoldsTogether statements) ReadsTheLog
+reads_kept : (statements : List Statement) → HostsKeep statements (λ (world : World). Unit {0}) ReadsTheLog
 unfolding initial_world
 reads_kept statements = record {
   opens = λ member.
@@ -103,7 +100,5 @@ reads_kept statements = record {
   joins = λ world n i control. record { rest = world.log; is = refl };
 }
 
-pub all_read : (statements : List Statement) → IsScript statements → ((world : World) → Began statements world → MessagesAreInRange world)
-    → (world : World) → Began statements world → AllReadTheLog world
-all_read statements script messages =
-    each_where statements (HoldsTogether statements) ReadsTheLog (holds_together statements script messages) (reads_kept statements)
+pub all_read : (statements : List Statement) (world : World) → Began statements world → AllReadTheLog world
+all_read statements = each_began statements ReadsTheLog (reads_kept statements)

@@ -3,44 +3,28 @@ use Rattle.std.proofs.Common.{◌≡◌, arith, ℕ, List, [], ◌∷◌, ◌++�
 use Rattle.std.specs.List.{slice_get}
 use Rattle.std.specs.FinMap as tree
 use Rattle.object_id.specs.declared.entry.Entry.{Entry}
-use Rattle.object_id.specs.declared.entry.Entry.TheVariants.{Format, Join, Leave, Reweight, Recovered, Reserve, Publish, Clone, Snapshot, Delete, Lock, Unlock}
 use Rattle.epoch_log.specs.Appending.{IsLog}
 use Rattle.epoch_log.proofs.MembersLemmas.{IsLog-prefix}
 use Rattle.cluster_script.specs.declared.statement.Statement.{Statement}
 use Rattle.cluster_script.specs.Language.{IsScript}
-use Rattle.sheep_node.specs.May.{MayBeFirst, MayRead}
+use Rattle.sheep_node.specs.May.{MayRead}
 use Rattle.sheep_world.specs.World.{Host, World}
 use Rattle.sheep_world.specs.Began.{Began}
-use Rattle.sheep_world.specs.HoldsTogether.{MessagesAreInRange}
 use Rattle.sheep_world.specs.LogHolds.{MayGrow}
 use Rattle.sheep_world.proofs.LogFrontLaws.{next_after, all_read}
+use Rattle.sheep_world.proofs.ValidNodes.{first_may}
 use Rattle.sheep_world.proofs.LogAtOpening.{log-holds}
-
-first_may : (entry : Entry) (later : List Entry) → IsLog (entry ∷ later) → MayBeFirst entry
-first_may (Format members) later log = log.0
-first_may (Join node zone vnodes) later log = log
-first_may (Leave node) later log = log
-first_may (Reweight node vnodes) later log = log
-first_may (Recovered node epoch) later log = log
-first_may (Reserve by session name origin) later log = log
-first_may (Publish by vid) later log = log
-first_may (Clone by vid) later log = log
-first_may (Snapshot by old vid) later log = log
-first_may (Delete by session name tag) later log = log
-first_may (Lock by session name tag) later log = log
-first_may (Unlock by session vid) later log = log
 
 next_may : (read later : List Entry) (entry : Entry) → IsLog (read ++ entry ∷ later) → MayRead read entry
 next_may [] later entry log = first_may entry later log
 next_may (first ∷ read) later entry log = (IsLog-prefix (first ∷ read) (entry ∷ later) (omega arith) log).1.0
 
 -- what a node reads next it may read
-pub reads-may : (statements : List Statement) → IsScript statements → ((world : World) → Began statements world → MessagesAreInRange world)
-    → ((world : World) → Began statements world → MayGrow world)
+pub reads-may : (statements : List Statement) → IsScript statements → ((world : World) → Began statements world → MayGrow world)
     → (world : World) → Began statements world → (n : ℕ) (host : Host) (entry : Entry) → tree.get world.hosts n ≡ Some host
     → slice_get world.log (length host.node.peer.entries) ≡ Some entry → MayRead host.node.peer.entries entry
-reads-may statements script messages grows world began n host entry there next =
-    let front = all_read statements script messages world began n host there in
+reads-may statements script grows world began n host entry there next =
+    let front = all_read statements world began n host there in
     let read = host.node.peer.entries in
     let (later, is) = next_after read front.rest entry (ap (λ (log : List Entry). slice_get log (length read)) (sym front.is) ∙ next) in
     next_may read later entry

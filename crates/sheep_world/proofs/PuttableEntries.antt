@@ -18,10 +18,10 @@ use Rattle.sheep_world.specs.World.{Host, World}
 use Rattle.sheep_world.specs.Opening.{format_entry}
 use Rattle.sheep_world.specs.Began.{Began}
 use Rattle.sheep_world.specs.NodeCauses.{input_of_cause, NodeCause, GuestAsks, RequestComes, ReplyComes, LossIsTold, EntryIsRead, EntryIsPut, RecoveryTicks, WorkIsRetried, IsCause}
-use Rattle.sheep_world.specs.HostChanges.{NodesKeep}
-use Rattle.sheep_world.specs.LogHolds.{MayGrow}
+use Rattle.sheep_world.specs.HostChanges.{HoldsOfEachHost, NodesKeep}
 use Rattle.sheep_world.proofs.BegunWorlds.{each_began}
 use Rattle.sheep_world.proofs.HostChangeLaws.{hosts_of_nodes}
+use Rattle.sheep_world.proofs.ValidNodes.{IsValidHost}
 use Rattle.sheep_node.specs.declared.ask.Ask.{Ask}
 use Rattle.sheep_node.specs.declared.ask.Ask.TheVariants as asks
 use Rattle.sheep_world.specs.Asking.{ask_of_statement}
@@ -93,11 +93,11 @@ abbrev pub EachPuts : World → Type 0
 EachPuts world = (n : ℕ) (host : Host) (entry : Entry) (later : List Entry) → tree.get world.hosts n ≡ Some host
     → host.node.outbox ≡ entry ∷ later → IsPuttable entry
 
-pub each_puts : (statements : List Statement) (world : World) → Began statements world → MayGrow world → EachPuts world
-each_puts statements world began grows n host entry later there first =
+pub each_puts : (statements : List Statement) (world : World) → Began statements world → HoldsOfEachHost IsValidHost world → EachPuts world
+each_puts statements world began valid n host entry later there first =
     let own = each_began
     statements (λ (world : World) (n : ℕ) (host : Host). HasOnlyOwnEntries host.node)
     (hosts_of_nodes statements (λ (n incarnation : ℕ) (node : Node). HasOnlyOwnEntries node) (owns statements)) world began n host there in
     own_puttable host.node.me entry
     (All-head (IsEntryOf host.node.me) entry later (subst (All (IsEntryOf host.node.me)) first own.entries))
-    (grows.reservable n host entry later there first)
+    (All-head IsReservable entry later (subst (All IsReservable) first (valid n host there).to_put))

@@ -19,6 +19,7 @@ ghost use Rattle.sheep_node.specs.declared.event.Event.TheVariants as events;
 ghost use Rattle.sheep_node.specs.declared.ask.Ask.{Ask};
 ghost use Rattle.sheep_node.specs.declared.input.Input.TheVariants as inputs;
 ghost use Rattle.sheep_node.specs.May.{MayRead, May};
+ghost use Rattle.sheep_node.specs.Policies.{HasSoundPolicies};
 ghost use Rattle.sheep_world.specs.declared.name.MessageName.{MessageName};
 ghost use Rattle.sheep_world.specs.World.{Host, World, host_at, is_host_up, message_at};
 ghost use Rattle.sheep_world.specs.Opening.{initial_world, controls_at, losses_at};
@@ -154,11 +155,9 @@ pub fn requests_were_begun()
         → RequestsWereBegun statements world → IsNewRequest statements session world }
 {}
 
-/// As long as messages are in range, the entries that a node has read are the first ones of the log, in each world of a run.
+/// The entries that a node has read are the first ones of the log, in each world of a run.
 pub fn nodes_have_read_fronts_of_the_log()
-    ensures { (statements : List Statement) → IsScript statements
-        → ((world : World) → Began statements world → MessagesAreInRange world)
-        → (world : World) → Began statements world → AllReadTheLog world }
+    ensures { (statements : List Statement) (world : World) → Began statements world → AllReadTheLog world }
 {}
 
 /// In each world of a run of a script the controls that are still to come fit the nodes.
@@ -166,13 +165,15 @@ pub fn the_controls_to_come_fit()
     ensures { (statements : List Statement) (world : World) → IsScript statements → Began statements world → ControlsFit statements world }
 {}
 
-/// As long as what is put names what may be named, and there is room for an epoch, the log of each world is a log, whose members
-/// are the nodes that are there; so, as long as messages are in range too, a node may read the entry that is its next.
+/// As long as there is room for an epoch, the log of each world is a log, whose members are the nodes that are there; what nodes have of
+/// disks is valid, so that what they put may stand in the log; and a node may read the entry that is its next.
 pub fn the_log_holds()
     ensures log { (statements : List Statement) → IsScript statements → ((world : World) → Began statements world → MayGrow world)
         → (world : World) → Began statements world → LogHolds world }
+    ensures nodes { (statements : List Statement) → IsScript statements → ((world : World) → Began statements world → MayGrow world)
+        → (world : World) → Began statements world → (node : ℕ) (host : Host) → host_at node world ≡ Some host
+        → HasSoundPolicies host.node }
     ensures next { (statements : List Statement) → IsScript statements
-        → ((world : World) → Began statements world → MessagesAreInRange world)
         → ((world : World) → Began statements world → MayGrow world)
         → (world : World) → Began statements world → (node : ℕ) (host : Host) (entry : Entry) → host_at node world ≡ Some host
         → slice_get world.log (length host.node.peer.entries) ≡ Some entry → MayRead host.node.peer.entries entry }
