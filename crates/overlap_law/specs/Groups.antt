@@ -33,6 +33,7 @@ use Rattle.overlap_law.specs.Tables.{SnapshotsAreFrozen, TablesAreMade}
 use Rattle.overlap_law.specs.WrittenBlocks.{BlocksAreWritten, StripsAreSound}
 use Rattle.overlap_law.specs.Drafts.{ReservedInodesAreDrawn, WhatIsPublishedIsCreated}
 use Rattle.overlap_law.specs.ToDo.{WorksNameWhatIsMade, WorksMayBeMade}
+use Rattle.overlap_law.specs.Checks.{ChecksHaveItems}
 use Rattle.overlap_law.specs.Pieces.{WritesHaveItems, WhatIsWrittenIsAlone, WhatIsReadMayBeRead}
 use Rattle.overlap_law.specs.Courses.{WorksAreWaitedFor, CommandsKeepTheirGrants}
 
@@ -144,6 +145,7 @@ pub record PiecesAreKept (ledger : Ledger) (effects : List Effect) (good_id : â„
   pub to_write : WritesHaveItems ledger hosts
   pub alone : WhatIsWrittenIsAlone ledger effects good_id hosts attempts
   pub read : WhatIsReadMayBeRead ledger effects good_id hosts
+  pub checks : ChecksHaveItems ledger effects good_id hosts attempts
 
 -- requests and commands
 pub record CoursesAreKept (log : List Entry) (effects : List Effect) (good_id : â„•

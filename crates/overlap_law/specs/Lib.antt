@@ -30,6 +30,7 @@ pub mod Courses
 pub mod NoObjects
 pub mod ToDo
 pub mod Pieces
+pub mod Checks
 pub mod RequestsOfScript
 pub mod Groups
 pub mod Overlap
