@@ -20,10 +20,10 @@ pub mod StepEffects
 pub mod StepResults
 pub mod LogLaws
 mod RefusalLaws
-pub mod PolicySteps
+pub mod ValidSteps
 pub mod MessageCounts
-pub mod PolicyChanges
-pub mod PolicyLaws
+pub mod ValidChanges
+pub mod ValidLaws
 pub mod NodeLaws
 pub mod OutsideAskLaws
 mod MayTestLaws

@@ -33,7 +33,7 @@ use Rattle.recovery.proofs.FoundLemmas.{wanted-most}
 use Rattle.recovery.proofs.TickLemmas.{kept_few}
 use Rattle.sheep_node.specs.State.{Node}
 use Rattle.sheep_node.specs.Changes.{attempt_in}
-use Rattle.sheep_node.specs.Policies.{WorkHasPolicy}
+use Rattle.sheep_node.specs.ValidDisks.{WorkHasPolicy}
 
 in_turn_few : (attempt : ℕ) (places : List (ℕ × NodeId)) → length (place_in_turn attempt places) ≤ length places
 in_turn_few attempt places =

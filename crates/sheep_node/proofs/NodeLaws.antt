@@ -9,7 +9,7 @@ use Rattle.sheep_node.specs.RecoveryRange.{RecoversInRange}
 use Rattle.sheep_node.specs.NodeInvariant.{IsSoundNode}
 use Rattle.sheep_node.proofs.NumberChanges.{one_work_at_opening, one_work_stays}
 use Rattle.sheep_node.proofs.OwnEntryChanges.{own_entries_at_opening, own_entries_stay, asks_for_own}
-use Rattle.sheep_node.proofs.PolicyLaws.{policies_at_opening, policies_stay, sends_few, valid_input}
+use Rattle.sheep_node.proofs.ValidLaws.{valid_disks_at_opening, valid_disks_stay, sends_few, valid_input}
 use Rattle.sheep_node.proofs.QueueChanges.{none_queued, queues_stay}
 use Rattle.sheep_node.proofs.QueueLengths.{queues_short_at_opening, queues_stay_short}
 use Rattle.sheep_node.proofs.LogLaws.{opening_follows, step_follows}
@@ -23,7 +23,7 @@ IsSoundNode-initial me tries = record {
   short_queues = queues_short_at_opening me tries;
   by_the_log = opening_follows me tries;
   none_due = none_due_at_opening me tries;
-  policies = policies_at_opening me tries;
+  valid_disks = valid_disks_at_opening me tries;
 }
 
 pub IsSoundNode-step : (input : Input) (node : Node) → May input node → IsSoundNode node → IsSoundNode (node_step input node).node
@@ -34,10 +34,10 @@ IsSoundNode-step input node may is = record {
   short_queues = queues_stay_short input node may is.short_queues;
   by_the_log = step_follows input node may is.by_the_log;
   none_due = step_not_due input node;
-  policies = policies_stay input node (valid_input input node may.condition is.policies.read) is.policies;
+  valid_disks = valid_disks_stay input node (valid_input input node may.condition is.valid_disks.read) is.valid_disks;
 }
 
 pub sends_at_most_1000 : (input : Input) (node : Node) → May input node → IsSoundNode node → RecoversInRange node
     → length (node_step input node).outputs.sends ≤ 1000
 sends_at_most_1000 input node may is range =
-    sends_few input node (valid_input input node may.condition is.policies.read) is.policies may is.short_queues range
+    sends_few input node (valid_input input node may.condition is.valid_disks.read) is.valid_disks may is.short_queues range

@@ -17,6 +17,6 @@ pub mod OneWork
 pub mod Changes
 pub mod OwnEntries
 pub mod SessionQueues
-pub mod Policies
+pub mod ValidDisks
 pub mod NodeInvariant
 pub mod CheckWrites

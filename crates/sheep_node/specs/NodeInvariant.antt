@@ -5,12 +5,12 @@ use Rattle.sheep_node.specs.Step.{is_due}
 use Rattle.sheep_node.specs.StepFacts.{IsByTheLog}
 use Rattle.sheep_node.specs.OneWork.{HasOneWorkPerRequest}
 use Rattle.sheep_node.specs.OwnEntries.{HasOnlyOwnEntries}
-use Rattle.sheep_node.specs.Policies.{HasSoundPolicies}
+use Rattle.sheep_node.specs.ValidDisks.{HasValidDisks}
 use Rattle.sheep_node.specs.SessionQueues.{QueuesAreDiskRequests, QueuesAreShort}
 
 -- its requests have one work each at most, the entries that it puts are its own, its sessions' queues are their reads and writes, no
--- more than there may be at once, it is in the epoch of what it has read, no `Recovered` is due, and it works by policies that there may
--- be
+-- more than there may be at once, it is in the epoch of what it has read, no `Recovered` is due, and what it has of disks is
+-- valid
 pub record IsSoundNode (node : Node) : Type 0 where
   pub one_work : HasOneWorkPerRequest node
   pub own_entries : HasOnlyOwnEntries node
@@ -18,4 +18,4 @@ pub record IsSoundNode (node : Node) : Type 0 where
   pub short_queues : QueuesAreShort node
   pub by_the_log : IsByTheLog node
   pub none_due : is_due node ≡ false
-  pub policies : HasSoundPolicies node
+  pub valid_disks : HasValidDisks node

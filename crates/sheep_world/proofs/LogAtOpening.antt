@@ -15,7 +15,7 @@ use Rattle.cluster_script.specs.declared.statement.Statement.{Statement}
 use Rattle.cluster_script.specs.declared.statement.Statement.TheVariants.{Cluster, Vnodes}
 use Rattle.cluster_script.specs.Language.{MayStand, EachMayStand, IsScript}
 use Rattle.cluster_script.specs.Settings.{nodes_set, vnodes_set, setting_of, nodes_of, vnodes_of, new_member}
-use Rattle.sheep_node.specs.Policies.{HasSoundPolicies}
+use Rattle.sheep_node.specs.ValidDisks.{HasValidDisks}
 use Rattle.sheep_world.specs.World.{Host, World}
 use Rattle.sheep_world.specs.Opening.{initial_world}
 use Rattle.sheep_world.specs.MembershipChanges.{weight_among}
@@ -182,5 +182,5 @@ module _ (statements : List Statement) (script : IsScript statements) where
   log-holds grows world began = (log-and-nodes grows world began).0
 
   pub nodes-valid : ((world : World) → Began statements world → MayGrow world) → (world : World) → Began statements world
-      → (n : ℕ) (host : Host) → tree.get world.hosts n ≡ Some host → HasSoundPolicies host.node
+      → (n : ℕ) (host : Host) → tree.get world.hosts n ≡ Some host → HasValidDisks host.node
   nodes-valid grows world began = (log-and-nodes grows world began).1

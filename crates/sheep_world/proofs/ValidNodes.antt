@@ -19,9 +19,9 @@ use Rattle.sheep_node.specs.declared.ask.Ask.{Ask}
 use Rattle.sheep_node.specs.declared.input.Input.TheVariants as inputs
 use Rattle.sheep_node.specs.State as nodes
 use Rattle.sheep_node.specs.May.{MayBeFirst}
-use Rattle.sheep_node.specs.Policies.{IsValidAsk, IsValidInput, HasSoundPolicies}
-use Rattle.sheep_node.proofs.PolicySteps.{given}
-use Rattle.sheep_node.proofs.PolicyLaws.{read_reservable, policies_stay, policies_at_opening}
+use Rattle.sheep_node.specs.ValidDisks.{IsValidAsk, IsValidInput, HasValidDisks}
+use Rattle.sheep_node.proofs.ValidSteps.{given}
+use Rattle.sheep_node.proofs.ValidLaws.{read_reservable, valid_disks_stay, valid_disks_at_opening}
 use Rattle.sheep_world.specs.World.{Host, World}
 use Rattle.sheep_world.specs.Opening.{format_entry}
 use Rattle.sheep_world.specs.Asking.{ask_of_statement}
@@ -109,7 +109,7 @@ request_valid statements script (suc place) line ask at is =
 -- ---- each node
 
 abbrev pub IsValidHost : World → ℕ → Host → Type 0
-IsValidHost world n host = HasSoundPolicies host.node
+IsValidHost world n host = HasValidDisks host.node
 
 module _ (statements : List Statement) (script : IsScript statements) where
   valid_cause : (world : World) (n : ℕ) (host : Host) (cause : NodeCause) → All IsReservable world.log → IsCause statements world n host cause
@@ -126,14 +126,14 @@ module _ (statements : List Statement) (script : IsScript statements) where
   pub hosts_stay_valid : HostsKeep statements LogHolds IsValidHost
   hosts_stay_valid = record {
     opens = λ member.
-        policies_stay (inputs.LogEntry (format_entry statements)) (nodes.initial_node member.node (tries_of statements)) tt
-        (policies_at_opening member.node (tries_of statements));
+        valid_disks_stay (inputs.LogEntry (format_entry statements)) (nodes.initial_node member.node (tries_of statements)) tt
+        (valid_disks_at_opening member.node (tries_of statements));
     stays = λ event world made h i n host so. so;
     steps = λ world n host cause i there up caused so.
-        policies_stay (input_of_cause cause) host.node (valid_cause world n host cause (log_reservable world.log i.log) caused) so;
+        valid_disks_stay (input_of_cause cause) host.node (valid_cause world n host cause (log_reservable world.log i.log) caused) so;
     fails = λ world n host i so. so;
     returns = λ world n host i there so.
-        policies_stay (inputs.Back (log_after_return statements n world)) host.node
+        valid_disks_stay (inputs.Back (log_after_return statements n world)) host.node
         (All-push IsReservable world.log (join_of statements n (last_weight world.log n)) (log_reservable world.log i.log) tt) so;
-    joins = λ world n i control. policies_at_opening (record { 0 = n }) (tries_of statements);
+    joins = λ world n i control. valid_disks_at_opening (record { 0 = n }) (tries_of statements);
   }

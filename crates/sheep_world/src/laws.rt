@@ -19,7 +19,7 @@ ghost use Rattle.sheep_node.specs.declared.event.Event.TheVariants as events;
 ghost use Rattle.sheep_node.specs.declared.ask.Ask.{Ask};
 ghost use Rattle.sheep_node.specs.declared.input.Input.TheVariants as inputs;
 ghost use Rattle.sheep_node.specs.May.{MayRead, May};
-ghost use Rattle.sheep_node.specs.Policies.{HasSoundPolicies};
+ghost use Rattle.sheep_node.specs.ValidDisks.{HasValidDisks};
 ghost use Rattle.sheep_world.specs.declared.name.MessageName.{MessageName};
 ghost use Rattle.sheep_world.specs.World.{Host, World, host_at, is_host_up, message_at};
 ghost use Rattle.sheep_world.specs.Opening.{initial_world, controls_at, losses_at};
@@ -172,7 +172,7 @@ pub fn the_log_holds()
         → (world : World) → Began statements world → LogHolds world }
     ensures nodes { (statements : List Statement) → IsScript statements → ((world : World) → Began statements world → MayGrow world)
         → (world : World) → Began statements world → (node : ℕ) (host : Host) → host_at node world ≡ Some host
-        → HasSoundPolicies host.node }
+        → HasValidDisks host.node }
     ensures next { (statements : List Statement) → IsScript statements
         → ((world : World) → Began statements world → MayGrow world)
         → (world : World) → Began statements world → (node : ℕ) (host : Host) (entry : Entry) → host_at node world ≡ Some host

@@ -33,35 +33,35 @@ abbrev pub IsValidHeader : Header → Type 0
 IsValidHeader header = IsPolicy header.spec.policy × IsName header.name
 
 -- what a command has is valid, and so is its entry
-abbrev pub TaskHasPolicy : Task → Type 0
-TaskHasPolicy (Opening snapshot ids header) = IsValidHeader header
-TaskHasPolicy (WritingBack inode) = IsValidInode inode
-TaskHasPolicy (Tagging old inode) = IsValidInode inode
-TaskHasPolicy (Copying ids header) = IsValidHeader header
-TaskHasPolicy (Making entry opened) = IsReservable entry × IfSome opened IsValidInode
+abbrev pub IsValidTask : Task → Type 0
+IsValidTask (Opening snapshot ids header) = IsValidHeader header
+IsValidTask (WritingBack inode) = IsValidInode inode
+IsValidTask (Tagging old inode) = IsValidInode inode
+IsValidTask (Copying ids header) = IsValidHeader header
+IsValidTask (Making entry opened) = IsReservable entry × IfSome opened IsValidInode
 
 -- and what it leaves open
-abbrev pub ChangeHasPolicy : DiskChange → Type 0
-ChangeHasPolicy Stays = Unit {0}
-ChangeHasPolicy (Opens snapshot inode) = IsValidInode inode
-ChangeHasPolicy Closes = Unit {0}
+abbrev pub IsValidChange : DiskChange → Type 0
+IsValidChange Stays = Unit {0}
+IsValidChange (Opens snapshot inode) = IsValidInode inode
+IsValidChange Closes = Unit {0}
 
-abbrev pub StageHasPolicy : OpStage → Type 0
-StageHasPolicy (Asked entry) = Unit {0}
-StageHasPolicy (Working vid task) = TaskHasPolicy task
-StageHasPolicy (Publishing entry opened) = IfSome opened IsValidInode
-StageHasPolicy (Answered change) = ChangeHasPolicy change
+abbrev pub IsValidStage : OpStage → Type 0
+IsValidStage (Asked entry) = Unit {0}
+IsValidStage (Working vid task) = IsValidTask task
+IsValidStage (Publishing entry opened) = IfSome opened IsValidInode
+IsValidStage (Answered change) = IsValidChange change
 
-abbrev pub CourseHasPolicy : Course → Type 0
-CourseHasPolicy (Waiting ask) = Unit {0}
-CourseHasPolicy (Driving driver) = Unit {0}
-CourseHasPolicy (Commanding op) = StageHasPolicy op.stage
-CourseHasPolicy (Checking check) = IsPolicy check.spec.policy
-CourseHasPolicy (DoingWork work) = Unit {0}
-CourseHasPolicy (AwaitingDecision entry) = Unit {0}
+abbrev pub IsValidCourse : Course → Type 0
+IsValidCourse (Waiting ask) = Unit {0}
+IsValidCourse (Driving driver) = Unit {0}
+IsValidCourse (Commanding op) = IsValidStage op.stage
+IsValidCourse (Checking check) = IsPolicy check.spec.policy
+IsValidCourse (DoingWork work) = Unit {0}
+IsValidCourse (AwaitingDecision entry) = Unit {0}
 
 -- the disk that a session has open, and the works that wait in its line
-pub record SessionHasPolicies (session : Session) : Type 0 where
+pub record IsValidSession (session : Session) : Type 0 where
   pub disk : IfSome session.disk (λ (disk : Disk). IsValidInode disk.inode)
   pub waiting : All (λ (waiting : lines.Waiting). WorkHasPolicy waiting.work) session.inode_queue.waiting
 
@@ -70,17 +70,17 @@ abbrev pub EachIs : {V : Type 0} → (V → Type 0) → tree.FinMap nat_cmp V �
 EachIs {V} P map = (key : ℕ) (value : V) → tree.get map key ≡ Some value → P value
 
 -- works, requests and sessions are
-pub record HavePolicies (works : tree.FinMap nat_cmp Work) (requests : tree.FinMap nat_cmp Request)
+pub record HaveValidDisks (works : tree.FinMap nat_cmp Work) (requests : tree.FinMap nat_cmp Request)
     (sessions : tree.FinMap nat_cmp Session) : Type 0 where
   pub open_works : EachIs (λ (work : Work). WorkHasPolicy work.work) works
-  pub courses : EachIs (λ (request : Request). CourseHasPolicy request.course) requests
-  pub each_session : EachIs SessionHasPolicies sessions
+  pub courses : EachIs (λ (request : Request). IsValidCourse request.course) requests
+  pub each_session : EachIs IsValidSession sessions
 
 -- a node's are, and the entries that it has read, and those that it has still to put, reserve only for such disks
-pub record HasSoundPolicies (node : Node) : Type 0 where
+pub record HasValidDisks (node : Node) : Type 0 where
   pub read : All IsReservable node.peer.entries
   pub to_put : All IsReservable node.outbox
-  pub kept : HavePolicies node.gateway.works node.requests node.sessions
+  pub kept : HaveValidDisks node.gateway.works node.requests node.sessions
 
 -- what is asked is valid
 abbrev pub IsValidAsk : Ask → Type 0

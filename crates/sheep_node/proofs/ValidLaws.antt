@@ -1,5 +1,4 @@
--- A node's works, requests and sessions have policies that there may be at its opening and after each step; so a step sends no more than
--- 1,000 messages.
+-- What a node has of disks is valid at its opening and after each step; so a step sends no more than 1,000 messages.
 use Rattle.std.proofs.Common.{◌≡◌, ℕ, ◌+◌, ◌*◌, ◌≤◌, List, [], ◌∷◌, ◌++◌, length, All, sym, ap, subst, ◌∙◌, append_assoc, append-nil}
 use native.Mathlib.Omega.{arith}
 use Rattle.std.specs.FinMap as tree
@@ -30,13 +29,13 @@ use Rattle.sheep_node.specs.StepFacts.{read_after}
 use Rattle.sheep_node.specs.May.{IsGuestAsk, MayRead, MayReadAll, Meets, May}
 use Rattle.sheep_node.specs.OutsideAsks.{IsEntryAsk}
 use Rattle.sheep_node.specs.SessionQueues.{QueuesAreShort}
-use Rattle.sheep_node.specs.Policies.{IsValidAsk, IsValidInput, WorkHasPolicy, CourseHasPolicy, SessionHasPolicies, HavePolicies, HasSoundPolicies}
+use Rattle.sheep_node.specs.ValidDisks.{IsValidAsk, IsValidInput, WorkHasPolicy, IsValidCourse, IsValidSession, HaveValidDisks, HasValidDisks}
 use Rattle.sheep_node.specs.Changes.{input_received}
 use Rattle.sheep_node.proofs.MessageCounts.{tick_few}
 use Rattle.sheep_node.proofs.OutsideAskLaws.{known_spec}
 use Rattle.sheep_node.proofs.PeerLog.{entries_reading}
-use Rattle.sheep_node.proofs.PolicyChanges.{none_is, InPolicy, chain_policies}
-use Rattle.sheep_node.proofs.PolicySteps.{HeadersHavePolicies}
+use Rattle.sheep_node.proofs.ValidChanges.{none_is, IsValidSoFar, chain_valid}
+use Rattle.sheep_node.proofs.ValidSteps.{HeadersAreValid}
 use Rattle.sheep_node.proofs.QueueLengths.{queues_stay_short_along}
 use Rattle.sheep_node.proofs.ReachedSteps.{changes_in}
 use Rattle.sheep_node.proofs.StepChain.{step_chain, changes_in-step_chain}
@@ -113,35 +112,35 @@ valid_input (inputs.Back entries) node meets are =
 
 -- ---- the beginning of a step
 
-abbrev NodeHasPolicies : Node → Type 0
-NodeHasPolicies node = HavePolicies node.gateway.works node.requests node.sessions × All IsReservable node.outbox
+abbrev IsValidNode : Node → Type 0
+IsValidNode node = HaveValidDisks node.gateway.works node.requests node.sessions × All IsReservable node.outbox
 
-none_have : HavePolicies tree.empty tree.empty tree.empty
+none_have : HaveValidDisks tree.empty tree.empty tree.empty
 none_have = record {
   open_works = none_is (λ (work : Work). WorkHasPolicy work.work);
-  courses = none_is (λ (request : Request). CourseHasPolicy request.course);
-  each_session = none_is SessionHasPolicies;
+  courses = none_is (λ (request : Request). IsValidCourse request.course);
+  each_session = none_is IsValidSession;
 }
 
-received_policies : (input : Input) (node : Node) → NodeHasPolicies node → NodeHasPolicies (input_received input (at_first node)).node
+received_valid : (input : Input) (node : Node) → IsValidNode node → IsValidNode (input_received input (at_first node)).node
 unfolding entry_read on_request on_recover_tick on_back
-received_policies (inputs.Guest req session ask) node all = all
-received_policies (inputs.Request request) node all = all
-received_policies (inputs.Reply rsp) node all =
-    cond_either (λ (start : StepState). NodeHasPolicies start.node) (gateways.gateway_awaits rsp.number node.gateway) (at_first node)
+received_valid (inputs.Guest req session ask) node all = all
+received_valid (inputs.Request request) node all = all
+received_valid (inputs.Reply rsp) node all =
+    cond_either (λ (start : StepState). IsValidNode start.node) (gateways.gateway_awaits rsp.number node.gateway) (at_first node)
     (recovery_stepped (recovery_steps.recovery_on_reply rsp (recovery_state_of node)) (at_first node)) all all
-received_policies (inputs.Lost number) node all =
-    cond_either (λ (start : StepState). NodeHasPolicies start.node) (gateways.gateway_awaits number node.gateway) (at_first node)
+received_valid (inputs.Lost number) node all =
+    cond_either (λ (start : StepState). IsValidNode start.node) (gateways.gateway_awaits number node.gateway) (at_first node)
     (recovery_stepped (recovery_steps.recovery_on_loss number (recovery_state_of node)) (at_first node)) all all
-received_policies (inputs.LogEntry entry) node all = all
-received_policies inputs.Put node all = by_outbox node.outbox all.1
+received_valid (inputs.LogEntry entry) node all = all
+received_valid inputs.Put node all = by_outbox node.outbox all.1
   where
-    by_outbox : (outbox : List Entry) → All IsReservable outbox → NodeHasPolicies (on_put outbox (at_first node)).node
+    by_outbox : (outbox : List Entry) → All IsReservable outbox → IsValidNode (on_put outbox (at_first node)).node
     by_outbox [] are = all
     by_outbox (entry ∷ later) are = (all.0, All-tail IsReservable entry later are)
-received_policies inputs.RecoverTick node all = all
-received_policies inputs.RetryTick node all = all
-received_policies (inputs.Back entries) node all = (none_have, All-nil IsReservable)
+received_valid inputs.RecoverTick node all = all
+received_valid inputs.RetryTick node all = all
+received_valid (inputs.Back entries) node all = (none_have, All-nil IsReservable)
 
 -- only a tick sends by itself
 received_sends : (input : Input) (node : Node) → RecoversInRange node → length (input_received input (at_first node)).outputs.sends ≤ 64
@@ -166,33 +165,33 @@ received_sends (inputs.Back entries) node range = omega arith
 
 -- ---- a step
 
-module _ (input : Input) (node : Node) (valid : IsValidInput input) (sound : HasSoundPolicies node) where
+module _ (input : Input) (node : Node) (valid : IsValidInput input) (sound : HasValidDisks node) where
   reservable : All IsReservable (read_after input node.peer.entries)
   reservable = reservable_after input node.peer.entries valid sound.read
 
-  known : (entry : Entry) → input ≡ inputs.LogEntry entry → HeadersHavePolicies (effects_of (entry_read entry node).peer)
+  known : (entry : Entry) → input ≡ inputs.LogEntry entry → HeadersAreValid (effects_of (entry_read entry node).peer)
   known entry from vid header there =
       let entries : read_after input node.peer.entries ≡ (entry_read entry node).peer.entries
       = ap (λ (input : Input). read_after input node.peer.entries) from ∙ sym (entries_reading entry node) in
       let is = header-valid (entry_read entry node).peer.entries (subst (All IsReservable) entries reservable) vid header there in
       (is.spec.policy, is.name)
 
-  step_in_policy : (most : ℕ) → length (input_received input (at_first node)).outputs.sends ≤ most
-      → InPolicy (31 * changes_in (step_chain input node) + most) (node_step input node)
-  step_in_policy most few =
-      let received = received_policies input node (sound.kept, sound.to_put) in
-      chain_policies most known valid (step_chain input node) (received.0, record { few = few; to_put = received.1 })
+  step_valid : (most : ℕ) → length (input_received input (at_first node)).outputs.sends ≤ most
+      → IsValidSoFar (31 * changes_in (step_chain input node) + most) (node_step input node)
+  step_valid most few =
+      let received = received_valid input node (sound.kept, sound.to_put) in
+      chain_valid most known valid (step_chain input node) (received.0, record { few = few; to_put = received.1 })
 
-  pub policies_stay : HasSoundPolicies (node_step input node).node
-  policies_stay =
-      let now = step_in_policy (length (input_received input (at_first node)).outputs.sends) (omega arith) in
+  pub valid_disks_stay : HasValidDisks (node_step input node).node
+  valid_disks_stay =
+      let now = step_valid (length (input_received input (at_first node)).outputs.sends) (omega arith) in
       record { read = subst (All IsReservable) (sym (step_reads input node)) reservable; to_put = now.1.to_put; kept = now.0 }
 
   pub sends_few : May input node → QueuesAreShort node → RecoversInRange node → length (node_step input node).outputs.sends ≤ 1000
   sends_few may short range =
-      let few = (step_in_policy 64 (received_sends input node range)).1.few in
+      let few = (step_valid 64 (received_sends input node range)).1.few in
       let changes : changes_in (step_chain input node) ≤ 19 = changes_in-step_chain input node (queues_stay_short_along input node may short) in
       omega (arith, few, changes)
 
-pub policies_at_opening : (me : NodeId) (tries : ℕ) → HasSoundPolicies (initial_node me tries)
-policies_at_opening me tries = record { read = All-nil IsReservable; to_put = All-nil IsReservable; kept = none_have }
+pub valid_disks_at_opening : (me : NodeId) (tries : ℕ) → HasValidDisks (initial_node me tries)
+valid_disks_at_opening me tries = record { read = All-nil IsReservable; to_put = All-nil IsReservable; kept = none_have }
