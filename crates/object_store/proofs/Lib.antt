@@ -4,6 +4,7 @@ pub mod RowLemmas
 pub mod KeptLemmas
 pub mod SeenLemmas
 pub mod MapLemmas
+pub mod ThereLemmas
 pub mod PlainLemmas
 pub mod RoomLemmas
 pub mod AnswerLemmas

@@ -1,13 +1,16 @@
 -- Lists of objects by ascending id, and the finite maps as which they are seen: for any store, at any kind of row.
 use Rattle.std.proofs.Common.{◌≡◌, ℕ, Bool, true, false, not, cond, T, nat_eq, List, [], ◌∷◌, length, Some, unwrap_or, refl, ap, sym, ◌∙◌, subst, arith}
 use Rattle.std.specs.Ordering.{is_eq, nat_cmp}
-use Rattle.std.specs.Map.{lookup}
+use Rattle.std.specs.declared.cmp.Ordering.TheVariants.{Less}
+use Rattle.std.specs.List.{AllByRecursion}
+use Rattle.std.specs.List.Sorted.{IsStrictlySortedBy}
+use Rattle.std.specs.Map.{lookup, keys_of}
 use Rattle.std.specs.Map.Calls.{RetainsPairs}
 use Rattle.std.specs.BTreeMap.{is_at}
 use Rattle.std.specs.FinMap.Entries.{below_all, is_sorted}
 use Rattle.std.proofs.lemmas.Bool.Decides.{nat_tests}
 use Rattle.proof_tools.proofs.FiniteMaps.{is_at-true, less_from_test}
-use Rattle.proof_tools.proofs.Booleans.{T_and_left, T_and_right}
+use Rattle.proof_tools.proofs.Booleans.{T_and, T_and_left, T_and_right}
 use Rattle.object_store.specs.Store.{with_rows, each_entry}
 
 -- the rows of an object in a list of entries
@@ -15,7 +18,7 @@ abbrev pub rows_at : {B : Type 0} → List (ℕ × List B) → ℕ → List B
 rows_at es q = unwrap_or (lookup (is_at (nat_cmp q)) es) []
 
 module _ {B : Type 0} where
-  some_left : (row : B) (rows : List B) → nat_eq (length (row ∷ rows)) 0 ≡ false
+  pub some_left : (row : B) (rows : List B) → nat_eq (length (row ∷ rows)) 0 ≡ false
   some_left row rows = grind (arith, nat_tests)
 
   kept_entry : (oid : ℕ) (rows : List B) (b : Bool) (w : List B) (rest es : List (ℕ × List B))
@@ -35,6 +38,34 @@ module _ {B : Type 0} where
       let call = calls e.0 e.1 is.0 is.1 is.2 is.4 in
       let rest = retained R change f calls es is.3 (subst (λ u. RetainsPairs R u es is.3) call.2 is.5) in
       is.6 ∙ kept_entry e.0 (change e.0 e.1) is.0 is.1 is.3 (each_entry change es) call.0 call.1 rest
+
+  keys_above : (x : ℕ) (es : List (ℕ × List B)) → T (below_all nat_cmp x es) → AllByRecursion (λ y. nat_cmp x y ≡ Less) (keys_of es)
+  keys_above x [] below = tt
+  keys_above x (e ∷ es) below = (less_from_test _ (T_and_left _ _ below), keys_above x es (T_and_right _ _ below))
+
+  pub keys-ascend : (es : List (ℕ × List B)) → T (is_sorted nat_cmp es) → IsStrictlySortedBy nat_cmp (keys_of es)
+  unfolding IsStrictlySortedBy
+  keys-ascend [] sorted = tt
+  keys-ascend (e ∷ es) sorted = (keys_above e.0 es (T_and_left _ _ sorted), keys-ascend es (T_and_right _ _ sorted))
+
+  -- the objects that are left ascend as before
+  below_left : (change : ℕ → List B → List B) (q : ℕ) (es : List (ℕ × List B)) → T (below_all nat_cmp q es) → T (below_all nat_cmp q (each_entry change es))
+  below_left change q [] below = below
+  below_left change q (e ∷ es) below = go (change e.0 e.1) (below_left change q es (T_and_right _ _ below))
+    where
+      go : (rows : List B) → T (below_all nat_cmp q (each_entry change es)) → T (below_all nat_cmp q (with_rows e.0 rows (each_entry change es)))
+      go [] rest = rest
+      go (row ∷ rows) rest = T_and _ _ (T_and_left _ _ below) rest
+
+  pub is_sorted-each_entry : (change : ℕ → List B → List B) (es : List (ℕ × List B)) → T (is_sorted nat_cmp es) → T (is_sorted nat_cmp (each_entry change es))
+  is_sorted-each_entry change [] sorted = sorted
+  is_sorted-each_entry change (e ∷ es) sorted =
+      go (change e.0 e.1) (below_left change e.0 es (T_and_left _ _ sorted)) (is_sorted-each_entry change es (T_and_right _ _ sorted))
+    where
+      go : (rows : List B) → T (below_all nat_cmp e.0 (each_entry change es)) → T (is_sorted nat_cmp (each_entry change es))
+          → T (is_sorted nat_cmp (with_rows e.0 rows (each_entry change es)))
+      go [] below rest = rest
+      go (row ∷ rows) below rest = T_and _ _ below rest
 
   skipped : (oid q : ℕ) (rows : List B) (es : List (ℕ × List B)) → is_eq (nat_cmp q oid) ≡ false → rows_at (with_rows oid rows es) q ≡ rows_at es q
   skipped oid q [] es other = refl

@@ -1,21 +1,21 @@
 -- After any list of calls at most the last row of an object is open, and an object without rows isn't there.
-use Rattle.std.proofs.Common.{◌≡◌, ◌≢◌, ℕ, ◌+◌, ◌-◌, Bool, true, false, not, cond, nat_eq, nat_le, List, [], ◌∷◌, ◌++◌, length, fold, Option, Some, None, Ok, Err, refl, ap, sym, ◌∙◌, subst}
+use Rattle.std.proofs.Common.{◌≡◌, ◌≢◌, ℕ, ◌+◌, ◌-◌, Bool, true, false, not, cond, nat_eq, nat_le, List, [], ◌∷◌, ◌++◌, length, fold, Option, Some, None, Result, Ok, Err, refl, ap, sym, ◌∙◌, subst}
 use Rattle.std.specs.Ordering.{nat_cmp}
-use Rattle.std.specs.Cmp.{nat_cmp_total}
-use Rattle.std.specs.Map.{lookup}
 use Rattle.std.specs.BTreeMap.{is_at}
 use Rattle.std.specs.FinMap as tree
 use Rattle.std.specs.Result.{result_unwrap_or}
-use Rattle.proof_tools.proofs.FiniteMaps.{find-lookup}
 use Rattle.object_id.specs.Oid.{vid_of}
 use Rattle.object_store.specs.declared.key.Key.{Key}
+use Rattle.object_store.specs.declared.fault.StoreFault.{StoreFault}
 use Rattle.object_store.specs.declared.fault.StoreFault.TheVariants.{OutOfObject}
 use Rattle.object_store.specs.Rows.{is_open, is_open_at, open_at, closed, closed_all, ended, changed, is_kept, advanced, purged, has_ended_below, without_disk, IsOrderly}
-use Rattle.object_store.specs.Store.{SeenRow, AllRows, rows_of, open_row, on_open, create_in, write_in, with_rows, each_entry, each}
+use Rattle.object_store.specs.Store.{SeenRow, AllRows, rows_of, open_row, on_open, create_in, write_in, write_at, each, HaveRows}
+use Rattle.object_store.specs.There.{HaveRows-each}
 use Rattle.object_store.specs.Calls.{Call, Create, Write, Advance, CloseAll, PurgeBelow, DropVid, rows_step, rows_after}
 use Rattle.object_store.proofs.RowLemmas.{closed_all-closed, orderly_closed, orderly_created, orderly_filter}
 use Rattle.object_store.proofs.RoomLemmas.{without_disk-none}
 use Rattle.object_store.proofs.StoreLaws.{rows_of-empty, rows_of-insert, rows_of-each}
+use Rattle.object_store.proofs.ThereLemmas.{HaveRows-empty, HaveRows-create, HaveRows-write}
 
 orderly_changed : (test : SeenRow → Bool) (change : List ℕ → List ℕ) (rows : List SeenRow) → IsOrderly rows → IsOrderly (changed test change rows)
 orderly_changed test change [] orderly = tt
@@ -95,82 +95,31 @@ orderly-rows_after calls = orderly_steps calls tree.empty (λ oid. subst IsOrder
 
 -- ---- no object is there without rows
 
-AreThere : AllRows → Type 0
-AreThere all = (oid : ℕ) → tree.get all oid ≢ Some []
-
-AreThere-insert : (all : AllRows) (oid : ℕ) (rows : List SeenRow) → rows ≢ [] → AreThere all → AreThere (tree.insert all oid rows)
-unfolding AreThere
-AreThere-insert all oid rows some had q is = go (is_at (nat_cmp q) oid) (sym (tree.get-insert nat_cmp_total all oid rows q) ∙ is)
-  where
-    go : (b : Bool) → cond b (Some rows) (tree.get all q) ≡ Some [] → ⊥
-    go true e = some (cc (e))
-    go false e = had q e
-
-kept_rows : (q oid : ℕ) (rows : List SeenRow) (es : List (ℕ × List SeenRow)) → lookup (is_at (nat_cmp q)) es ≢ Some [] → lookup (is_at (nat_cmp q)) (with_rows oid rows es) ≢ Some []
-kept_rows q oid [] es rest is = rest is
-kept_rows q oid (row ∷ rows) es rest is = go (is_at (nat_cmp q) oid) is
-  where
-    go : (b : Bool) → cond b (Some (row ∷ rows)) (lookup (is_at (nat_cmp q)) es) ≡ Some [] → ⊥
-    go true e = absurd (cc (e))
-    go false e = rest e
-
-none_empty : (change : ℕ → List SeenRow → List SeenRow) (q : ℕ) (es : List (ℕ × List SeenRow)) → lookup (is_at (nat_cmp q)) (each_entry change es) ≢ Some []
-none_empty change q [] is = absurd (cc)
-none_empty change q (e ∷ es) is = kept_rows q e.0 (change e.0 e.1) (each_entry change es) (none_empty change q es) is
-
-AreThere-each : (change : ℕ → List SeenRow → List SeenRow) (all : AllRows) → AreThere (each change all)
-unfolding AreThere each
-AreThere-each change all q is =
-    none_empty change q (tree.entries all)
-    (sym (tree.get-from_entries nat_cmp_total (each_entry change (tree.entries all)) q ∙ find-lookup q (each_entry change (tree.entries all))) ∙ is)
-
-pushed : (rows : List SeenRow) (row : SeenRow) → rows ++ row ∷ [] ≢ []
-pushed [] row is = absurd (cc)
-pushed (r ∷ rows) row is = absurd (cc)
-
-some_changed : (test : SeenRow → Bool) (change : List ℕ → List ℕ) (index : ℕ) (rows : List SeenRow) (row : SeenRow) → open_at index rows ≡ Some row → changed test change rows ≢ []
-some_changed test change index [] row found is = absurd (cc (found))
-some_changed test change index (r ∷ rows) row found is = go (test r) is
-  where
-    go : (b : Bool) → cond b ((record r { bytes = change r.bytes }) ∷ rows) (r ∷ changed test change rows) ≡ [] → ⊥
-    go true e = absurd (cc (e))
-    go false e = absurd (cc (e))
-
-there_step : (all : AllRows) (call : Call) → AreThere all → AreThere (rows_step all call)
+there_step : (all : AllRows) (call : Call) → HaveRows all → HaveRows (rows_step all call)
 there_step all (Create key epoch size offset piece) had = go (nat_le (offset + length piece) size)
   where
     new : AllRows
     new = tree.insert all key.oid (create_in key.index epoch size offset piece (rows_of all key.oid))
 
-    made : AreThere new
-    made = AreThere-insert all key.oid _ (pushed (ended epoch (rows_of all key.oid)) _) had
+    made : HaveRows new
+    made = HaveRows-create all key epoch size offset piece had
 
-    go : (b : Bool) → AreThere (result_unwrap_or (cond b (Ok new) (Err OutOfObject)) all)
+    go : (b : Bool) → HaveRows (result_unwrap_or (cond b (Ok new) (Err OutOfObject)) all)
     go true = made
     go false = had
-there_step all (Write key offset piece) had = go (open_row all key) refl
+there_step all (Write key offset piece) had = go (write_at all key offset piece) refl
   where
-    new : AllRows
-    new = tree.insert all key.oid (write_in key.index offset piece (rows_of all key.oid))
+    go : (step : Result AllRows StoreFault) → write_at all key offset piece ≡ step → HaveRows (result_unwrap_or step all)
+    go (Ok new) is = HaveRows-write all new key offset piece had is
+    go (Err fault) is = had
+there_step all (Advance next keeps) had = HaveRows-each (advanced keeps next) all
+there_step all (CloseAll last) had = HaveRows-each (λ _. closed_all last) all
+there_step all (PurgeBelow settled) had = HaveRows-each (λ _. purged settled) all
+there_step all (DropVid vid) had = HaveRows-each (without_disk vid) all
 
-    pick : (b : Bool) → AreThere new → AreThere (result_unwrap_or (cond b (Ok new) (Err OutOfObject)) all)
-    pick true made = made
-    pick false made = had
-
-    go : (o : Option SeenRow) → open_row all key ≡ o → AreThere (result_unwrap_or (on_open (offset + length piece) o (λ row. new)) all)
-    go None is = had
-    go (Some row) is =
-        pick (nat_le (offset + length piece) (length row.bytes))
-        (AreThere-insert all key.oid _ (some_changed (is_open_at key.index) _ key.index (rows_of all key.oid) row is) had)
-there_step all (Advance next keeps) had = AreThere-each (advanced keeps next) all
-there_step all (CloseAll last) had = AreThere-each (λ _. closed_all last) all
-there_step all (PurgeBelow settled) had = AreThere-each (λ _. purged settled) all
-there_step all (DropVid vid) had = AreThere-each (without_disk vid) all
-
-there_steps : (calls : List Call) (all : AllRows) → AreThere all → AreThere (fold rows_step all calls)
+there_steps : (calls : List Call) (all : AllRows) → HaveRows all → HaveRows (fold rows_step all calls)
 there_steps [] all had = had
 there_steps (call ∷ calls) all had = there_steps calls (rows_step all call) (there_step all call had)
 
-pub there-rows_after : (calls : List Call) (oid : ℕ) → tree.get (rows_after calls) oid ≢ Some []
-unfolding AreThere
-there-rows_after calls = there_steps calls tree.empty (λ oid is. absurd (cc (sym (tree.get-empty nat_cmp oid) ∙ is)))
+pub there-rows_after : (calls : List Call) → HaveRows (rows_after calls)
+there-rows_after calls = there_steps calls tree.empty HaveRows-empty

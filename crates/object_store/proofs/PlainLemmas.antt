@@ -1,26 +1,30 @@
 -- The objects that a plain store keeps, as the finite map as which they are seen.
-use Rattle.std.proofs.Common.{◌≡◌, ℕ, ◌+◌, Bool, true, false, cond, List, [], ◌∷◌, length, map, fold, Option, Some, None, unwrap_or, refl, ap, sym, ◌∙◌, subst}
+use Rattle.std.proofs.Common.{◌≡◌, ℕ, ◌+◌, Bool, true, false, not, cond, T, nat_eq, List, [], ◌∷◌, ◌++◌, length, map, fold, Option, Some, None, unwrap_or, refl, ap, sym, ◌∙◌, subst, arith}
 use Rattle.std.specs.Option.{option_map}
 use Rattle.std.specs.Ordering.{is_eq, nat_cmp}
 use Rattle.std.specs.Cmp.{nat_cmp_total, eq_by_cmp_equiv}
-use Rattle.std.specs.List.Sorted.{IsStrictlySortedBy}
+use Rattle.std.specs.List.Sorted.{IsStrictlySortedBy, IsStrictlyIncreasing}
+use Rattle.std.proofs.lemmas.Map.Keys.{IsStrictlyIncreasing-from_sorted}
 use Rattle.std.specs.List.{sum_by}
 use Rattle.std.specs.Map.{lookup, keys_of, values_of}
-use Rattle.std.proofs.lemmas.List.{length-map}
+use Rattle.std.proofs.lemmas.List.{length-map, append_assoc}
 use Rattle.std.specs.BTreeMap.{is_at}
 use Rattle.std.specs.FinMap as tree
-use Rattle.std.specs.FinMap.Entries.{find}
+use Rattle.std.specs.FinMap.Entries.{find, is_sorted}
 use Rattle.proof_tools.proofs.FiniteMaps.{is_at-true, is_at-same, is_at-other, is_sorted-from_keys, entries-from_entries}
 use Rattle.object_store.specs.declared.key.Key.{Key}
 use Rattle.object_store.specs.declared.row.Row.{Row}
 use Rattle.object_store.specs.Bytes.{KeptBytes}
 use Rattle.object_store.specs.Rows.{open_at}
-use Rattle.object_store.specs.Store.{SeenRow, rows_of, row_count, open_row, with_rows, each_entry, each}
+use Rattle.object_store.specs.Store.{SeenRow, rows_of, row_count, open_row, with_rows, each_entry, each, HaveRows}
 use Rattle.object_store.specs.Answers.{KeepsRoom, KeepsOtherRoom}
 use Rattle.object_store.specs.KeptRows.{seen_row, RoomIn, KeepsRowRoom}
-use Rattle.object_store.specs.Plain.{Objects, seen_entry, seen_rows, kept_of, HasRoomIn, IsPut}
-use Rattle.object_store.proofs.MapLemmas.{rows_at-each_entry}
+use Rattle.object_store.specs.There.{HaveRows-each}
+use Rattle.object_store.specs.Plain.{Objects, seen_entry, seen_rows, HaveRows-seen_rows, kept_of, HasRoomIn, IsPut}
+use Rattle.object_store.proofs.MapLemmas.{some_left, rows_at-each_entry, is_sorted-each_entry, keys-ascend}
 use Rattle.object_store.proofs.SeenLemmas.{seen_row-open_at}
+use Rattle.object_store.proofs.StoreLaws.{rows_of-empty, rows_of-insert, rows_of-each}
+use Rattle.object_store.proofs.ThereLemmas.{HaveRows-empty, same_rows}
 
 find-seen_row : (q : ℕ) (es : Objects) → find nat_cmp q (map seen_entry es) ≡ option_map (map seen_row) (lookup (is_at (nat_cmp q)) es)
 find-seen_row q [] = refl
@@ -31,15 +35,18 @@ find-seen_row q (e ∷ es) = go (is_eq (nat_cmp q e.0)) (find-seen_row q es)
     go true rest = refl
     go false rest = rest
 
-pub get-seen_rows : (es : Objects) (q : ℕ) → tree.get (seen_rows es) q ≡ option_map (map seen_row) (lookup (is_at (nat_cmp q)) es)
-get-seen_rows es q = tree.get-from_entries nat_cmp_total (map seen_entry es) q ∙ find-seen_row q es
-
 or_none : (o : Option (List (Row KeptBytes))) → unwrap_or (option_map (map seen_row) o) [] ≡ map seen_row (unwrap_or o [])
 or_none None = refl
 or_none (Some rows) = refl
 
 pub rows_of-seen_rows : (es : Objects) (oid : ℕ) → rows_of (seen_rows es) oid ≡ map seen_row (kept_of es oid)
-rows_of-seen_rows es oid = ap (λ o. unwrap_or o []) (get-seen_rows es oid) ∙ or_none (lookup (is_at (nat_cmp oid)) es)
+rows_of-seen_rows es oid =
+    rows_of-each (λ _ rows. rows) (tree.from_entries (map seen_entry es)) oid refl
+    ∙ ap (λ o. unwrap_or o []) (tree.get-from_entries nat_cmp_total (map seen_entry es) oid ∙ find-seen_row oid es)
+    ∙ or_none (lookup (is_at (nat_cmp oid)) es)
+
+pub seen_rows-none : seen_rows [] ≡ tree.empty
+seen_rows-none = same_rows (seen_rows []) tree.empty (HaveRows-seen_rows []) HaveRows-empty (λ q. rows_of-seen_rows [] q ∙ sym (rows_of-empty q))
 
 pub open_row-seen_rows : (es : Objects) (key : Key) → open_row (seen_rows es) key ≡ option_map seen_row (open_at key.index (kept_of es key.oid))
 open_row-seen_rows es key = ap (open_at key.index) (rows_of-seen_rows es key.oid) ∙ sym (seen_row-open_at key.index (kept_of es key.oid))
@@ -55,33 +62,41 @@ put-other : (es fs : Objects) (oid q : ℕ) (rows : List (Row KeptBytes)) → Is
 put-other es fs oid q rows put other =
     ap (λ o. unwrap_or o []) (put q ∙ ap (λ b. cond b (Some rows) (lookup (is_at (nat_cmp q)) es)) other)
 
--- one object's rows are put
-pub one_put : (es fs : Objects) (oid : ℕ) (rows : List (Row KeptBytes)) → IsPut es fs oid rows → seen_rows fs ≡ tree.insert (seen_rows es) oid (map seen_row rows)
-one_put es fs oid rows put = tree.same_map nat_cmp_total tree.nat_cmp-IsAntisymmetric (seen_rows fs) (tree.insert (seen_rows es) oid (map seen_row rows)) at
+kept_of-put : (es fs : Objects) (oid q : ℕ) (rows : List (Row KeptBytes)) → IsPut es fs oid rows → kept_of fs q ≡ cond (is_at (nat_cmp oid) q) rows (kept_of es q)
+kept_of-put es fs oid q rows put = ap (λ o. unwrap_or o []) (put q) ∙ go (is_at (nat_cmp oid) q) (lookup (is_at (nat_cmp q)) es)
   where
-    choice : (b : Bool) (o : Option (List (Row KeptBytes))) → option_map (map seen_row) (cond b (Some rows) o) ≡ cond b (Some (map seen_row rows)) (option_map (map seen_row) o)
-    choice true o = refl
-    choice false o = refl
+    go : (b : Bool) (o : Option (List (Row KeptBytes))) → unwrap_or (cond b (Some rows) o) [] ≡ cond b rows (unwrap_or o [])
+    go true o = refl
+    go false o = refl
 
-    at : (q : ℕ) → tree.get (seen_rows fs) q ≡ tree.get (tree.insert (seen_rows es) oid (map seen_row rows)) q
+-- one object's rows are put
+pub one_put : (es fs : Objects) (oid : ℕ) (rows : List (Row KeptBytes)) (shown : List SeenRow) → IsPut es fs oid rows → map seen_row rows ≡ shown
+    → HaveRows (tree.insert (seen_rows es) oid shown) → seen_rows fs ≡ tree.insert (seen_rows es) oid shown
+one_put es fs oid rows shown put is there = same_rows (seen_rows fs) (tree.insert (seen_rows es) oid shown) (HaveRows-seen_rows fs) there at
+  where
+    choice : (q : ℕ) (b : Bool) → map seen_row (cond b rows (kept_of es q)) ≡ cond b shown (rows_of (seen_rows es) q)
+    choice q true = is
+    choice q false = sym (rows_of-seen_rows es q)
+
+    at : (q : ℕ) → rows_of (seen_rows fs) q ≡ rows_of (tree.insert (seen_rows es) oid shown) q
     at q =
-        get-seen_rows fs q ∙ ap (option_map (map seen_row)) (put q) ∙ choice (is_at (nat_cmp oid) q) (lookup (is_at (nat_cmp q)) es)
-        ∙ sym (tree.get-insert nat_cmp_total (seen_rows es) oid (map seen_row rows) q
-        ∙ ap (λ b. cond b (Some (map seen_row rows)) (tree.get (seen_rows es) q)) ((eq_by_cmp_equiv nat_cmp_total).symm q oid)
-        ∙ ap (cond (is_at (nat_cmp oid) q) (Some (map seen_row rows))) (get-seen_rows es q))
+        rows_of-seen_rows fs q ∙ ap (map seen_row) (kept_of-put es fs oid q rows put) ∙ choice q (is_at (nat_cmp oid) q)
+        ∙ ap (λ b. cond b shown (rows_of (seen_rows es) q)) ((eq_by_cmp_equiv nat_cmp_total).symm oid q)
+        ∙ sym (rows_of-insert (seen_rows es) oid shown q)
 
 -- rows that are seen as those before are put in their place
 pub put_unseen : (es fs : Objects) (oid : ℕ) (rows old : List (Row KeptBytes)) → IsPut es fs oid rows → lookup (is_at (nat_cmp oid)) es ≡ Some old
     → map seen_row rows ≡ map seen_row old → seen_rows fs ≡ seen_rows es
-put_unseen es fs oid rows old put found same = tree.same_map nat_cmp_total tree.nat_cmp-IsAntisymmetric (seen_rows fs) (seen_rows es) at
+put_unseen es fs oid rows old put found same = same_rows (seen_rows fs) (seen_rows es) (HaveRows-seen_rows fs) (HaveRows-seen_rows es) at
   where
-    choice : (q : ℕ) (b : Bool) → is_at (nat_cmp oid) q ≡ b
-        → option_map (map seen_row) (cond b (Some rows) (lookup (is_at (nat_cmp q)) es)) ≡ option_map (map seen_row) (lookup (is_at (nat_cmp q)) es)
-    choice q true here = ap Some same ∙ ap (option_map (map seen_row)) (sym found ∙ ap (λ k. lookup (is_at (nat_cmp k)) es) (is_at-true oid q here))
+    choice : (q : ℕ) (b : Bool) → is_at (nat_cmp oid) q ≡ b → map seen_row (cond b rows (kept_of es q)) ≡ map seen_row (kept_of es q)
+    choice q true here = same ∙ ap (map seen_row) (sym (kept_of-found es oid old found) ∙ ap (kept_of es) (is_at-true oid q here))
     choice q false other = refl
 
-    at : (q : ℕ) → tree.get (seen_rows fs) q ≡ tree.get (seen_rows es) q
-    at q = get-seen_rows fs q ∙ ap (option_map (map seen_row)) (put q) ∙ choice q (is_at (nat_cmp oid) q) refl ∙ sym (get-seen_rows es q)
+    at : (q : ℕ) → rows_of (seen_rows fs) q ≡ rows_of (seen_rows es) q
+    at q =
+        rows_of-seen_rows fs q ∙ ap (map seen_row) (kept_of-put es fs oid q rows put) ∙ choice q (is_at (nat_cmp oid) q) refl
+        ∙ sym (rows_of-seen_rows es q)
 
 -- what one object keeps, all keep
 pub KeepsRoom-put : (es fs : Objects) (oid : ℕ) (rows : List (Row KeptBytes)) → IsPut es fs oid rows → KeepsRowRoom (kept_of es oid) rows
@@ -108,21 +123,65 @@ keys-seen_row : (es : Objects) → keys_of (map seen_entry es) ≡ keys_of es
 keys-seen_row [] = refl
 keys-seen_row (e ∷ es) = ap (λ ks. e.0 ∷ ks) (keys-seen_row es)
 
-pub entries-seen_rows : (es : Objects) → IsStrictlySortedBy nat_cmp (keys_of es) → tree.entries (seen_rows es) ≡ map seen_entry es
+pub entries-seen_rows : (es : Objects) → IsStrictlySortedBy nat_cmp (keys_of es) → tree.entries (seen_rows es) ≡ each_entry (λ _ rows. rows) (map seen_entry es)
+unfolding each
 entries-seen_rows es sorted =
-    entries-from_entries (map seen_entry es) (is_sorted-from_keys (map seen_entry es) (subst (IsStrictlySortedBy nat_cmp) (sym (keys-seen_row es)) sorted))
+    let ordered : T (is_sorted nat_cmp (map seen_entry es)) = is_sorted-from_keys (map seen_entry es) (subst (IsStrictlySortedBy nat_cmp) (sym (keys-seen_row es)) sorted) in
+    ap (λ os. tree.entries (tree.from_entries {R = nat_cmp} (each_entry (λ _ rows. rows) os))) (entries-from_entries (map seen_entry es) ordered)
+    ∙ entries-from_entries (each_entry (λ _ rows. rows) (map seen_entry es)) (is_sorted-each_entry (λ _ rows. rows) (map seen_entry es) ordered)
 
-pub keys-seen_rows : (es : Objects) → IsStrictlySortedBy nat_cmp (keys_of es) → tree.keys (seen_rows es) ≡ keys_of es
-keys-seen_rows es sorted = ap keys_of (entries-seen_rows es sorted) ∙ keys-seen_row es
+-- the ids of the objects of which rows are kept
+abbrev pub ids_of : Objects → List ℕ
+ids_of [] = []
+ids_of (e ∷ es) = cond (not (nat_eq (length e.1) 0)) (e.0 ∷ ids_of es) (ids_of es)
+
+pub keys-seen_rows : (es : Objects) → IsStrictlySortedBy nat_cmp (keys_of es) → tree.keys (seen_rows es) ≡ ids_of es
+keys-seen_rows es sorted = ap keys_of (entries-seen_rows es sorted) ∙ go es
+  where
+    one : (oid : ℕ) (rows : List (Row KeptBytes)) (rest : List (ℕ × List SeenRow)) (ids : List ℕ) → keys_of rest ≡ ids
+        → keys_of (with_rows oid (map seen_row rows) rest) ≡ cond (not (nat_eq (length rows) 0)) (oid ∷ ids) ids
+    one oid [] rest ids is = is
+    one oid (row ∷ rows) rest ids is =
+        ap (λ ks. oid ∷ ks) is ∙ ap (λ b. cond (not b) (oid ∷ ids) ids) (sym (some_left row rows))
+
+    go : (fs : Objects) → keys_of (each_entry (λ _ rows. rows) (map seen_entry fs)) ≡ ids_of fs
+    go [] = refl
+    go (f ∷ fs) = one f.0 f.1 (each_entry (λ _ rows. rows) (map seen_entry fs)) (ids_of fs) (go fs)
+
+-- one object more was passed
+pub one_id_more : (old new all : List ℕ) (left next : Objects) (oid : ℕ) (rows : List (Row KeptBytes)) → left ≡ (oid, rows) ∷ next
+    → new ≡ old ++ cond (nat_eq (length rows) 0) [] (oid ∷ []) → old ++ ids_of left ≡ all → new ++ ids_of next ≡ all
+one_id_more old new all left next oid rows is made had =
+    ap (λ ids. ids ++ ids_of next) made ∙ append_assoc old (cond (nat_eq (length rows) 0) [] (oid ∷ [])) (ids_of next)
+    ∙ ap (λ ids. old ++ ids) (go (nat_eq (length rows) 0) ∙ ap ids_of (sym is)) ∙ had
+  where
+    go : (none : Bool) → cond none [] (oid ∷ []) ++ ids_of next ≡ cond (not none) (oid ∷ ids_of next) (ids_of next)
+    go true = refl
+    go false = refl
+
+pub ids-ascend : (es : Objects) → IsStrictlyIncreasing (tree.keys (seen_rows es))
+ids-ascend es = IsStrictlyIncreasing-from_sorted (tree.keys (seen_rows es)) (keys-ascend (tree.entries (seen_rows es)) (tree.entries_sorted (seen_rows es)))
 
 -- as many rows are seen as are kept
 row_sum : (n : ℕ) (es : Objects)
-    → fold (λ (sum : ℕ) (rows : List SeenRow). sum + length rows) n (values_of (map seen_entry es))
+    → fold (λ (sum : ℕ) (rows : List SeenRow). sum + length rows) n (values_of (each_entry (λ _ rows. rows) (map seen_entry es)))
     ≡ fold (λ (sum : ℕ) (rows : List (Row KeptBytes)). sum + length rows) n (values_of es)
 row_sum n [] = refl
-row_sum n (e ∷ es) =
-    ap (λ (count : ℕ). fold (λ (sum : ℕ) (rows : List SeenRow). sum + length rows) (n + count) (values_of (map seen_entry es))) (length-map e.1 seen_row)
-    ∙ row_sum (n + length e.1) es
+row_sum n (e ∷ es) = one (map seen_row e.1) (length-map e.1 seen_row) ∙ row_sum (n + length e.1) es
+  where
+    rest : List (ℕ × List SeenRow)
+    rest = each_entry (λ _ rows. rows) (map seen_entry es)
+
+    add : ℕ → List SeenRow → ℕ
+    add sum rows = sum + length rows
+
+    one : (rows : List SeenRow) → length rows ≡ length e.1
+        → fold (λ (sum : ℕ) (rows : List SeenRow). sum + length rows) n (values_of (with_rows e.0 rows rest))
+        ≡ fold (λ (sum : ℕ) (rows : List SeenRow). sum + length rows) (n + length e.1) (values_of rest)
+    one [] is =
+        let none : n ≡ n + length e.1 = omega arith in
+        ap (λ (count : ℕ). fold (λ (sum : ℕ) (rows : List SeenRow). sum + length rows) count (values_of rest)) none
+    one (row ∷ rows) is = ap (λ (count : ℕ). fold (λ (sum : ℕ) (rows : List SeenRow). sum + length rows) (n + count) (values_of rest)) is
 
 pub row_count-seen_rows : (es : Objects) → IsStrictlySortedBy nat_cmp (keys_of es)
     → row_count (seen_rows es) ≡ sum_by (λ (rows : List (Row KeptBytes)). length rows) (values_of es)
@@ -131,21 +190,17 @@ row_count-seen_rows es sorted =
 
 -- each object's rows are changed, and are seen changed
 pub seen_rows-each_entry : (change : ℕ → List (Row KeptBytes) → List (Row KeptBytes)) (shown : ℕ → List SeenRow → List SeenRow)
+    → ((oid : ℕ) → change oid [] ≡ [])
     → ((oid : ℕ) (rows : List (Row KeptBytes)) → map seen_row (change oid rows) ≡ shown oid (map seen_row rows))
     → (es : Objects) → IsStrictlySortedBy nat_cmp (keys_of es) → seen_rows (each_entry change es) ≡ each shown (seen_rows es)
-unfolding each
-seen_rows-each_entry change shown same es sorted =
-    ap tree.from_entries (entry_by_entry es ∙ ap (each_entry shown) (sym (entries-seen_rows es sorted)))
-  where
-    one : (oid : ℕ) (rows : List (Row KeptBytes)) (rest : Objects) → map seen_entry (with_rows oid rows rest) ≡ with_rows oid (map seen_row rows) (map seen_entry rest)
-    one oid [] rest = refl
-    one oid (row ∷ rows) rest = refl
-
-    entry_by_entry : (fs : Objects) → map seen_entry (each_entry change fs) ≡ each_entry shown (map seen_entry fs)
-    entry_by_entry [] = refl
-    entry_by_entry (f ∷ fs) =
-        one f.0 (change f.0 f.1) (each_entry change fs)
-        ∙ (λ i. with_rows f.0 (same f.0 f.1 i) (entry_by_entry fs i))
+seen_rows-each_entry change shown none same es sorted =
+    same_rows (seen_rows (each_entry change es)) (each shown (seen_rows es))
+    (HaveRows-seen_rows (each_entry change es)) (HaveRows-each shown (seen_rows es))
+    (λ q. rows_of-seen_rows (each_entry change es) q
+    ∙ ap (map seen_row) (rows_at-each_entry change q (none q) es (is_sorted-from_keys es sorted))
+    ∙ same q (kept_of es q)
+    ∙ ap (shown q) (sym (rows_of-seen_rows es q))
+    ∙ sym (rows_of-each shown (seen_rows es) q (sym (same q []) ∙ ap (map seen_row) (none q))))
 
 -- no row loses room where no object's rows do
 pub KeepsRoom-each_entry : (change : ℕ → List (Row KeptBytes) → List (Row KeptBytes)) → ((oid : ℕ) → change oid [] ≡ [])

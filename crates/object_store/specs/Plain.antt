@@ -8,7 +8,8 @@ use Rattle.object_store.specs.declared.key.Key.{Key}
 use Rattle.object_store.specs.declared.row.Row.{Row}
 use Rattle.object_store.specs.Bytes.{KeptBytes}
 use Rattle.object_store.specs.Rows.{open_at}
-use Rattle.object_store.specs.Store.{AllRows}
+use Rattle.object_store.specs.Store.{AllRows, each, HaveRows}
+use Rattle.object_store.specs.There.{HaveRows-each}
 use Rattle.object_store.specs.KeptRows.{seen_row, RoomIn}
 
 abbrev pub Objects : Type 0
@@ -17,8 +18,12 @@ Objects = List (ℕ × List (Row KeptBytes))
 abbrev pub seen_entry : ℕ × List (Row KeptBytes) → ℕ × List (Row (List ℕ))
 seen_entry e = (e.0, map seen_row e.1)
 
+-- an object of which no row is kept isn't there
 abbrev pub seen_rows : Objects → AllRows
-seen_rows es = tree.from_entries (map seen_entry es)
+seen_rows es = each (λ _ rows. rows) (tree.from_entries (map seen_entry es))
+
+pub HaveRows-seen_rows : (es : Objects) → HaveRows (seen_rows es)
+HaveRows-seen_rows es = HaveRows-each (λ _ rows. rows) (tree.from_entries (map seen_entry es))
 
 -- what is kept of an object
 abbrev pub kept_of : Objects → ℕ → List (Row KeptBytes)

@@ -1,5 +1,5 @@
 -- What a store holds, and what each call makes of it.
-use Rattle.std.specs.Prelude.{ℕ, ◌+◌, ◌-◌, ◌<◌, ◌≤◌, List, [], ◌∷◌, ◌++◌, length, take, Option, Some, None, Result, Ok, Err, unwrap_or}
+use Rattle.std.specs.Prelude.{◌≢◌, ℕ, ◌+◌, ◌-◌, ◌<◌, ◌≤◌, List, [], ◌∷◌, ◌++◌, length, take, Option, Some, None, Result, Ok, Err, unwrap_or}
 use Rattle.std.specs.Prelude.{nat_le, if◌then◌else◌}
 use Rattle.std.specs.List.{slice_get, sum_by}
 use Rattle.std.specs.Option.{option_map}
@@ -103,6 +103,10 @@ each_entry change (e ∷ es) = with_rows e.0 (change e.0 e.1) (each_entry change
 -- each object's rows are changed
 unfoldable pub each : (ℕ → List SeenRow → List SeenRow) → AllRows → AllRows
 each change all = tree.from_entries (each_entry change (tree.entries all))
+
+-- no object is there without rows
+abbrev pub HaveRows : AllRows → Type 0
+HaveRows all = (oid : ℕ) → tree.get all oid ≢ Some []
 
 -- no open row of any object is from an epoch above this one
 abbrev pub OpenUpTo : ℕ → AllRows → Type 0

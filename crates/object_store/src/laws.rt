@@ -8,7 +8,7 @@ ghost use Rattle.object_id.specs.Fields.{zeros};
 ghost use Rattle.object_store.specs.Bytes.{trimmed_bytes};
 ghost use Rattle.object_store.specs.declared.row.RowCopy.{RowCopy};
 ghost use Rattle.object_store.specs.Store.{AllRows, SeenRow, copy_of, row_bytes, rows_of, create_at, write_at, read_at, each, OpenUpTo};
-ghost use Rattle.object_store.specs.Store.{OpenBelow};
+ghost use Rattle.object_store.specs.Store.{HaveRows, OpenBelow};
 ghost use Rattle.object_store.specs.Calls.{Call, rows_step, rows_after, story_of, read_story, touches, Has};
 
 /// No open row is from an epoch above the node's: the calls of a node keep the conditions of the later ones.
@@ -54,7 +54,7 @@ pub fn other_rows_stay()
 /// After any list of calls at most the last row of an object is open, and an object without rows isn't there.
 pub fn rows_are_in_order()
     ensures last { (calls : List Call) (oid : ℕ) → IsOrderly (rows_of (rows_after calls) oid) }
-    ensures there { (calls : List Call) (oid : ℕ) → tree.get (rows_after calls) oid ≢ Some [] }
+    ensures there { (calls : List Call) → HaveRows (rows_after calls) }
 {}
 
 /// The row that `row_at` copies: of those that hold the level the one from the greatest epoch, and of equal ones

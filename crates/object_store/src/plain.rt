@@ -1,4 +1,5 @@
-ghost use Rattle.std.specs.Prelude.{◌≡◌, ℕ, ◌+◌, ◌≤◌, List, [], length, slice_get, IfSome, IfOk, OnOk, OnErr, IsSome};
+ghost use Rattle.std.specs.Prelude.{◌≡◌, ℕ, ◌+◌, ◌≤◌, List, [], ◌∷◌, ◌++◌, length, nat_eq, slice_get, IfSome, IfOk, OnOk, OnErr, IsSome};
+ghost use Rattle.std.specs.Prelude.{if◌then◌else◌};
 ghost use Rattle.std.specs.Option.{option_map, option_copied};
 ghost use Rattle.std.specs.Map.{lookup};
 ghost use Rattle.std.specs.BTreeMap.{is_at};
@@ -8,7 +9,7 @@ ghost use Rattle.object_store.specs.Rows.{open_at, created};
 ghost use Rattle.object_store.specs.Store.{open_row, rows_of, piece_there, value_within, copy_of, summary_of};
 ghost use Rattle.object_store.specs.Answers.{KeepsRoom};
 ghost use Rattle.object_store.specs.KeptRows.{seen_row, rows_with_piece, RoomIn};
-ghost use Rattle.object_store.specs.Plain.{seen_rows, kept_of, HasRoomIn, IsPut};
+ghost use Rattle.object_store.specs.Plain.{seen_rows, kept_of, HasRoomIn, IsPut, HaveRows-seen_rows};
 
 use crate::content::Content;
 use crate::fault::StoreFault;
@@ -147,6 +148,8 @@ impl ObjStore for PlainStore {
 
     ghost HasRoom = { HasRoomIn };
 
+    ghost there = { HaveRows-seen_rows };
+
     fn create(
         &mut self,
         key: Key,
@@ -234,9 +237,22 @@ impl ObjStore for PlainStore {
     }
 
     fn list(&self) -> Result<OidList, NoMemory> {
-        let oids = self.objects.keys().copied().collect(self.alloc)?;
+        let mut oids = Vec::new(self.alloc);
+        for (oid, rows) in self.objects.iter() {
+            add_id(&mut oids, *oid, rows)?;
+        }
         Ok(OidList::from_vec(oids))
     }
+}
+
+/// Adds the id of an object, if it has rows.
+fn add_id(oids: &mut Vec<Oid>, oid: Oid, rows: &ObjectRows) -> Result<(), NoMemory>
+    ensures { OnOk result (oids.new.items ≡ oids.old.items ++ (if nat_eq (length rows.now) 0 then [] else oid ∷ [])) }
+{
+    if !rows.is_empty() {
+        oids.push(oid)?;
+    }
+    Ok(())
 }
 
 /// Whether a piece of `length` bytes from `offset` on ends within `size` bytes.

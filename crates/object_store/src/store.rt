@@ -3,7 +3,7 @@ ghost use Rattle.std.specs.FinMap as tree;
 ghost use Rattle.object_store.specs.declared.key.Key.{Key};
 ghost use Rattle.object_store.specs.Rows.{OpenFrom, closed_all, advanced, purged, without_disk};
 ghost use Rattle.object_store.specs.Store.{AllRows, rows_of, create_at, piece_there, write_at, read_at, copy_at, summary_at, row_count};
-ghost use Rattle.object_store.specs.Store.{each, OpenUpTo, OpenBelow};
+ghost use Rattle.object_store.specs.Store.{each, HaveRows, OpenUpTo, OpenBelow};
 ghost use Rattle.object_store.specs.Answers.{Makes, MakesSurely, KeepsRoom, KeepsOtherRoom};
 
 use crate::fault::StoreFault;
@@ -100,4 +100,7 @@ pub trait ObjStore: Drop {
     /// The ids of the objects that have rows. Costs these ids.
     fn list(&self) -> Result<OidList, NoMemory>
         ensures { IfOk result (λ list. list ≡ tree.keys (rows self.now)) };
+
+    /// No object is there without rows.
+    ghost there: { (store : Self) → HaveRows (rows store) };
 }

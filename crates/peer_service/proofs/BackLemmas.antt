@@ -1,5 +1,5 @@
 -- What a node has that comes back.
-use Rattle.std.proofs.Common.{◌≡◌, ◌↔◌, ℕ, ◌+◌, ◌==◌, Bool, true, false, not, cond, ◌&&◌, ◌||◌, nat_eq, IsTrue, List, [], ◌∷◌, ◌++◌, filter, map, take, Option, Some, None, unwrap_or, refl, ap, ap₂, sym, ◌∙◌, subst, arith}
+use Rattle.std.proofs.Common.{◌≡◌, ℕ, ◌+◌, ◌==◌, Bool, true, false, cond, ◌&&◌, ◌||◌, List, [], ◌∷◌, ◌++◌, take, Option, Some, None, unwrap_or, refl, ap, ap₂, sym, ◌∙◌, subst, arith}
 use Rattle.std.proofs.lemmas.Bool.Decides.{nat_tests}
 use Rattle.std.proofs.lemmas.List.Folds.{list_any-append}
 use Rattle.std.proofs.lemmas.List.Elements.{All-nil, All-cons}
@@ -24,7 +24,7 @@ use Rattle.vdi_directory.specs.Decisions.{log_effects}
 use Rattle.vdi_directory.specs.Dead.{is_dead}
 use Rattle.vdi_directory.specs.DirectoryState.{AreLocks}
 use Rattle.vdi_directory.proofs.StateLemmas.{log_effects-none}
-use Rattle.peer_service.specs.State.{Peer, is_dead_object}
+use Rattle.peer_service.specs.State.{Peer}
 use Rattle.peer_service.specs.LogReading.{rows_but, without_objects}
 use Rattle.peer_service.specs.Epochs.{peer_settled_to}
 use Rattle.peer_service.specs.Back.{closed_at_end, come_back}

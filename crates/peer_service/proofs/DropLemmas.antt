@@ -1,22 +1,22 @@
 -- The rows of some disks go, a disk at a time; and which disks are dead.
-use Rattle.std.proofs.Common.{◌≡◌, ◌≢◌, ◌↔◌, ℕ, ◌+◌, ◌==◌, Bool, true, false, not, cond, ◌&&◌, ◌||◌, nat_eq, IsTrue, List, [], ◌∷◌, ◌++◌, length, filter, map, take, Option, Some, None, refl, ap, ap₂, sym, ◌∙◌, subst, arith}
+use Rattle.std.proofs.Common.{◌≡◌, ◌↔◌, ℕ, ◌+◌, ◌==◌, Bool, true, false, not, cond, ◌&&◌, ◌||◌, nat_eq, IsTrue, List, [], ◌∷◌, ◌++◌, length, filter, take, Option, Some, None, refl, ap, sym, ◌∙◌, arith}
 use Rattle.std.proofs.lemmas.Bool.Decides.{nat_tests}
 use Rattle.std.proofs.lemmas.List.Folds.{list_any-append}
-use Rattle.std.specs.List.{list_any}
 use Rattle.std.specs.Option.{option_map}
 use Rattle.object_id.specs.Oid.{vid_of}
 use Rattle.object_id.specs.declared.oid.Vid.{Vid}
 use Rattle.object_id.specs.declared.entry.Entry.{Entry}
 use Rattle.object_store.specs.Rows.{without_disk}
-use Rattle.object_store.specs.Store.{AllRows, SeenRow, rows_of, each}
+use Rattle.object_store.specs.Store.{AllRows, SeenRow, rows_of, each, HaveRows}
+use Rattle.object_store.specs.There.{HaveRows-each}
 use Rattle.object_store.proofs.StoreLaws.{rows_of-each}
+use Rattle.object_store.proofs.ThereLemmas.{same_rows}
 use Rattle.vdi_directory.specs.References.{has_vid}
 use Rattle.vdi_directory.specs.Decisions.{log_effects}
 use Rattle.vdi_directory.specs.Dead.{is_dead}
-use Rattle.peer_service.specs.State.{Peer, HaveRows, with_entry}
+use Rattle.peer_service.specs.State.{Peer, with_entry}
 use Rattle.peer_service.specs.LogReading.{kills_object, rows_but, without_objects, read_entry}
 use Rattle.peer_service.proofs.EpochLemmas.{but_none}
-use Rattle.peer_service.proofs.PeerRowLemmas.{HaveRows-each, same_rows}
 
 -- whether an object is of one of these disks
 abbrev pub is_of_disk : List Vid → ℕ → Bool

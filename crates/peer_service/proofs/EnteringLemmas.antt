@@ -1,11 +1,10 @@
 -- Which keys an entering peer keeps.
-use Rattle.std.proofs.Common.{◌≡◌, ℕ, ◌+◌, ◌≤◌, ◌==◌, Bool, true, false, cond, ◌&&◌, ◌||◌, nat_eq, List, [], ◌∷◌, ◌++◌, length, take, Option, Some, None, unwrap_or, refl, ap, ap₂, sym, ◌∙◌, subst, arith}
+use Rattle.std.proofs.Common.{◌≡◌, ℕ, ◌+◌, ◌≤◌, ◌==◌, Bool, true, false, ◌&&◌, ◌||◌, nat_eq, List, [], ◌∷◌, ◌++◌, length, take, Option, Some, None, unwrap_or, refl, ap, sym, ◌∙◌, subst, arith}
 use Rattle.std.proofs.lemmas.Bool.Decides.{nat_tests}
 use Rattle.std.proofs.lemmas.List.Folds.{list_any-append}
 use Rattle.std.proofs.Math.Seq.{take-length}
 use Rattle.std.specs.List.{list_any, AllByRecursion, Contains}
 use Rattle.std.specs.Option.{option_map_or, option_and_then}
-use Rattle.std.specs.Ordering.{nat_cmp}
 use Rattle.std.specs.FinMap.{nat_cmp-IsAntisymmetric}
 use Rattle.std.specs.FinMap as tree
 use Rattle.proof_tools.proofs.FiniteMaps.{keys-contain}
@@ -16,7 +15,7 @@ use Rattle.object_id.specs.Oid.{kind_of}
 use Rattle.gf256.specs.Part.{index_among}
 use Rattle.object_store.specs.declared.key.Key.{Key}
 use Rattle.object_store.specs.Rows.{is_open, is_kept, advanced}
-use Rattle.object_store.specs.Store.{AllRows, SeenRow, rows_of, each}
+use Rattle.object_store.specs.Store.{AllRows, SeenRow, each}
 use Rattle.peer_service.specs.State.{Peer, object_policy}
 use Rattle.peer_service.specs.Epochs.{has_at, stays_open, kept_index, AreKept, peer_in_next_epoch}
 use Rattle.peer_service.proofs.EpochLemmas.{entered_call}

@@ -1,8 +1,7 @@
 -- What a node's peers reach of it, and what it knows of an object by the entries that it has read.
-use Rattle.std.specs.Prelude.{◌≢◌, ℕ, ◌^◌, ◌==◌, Bool, true, false, List, [], ◌∷◌, ◌++◌, Option, None, Some, is_some, if◌then◌else◌}
+use Rattle.std.specs.Prelude.{ℕ, ◌^◌, ◌==◌, Bool, true, false, List, [], ◌∷◌, ◌++◌, Option, None, Some, is_some, if◌then◌else◌}
 use Rattle.std.specs.List.{list_any}
 use Rattle.std.specs.Option.{option_map}
-use Rattle.std.specs.FinMap as tree
 use Rattle.object_id.specs.Oid.{vid_of, kind_of}
 use Rattle.object_id.specs.declared.oid.Kind.{Kind}
 use Rattle.object_id.specs.declared.oid.Kind.TheVariants.{Block, Inode}
@@ -10,7 +9,7 @@ use Rattle.object_id.specs.declared.policy.Policy.{Policy}
 use Rattle.object_id.specs.declared.entry.VdiSpec.{VdiSpec}
 use Rattle.object_id.specs.declared.entry.Entry.{Entry}
 use Rattle.gf256.specs.Part.{part_size}
-use Rattle.object_store.specs.Store.{AllRows, OpenUpTo}
+use Rattle.object_store.specs.Store.{AllRows}
 use Rattle.inode.specs.declared.layout.TheConstants.{INODE_BYTES}
 use Rattle.vdi_directory.specs.declared.header.Header.{Header}
 use Rattle.vdi_directory.specs.declared.effect.Effect.{Effect}
@@ -98,12 +97,3 @@ abbrev pub first_listed : Option (List ℕ) → Option ℕ
 first_listed None = None
 first_listed (Some []) = None
 first_listed (Some (oid ∷ rest)) = Some oid
-
--- no object is there without rows
-abbrev pub HaveRows : AllRows → Type 0
-HaveRows rows = (oid : ℕ) → tree.get rows oid ≢ Some []
-
--- what holds of a peer's rows at any time: no open one is from an epoch above the peer's, and no object is there without rows
-pub record ArePeerRows (epoch : ℕ) (rows : AllRows) : Type 0 where
-  pub opened : OpenUpTo epoch rows
-  pub there : HaveRows rows

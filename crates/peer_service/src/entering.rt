@@ -1,50 +1,36 @@
 //! Going to the next epoch: which open rows stay open is told by the placement there.
 
 ghost use Rattle.std.specs.Prelude.{◌≡◌, ℕ, ◌+◌, ◌==◌, ◌&&◌, ◌||◌, false, IfOk, OnOk, OnErr, IsTrue};
-ghost use Rattle.std.specs.List.{position};
 ghost use Rattle.std.specs.Option.{option_map_or};
 ghost use Rattle.object_id.specs.Oid.{kind_of};
 ghost use Rattle.object_id.specs.Policy.{IsPolicy};
-ghost use Rattle.gf256.specs.Part.{index_among, index_at};
+ghost use Rattle.gf256.specs.Part.{index_among};
 ghost use Rattle.object_store.specs.Rows.{is_kept};
 ghost use Rattle.vnode_table.specs.Epochs.{is_entered};
 ghost use Rattle.vnode_table.specs.Targets.{targets_in};
 ghost use Rattle.peer_service.specs.Epochs.{AreKept, kept_index, peer_in_next_epoch};
 
 use crate::peer_state::PeerState;
-use object_id::{Epoch, Kind, NoMemory, NodeId, Oid, Policy, TARGETS_MAX};
+use object_id::{Epoch, NoMemory, NodeId, Oid, Policy, TARGETS_MAX};
 use object_store::{Key, ObjStore};
+use strip_coding::index_among;
 use vnode_table::Placement;
 
-/// The index under which a target keeps its part of an object, by its place among the targets.
-fn index_at(policy: Policy, kind: Kind, place: u8) -> u8
-    ensures { result ≡ index_at policy kind place }
-{
-    match (policy, kind) {
-        (Policy::Coded { .. }, Kind::Block) => place,
-        _ => 0,
-    }
-}
-
-/// The place of a node among the targets, if it is one of them.
-fn place_of(targets: &[NodeId], node: NodeId) -> Option<usize>
-    ensures { result ≡ position (λ target. target.0 == node.0) targets.now }
-{
-    targets.iter().position(|target| *target == node)
-}
-
 /// The index under which a node keeps its part of an object in an epoch; `None` exactly where it isn't one of the targets.
-fn index_among(me: NodeId, place: &Placement, epoch: Epoch, oid: Oid, policy: Policy) -> Option<u8>
+fn index_in_epoch(
+    me: NodeId,
+    place: &Placement,
+    epoch: Epoch,
+    oid: Oid,
+    policy: Policy,
+) -> Option<u8>
     requires entered { IsTrue (is_entered place.now epoch.0) }
     requires policy { IsPolicy policy }
     ensures { result ≡ index_among me (targets_in place.now epoch.0 oid policy) policy (kind_of oid) }
 {
     let mut targets = [NodeId(0); TARGETS_MAX];
     let count = place.targets_at(epoch, oid, policy, &mut targets);
-    match place_of(&targets[..count], me) {
-        Some(place) => Some(index_at(policy, oid.kind(), place as u8)),
-        None => None,
-    }
+    index_among(me, &targets[..count], policy, oid.kind())
 }
 
 /// Adds the key of an object's row, if it has an index under which one stays open.
@@ -66,7 +52,7 @@ impl<O: ObjStore> PeerState<O> {
         ensures { result ≡ kept_index me (targets_in place.now) self.now oid }
     {
         match self.directory.spec(oid.vid()) {
-            Some(spec) => index_among(me, place, next, oid, spec.policy),
+            Some(spec) => index_in_epoch(me, place, next, oid, spec.policy),
             None => None,
         }
     }

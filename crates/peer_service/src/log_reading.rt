@@ -4,21 +4,22 @@ ghost use Rattle.std.specs.Prelude.{◌≡◌, ℕ, ◌==◌, ◌∷◌, ◌++�
 ghost use Rattle.std.specs.List.{All, list_any};
 ghost use Rattle.std.specs.Option.{option_map};
 ghost use Rattle.object_id.specs.Oid.{vid_of};
-ghost use Rattle.object_store.specs.Store.{each};
+ghost use Rattle.object_store.specs.Rows.{closed_all, purged};
+ghost use Rattle.object_store.specs.Store.{each, OpenUpTo};
 ghost use Rattle.epoch_log.specs.Appending.{IsReservable, IsLog};
 ghost use Rattle.epoch_log.specs.Tally.{IsTally};
 ghost use Rattle.vdi_directory.specs.Decisions.{log_effects};
 ghost use Rattle.vdi_directory.specs.Dead.{is_dead};
 ghost use Rattle.vdi_directory.specs.DirectoryState.{AreLocks};
 ghost use Rattle.vdi_directory.specs.References.{has_vid};
-ghost use Rattle.peer_service.specs.State.{HaveRows, effects_of};
+ghost use Rattle.peer_service.specs.State.{effects_of};
 ghost use Rattle.peer_service.specs.LogReading.{decision_on, rows_but, without_objects, read_entry};
 ghost use Rattle.peer_service.specs.Back.{come_back};
 
 use crate::peer_state::PeerState;
 use disk_lock::Locks;
 use epoch_log::Tally;
-use object_id::{Cause, Entry, NoMemory, Oid, Vid};
+use object_id::{Cause, Entry, Epoch, NoMemory, Oid, Vid};
 use object_store::{ObjStore, OidList};
 use std::alloc::Global;
 use vdi_directory::{Decision, Directory};
@@ -32,12 +33,23 @@ fn has_vid(vid: Vid, vids: &[Vid]) -> bool
 
 /// Drops the rows of the objects of these disks.
 fn drop_rows<O: ObjStore>(store: &mut O, vids: &[Vid])
-    requires { HaveRows (O.rows store.old) }
     ensures { O.rows store.new ≡ each (rows_but (λ oid. has_vid (vid_of oid) vids.now)) (O.rows store.old) }
 {
     for vid in vids {
         store.drop_vid(*vid);
     }
+}
+
+/// What is left of the rows of a node that was lost: each open one ends with its last epoch, and those that ended below the settled epoch
+/// go, and so do those of these disks.
+fn close_rows<O: ObjStore>(store: &mut O, last: Epoch, settled: Epoch, vids: &[Vid])
+    requires { OpenUpTo last.0 (O.rows store.old) }
+    ensures { O.rows store.new ≡ each (rows_but (λ oid. has_vid (vid_of oid) vids.now)) (each (λ _. purged settled.0)
+        (each (λ _. closed_all last.0) (O.rows store.old))) }
+{
+    store.close_all(last);
+    store.purge_below(settled);
+    drop_rows(store, vids);
 }
 
 /// Of what is pending the objects of these disks go, with a look at each.
@@ -185,9 +197,7 @@ impl<O: ObjStore> PeerState<O> {
         let dead = dead_disks(self.alloc, &directory, objects.as_slice())?;
         let newest = tally.epoch(entries);
         let level = tally.settled(entries);
-        self.store.close_all(self.epoch);
-        self.store.purge_below(level);
-        drop_rows(&mut self.store, dead.as_slice());
+        close_rows(&mut self.store, self.epoch, level, dead.as_slice());
         self.epoch = newest;
         self.settled = level;
         self.pending = Some(OidList::new(self.alloc));

@@ -1,7 +1,7 @@
 ghost use Rattle.std.specs.Prelude.{◌≡◌, ◌+◌, ◌≤◌, length, is_some, OnOk, OnErr};
 ghost use Rattle.std.specs.Option.{option_copied};
 ghost use Rattle.object_store.specs.Store.{open_row, OpenUpTo};
-ghost use Rattle.peer_service.specs.State.{HaveRows, initial_peer, is_waiting};
+ghost use Rattle.peer_service.specs.State.{initial_peer, is_waiting};
 ghost use Rattle.peer_service.specs.Fence.{epoch_refusal, admission};
 ghost use Rattle.peer_service.specs.Pending.{row_made, row_put, FitsRow, with_unfinished_list, with_pending, without_pending};
 ghost use Rattle.peer_service.specs.Epochs.{peer_settled_to};
@@ -31,8 +31,8 @@ impl<O: ObjStore> Model for PeerState<O> {
     ghost use Rattle.std.specs.Coded.{codes, coded_ℕ};
     ghost use Rattle.std.specs.FinMap as tree;
     ghost use Rattle.std.specs.Ordering.{nat_cmp};
-    ghost use Rattle.object_store.specs.Store.{SeenRow};
-    ghost use Rattle.peer_service.specs.State.{Peer, ArePeerRows};
+    ghost use Rattle.object_store.specs.Store.{SeenRow, OpenUpTo};
+    ghost use Rattle.peer_service.specs.State.{Peer};
 
     ghost Value = { Peer };
 
@@ -46,7 +46,7 @@ impl<O: ObjStore> Model for PeerState<O> {
       entries = state.directory;
     } };
 
-    ghost invariant = { λ state. ArePeerRows state.epoch.0 (O.rows state.store) };
+    ghost invariant = { λ state. OpenUpTo state.epoch.0 (O.rows state.store) };
 }
 
 /// Why a node of an epoch refuses a request of another one; `None` exactly where it doesn't.
@@ -63,11 +63,9 @@ fn epoch_refusal(own: Epoch, requested: Epoch) -> Option<Refusal>
 }
 
 impl<O: ObjStore> PeerState<O> {
-    /// A peer that has read no entry: its list is finished, and nothing is pending. The store has no object without rows. Takes no
-    /// memory.
+    /// A peer that has read no entry: its list is finished, and nothing is pending. Takes no memory.
     pub fn new(alloc: Global, store: O, epoch: Epoch) -> PeerState<O>
-        requires opened { OpenUpTo epoch.0 (O.rows store) }
-        requires there { HaveRows (O.rows store) }
+        requires { OpenUpTo epoch.0 (O.rows store) }
         ensures { result ≡ initial_peer (O.rows store) epoch.0 }
     {
         PeerState {
@@ -116,7 +114,6 @@ impl<O: ObjStore> PeerState<O> {
     pub fn into_store(self) -> O
         ensures rows { O.rows result ≡ self.rows }
         ensures opened { OpenUpTo self.epoch (O.rows result) }
-        ensures there { HaveRows (O.rows result) }
     {
         self.store
     }

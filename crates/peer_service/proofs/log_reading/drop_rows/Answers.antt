@@ -3,7 +3,7 @@ use Rattle.peer_service.proofs.DropLemmas.{no_disk_gone, dropped_next}
 use Rattle.peer_service.proofs.log_reading.drop_rows.Goals as goal
 
 pub loop-vid-init : goal.loop-vid-init
-loop-vid-init g c = no_disk_gone (g.O.ObjStore.rows c.args.store.now) c.requires
+loop-vid-init g c = no_disk_gone (g.O.ObjStore.rows c.args.store.now) (g.met.O.ObjStore.there c.args.store.now)
 
 pub loop-vid-preserved : goal.loop-vid-preserved
 loop-vid-preserved g c =

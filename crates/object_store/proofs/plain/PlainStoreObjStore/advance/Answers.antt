@@ -15,7 +15,7 @@ returns-clause-rows c =
     let next = c.args.next.0 in
     let es = c.self.inside.objects.entries in
     let kept : c.retain.new.self.entries ≡ each_entry (advanced keeps next) es = retained _ (advanced keeps next) _ (λ k v b w f' t. search rules) es _ c.retain.ensures.filtered in
-    ap seen_rows kept ∙ seen_rows-each_entry (advanced keeps next) (advanced keeps next) (seen_row-advanced keeps next) es c.retain.ensures.was_ordered
+    ap seen_rows kept ∙ seen_rows-each_entry (advanced keeps next) (advanced keeps next) (λ _. refl) (seen_row-advanced keeps next) es c.retain.ensures.was_ordered
     ∙ ap (λ os. each (advanced keeps next) (seen_rows os)) c.self.view_is
 
 pub returns-clause-room : goal.returns-clause-room

@@ -14,7 +14,7 @@ returns-clause-rows c =
     let last = c.args.last.0 in
     let es = c.self.inside.objects.entries in
     let kept : c.retain.new.self.entries ≡ each_entry (λ _. closed_all last) es = retained _ (λ _. closed_all last) _ (λ k v b w f' t. search rules) es _ c.retain.ensures.filtered in
-    ap seen_rows kept ∙ seen_rows-each_entry (λ _. closed_all last) (λ _. closed_all last) (λ _. seen_row-closed_all last) es c.retain.ensures.was_ordered
+    ap seen_rows kept ∙ seen_rows-each_entry (λ _. closed_all last) (λ _. closed_all last) (λ _. refl) (λ _. seen_row-closed_all last) es c.retain.ensures.was_ordered
     ∙ ap (λ os. each (λ _. closed_all last) (seen_rows os)) c.self.view_is
 
 pub returns-clause-room : goal.returns-clause-room

@@ -3,9 +3,10 @@ use Rattle.std.specs.FinMap as tree
 use Rattle.object_store.specs.Rows.{created}
 use Rattle.object_store.specs.Store.{AllRows, rows_of, value_within, create_in}
 use Rattle.object_store.specs.Answers.{Makes}
-use Rattle.object_store.specs.Plain.{seen_rows, kept_of}
+use Rattle.object_store.specs.Plain.{seen_rows, HaveRows-seen_rows, kept_of}
 use Rattle.object_store.proofs.SeenLemmas.{seen_row-created}
 use Rattle.object_store.proofs.PlainLemmas.{one_put, rows_of-seen_rows}
+use Rattle.object_store.proofs.ThereLemmas.{HaveRows-create}
 use Rattle.object_store.proofs.AnswerLemmas.{value_within-Ok}
 use Rattle.object_store.proofs.plain.PlainStoreObjStore.create.Goals as goal
 
@@ -18,9 +19,9 @@ returns-clause-rows c =
     let there : value_within (c.args.offset + length piece) c.args.length (tt {0}) ≡ Ok (tt {0}) = sym c.check_end.ensures ∙ c.in_ok-check_end.was in
     let all : AllRows = tree.insert (seen_rows es) key.oid (create_in key.index epoch c.args.length c.args.offset piece (rows_of (seen_rows es) key.oid)) in
     let made : seen_rows c.put.new.self ≡ all =
-    one_put es c.put.new.self key.oid _ c.in_ok-put.ensures.ok
-    ∙ ap (tree.insert (seen_rows es) key.oid)
+    one_put es c.put.new.self key.oid _ _ c.in_ok-put.ensures.ok
     (seen_row-created key.index epoch c.in_ok-content.content (kept_of es key.oid)
-    ∙ (λ i. created key.index epoch (c.in_ok-content.ensures i) (sym (rows_of-seen_rows es key.oid) i))) in
+    ∙ (λ i. created key.index epoch (c.in_ok-content.ensures i) (sym (rows_of-seen_rows es key.oid) i)))
+    (HaveRows-create (seen_rows es) key epoch c.args.length c.args.offset piece (HaveRows-seen_rows es)) in
     subst (λ step. Makes step (λ all. seen_rows c.put.new.self ≡ all) (seen_rows c.put.new.self ≡ seen_rows es) (Ok (tt {0})))
     (sym (value_within-Ok (c.args.offset + length piece) c.args.length all there)) made

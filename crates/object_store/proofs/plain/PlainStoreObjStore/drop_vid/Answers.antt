@@ -14,7 +14,7 @@ returns-clause-rows c =
     let vid = c.args.vid.0 in
     let es = c.self.inside.objects.entries in
     let kept : c.retain.new.self.entries ≡ each_entry (without_disk vid) es = retained _ (without_disk vid) _ (λ k v b w f' t. search rules) es _ c.retain.ensures.filtered in
-    ap seen_rows kept ∙ seen_rows-each_entry (without_disk vid) (without_disk vid) (seen_row-without_disk vid) es c.retain.ensures.was_ordered
+    ap seen_rows kept ∙ seen_rows-each_entry (without_disk vid) (without_disk vid) (without_disk-none vid) (seen_row-without_disk vid) es c.retain.ensures.was_ordered
     ∙ ap (λ os. each (without_disk vid) (seen_rows os)) c.self.view_is
 
 pub returns-clause-room : goal.returns-clause-room

@@ -14,7 +14,7 @@ returns-clause-rows c =
     let settled = c.args.settled.0 in
     let es = c.self.inside.objects.entries in
     let kept : c.retain.new.self.entries ≡ each_entry (λ _. purged settled) es = retained _ (λ _. purged settled) _ (λ k v b w f' t. search rules) es _ c.retain.ensures.filtered in
-    ap seen_rows kept ∙ seen_rows-each_entry (λ _. purged settled) (λ _. purged settled) (λ _. seen_row-purged settled) es c.retain.ensures.was_ordered
+    ap seen_rows kept ∙ seen_rows-each_entry (λ _. purged settled) (λ _. purged settled) (λ _. refl) (λ _. seen_row-purged settled) es c.retain.ensures.was_ordered
     ∙ ap (λ os. each (λ _. purged settled) (seen_rows os)) c.self.view_is
 
 pub returns-clause-room : goal.returns-clause-room

@@ -1,4 +1,4 @@
-use Rattle.std.proofs.Common.{sym, subst, ap, ◌∙◌, ◌+◌, List}
+use Rattle.std.proofs.Common.{sym, subst, ap, ◌∙◌, List}
 use Rattle.object_store.specs.declared.key.Key.{Key}
 use Rattle.vnode_table.specs.Targets.{targets_in}
 use Rattle.peer_service.specs.State.{Peer}
