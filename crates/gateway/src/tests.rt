@@ -20,9 +20,8 @@ use std::process::Abort;
 use std::test::*;
 use vnode_table::Placement;
 
-#[test]
-fn copies_what_is_sent(rt: HostRuntime) -> Result<(), Fail> {
-    let alloc = rt.alloc();
+/// One message, to node 5.
+fn one_send(alloc: Global) -> Result<Sends, NoMemory> {
     let mut list = SendList::new(alloc);
     let req = PeerReq {
         from: NodeId(3),
@@ -31,19 +30,30 @@ fn copies_what_is_sent(rt: HostRuntime) -> Result<(), Fail> {
         ask: PeerAsk::List,
     };
     list.push((NodeId(5), req))?;
-    let sends = Sends { list };
-    let copy = sends.copy(alloc)?;
-    assert_eq!(rt; copy.list.len(), 1);
-    let act = Act::Send(sends).copy(alloc)?;
-    let Act::Send(sent) = &act else {
-        return Ok(assert!(rt; false, "nothing is sent"));
-    };
-    assert!(rt;
-        matches!(
-            sent.list.get(0),
+    Ok(Sends { list })
+}
+
+fn is_one_send(sends: &Sends) -> bool {
+    sends.list.len() == 1
+        && matches!(
+            sends.list.get(0),
             Some((NodeId(5), PeerReq { number: 7, .. }))
         )
-    );
+}
+
+fn sends_one(act: &Act) -> bool {
+    match act {
+        Act::Send(sends) => is_one_send(sends),
+        _ => false,
+    }
+}
+
+#[test]
+fn copies_what_is_sent(rt: HostRuntime) -> Result<(), Fail> {
+    let alloc = rt.alloc();
+    let sends = one_send(alloc)?;
+    assert!(rt; is_one_send(&sends.copy(alloc)?));
+    assert!(rt; sends_one(&Act::Send(sends).copy(alloc)?));
     Ok(())
 }
 
@@ -59,46 +69,61 @@ fn a_read() -> ObjWork
     }
 }
 
+fn is_a_read(work: &ObjWork) -> bool {
+    matches!(
+        work,
+        ObjWork::Read {
+            offset: 512,
+            length: 1024,
+            ..
+        }
+    )
+}
+
+fn is_done_read(act: &Act) -> bool {
+    match act {
+        Act::Done { work, done } => {
+            is_a_read(work) && done.req == 9 && done.bytes.as_slice() == b"read".as_slice()
+        }
+        _ => false,
+    }
+}
+
 #[test]
 fn copies_what_was_done(rt: HostRuntime) -> Result<(), Fail> {
     let alloc = rt.alloc();
-    let done = Act::Done {
+    let bytes = Bytes::from_slice(alloc, b"read")?;
+    let act = Act::Done {
         work: a_read(),
-        done: WorkDone {
-            req: 9,
-            bytes: Bytes::from_slice(alloc, b"read")?,
-        },
+        done: WorkDone { req: 9, bytes },
     };
-    let Act::Done { work, done: copy } = done.copy(alloc)? else {
-        return Ok(assert!(rt; false, "nothing is done"));
-    };
-    assert_eq!(rt; (copy.req, copy.bytes.as_slice()), (9, b"read".as_slice()));
-    assert!(rt;
-        matches!(
-            work,
-            ObjWork::Read {
-                offset: 512,
-                length: 1024,
-                ..
-            }
-        )
-    );
-    assert!(rt; matches!(Act::Wait.copy(alloc)?, Act::Wait));
-    let refused = Act::Refused {
+    assert!(rt; is_done_read(&act.copy(alloc)?));
+    Ok(())
+}
+
+#[test]
+fn copies_a_wait(rt: HostRuntime) -> Result<(), Fail> {
+    assert!(rt; matches!(&Act::Wait.copy(rt.alloc())?, Act::Wait));
+    Ok(())
+}
+
+fn is_refused_read(act: &Act) -> bool {
+    match act {
+        Act::Refused { work, req, cause } => {
+            is_a_read(work) && *req == 4 && matches!(cause, Cause::Link { node: NodeId(1) })
+        }
+        _ => false,
+    }
+}
+
+#[test]
+fn copies_a_refusal(rt: HostRuntime) -> Result<(), Fail> {
+    let act = Act::Refused {
         work: a_read(),
         req: 4,
         cause: Cause::Link { node: NodeId(1) },
     };
-    assert!(rt;
-        matches!(
-            refused.copy(alloc)?,
-            Act::Refused {
-                work: ObjWork::Read { offset: 512, .. },
-                req: 4,
-                cause: Cause::Link { node: NodeId(1) },
-            }
-        )
-    );
+    assert!(rt; is_refused_read(&act.copy(rt.alloc())?));
     Ok(())
 }
 
@@ -152,18 +177,51 @@ fn waiting(alloc: Global, work: ObjWork) -> Result<Gateway, NoMemory>
     })
 }
 
-/// The reply to a message.
-fn reply(number: u32, say: PeerSay) -> PeerRsp {
-    PeerRsp {
-        number,
-        epoch: Epoch(1),
-        say,
+/// How many messages are sent.
+fn sends(act: &Act) -> usize {
+    match act {
+        Act::Send(sends) => sends.list.len(),
+        _ => 0,
     }
+}
+
+/// A work that began among so many nodes, and what came of that.
+fn first_step(
+    rt: &impl Abort,
+    alloc: Global,
+    nodes: u32,
+    tries: u32,
+    work: ObjWork,
+) -> Result<(Gateway, Act), NoMemory>
+    requires { IsWork work }
+{
+    let place = placement(rt, alloc, nodes)?;
+    started(alloc, tries, work, &place)
+}
+
+/// A work that began among so many nodes, with so many messages.
+fn begun(
+    rt: &impl Abort,
+    alloc: Global,
+    nodes: u32,
+    tries: u32,
+    work: ObjWork,
+    messages: usize,
+) -> Result<Gateway, NoMemory>
+    requires { IsWork work }
+{
+    let (gateway, act) = first_step(rt, alloc, nodes, tries, work)?;
+    assert_eq!(rt; sends(&act), messages);
+    Ok(gateway)
 }
 
 /// What comes of a reply to a message; `None` if it doesn't fit.
 fn replied(gateway: &mut Gateway, number: u32, say: PeerSay) -> Result<Option<Act>, NoMemory> {
-    let rsp = reply(number, say);
+    let rsp = PeerRsp {
+        number,
+        epoch: Epoch(1),
+        say,
+    };
     if gateway.fits(&rsp) {
         Ok(Some(gateway.on_reply(&rsp)?))
     } else {
@@ -180,12 +238,8 @@ fn lost(gateway: &mut Gateway, number: u32) -> Result<Option<Act>, NoMemory> {
     }
 }
 
-/// How many messages are sent.
-fn sends(act: &Act) -> usize {
-    match act {
-        Act::Send(sends) => sends.list.len(),
-        _ => 0,
-    }
+fn is_wait(act: &Option<Act>) -> bool {
+    matches!(act, Some(Act::Wait))
 }
 
 /// Whether a work is done, and gave these bytes.
@@ -193,8 +247,33 @@ fn is_done(act: &Option<Act>, bytes: &[u8]) -> bool {
     matches!(act, Some(Act::Done { done, .. }) if done.req == 4 && done.bytes.as_slice() == bytes)
 }
 
-fn is_wait(act: &Option<Act>) -> bool {
-    matches!(act, Some(Act::Wait))
+/// Whether a reply fits no message.
+fn fits_nothing(gateway: &mut Gateway, number: u32, say: PeerSay) -> Result<bool, NoMemory> {
+    Ok(replied(gateway, number, say)?.is_none())
+}
+
+/// Whether the work goes on after a reply.
+fn waits_on(gateway: &mut Gateway, number: u32, say: PeerSay) -> Result<bool, NoMemory> {
+    Ok(is_wait(&replied(gateway, number, say)?))
+}
+
+/// Whether a reply ends the work, which gives these bytes.
+fn ends(gateway: &mut Gateway, number: u32, say: PeerSay, bytes: &[u8]) -> Result<bool, NoMemory> {
+    Ok(is_done(&replied(gateway, number, say)?, bytes))
+}
+
+/// Whether the work goes on after a loss.
+fn outlives(gateway: &mut Gateway, number: u32) -> Result<bool, NoMemory> {
+    Ok(is_wait(&lost(gateway, number)?))
+}
+
+/// Whether nobody waits for a message, so that its loss is none.
+fn loses_nothing(gateway: &mut Gateway, number: u32) -> Result<bool, NoMemory> {
+    Ok(lost(gateway, number)?.is_none())
+}
+
+fn piece(alloc: Global, bytes: &[u8]) -> Result<PeerSay, NoMemory> {
+    Ok(PeerSay::Piece(Bytes::from_slice(alloc, bytes)?))
 }
 
 /// A write of object 2 of disk 9.
@@ -212,29 +291,23 @@ fn a_write(alloc: Global) -> Result<ObjWork, NoMemory>
 #[test]
 fn writes_to_each_copy(rt: HostRuntime) -> Result<(), Fail> {
     let alloc = rt.alloc();
-    let place = placement(&rt, alloc, 3)?;
-    let work = a_write(alloc)?;
-    let (mut gateway, act) = started(alloc, 8, work, &place)?;
-    assert_eq!(rt; sends(&act), 2);
+    let mut gateway = begun(&rt, alloc, 3, 8, a_write(alloc)?, 2)?;
     assert!(rt; gateway.waits_for(11));
     assert!(rt; !gateway.waits_for(12));
-    let piece = PeerSay::Piece(Bytes::from_slice(alloc, b"data")?);
-    assert!(rt; replied(&mut gateway, 10, piece)?.is_none());
-    assert!(rt; is_wait(&replied(&mut gateway, 11, PeerSay::Success)?));
+    assert!(rt; fits_nothing(&mut gateway, 10, piece(alloc, b"data")?)?);
+    assert!(rt; waits_on(&mut gateway, 11, PeerSay::Success)?);
     assert!(rt; !gateway.can_retry(Epoch(1)));
-    assert!(rt; is_done(&replied(&mut gateway, 10, PeerSay::Success)?, &[]));
+    assert!(rt; ends(&mut gateway, 10, PeerSay::Success, &[])?);
     Ok(())
 }
 
 #[test]
 fn tries_again_after_a_loss(rt: HostRuntime) -> Result<(), Fail> {
     let alloc = rt.alloc();
-    let place = placement(&rt, alloc, 3)?;
-    let work = a_write(alloc)?;
-    let (mut gateway, _) = started(alloc, 8, work, &place)?;
-    assert!(rt; is_wait(&lost(&mut gateway, 10)?));
-    assert!(rt; lost(&mut gateway, 10)?.is_none());
-    assert!(rt; is_wait(&lost(&mut gateway, 11)?));
+    let mut gateway = begun(&rt, alloc, 3, 8, a_write(alloc)?, 2)?;
+    assert!(rt; outlives(&mut gateway, 10)?);
+    assert!(rt; loses_nothing(&mut gateway, 10)?);
+    assert!(rt; outlives(&mut gateway, 11)?);
     assert!(rt; gateway.can_retry(Epoch(1)));
     Ok(())
 }
@@ -243,123 +316,155 @@ fn tries_again_after_a_loss(rt: HostRuntime) -> Result<(), Fail> {
 fn begins_the_next_attempt(rt: HostRuntime) -> Result<(), Fail> {
     let alloc = rt.alloc();
     let place = placement(&rt, alloc, 3)?;
-    let work = a_write(alloc)?;
-    let mut gateway = waiting(alloc, work)?;
-    let act = gateway.retry(10, Epoch(1), &place)?;
-    assert_eq!(rt; sends(&act), 2);
+    let mut gateway = waiting(alloc, a_write(alloc)?)?;
+    assert_eq!(rt; sends(&gateway.retry(10, Epoch(1), &place)?), 2);
     assert!(rt; gateway.waits_for(11));
     Ok(())
 }
 
-/// Whether the third message asks for the strip of the second block.
-fn asks_for_a_strip(act: &Act) -> bool {
-    matches!(act, Act::Send(sends) if matches!(sends.list.get(2),
-        Some((_, PeerReq { number: 12, ask: PeerAsk::Read { offset: 256, length: 256, .. }, .. }))))
+/// A read of a block of two data strips and one parity strip.
+fn a_coded_read() -> ObjWork
+    ensures { IsWork result }
+{
+    ObjWork::Read {
+        oid: Oid::object(Vid(9), 2),
+        policy: Policy::Coded { d: 2, p: 1 },
+        offset: 512,
+        length: 512,
+    }
 }
 
-/// Whether 256 bytes 1 and as many 2 were read.
-fn has_ones_and_twos(act: &Option<Act>) -> bool {
-    match act {
-        Some(Act::Done { done, .. }) => {
-            let (ones, twos) = done.bytes.as_slice().split_at(done.bytes.len() / 2);
-            ones == [1; 256].as_slice() && twos == [2; 256].as_slice()
+/// Whether a request is message 12, and asks for the strip of the second block.
+fn asks_for_a_strip(req: &PeerReq) -> bool {
+    match &req.ask {
+        PeerAsk::Read { offset, length, .. } => {
+            req.number == 12 && *offset == 256 && *length == 256
         }
         _ => false,
     }
+}
+
+/// Whether the third message asks for the strip of the second block.
+fn asks_for_strips(act: &Act) -> bool {
+    match act {
+        Act::Send(sends) => match sends.list.get(2) {
+            Some((_, req)) => asks_for_a_strip(req),
+            None => false,
+        },
+        _ => false,
+    }
+}
+
+#[test]
+fn asks_each_target_for_its_strip(rt: HostRuntime) -> Result<(), Fail> {
+    let (_, act) = first_step(&rt, rt.alloc(), 3, 1, a_coded_read())?;
+    assert!(rt; asks_for_strips(&act));
+    Ok(())
+}
+
+/// 256 bytes 1 and as many 2.
+fn ones_and_twos(alloc: Global) -> Result<Vec<u8>, NoMemory> {
+    let mut bytes = Vec::from_slice(alloc, &[1; 256])?;
+    bytes.extend_from_slice(&[2; 256])?;
+    Ok(bytes)
 }
 
 // One and two are the data strips of a block, and seven is its parity strip.
 #[test]
 fn reads_through_parity(rt: HostRuntime) -> Result<(), Fail> {
     let alloc = rt.alloc();
-    let place = placement(&rt, alloc, 3)?;
-    let work = ObjWork::Read {
-        oid: Oid::object(Vid(9), 2),
-        policy: Policy::Coded { d: 2, p: 1 },
-        offset: 512,
-        length: 512,
-    };
-    let (mut gateway, act) = started(alloc, 1, work, &place)?;
-    assert_eq!(rt; sends(&act), 3);
-    assert!(rt; asks_for_a_strip(&act));
-    let sevens = Bytes::from_slice(alloc, &[7; 256])?;
-    let twos = Bytes::from_slice(alloc, &[2; 256])?;
-    assert!(rt; is_wait(&replied(&mut gateway, 12, PeerSay::Piece(sevens))?));
-    assert!(rt; is_wait(&lost(&mut gateway, 10)?));
-    let act = replied(&mut gateway, 11, PeerSay::Piece(twos))?;
-    assert!(rt; has_ones_and_twos(&act));
+    let mut gateway = begun(&rt, alloc, 3, 1, a_coded_read(), 3)?;
+    let block = ones_and_twos(alloc)?;
+    assert!(rt; waits_on(&mut gateway, 12, piece(alloc, &[7; 256])?)?);
+    assert!(rt; outlives(&mut gateway, 10)?);
+    assert!(rt; ends(&mut gateway, 11, piece(alloc, &[2; 256])?, block.as_slice())?);
     Ok(())
+}
+
+/// A read of both copies of object 2 of disk 9.
+fn a_read_of_all() -> ObjWork
+    ensures { IsWork result }
+{
+    ObjWork::ReadAll {
+        oid: Oid::object(Vid(9), 2),
+        policy: Policy::Copies(2),
+        length: 1,
+    }
 }
 
 #[test]
 fn reads_all_copies(rt: HostRuntime) -> Result<(), Fail> {
     let alloc = rt.alloc();
-    let place = placement(&rt, alloc, 2)?;
-    let work = ObjWork::ReadAll {
-        oid: Oid::object(Vid(9), 2),
-        policy: Policy::Copies(2),
-        length: 1,
-    };
-    let (mut gateway, act) = started(alloc, 1, work, &place)?;
-    assert_eq!(rt; sends(&act), 2);
-    let two = PeerSay::Piece(Bytes::from_slice(alloc, b"2")?);
-    let one = PeerSay::Piece(Bytes::from_slice(alloc, b"1")?);
-    assert!(rt; is_wait(&replied(&mut gateway, 11, two)?));
-    assert!(rt; is_done(&replied(&mut gateway, 10, one)?, b"12"));
+    let mut gateway = begun(&rt, alloc, 2, 1, a_read_of_all(), 2)?;
+    assert!(rt; waits_on(&mut gateway, 11, piece(alloc, b"2")?)?);
+    assert!(rt; ends(&mut gateway, 10, piece(alloc, b"1")?, b"12")?);
     Ok(())
+}
+
+fn is_of_old_epoch(cause: &Cause) -> bool {
+    matches!(
+        cause,
+        Cause::OldEpoch {
+            own: Epoch(1),
+            peer: Epoch(3),
+            ..
+        }
+    )
+}
+
+fn is_refused_as_old(act: &Option<Act>) -> bool {
+    match act {
+        Some(Act::Refused { req, cause, .. }) => *req == 4 && is_of_old_epoch(cause),
+        _ => false,
+    }
 }
 
 // A read has one attempt only, and the node that it asks has a later epoch.
 #[test]
 fn refuses_with_the_cause(rt: HostRuntime) -> Result<(), Fail> {
-    let alloc = rt.alloc();
-    let place = placement(&rt, alloc, 2)?;
-    let (mut gateway, act) = started(alloc, 1, a_read(), &place)?;
-    assert_eq!(rt; sends(&act), 1);
+    let mut gateway = begun(&rt, rt.alloc(), 2, 1, a_read(), 1)?;
     let old = PeerSay::Refused(Refusal::OldEpoch { own: Epoch(3) });
-    assert!(rt;
-        matches!(
-            replied(&mut gateway, 10, old)?,
-            Some(Act::Refused {
-                req: 4,
-                cause: Cause::OldEpoch {
-                    own: Epoch(1),
-                    peer: Epoch(3),
-                    ..
-                },
-                ..
-            })
-        )
-    );
+    assert!(rt; is_refused_as_old(&replied(&mut gateway, 10, old)?));
     assert!(rt; !gateway.can_retry(Epoch(1)));
     Ok(())
 }
 
-#[test]
-fn halts_for_want_of_zones(rt: HostRuntime) -> Result<(), Fail> {
-    let alloc = rt.alloc();
-    let place = placement(&rt, alloc, 2)?;
-    let work = ObjWork::Create {
+/// A create of an object that is to have three copies.
+fn a_create(alloc: Global) -> ObjWork
+    ensures { IsWork result }
+{
+    ObjWork::Create {
         oid: Oid::object(Vid(9), 2),
         policy: Policy::Copies(3),
         length: 8,
         offset: 0,
         bytes: Bytes::new(alloc),
-    };
-    let (mut gateway, act) = started(alloc, 2, work, &place)?;
-    assert!(rt;
-        matches!(
-            &act,
-            Act::Refused {
-                req: 4,
-                cause: Cause::Halt {
-                    members: 2,
-                    wanted: 3
-                },
-                ..
-            }
-        )
-    );
-    assert!(rt; !gateway.can_retry(Epoch(2)) && lost(&mut gateway, 10)?.is_none());
+    }
+}
+
+fn is_halt(cause: &Cause) -> bool {
+    matches!(
+        cause,
+        Cause::Halt {
+            members: 2,
+            wanted: 3
+        }
+    )
+}
+
+fn is_halted(act: &Act) -> bool {
+    match act {
+        Act::Refused { req, cause, .. } => *req == 4 && is_halt(cause),
+        _ => false,
+    }
+}
+
+#[test]
+fn halts_for_want_of_zones(rt: HostRuntime) -> Result<(), Fail> {
+    let alloc = rt.alloc();
+    let (mut gateway, act) = first_step(&rt, alloc, 2, 2, a_create(alloc))?;
+    assert!(rt; is_halted(&act));
+    assert!(rt; !gateway.can_retry(Epoch(2)));
+    assert!(rt; loses_nothing(&mut gateway, 10)?);
     Ok(())
 }
