@@ -263,3 +263,21 @@ fn reads_entries_of_short_bytes(rt: HostRuntime) -> Result<(), Fail> {
     an_inode_is_as_long_as_its_table();
     Ok(())
 }
+
+/// Whether a fault is displayed as this text.
+fn is_said(alloc: Global, fault: InodeFault, text: &str) -> Result<bool, Fail> {
+    Ok(format!(in alloc; "{fault}")?.as_str() == text)
+}
+
+#[test]
+fn says_why_bytes_are_no_inode(rt: HostRuntime) -> Result<(), Fail> {
+    let alloc = rt.alloc();
+    assert!(rt; is_said(alloc, InodeFault::ShortInode, "the inode isn't whole")?);
+    assert!(rt; is_said(alloc, InodeFault::NameNotEnded, "a name or tag has no end")?);
+    assert!(rt; is_said(alloc, InodeFault::BadShift, "the shift isn't 12 to 24")?);
+    assert!(rt; is_said(alloc, InodeFault::BadPolicy, "the policy isn't one")?);
+    assert!(rt; is_said(alloc, InodeFault::BadSize, "the size or the id isn't one")?);
+    assert!(rt; is_said(alloc, InodeFault::BadEntry, "an entry is no disk's id")?);
+    assert!(rt; is_said(alloc, InodeFault::NoMemory, "no memory")?);
+    Ok(())
+}

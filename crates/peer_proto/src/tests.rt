@@ -3,6 +3,7 @@
 use super::*;
 use object_id::{Bytes, Epoch, NodeId, Oid, Policy, Vid};
 use object_store::{Key, OidList};
+use std::alloc::Global;
 use std::test::*;
 
 #[test]
@@ -149,5 +150,27 @@ fn copies_checks(rt: HostRuntime) -> Result<(), Fail> {
     assert!(rt;
         matches!(&copy, GuestRsp::Checked(Checked { objects: 2, inherited: 1, differed }) if differed.len() == 1)
     );
+    Ok(())
+}
+
+/// Whether a fault is displayed as this text.
+fn is_said(alloc: Global, fault: PeerFault, text: &str) -> Result<bool, Fail> {
+    Ok(format!(in alloc; "{fault}")?.as_str() == text)
+}
+
+#[test]
+fn says_why_bytes_are_no_message(rt: HostRuntime) -> Result<(), Fail> {
+    let alloc = rt.alloc();
+    assert!(rt; is_said(alloc, PeerFault::ShortHeader, "less than a header")?);
+    assert!(rt; is_said(alloc, PeerFault::VerMismatch, "not this version")?);
+    assert!(rt;
+        is_said(
+            alloc,
+            PeerFault::UnknownOpcode,
+            "no opcode of peer messages"
+        )?
+    );
+    assert!(rt; is_said(alloc, PeerFault::BadField, "a field that no message has")?);
+    assert!(rt; is_said(alloc, PeerFault::NoMemory, "no memory")?);
     Ok(())
 }

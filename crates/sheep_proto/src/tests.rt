@@ -253,3 +253,15 @@ fn shares_the_first_bytes(rt: HostRuntime) {
     assert_eq!(rt; read_common(&header), Ok(common));
     assert_eq!(rt; read_common(&header[..47]), Err(HeaderFault::ShortHeader));
 }
+
+#[test]
+fn says_why_bytes_are_no_header(rt: HostRuntime) -> Result<(), Fail> {
+    let alloc = rt.alloc();
+    let short = format!(in alloc; "{}", HeaderFault::ShortHeader)?;
+    assert_eq!(rt; short.as_str(), "fewer than 48 bytes");
+    let version = format!(in alloc; "{}", HeaderFault::VerMismatch)?;
+    assert_eq!(rt; version.as_str(), "the version isn't 1");
+    let opcode = format!(in alloc; "{}", HeaderFault::UnknownOpcode)?;
+    assert_eq!(rt; opcode.as_str(), "the opcode is unknown");
+    Ok(())
+}
