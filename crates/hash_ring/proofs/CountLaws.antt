@@ -46,7 +46,7 @@ swap_step false true false f g same e = omega (arith, e)
 swap_step false false true f g same e = omega (arith, e)
 swap_step false false false f g same e = omega (arith, e)
 
-fresh_swap : (seen : List ℕ) (a b : ℕ) (zs : List ℕ) → fresh seen (a ∷ b ∷ zs) ≡ fresh seen (b ∷ a ∷ zs)
+pub fresh_swap : (seen : List ℕ) (a b : ℕ) (zs : List ℕ) → fresh seen (a ∷ b ∷ zs) ≡ fresh seen (b ∷ a ∷ zs)
 fresh_swap seen a b zs =
     let P : Bool → Type 0 = λ u.
     cond (is_among a seen) 0 1 + (cond ((a == b) || is_among b seen) 0 1 + fresh (b ∷ a ∷ seen) zs)

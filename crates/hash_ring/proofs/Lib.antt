@@ -5,5 +5,6 @@ pub mod LeastLaws
 pub mod PlacedLaws
 pub mod WalkLaws
 pub mod CountLaws
+pub mod ZoneLaws
 pub mod TargetLaws
 pub mod PointLaws

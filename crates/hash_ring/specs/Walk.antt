@@ -1,5 +1,5 @@
 -- How a ring is walked: what its private functions say of one another.
-use Rattle.std.specs.Prelude.{◌≡◌, ℕ, Bool, false, List, [], ◌∷◌, ◌++◌, take, drop, map, slice_index_or, if◌then◌else◌}
+use Rattle.std.specs.Prelude.{◌≡◌, ℕ, Bool, false, List, [], ◌∷◌, ◌++◌, take, drop, length, map, slice_index_or, if◌then◌else◌}
 use Rattle.object_id.specs.declared.node.NodeId.{NodeId}
 use Rattle.object_id.specs.Node.{IsZone}
 use Rattle.hash_ring.specs.declared.point.Point.{Point}
@@ -24,3 +24,7 @@ first_nodes earlier (point ∷ later) =
     if is_among point.zone earlier
     then first_nodes (point.zone ∷ earlier) later
     else point.node ∷ first_nodes (point.zone ∷ earlier) later
+
+-- in how many zones the nodes of points stand
+abbrev pub zones_met : List Point → ℕ
+zones_met points = length (first_nodes [] points)

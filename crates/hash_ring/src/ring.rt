@@ -3,27 +3,30 @@ ghost use Rattle.hash_ring.specs.Placement.{AreWeighted, targets_of};
 ghost use Rattle.hash_ring.specs.Points.{NodesHaveOneZone, points_of, targets_among};
 
 use crate::point::{Point, add_points};
-use crate::walk::{fill, first_from};
+use crate::walk::{count_zones, fill, first_from};
 use object_id::{Member, NoMemory, NodeId};
 use std::alloc::Global;
 use std::marker::Model;
 
-/// The points of an epoch's virtual nodes in the order of the circle. Contracts see it as the list of its points.
+/// The points of an epoch's virtual nodes in the order of the circle, and next to them in how many zones their nodes stand.
+/// Contracts see it as the list of its points.
 #[derive(Debug, Drop)]
 pub struct Ring {
     points: Vec<Point>,
+    zones: usize,
 }
 
 impl Model for Ring {
-    ghost use Rattle.std.specs.Prelude.{List};
+    ghost use Rattle.std.specs.Prelude.{◌≡◌, List};
     ghost use Rattle.hash_ring.specs.declared.point.Point.{Point};
     ghost use Rattle.hash_ring.specs.Points.{IsRing};
+    ghost use Rattle.hash_ring.specs.Walk.{zones_met};
 
     ghost Value = { List Point };
 
     ghost view = { λ ring. ring.points.items };
 
-    ghost invariant = { λ ring. IsRing ring.points.items };
+    ghost invariant = { λ ring. IsRing ring.points.items × (ring.zones ≡ zones_met ring.points.items) };
 }
 
 impl Ring {
@@ -42,7 +45,8 @@ impl Ring {
         Ok(Ring::from_points(points))
     }
 
-    /// The ring of these points, which may have equal hashes. Takes no memory, and costs their sorting.
+    /// The ring of these points, which may have equal hashes. Takes no memory. Costs their sorting, and for each point of a
+    /// zone that no node may have a look at those before it.
     pub fn from_points(points: Vec<Point>) -> Ring
         requires { NodesHaveOneZone points.items }
         ensures points { IsPermutation points.items result }
@@ -52,12 +56,13 @@ impl Ring {
     {
         let mut points = points;
         points.sort_unstable();
-        Ring { points }
+        let zones = count_zones(points.as_slice());
+        Ring { points, zones }
     }
 
     /// Fills in the first `n` targets of an object of this hash, and answers how many they are: `n`, or fewer
     /// where there are fewer zones. The rest of `out` stays. Takes no memory. Costs the logarithm of the points, and a look at each
-    /// from the hash on up to the last target: at all of them where there are fewer zones than `n`.
+    /// from the hash on up to the last target, also where there are fewer zones than `n`.
     pub fn targets(&self, hash: u64, n: usize, out: &mut [NodeId]) -> usize
         requires { n ≤ length out.old }
         ensures count { result ≡ length (targets_among self.now hash n) }
@@ -65,6 +70,8 @@ impl Ring {
         ensures rest { drop result out.new ≡ drop result out.old }
     {
         let points = self.points.as_slice();
-        fill(points, first_from(points, hash), n, out)
+        // With a target in each zone no other point can be one.
+        let most = n.min(self.zones);
+        fill(points, first_from(points, hash), most, out)
     }
 }

@@ -1,10 +1,10 @@
-ghost use Rattle.std.specs.Prelude.{◌≡◌, ℕ, ◌+◌, ◌^◌, ◌<◌, ◌≤◌, ◌==◌, ◌||◌, ◌++◌, false, [], ◌∷◌, length, take, drop, not, All};
+ghost use Rattle.std.specs.Prelude.{◌≡◌, ℕ, ◌+◌, ◌-◌, ◌^◌, ◌<◌, ◌≤◌, ◌==◌, ◌||◌, ◌++◌, false, [], ◌∷◌, length, take, drop, not, All};
 ghost use Rattle.std.specs.Prelude.{slice_index_or, if◌then◌else◌};
 ghost use Rattle.object_id.specs.declared.node.NodeId.{NodeId};
 ghost use Rattle.object_id.specs.Node.{IsZone};
 ghost use Rattle.hash_ring.specs.Placement.{is_among};
 ghost use Rattle.hash_ring.specs.Points.{IsRing};
-ghost use Rattle.hash_ring.specs.Walk.{walk, zones_before, AreMarked, first_nodes};
+ghost use Rattle.hash_ring.specs.Walk.{walk, zones_before, AreMarked, first_nodes, zones_met};
 
 use crate::point::Point;
 use object_id::{NodeId, ZONES_MAX, is_zone};
@@ -115,6 +115,34 @@ pub fn fill(points: &[Point], start: usize, n: usize, out: &mut [NodeId]) -> usi
         let point = at(points, start, turn);
         let is_wanted = is_new(points, start, turn, point.zone, &met);
         count = keep(out, count, point.node, is_wanted);
+        mark(&mut met, point.zone);
+    }
+    count
+}
+
+/// One more if it counts.
+fn count_with(count: usize, counts: bool) -> usize
+    requires { count < 2 ^ 64 - 1 }
+    ensures { result ≡ count + (if counts then 1 else 0) }
+{
+    if !counts {
+        return count;
+    }
+    count + 1
+}
+
+/// In how many zones the points' nodes stand. Costs a look at each point, and at a point of a zone that no node may have one at
+/// each point before it.
+pub fn count_zones(points: &[Point]) -> usize
+    ensures { result ≡ zones_met points.now }
+{
+    let mut count = 0;
+    let mut met = [false; ZONES_MAX as usize];
+    let turns = points.len();
+    for turn in 0..turns {
+        let point = at(points, 0, turn);
+        let counts = is_new(points, 0, turn, point.zone, &met);
+        count = count_with(count, counts);
         mark(&mut met, point.zone);
     }
     count

@@ -1,15 +1,11 @@
-use Rattle.std.proofs.Common.{◌≡◌, ◌≢◌, ℕ, ◌+◌, ◌-◌, ◌≤◌, Bool, true, false, cond, List, [], ◌∷◌, ◌++◌, length, take, drop, refl, sym, ap, ◌∙◌, arith, length-append}
+use Rattle.std.proofs.Common.{◌≡◌, ◌≢◌, ℕ, ◌+◌, ◌-◌, ◌≤◌, Bool, true, false, cond, List, [], ◌∷◌, ◌++◌, length, take, drop, refl, sym, ap, ◌∙◌, arith}
 use Rattle.std.specs.Prelude.{◌==◌, ◌||◌}
 use Rattle.std.proofs.lemmas.List.{drop-drop, get_or-replicate}
 use Rattle.object_id.specs.declared.node.NodeId.{NodeId}
 use Rattle.hash_ring.specs.Walk.{walk, first_nodes}
 use Rattle.hash_ring.proofs.WalkLaws.{first_nodes_more, first_nodes_found, is_among_more, length-walk}
+use Rattle.hash_ring.proofs.ZoneLaws.{length-kept}
 use Rattle.hash_ring.proofs.walk.fill.Goals as goal
-
-length-kept : (nodes : List NodeId) (node : NodeId) (kept : Bool)
-    → length (nodes ++ cond kept (node ∷ []) []) ≡ length nodes + cond kept 1 0
-length-kept nodes node true = length-append nodes (node ∷ [])
-length-kept nodes node false = length-append nodes []
 
 at_most : (count n now : ℕ) (kept : Bool) → count ≤ n → count ≢ n → now ≡ count + cond kept 1 0 → now ≤ n
 at_most count n now true h other e = omega (arith, h, other, e)
