@@ -13,7 +13,8 @@ IsNoEmptyList None = Unit {0}
 IsNoEmptyList (Some []) = ⊥
 IsNoEmptyList (Some (row ∷ rows)) = Unit {0}
 
-with_one : (oid at : ℕ) (rows : List SeenRow) (es : List (ℕ × List SeenRow)) → IsNoEmptyList (find nat_cmp oid es) → IsNoEmptyList (find nat_cmp oid (with_rows at rows es))
+with_one : (oid at : ℕ) (rows : List SeenRow) (es : List (ℕ × List SeenRow)) → IsNoEmptyList (find nat_cmp oid es)
+    → IsNoEmptyList (find nat_cmp oid (with_rows at rows es))
 unfolding IsNoEmptyList
 with_one oid at [] es rest = rest
 with_one oid at (row ∷ rows) es rest = go (is_eq (nat_cmp oid at))
@@ -22,7 +23,8 @@ with_one oid at (row ∷ rows) es rest = go (is_eq (nat_cmp oid at))
     go true = tt
     go false = rest
 
-no_empty_list : (change : ℕ → List SeenRow → List SeenRow) (oid : ℕ) (es : List (ℕ × List SeenRow)) → IsNoEmptyList (find nat_cmp oid (each_entry change es))
+no_empty_list : (change : ℕ → List SeenRow → List SeenRow) (oid : ℕ) (es : List (ℕ × List SeenRow))
+    → IsNoEmptyList (find nat_cmp oid (each_entry change es))
 unfolding IsNoEmptyList
 no_empty_list change oid [] = tt
 no_empty_list change oid (e ∷ es) = with_one oid e.0 (change e.0 e.1) (each_entry change es) (no_empty_list change oid es)
