@@ -17,7 +17,7 @@ use Rattle.trace_text.specs.Spelling.{name_text, event_text, trace_text_of}
 use Rattle.trace_text.specs.EventReading.{IsNamed}
 use Rattle.trace_text.specs.Lines.{whole_lines, lines_in}
 
-abbrev IsLine : List ℕ → Type 0
+abbrev pub IsLine : List ℕ → Type 0
 IsLine bytes = All (λ byte. (byte == 10) ≡ false) bytes
 
 -- a written word with more behind it

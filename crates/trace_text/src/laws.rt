@@ -1,14 +1,17 @@
 //! Laws of the definitions, for the proofs of the layers above: each is the contract of a function that does nothing.
-ghost use Rattle.std.specs.Prelude.{◌≡◌, ◌↔◌, ℕ, List, [], ◌∷◌, ◌++◌, codes, map, Some, None};
-ghost use Rattle.std.specs.List.{AllByRecursion};
+ghost use Rattle.std.specs.Prelude.{◌≡◌, ◌↔◌, ℕ, false, List, [], ◌∷◌, ◌++◌, codes, map, Some, None, Ok};
+ghost use Rattle.std.specs.List.{list_any, AllByRecursion};
 ghost use Rattle.cluster_script.specs.declared.statement.Statement.{Statement};
+ghost use Rattle.cluster_script.specs.Words.{lines_of};
+ghost use Rattle.cluster_script.specs.Script.{StatementReader, script_of, script_in};
 ghost use Rattle.sheep_node.specs.declared.event.Event.{Event};
 ghost use Rattle.sheep_node.specs.declared.event.Event.TheVariants as events;
 ghost use Rattle.sheep_world.specs.Run.{IsWholeRun};
 ghost use Rattle.trace_text.specs.Spelling.{event_text, trace_text_of};
 ghost use Rattle.trace_text.specs.EventReading.{IsNamed, event_in};
 ghost use Rattle.trace_text.specs.Replay.{events_in, bad_place, IsBadAt};
-ghost use Rattle.trace_text.specs.Lines.{lines_in, script_lines, trace_lines};
+ghost use Rattle.trace_text.specs.Lines.{lines_in, is_trace_line, script_lines, trace_lines};
+ghost use Rattle.trace_text.specs.InputParts.{script_part, trace_part};
 
 /// A line is read as an event exactly where it is the event's text, and its numbers are below 2^32.
 pub fn reading_undoes_spelling()
@@ -38,6 +41,33 @@ pub fn a_replay_takes_whole_runs()
     // The place of a bad line is 1 and the events before it; a place behind the last line means that a phase isn't ended.
     ensures bad { (statements : List Statement) (lines : List (List ℕ)) (place : ℕ) → bad_place statements lines ≡ Some place
         → IsBadAt statements lines place }
+{}
+
+/// An input is cut at its first line `trace`: from what stands before it a script is read, and a replay goes through the lines
+/// of what stands behind it.
+pub fn an_input_is_cut_at_the_first_line_trace()
+    // Without that line all of the input is the script, and the trace is empty.
+    ensures alone { (input : List ℕ) → list_any is_trace_line (lines_of input) ≡ false
+        → (script_part input ≡ input) × (trace_part input ≡ []) }
+    ensures parted { (script trace : List ℕ) → list_any is_trace_line (lines_of script) ≡ false
+        → (script_part (script ++ codes "\ntrace\n" ++ trace) ≡ script) × (trace_part (script ++ codes "\ntrace\n" ++ trace) ≡ trace) }
+    // However a line is read, its number in the input is the one in the script.
+    ensures script { (reader : StatementReader) (input : List ℕ)
+        → script_of reader [] 1 (lines_of (script_part input)) ≡ script_of reader [] 1 (script_lines input) }
+    ensures trace { (input : List ℕ) → lines_in (trace_part input) ≡ trace_lines input }
+{}
+
+/// A script may be followed by a trace: no line of it is `trace`, and so both are read again.
+pub fn a_script_and_its_trace_are_read_again()
+    ensures none { (text : List ℕ) (statements : List Statement) → script_in text ≡ Ok statements
+        → list_any is_trace_line (lines_of text) ≡ false }
+    ensures again { (text : List ℕ) (statements : List Statement) (events : List Event) → script_in text ≡ Ok statements
+        → AllByRecursion IsNamed events
+        → (script_in (script_part (text ++ codes "\ntrace\n" ++ trace_text_of events)) ≡ Ok statements)
+        × (trace_lines (text ++ codes "\ntrace\n" ++ trace_text_of events) ≡ map event_text events) }
+    // The LF in front of the line `trace` may end the script's last line.
+    ensures ended { (reader : StatementReader) (text : List ℕ)
+        → script_of reader [] 1 (lines_of (text ++ codes "\n")) ≡ script_of reader [] 1 (lines_of text) }
 {}
 
 /// How each event is spelled.
@@ -73,4 +103,6 @@ pub fn lines_read()
     ensures script { script_lines (codes "cluster 1\n trace\ntrace\nguest 1\n\nphase\n") ≡ codes "cluster 1" ∷ codes " trace" ∷ [] }
     ensures trace { trace_lines (codes "cluster 1\n trace\ntrace\nguest 1\n\nphase\n") ≡ codes "guest 1" ∷ [] ∷ codes "phase" ∷ [] }
     ensures no_trace { trace_lines (codes "cluster 1\n") ≡ [] }
+    ensures script_part { script_part (codes "cluster 1\n trace\ntrace\nguest 1\n\nphase\n") ≡ codes "cluster 1\n trace" }
+    ensures trace_part { trace_part (codes "cluster 1\n trace\ntrace\nguest 1\n\nphase\n") ≡ codes "guest 1\n\nphase\n" }
 {}

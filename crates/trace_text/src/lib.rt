@@ -1,10 +1,10 @@
 //! The spelling of events, and how a trace is replayed: a line for each event.
 //!
 //! The crate stands on `sheep_world` and `cluster_script`. Here stand the faults of a replay as types, and as definitions
-//! how an event is spelled (`specs/Spelling.antt`), which event a line spells (`specs/Reading.antt`), which lines a trace
-//! has (`specs/Lines.antt`), and which of them is the first bad one in a replay (`specs/Replay.antt`). The laws of
-//! `laws.rt` say what these mean: reading undoes spelling, an event has one spelling, and a replay takes a trace exactly
-//! where it spells a whole run.
+//! how an event is spelled (`specs/Spelling.antt`), which event a line spells (`specs/EventReading.antt`), which lines a trace
+//! has (`specs/Lines.antt`), into which parts an input is cut (`specs/InputParts.antt`), and which line is the first bad one in
+//! a replay (`specs/Replay.antt`). The laws of `laws.rt` say what these mean: reading undoes spelling, an event has one
+//! spelling, a script and its trace are read again from one input, and a replay takes a trace exactly where it spells a whole run.
 #![tactic(auto)]
 
 mod fault;
@@ -12,6 +12,7 @@ mod laws;
 
 pub use fault::{BadEvent, TraceFault};
 pub use laws::{
-    a_replay_takes_whole_runs, a_text_is_of_one_event, a_trace_has_a_line_for_each_event,
-    events_spelled_out, lines_read, reading_undoes_spelling,
+    a_replay_takes_whole_runs, a_script_and_its_trace_are_read_again, a_text_is_of_one_event,
+    a_trace_has_a_line_for_each_event, an_input_is_cut_at_the_first_line_trace, events_spelled_out,
+    lines_read, reading_undoes_spelling,
 };

@@ -18,4 +18,6 @@ returns c = record {
   script = refl;
   trace = refl;
   no_trace = refl;
+  script_part = refl;
+  trace_part = refl;
 }
