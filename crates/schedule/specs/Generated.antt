@@ -6,7 +6,7 @@ use Rattle.std.specs.List.{range_with_len}
 use Rattle.rand_xoshiro.specs.SplitMix64.{mix_u64}
 
 -- the next words of a generator, so many, from a state on
-abbrev pub words_from : ℕ → ℕ → List ℕ
+unfoldable pub words_from : ℕ → ℕ → List ℕ
 words_from zero rng = []
 words_from (suc count) rng = (mix_u64 rng).0 ∷ words_from count (mix_u64 rng).1
 

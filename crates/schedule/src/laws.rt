@@ -1,13 +1,18 @@
 //! Laws of the definitions, for the proofs of the layers above: each is the contract of a function that does nothing.
-ghost use Rattle.std.specs.Prelude.{◌≡◌, ◌≢◌, ℕ, ◌+◌, ◌<◌, ◌≤◌, List, [], ◌∷◌, length, take, drop, codes, Some, None, Contains};
+ghost use Rattle.std.specs.Prelude.{◌≡◌, ◌≢◌, ℕ, ◌+◌, ◌<◌, ◌≤◌, List, [], ◌∷◌, length, take, drop, codes, Some, None, Ok, Contains};
+ghost use Rattle.std.specs.Prelude.{count_by};
 ghost use Rattle.rand_xoshiro.specs.SplitMix64.{mix_u64};
 ghost use Rattle.cluster_script.specs.declared.statement.Statement.{Statement};
 ghost use Rattle.cluster_script.specs.Settings.{limit_of};
+ghost use Rattle.cluster_script.specs.Statements.{is_request};
+ghost use Rattle.cluster_script.specs.Language.{IsScript};
+ghost use Rattle.cluster_script.specs.Script.{script_in};
 ghost use Rattle.sheep_node.specs.declared.event.Event.{Event};
 ghost use Rattle.sheep_world.specs.Enabled.{enabled_events};
 ghost use Rattle.sheep_world.specs.Run.{Moment, IsRun, IsWholeRun};
 ghost use Rattle.schedule.specs.Schedule.{Draft, phase_chosen, choice, schedule_of};
 ghost use Rattle.schedule.specs.Generated.{generated_lines};
+ghost use Rattle.schedule.specs.GeneratedScript.{generated_text, generated_statements};
 ghost use Rattle.schedule.specs.Stops.{stopped_at, IsStopAt};
 ghost use Rattle.schedule.specs.Merged.{KeptStep, Kept, IsByStamp, MergesFrom, Merges, IsMergeOf, IsClashAt};
 
@@ -62,6 +67,13 @@ pub fn what_is_kept_has_one_order()
         → IsRun statements events }
     ensures merge { (statements : List Statement) (kept : Kept) (events others : List Event)
         → IsMergeOf statements kept events → IsMergeOf statements kept others → events ≡ others }
+{}
+
+/// Whatever the number, what it generates is a script of 208 requests: its statements are one, and its text is read as them.
+pub fn each_number_generates_a_script()
+    ensures script { (number : ℕ) → IsScript (generated_statements number) }
+    ensures text { (number : ℕ) → script_in (generated_text number) ≡ Ok (generated_statements number) }
+    ensures requests { (number : ℕ) → count_by is_request (generated_statements number) ≡ 208 }
 {}
 
 /// The script that the number 0 generates: where its parts stand, and some of its lines.

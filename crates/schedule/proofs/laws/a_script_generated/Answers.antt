@@ -1,10 +1,10 @@
 use Rattle.std.proofs.Common.{refl}
 use Rattle.std.specs.Fmt.{digits}
-use Rattle.schedule.specs.Generated.{generated_lines}
+use Rattle.schedule.specs.Generated.{words_from, generated_lines}
 use Rattle.schedule.proofs.laws.a_script_generated.Goals as goal
 
 pub returns : goal.returns
-unfolding generated_lines digits
+unfolding words_from generated_lines digits
 returns c = record {
   count = refl;
   opening = refl;
