@@ -16,8 +16,8 @@ ghost use Rattle.object_id.specs.Fields.{u8_bytes, u16_bytes, u32_bytes, u64_byt
 ghost use Rattle.object_id.specs.Fields.{numbers_at, AreBytes, Stands};
 
 use crate::limits::{
-    BLOCK_BYTES, COPIES_MAX, DATA_STRIPS_MAX, EPOCH_MAX, INDEX_MAX, INPUT_BYTES_MAX, LENGTH_MAX,
-    LIMIT_DEFAULT, LIMIT_MAX, LOSSES_MAX, NAME_BYTES_MAX, NODES_DEFAULT, NODES_MAX,
+    BLOCK_BYTES, CHECKS_MAX, COPIES_MAX, DATA_STRIPS_MAX, EPOCH_MAX, INDEX_MAX, INPUT_BYTES_MAX,
+    LENGTH_MAX, LIMIT_DEFAULT, LIMIT_MAX, LOSSES_MAX, NAME_BYTES_MAX, NODES_DEFAULT, NODES_MAX,
     OBJECT_BYTES_MAX, OBJECTS_MAX, PARITY_MAX, READ_BYTES_MAX, REQUESTS_AT_ONCE, REQUESTS_MAX,
     SESSIONS_MAX, SHIFT_DEFAULT, SHIFT_MAX, SHIFT_MIN, SIZE_MAX, TARGETS_MAX, TRIES_DEFAULT,
     TRIES_MAX, VID_MAX, VNODES_DEFAULT, VNODES_MAX, WRITE_BYTES_MAX, ZONES_MAX,
@@ -52,6 +52,7 @@ pub fn limits_in_numbers()
     ensures tries { (TRIES_MAX ≡ 1000) × (TRIES_DEFAULT ≡ 8) }
     ensures events { (LIMIT_MAX ≡ 1000000) × (LIMIT_DEFAULT ≡ LIMIT_MAX) }
     ensures losses { LOSSES_MAX ≡ 10000 }
+    ensures checks { CHECKS_MAX ≡ 4 }
 {}
 
 /// A disk that may be made has objects of no more bytes than any has, at least one, and no more than any disk has; and
