@@ -19,6 +19,9 @@ use object_id::{INPUT_BYTES_MAX, Items, NODES_MAX, NoMemory};
 use std::alloc::Global;
 use std::marker::Model;
 
+/// The session that asks for all requests of a script of one disk.
+const ONLY_SESSION: u32 = 1;
+
 /// The statements of a text that is a script, in order, and next to them what is looked up in them. No reader takes memory,
 /// and none but [`Script::statements`] gives more than one thing: each costs the same for scripts of any length.
 #[derive(Debug, Drop)]
@@ -116,7 +119,7 @@ impl Script {
         ensures { result ≡ slice_get (numbers_of_session self.now session) place }
     {
         let count = self.index.requests.len();
-        if session != 1 {
+        if session != ONLY_SESSION {
             return None;
         }
         if place as usize >= count {
@@ -130,14 +133,14 @@ impl Script {
         ensures { option_map session_seen result ≡ session_numbered self.now number }
     {
         let count = self.statements.len();
-        if number != 1 {
+        if number != ONLY_SESSION {
             return None;
         }
         if count < 2 {
             return None;
         }
         Some(SessionOfScript {
-            number: 1,
+            number: ONLY_SESSION,
             node: 0,
             incarnation: 1,
         })
@@ -168,10 +171,11 @@ impl Script {
     }
 
     /// A control of a phase, by both places, from 0. So far there is none.
-    pub fn control(&self, _phase: usize, _place: usize) -> Option<&Statement>
-        ensures { option_copied result ≡ control_at self.now _phase _place }
+    pub fn control(&self, phase: usize, place: usize) -> Option<&Statement>
+        ensures { option_copied result ≡ control_at self.now phase place }
     {
         let _ = &self.statements;
+        let _ = (phase, place);
         None
     }
 

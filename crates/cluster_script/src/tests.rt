@@ -242,3 +242,10 @@ fn says_which_line_is_bad(rt: HostRuntime) -> Result<(), Fail> {
     );
     Ok(())
 }
+
+#[test]
+fn says_that_memory_is_short(rt: HostRuntime) -> Result<(), Fail> {
+    let fault = ScriptFault::NoMemory;
+    assert_eq!(rt; format!(in rt.alloc(); "{fault}")?.as_str(), "no memory");
+    Ok(())
+}

@@ -3,4 +3,4 @@ use Rattle.cluster_script.proofs.IndexLemmas.{looks, no-control}
 use Rattle.cluster_script.proofs.script.Script.control.Goals as goal
 
 pub returns : goal.returns
-returns c = rw (sym c.self.view_is) (sym (no-control c.self.inside.statements c.args._phase c.args._place (looks c.self.inside.statements c.self.invariant.1)))
+returns c = rw (sym c.self.view_is) (sym (no-control c.self.inside.statements c.args.phase c.args.place (looks c.self.inside.statements c.self.invariant.1)))
