@@ -149,6 +149,13 @@ impl Gateway {
         }
     }
 
+    /// How many attempts of an untouched request may fail before it is refused.
+    pub fn tries(&self) -> u32
+        ensures { result ≡ self.now.tries }
+    {
+        self.tries
+    }
+
     /// Whether a work may be tried again in an epoch. Takes no memory. Looks at each work up to the first of these.
     pub fn can_retry(&self, epoch: Epoch) -> bool
         ensures { result ≡ can_retry epoch self.now }

@@ -62,6 +62,13 @@ impl Queue {
         }
     }
 
+    /// The requests that aren't done, in the order in which they were pushed.
+    pub fn as_slice(&self) -> &[Queued]
+        ensures { result.now ≡ self.now }
+    {
+        self.queued.as_slice()
+    }
+
     /// Whether a request of this number was pushed and isn't done: what the other calls ask of it.
     pub fn is_queued(&self, req: u32) -> bool
         ensures { result ≡ is_queued req self.now }

@@ -85,6 +85,13 @@ impl<T: Drop> Items<T> {
     {
         self.items.as_slice()
     }
+
+    /// The items in a vector, without copying them.
+    pub fn into_vec(self) -> Vec<T>
+        ensures { result.items ≡ self }
+    {
+        self.items
+    }
 }
 
 impl<T: Duplicate> Items<T> {

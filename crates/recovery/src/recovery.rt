@@ -71,6 +71,13 @@ impl Recovery {
         self.flight.node(number).is_some()
     }
 
+    /// The epoch that is recovered; 1 before the first recovery.
+    pub fn epoch(&self) -> Epoch
+        ensures { result.0 ≡ self.now.epoch }
+    {
+        self.epoch
+    }
+
     /// Whether no level had enough rows of an object. Takes no memory. Looks at each missing object.
     #[tactic(auto, using(crate::proofs::FlightLemmas::any_reversed))]
     pub fn missing(&self, oid: Oid) -> bool
