@@ -5,6 +5,7 @@ ghost use Rattle.std.specs.FinMap as tree;
 
 use crate::{Key, ObjStore, OidList, PlainStore, RowCopy, RowSummary, StoreFault};
 use object_id::{Epoch, NoMemory, Oid, Vid};
+use std::alloc::Global;
 use std::marker::Model;
 use std::test::Fail;
 
@@ -350,5 +351,25 @@ fn visits_rows_without_a_copy(rt: HostRuntime) -> Result<(), Fail> {
         ),
         (None, None)
     );
+    Ok(())
+}
+
+/// Whether a fault is displayed as this text.
+fn is_said(alloc: Global, fault: StoreFault, text: &str) -> Result<bool, Fail> {
+    Ok(format!(in alloc; "{fault}")?.as_str() == text)
+}
+
+#[test]
+fn says_why_a_call_is_refused(rt: HostRuntime) -> Result<(), Fail> {
+    let alloc = rt.alloc();
+    assert!(rt; is_said(alloc, StoreFault::NoObj, "no such object")?);
+    assert!(rt;
+        is_said(
+            alloc,
+            StoreFault::OutOfObject,
+            "the piece ends outside the object"
+        )?
+    );
+    assert!(rt; is_said(alloc, StoreFault::NoMemory, "no memory")?);
     Ok(())
 }
