@@ -1,9 +1,9 @@
-mod CourseLemmas
+pub mod CourseLemmas
 mod PieceLemmas
 mod LineLemmas
 mod WriteLemmas
 mod ReadLemmas
 mod ExtentLemmas
-mod NextLemmas
-mod BeginLemmas
+pub mod NextLemmas
+pub mod BeginLemmas
 mod WorkedRequests
