@@ -13,6 +13,7 @@ pub mod NumberChanges
 pub mod OwnEntryChanges
 pub mod QueueChanges
 pub mod QueueLengths
+pub mod SoleCommands
 pub mod RefusedCourses
 pub mod RequestChanges
 pub mod PeerLog

@@ -1,5 +1,6 @@
--- A session's queue has exactly its reads and writes without reply, and no more than there may be at once.
-use Rattle.std.specs.Prelude.{◌≡◌, ℕ, ◌≤◌, length, ◌==◌, ◌&&◌, Bool, true, false, List, Contains, Option, unwrap_or}
+-- A session's queue has exactly its reads and writes without reply, and no more than there may be at once; any other request is alone in
+-- its session.
+use Rattle.std.specs.Prelude.{◌≡◌, ℕ, ◌≤◌, length, ◌==◌, ◌&&◌, Bool, true, false, List, Contains, Option, Some, unwrap_or}
 use Rattle.std.specs.Ordering.{nat_cmp}
 use Rattle.std.specs.Option.{option_map_or}
 use Rattle.std.specs.FinMap as tree
@@ -39,3 +40,18 @@ QueuesAreShort node = HaveShortQueues node.sessions
 -- a node's queues have its reads and writes without reply
 abbrev pub QueuesAreDiskRequests : Node → Type 0
 QueuesAreDiskRequests node = AreDiskRequests node.requests node.sessions
+
+-- the request that is alone in a session, if there is one
+abbrev pub command_in : ℕ → tree.FinMap nat_cmp Session → Option ℕ
+command_in number sessions = (session_among number sessions).command
+
+-- a request that is no read or write is its session's command, and a session that has a command has no other request
+pub record HaveSoleCommands (requests : tree.FinMap nat_cmp Request) (sessions : tree.FinMap nat_cmp Session) : Type 0 where
+  pub named : (req : ℕ) (request : Request) → tree.get requests req ≡ Some request → is_disk_course request.course ≡ false
+      → command_in request.session sessions ≡ Some req
+  pub alone : (number req other : ℕ) (request : Request) → command_in number sessions ≡ Some req
+      → tree.get requests other ≡ Some request → request.session ≡ number → other ≡ req
+
+-- a node's requests are so
+abbrev pub CommandsAreAlone : Node → Type 0
+CommandsAreAlone node = HaveSoleCommands node.requests node.sessions

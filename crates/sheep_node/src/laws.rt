@@ -29,7 +29,7 @@ ghost use Rattle.sheep_node.specs.RecoveryRange.{RecoversInRange};
 ghost use Rattle.sheep_node.specs.NodeInvariant.{IsSoundNode};
 ghost use Rattle.sheep_node.specs.OneWork.{HasOneWorkPerRequest};
 ghost use Rattle.sheep_node.specs.OwnEntries.{AsksForOwn, HasOnlyOwnEntries};
-ghost use Rattle.sheep_node.specs.SessionQueues.{QueuesAreDiskRequests, QueuesAreShort};
+ghost use Rattle.sheep_node.specs.SessionQueues.{QueuesAreDiskRequests, QueuesAreShort, CommandsAreAlone};
 ghost use Rattle.sheep_node.specs.Changes.{input_received, Leads};
 ghost use Rattle.sheep_node.specs.AwaitedEntry.{waits_for_entry};
 ghost use Rattle.sheep_node.specs.RequestWorks.{work_begun, course_refused, work_asked};
@@ -248,6 +248,13 @@ pub fn a_queue_has_the_disk_requests()
 pub fn a_queue_is_short()
     ensures opens { (me : NodeId) (tries : ℕ) → QueuesAreShort (initial_node me tries) }
     ensures stays { (input : Input) (node : Node) → May input node → QueuesAreShort node → QueuesAreShort (node_step input node).node }
+{}
+
+/// A request that is no read or write is alone in its session: so a node opens, and so it stays at each step.
+pub fn a_command_is_alone()
+    ensures opens { (me : NodeId) (tries : ℕ) → CommandsAreAlone (initial_node me tries) }
+    ensures stays { (input : Input) (node : Node) → May input node → QueuesAreDiskRequests node → CommandsAreAlone node
+        → CommandsAreAlone (node_step input node).node }
 {}
 
 /// A node's requests are those that it had, and the guest's request that it steps on.
