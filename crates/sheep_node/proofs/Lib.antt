@@ -14,6 +14,8 @@ pub mod OwnEntryChanges
 pub mod QueueChanges
 pub mod QueueLengths
 pub mod SoleCommands
+pub mod WantedSteps
+pub mod WantedChanges
 pub mod RefusedCourses
 pub mod RequestChanges
 pub mod PeerLog

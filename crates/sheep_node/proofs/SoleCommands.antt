@@ -53,7 +53,7 @@ abbrev pub CommandsAre : StepState → Type 0
 CommandsAre so_far = HaveSoleCommands so_far.node.requests so_far.node.sessions
 
 -- a session has no other request than this one
-abbrev IsFreeFor : ℕ → ℕ → Requests → Type 0
+abbrev pub IsFreeFor : ℕ → ℕ → Requests → Type 0
 IsFreeFor number req requests = (other : ℕ) (request : Request) → tree.get requests other ≡ Some request → request.session ≡ number → other ≡ req
 
 -- ---- a session among others
@@ -74,7 +74,7 @@ module _ (sessions : Sessions) (number : ℕ) (session : Session) where
       ap (λ (k : ℕ). command_in k (tree.insert sessions number session)) own
       ∙ ap (λ (o : Option Session). (unwrap_or o new_session).command) (get-insert_same sessions number session)
 
-  command_other : (q : ℕ) → q ≢ number → command_in q (tree.insert sessions number session) ≡ command_in q sessions
+  pub command_other : (q : ℕ) → q ≢ number → command_in q (tree.insert sessions number session) ≡ command_in q sessions
   command_other q other = ap (λ (o : Option Session). (unwrap_or o new_session).command) (get-insert_other sessions number session q other)
 
 -- ---- a request among others
@@ -133,7 +133,7 @@ sole_request requests sessions number req course session is free all = record {
     now = record { session = number; course = course }
 
 -- a request that is its session's command has no other beside it
-command_is_free : (number req : ℕ) (course : Course) (so_far : StepState) → HasRequest number req course so_far → is_disk_course course ≡ false
+pub command_is_free : (number req : ℕ) (course : Course) (so_far : StepState) → HasRequest number req course so_far → is_disk_course course ≡ false
     → CommandsAre so_far → IsFreeFor number req so_far.node.requests
 command_is_free number req course so_far there off all other request got of =
     all.alone number req other request (all.named req (record { session = number; course = course }) there off) got of
@@ -293,7 +293,7 @@ module _ {input : Input} {node : Node} (may : May input node) (queued : QueuesAr
             let some : is_none (command_in number node.sessions) ≡ false = ap (λ (o : Option ℕ). is_none o) is in
             absurd (cc (room.0, some))
 
-    free : queued_at_most ask ≡ 0 → IsFreeFor number req so_far.node.requests
+    pub free : queued_at_most ask ≡ 0 → IsFreeFor number req so_far.node.requests
     free most = subst (λ (start : StepState). IsFreeFor number req start.node.requests) (sym arrival.first) (none_at_node most)
 
   steps_alone : (so_far : StepState) (number req : ℕ) (next : Outcome) (moved : StepState) → RequestSteps input node so_far number req next moved
@@ -336,7 +336,7 @@ module _ {input : Input} {node : Node} (may : May input node) (queued : QueuesAr
   comes_alone so_far number req asked lined (Again work course from next there request) all = all
   comes_alone so_far number req asked lined (AgainAlone work from next there none) all = all
 
-  change_keeps_alone : (so_far next : StepState) → Change input node so_far next → CommandsAre so_far → CommandsAre next
+  pub change_keeps_alone : (so_far next : StepState) → Change input node so_far next → CommandsAre so_far → CommandsAre next
   change_keeps_alone so_far next (changes.Marks req number work attempt status learns over) all = all
   change_keeps_alone so_far next (changes.Fails session req number work attempt status course ends done why) all = all
   change_keeps_alone so_far next (changes.Stops session req number work attempt status course bytes ends over) all =
@@ -374,7 +374,7 @@ none_alone = record {
   alone = λ number req other request is got of. let none = tree.get-empty {X = Request} nat_cmp other in absurd (cc (none, got));
 }
 
-received_alone : (input : Input) (node : Node) → CommandsAre (at_first node) → CommandsAre (input_received input (at_first node))
+pub received_alone : (input : Input) (node : Node) → CommandsAre (at_first node) → CommandsAre (input_received input (at_first node))
 unfolding entry_read on_request on_recover_tick on_back
 received_alone (inputs.Guest req session ask) node all = all
 received_alone (inputs.Request request) node all = all

@@ -18,5 +18,6 @@ pub mod Changes
 pub mod OwnEntries
 pub mod SessionQueues
 pub mod ValidDisks
+pub mod WantedWorks
 pub mod NodeInvariant
 pub mod CheckWrites

@@ -30,6 +30,7 @@ ghost use Rattle.sheep_node.specs.NodeInvariant.{IsSoundNode};
 ghost use Rattle.sheep_node.specs.OneWork.{HasOneWorkPerRequest};
 ghost use Rattle.sheep_node.specs.OwnEntries.{AsksForOwn, HasOnlyOwnEntries};
 ghost use Rattle.sheep_node.specs.SessionQueues.{QueuesAreDiskRequests, QueuesAreShort, CommandsAreAlone};
+ghost use Rattle.sheep_node.specs.WantedWorks.{WorksAreWanted};
 ghost use Rattle.sheep_node.specs.Changes.{input_received, Leads};
 ghost use Rattle.sheep_node.specs.AwaitedEntry.{waits_for_entry};
 ghost use Rattle.sheep_node.specs.RequestWorks.{work_begun, course_refused, work_asked};
@@ -255,6 +256,13 @@ pub fn a_command_is_alone()
     ensures opens { (me : NodeId) (tries : ℕ) → CommandsAreAlone (initial_node me tries) }
     ensures stays { (input : Input) (node : Node) → May input node → QueuesAreDiskRequests node → CommandsAreAlone node
         → CommandsAreAlone (node_step input node).node }
+{}
+
+/// Each work of a node, open or in a session's line, is the one that its request waits for: so a node opens, and so it stays at each step.
+pub fn a_work_is_what_its_request_waits_for()
+    ensures opens { (me : NodeId) (tries : ℕ) → WorksAreWanted (initial_node me tries) }
+    ensures stays { (input : Input) (node : Node) → May input node → HasOneWorkPerRequest node → QueuesAreDiskRequests node
+        → CommandsAreAlone node → WorksAreWanted node → WorksAreWanted (node_step input node).node }
 {}
 
 /// A node's requests are those that it had, and the guest's request that it steps on.
