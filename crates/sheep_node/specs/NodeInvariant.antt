@@ -6,16 +6,19 @@ use Rattle.sheep_node.specs.StepFacts.{IsByTheLog}
 use Rattle.sheep_node.specs.OneWork.{HasOneWorkPerRequest}
 use Rattle.sheep_node.specs.OwnEntries.{HasOnlyOwnEntries}
 use Rattle.sheep_node.specs.ValidDisks.{HasValidDisks}
-use Rattle.sheep_node.specs.SessionQueues.{QueuesAreDiskRequests, QueuesAreShort}
+use Rattle.sheep_node.specs.SessionQueues.{QueuesAreDiskRequests, QueuesAreShort, CommandsAreAlone}
+use Rattle.sheep_node.specs.WantedWorks.{WorksAreWanted}
 
--- its requests have one work each at most, the entries that it puts are its own, its sessions' queues are their reads and writes, no
--- more than there may be at once, it is in the epoch of what it has read, no `Recovered` is due, and what it has of disks is
--- valid
+-- its requests have one work each at most, which is what they wait for, the entries that it puts are its own, its sessions' queues are
+-- their reads and writes, no more than there may be at once, and any other request is alone in its session, it is in the epoch of what it
+-- has read, no `Recovered` is due, and what it has of disks is valid
 pub record IsSoundNode (node : Node) : Type 0 where
   pub one_work : HasOneWorkPerRequest node
   pub own_entries : HasOnlyOwnEntries node
   pub queues : QueuesAreDiskRequests node
   pub short_queues : QueuesAreShort node
+  pub sole_commands : CommandsAreAlone node
+  pub wanted_works : WorksAreWanted node
   pub by_the_log : IsByTheLog node
   pub none_due : is_due node ≡ false
   pub valid_disks : HasValidDisks node
