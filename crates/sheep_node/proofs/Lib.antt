@@ -22,6 +22,7 @@ pub mod PeerLog
 pub mod StepEffects
 pub mod StepResults
 pub mod LogLaws
+pub mod ReadLogs
 mod RefusalLaws
 pub mod ValidSteps
 pub mod MessageCounts

@@ -1,6 +1,7 @@
 -- What a step leaves and gives, in few words.
 use Rattle.std.specs.Prelude.{◌≡◌, ℕ, ◌≤◌, Bool, true, false, List, [], ◌∷◌, ◌++◌, slice_get, Option, Some, None}
 use Rattle.object_id.specs.declared.entry.Entry.{Entry}
+use Rattle.epoch_log.specs.Appending.{IsLog}
 use Rattle.epoch_log.specs.Epochs.{epoch_of, settled_of}
 use Rattle.vnode_table.specs.Epochs.{EpochMembers}
 use Rattle.peer_proto.specs.declared.guest.GuestRsp.{GuestRsp}
@@ -87,3 +88,12 @@ pub record FollowsLog (epoch settled : ℕ) (epochs : List EpochMembers) (read :
 -- a node is in the epoch of the entries that it has read, with what they settle and the members of their epochs
 abbrev pub IsByTheLog : Node → Type 0
 IsByTheLog node = FollowsLog node.peer.epoch node.peer.settled node.epochs node.peer.entries
+
+-- entries are a log, or there are none yet
+abbrev pub IsLogSoFar : List Entry → Type 0
+IsLogSoFar [] = Unit {0}
+IsLogSoFar (first ∷ later) = IsLog (first ∷ later)
+
+-- what a node has read is a log
+abbrev pub HasReadLog : Node → Type 0
+HasReadLog node = IsLogSoFar node.peer.entries
