@@ -14,8 +14,10 @@ pub mod OwnEntryChanges
 pub mod QueueChanges
 pub mod QueueLengths
 pub mod SoleCommands
+pub mod SessionViews
 pub mod WantedSteps
 pub mod WantedChanges
+pub mod DrivenChanges
 pub mod RefusedCourses
 pub mod RequestChanges
 pub mod PeerLog

@@ -74,7 +74,7 @@ module _ (sessions : Sessions) (number : ℕ) (session : Session) where
       ap (λ (k : ℕ). command_in k (tree.insert sessions number session)) own
       ∙ ap (λ (o : Option Session). (unwrap_or o new_session).command) (get-insert_same sessions number session)
 
-  pub command_other : (q : ℕ) → q ≢ number → command_in q (tree.insert sessions number session) ≡ command_in q sessions
+  command_other : (q : ℕ) → q ≢ number → command_in q (tree.insert sessions number session) ≡ command_in q sessions
   command_other q other = ap (λ (o : Option Session). (unwrap_or o new_session).command) (get-insert_other sessions number session q other)
 
 -- ---- a request among others

@@ -60,68 +60,28 @@ use Rattle.sheep_node.proofs.AwaitedWorks.{Works}
 use Rattle.sheep_node.proofs.OneWorkParts.{Requests, Sessions, same_waiting}
 use Rattle.sheep_node.proofs.OneWorkChanges.{StepHasOneWork, HasNoWorkIn, steps_free, free_in, awaited_of, change_keeps_one_work, received_one_work}
 use Rattle.sheep_node.proofs.NumberChanges.{meets_numbers}
-use Rattle.sheep_node.proofs.QueueChanges.{same_view}
+use Rattle.sheep_node.proofs.SessionViews.{same_inode, alike_inode, free_session, own_seen}
 use Rattle.sheep_node.proofs.RefusedCourses.{course_refused-keeps, request_refused-keeps}
-use Rattle.sheep_node.proofs.SoleCommands.{CommandsAre, IsFreeFor, command_other, command_is_free, free, change_keeps_alone, received_alone}
+use Rattle.sheep_node.proofs.SoleCommands.{CommandsAre, IsFreeFor, command_is_free, free, change_keeps_alone, received_alone}
 use Rattle.sheep_node.proofs.WantedSteps.{IsDriverActWanted, IsWantedStep, driver_begins-wanted, driver_goes_on-wanted, work_of_driver-alike, IsCheckActWanted, check_begins-wanted, check_goes_on-wanted}
 use Rattle.sheep_node.proofs.StepChain.{kept_by_chain, step_chain}
 
 abbrev pub AreWanted : StepState → Type 0
 AreWanted so_far = HaveWantedWorks so_far.node.gateway.works so_far.node.requests so_far.node.sessions
 
--- ---- what a request waits for, as its session changes
+-- that a course waits for a work
+abbrev Waits : ObjWork → Option Content → Course → Type 0
+Waits work inode course = IsWorkWanted inode course work
 
--- a session keeps the inode that it has open
-module _ (sessions : Sessions) (number : ℕ) (session : Session) where
-  same_inode : inode_open session.disk ≡ inode_open (session_among number sessions).disk → (request : Option Request) (work : ObjWork)
-      → IsWantedAt sessions request work → IsWantedAt (tree.insert sessions number session) request work
-  same_inode same None work is = tt
-  same_inode same (Some request) work is =
-      subst (λ (o : Option Content). IsWorkWanted o request.course work)
-      (sym (same_view (λ (session : Session). inode_open session.disk) sessions number session same request.session)) is
-
-  other_session : (request : Request) (work : ObjWork) → request.session ≢ number → IsWantedAt sessions (Some request) work
-      → IsWantedAt (tree.insert sessions number session) (Some request) work
-  other_session request work apart is =
-      subst (λ (o : Option Session). IsWorkWanted (inode_open (unwrap_or o new_session).disk) request.course work)
-      (sym (get-insert_other sessions number session request.session apart)) is
-
-  -- it has another table
-  alike_inode : (old new : Content) → inode_open (session_among number sessions).disk ≡ Some old → inode_open session.disk ≡ Some new
-      → new.spec ≡ old.spec → new.vid ≡ old.vid → (request : Option Request) (work : ObjWork)
-      → IsWantedAt sessions request work → IsWantedAt (tree.insert sessions number session) request work
-  alike_inode old new was now spec vid None work is = tt
-  alike_inode old new was now spec vid (Some request) work is = ⊎_elim
-      (λ (here : request.session ≡ number).
-      let before : inode_open (session_among request.session sessions).disk ≡ Some old
-      = ap (λ (k : ℕ). inode_open (session_among k sessions).disk) here ∙ was in
-      let after : inode_open (session_among request.session (tree.insert sessions number session)).disk ≡ Some new
-      = ap (λ (k : ℕ). inode_open (session_among k (tree.insert sessions number session)).disk) here
-      ∙ ap (λ (o : Option Session). inode_open (unwrap_or o new_session).disk) (get-insert_same sessions number session) ∙ now in
-      subst (λ (o : Option Content). IsWorkWanted o request.course work) (sym after)
-      (by_course request.course (subst (λ (o : Option Content). IsWorkWanted o request.course work) before is)))
-      (λ (apart : request.session ≢ number). other_session request work apart is)
-      (cases_eq request.session number)
-    where
-      by_course : (course : Course) → IsWorkWanted (Some old) course work → IsWorkWanted (Some new) course work
-      by_course (Waiting ask) is = is
-      by_course (Driving driver) is = work_of_driver-alike old new driver work spec vid is
-      by_course (Commanding op) is = is
-      by_course (Checking check) is = is
-      by_course (DoingWork asked) is = is
-      by_course (AwaitingDecision entry) is = is
-
-  -- none but one request is of it
-  free_session : (req q : ℕ) (requests : Requests) → IsFreeFor number req requests → q ≢ req → (work : ObjWork)
-      → IsWantedAt sessions (tree.get requests q) work → IsWantedAt (tree.insert sessions number session) (tree.get requests q) work
-  free_session req q requests free apart work is = by_got (tree.get requests q) refl is
-    where
-      by_got : (o : Option Request) → tree.get requests q ≡ o → IsWantedAt sessions o work → IsWantedAt (tree.insert sessions number session) o work
-      by_got None got is = tt
-      by_got (Some request) got is = ⊎_elim
-          (λ (here : request.session ≡ number). absurd (apart (free q request got here)))
-          (λ (other : request.session ≢ number). other_session request work other is)
-          (cases_eq request.session number)
+-- and so it does once its disk has another table
+still_waits : (old new : Content) (work : ObjWork) → new.spec ≡ old.spec → new.vid ≡ old.vid → (course : Course) → Waits work (Some old) course
+    → Waits work (Some new) course
+still_waits old new work spec vid (Waiting ask) is = is
+still_waits old new work spec vid (Driving driver) is = work_of_driver-alike old new driver work spec vid is
+still_waits old new work spec vid (Commanding op) is = is
+still_waits old new work spec vid (Checking check) is = is
+still_waits old new work spec vid (DoingWork asked) is = is
+still_waits old new work spec vid (AwaitingDecision entry) is = is
 
 -- ---- works that stay
 
@@ -158,7 +118,7 @@ session_wanted : (works : Works) (requests : Requests) (sessions : Sessions) (nu
     → session.inode_queue.waiting ≡ waiting_in number sessions → inode_open session.disk ≡ inode_open (session_among number sessions).disk
     → HaveWantedWorks works requests sessions → HaveWantedWorks works requests (tree.insert sessions number session)
 session_wanted works requests sessions number session line same all q work has =
-    same_inode sessions number session same (tree.get requests q) work (all q work (line_had works sessions number session line q work has))
+    same_inode (Waits work) sessions number session same (tree.get requests q) (all q work (line_had works sessions number session line q work has))
 
 -- a work comes to a request that waits for it
 work_wanted : (works : Works) (requests : Requests) (sessions : Sessions) (req : ℕ) (now : Work) → IsWantedAt sessions (tree.get requests req) now.work
@@ -240,7 +200,7 @@ module _ (session req : ℕ) (work : ObjWork) (so_far : StepState) (all : AreWan
 
   lined_wanted : HaveWantedWorks so_far.node.gateway.works so_far.node.requests (tree.insert so_far.node.sessions session session_lined)
   lined_wanted q other has =
-      same_inode so_far.node.sessions session session_lined refl (tree.get so_far.node.requests q) other (had_or_lined q other has)
+      same_inode (Waits other) so_far.node.sessions session session_lined refl (tree.get so_far.node.requests q) (had_or_lined q other has)
 
 -- ---- a step that a request takes
 
@@ -272,28 +232,14 @@ moved_wanted req now number session so_far free line view all q work has = ⊎_e
         absurd (cc (idle, got))
     none own (inr (k, there)) = free.out k (record { req = q; work = work }) there own
 
--- the request that has moved, with its session
-module _ (req : ℕ) (number : ℕ) (course : Course) (session : Session) (so_far : StepState) where
-  abbrev moved_request : Request
-  moved_request = record { session = number; course = course }
-
-  -- it waits for this
-  own_wanted : (work : ObjWork) → IsWorkWanted (inode_open session.disk) course work
-      → IsWantedAt (tree.insert so_far.node.sessions number session) (tree.get (tree.insert so_far.node.requests req moved_request) req) work
-  own_wanted work is =
-      subst (λ (o : Option Request). IsWantedAt (tree.insert so_far.node.sessions number session) o work)
-      (sym (get-insert_same so_far.node.requests req moved_request))
-      (subst (λ (o : Option Session). IsWorkWanted (inode_open (unwrap_or o new_session).disk) course work)
-      (sym (get-insert_same so_far.node.sessions number session)) is)
-
 driven_wanted : (number req : ℕ) (disk : Disk) (step : DriverStep) (so_far : StepState) → (session_in number so_far).disk ≡ Some disk
     → IsWantedStep disk.inode step → HasNoWorkIn req (after_driver_step number req disk step so_far) → AreWanted so_far
     → AreWanted (after_driver_step number req disk step so_far)
     × IsOutcomeWanted req (outcome_of_driver step.act) (after_driver_step number req disk step so_far)
 driven_wanted number req disk step so_far on wanted free all = (
   moved_wanted req (record { session = number; course = Driving step.driver }) number after so_far free refl
-      (λ q other work is. alike_inode so_far.node.sessions number after disk.inode step.inode (ap inode_open on) refl wanted.spec wanted.vid
-      (tree.get so_far.node.requests q) work is) all,
+      (λ q other work is. alike_inode (Waits work) so_far.node.sessions number after disk.inode step.inode (ap inode_open on) refl
+      (still_waits disk.inode step.inode work wanted.spec wanted.vid) (tree.get so_far.node.requests q) is) all,
   by_act step.act wanted.act,
 )
   where
@@ -302,7 +248,7 @@ driven_wanted number req disk step so_far on wanted free all = (
 
     by_act : (act : DriverAct) → IsDriverActWanted step.inode step.driver act
         → IsOutcomeWanted req (outcome_of_driver act) (after_driver_step number req disk step so_far)
-    by_act (driver_acts.Work work) is = own_wanted req number (Driving step.driver) after so_far work is
+    by_act (driver_acts.Work work) is = own_seen (Waits work) so_far.node.sessions number after req (Driving step.driver) so_far.node.requests is
     by_act (driver_acts.Reply reply) is = tt
 
 command_wanted : (number req : ℕ) (step : ops.OpStep) (so_far : StepState) → IsAwaitedByCommand step → IsFreeFor number req so_far.node.requests
@@ -311,7 +257,7 @@ command_wanted : (number req : ℕ) (step : ops.OpStep) (so_far : StepState) →
     × IsOutcomeWanted req (outcome_of_command step.act) (after_command_step number req step so_far)
 command_wanted number req step so_far awaited alone free all = (
   moved_wanted req (record { session = number; course = Commanding step.op }) number after so_far free refl
-      (λ q other work is. free_session so_far.node.sessions number after req q so_far.node.requests alone other work is) all,
+      (λ q other work is. free_session (Waits work) so_far.node.sessions number after req q so_far.node.requests alone other is) all,
   by_act step.act awaited,
 )
   where
@@ -320,7 +266,7 @@ command_wanted number req step so_far awaited alone free all = (
 
     by_act : (act : OpAct) → IsAwaitedAtOpStage act step.op.stage
         → IsOutcomeWanted req (outcome_of_command act) (after_command_step number req step so_far)
-    by_act (op_acts.Work work) is = own_wanted req number (Commanding step.op) after so_far work is
+    by_act (op_acts.Work work) is = own_seen (Waits work) so_far.node.sessions number after req (Commanding step.op) so_far.node.requests is
     by_act (op_acts.Append entry) is = tt
     by_act (op_acts.Reply reply) is = tt
 
@@ -329,7 +275,7 @@ sole_wanted : (number req : ℕ) (course : Course) (so_far : StepState) → HasN
 sole_wanted number req course so_far free all =
     let after : Session = record (session_in number so_far) { command = Some req } in
     moved_wanted req (record { session = number; course = course }) number after so_far free refl
-    (λ q other work is. same_inode so_far.node.sessions number after refl (tree.get so_far.node.requests q) work is) all
+    (λ q other work is. same_inode (Waits work) so_far.node.sessions number after refl (tree.get so_far.node.requests q) is) all
 
 -- a work that it comes to there
 sole_outcome : (number req : ℕ) (course : Course) (so_far : StepState) (work : ObjWork)
@@ -337,7 +283,7 @@ sole_outcome : (number req : ℕ) (course : Course) (so_far : StepState) (work :
     → IsWantedAt (with_sole_request number req course so_far).node.sessions
     (tree.get (with_sole_request number req course so_far).node.requests req) work
 sole_outcome number req course so_far work is =
-    own_wanted req number course (record (session_in number so_far) { command = Some req }) so_far work is
+    own_seen (Waits work) so_far.node.sessions number (record (session_in number so_far) { command = Some req }) req course so_far.node.requests is
 
 check_outcome : (number req : ℕ) (step : checks.CheckStep) (so_far : StepState) → IsCheckActWanted step.check step.act
     → IsOutcomeWanted req (outcome_of_check step.act) (with_sole_request number req (Checking step.check) so_far)
@@ -410,11 +356,11 @@ module _ {input : Input} {node : Node} (may : May input node) (sound : IsSoundSt
       let now = steps_wanted so_far session req (ToWork work) moved steps all in
       let after : Session = record (session_in session moved) { inode_queue = queue_with_open (session_in session moved).inode_queue req work } in (
         session_wanted moved.node.gateway.works moved.node.requests moved.node.sessions session after refl refl now.0,
-        same_inode moved.node.sessions session after refl (tree.get moved.node.requests req) work now.1,
+        same_inode (Waits work) moved.node.sessions session after refl (tree.get moved.node.requests req) now.1,
       )
   next_wanted so_far session req asked lined (InTurn work later none is) all = (
-    λ q other has. same_inode so_far.node.sessions session after refl (tree.get so_far.node.requests q) other (all.2 q other (had q other has)),
-    same_inode so_far.node.sessions session after refl (tree.get so_far.node.requests req) work
+    λ q other has. same_inode (Waits other) so_far.node.sessions session after refl (tree.get so_far.node.requests q) (all.2 q other (had q other has)),
+    same_inode (Waits work) so_far.node.sessions session after refl (tree.get so_far.node.requests req)
         (all.2 req work (inr (session, subst (λ (list : List lines.Waiting). Contains list first) (sym is) (Contains-first first first later refl)))),
   )
     where
@@ -495,7 +441,7 @@ module _ {input : Input} {node : Node} (may : May input node) (sound : IsSoundSt
         out = λ k waiting there.
             free.out k waiting (subst (λ (list : List lines.Waiting). Contains list waiting) (same_waiting so_far.node.sessions session after refl k) there);
       }) refl
-      (λ q other work is. same_inode so_far.node.sessions session after refl (tree.get so_far.node.requests q) work is) all.2
+      (λ q other work is. same_inode (Waits work) so_far.node.sessions session after refl (tree.get so_far.node.requests q) is) all.2
   change_keeps_wanted so_far next (changes.Rejects session req ask cause arrival) all = all.2
   change_keeps_wanted so_far next (changes.Recovers due) all = all.2
 

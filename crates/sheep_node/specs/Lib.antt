@@ -19,5 +19,6 @@ pub mod OwnEntries
 pub mod SessionQueues
 pub mod ValidDisks
 pub mod WantedWorks
+pub mod DrivenDisks
 pub mod NodeInvariant
 pub mod CheckWrites
