@@ -51,7 +51,7 @@ use Rattle.sheep_node.specs.Changes.{HasRequest, Arrival, Outcome, ToWork, ToEnt
 use Rattle.sheep_node.proofs.OneWorkParts.{Requests, Sessions}
 use Rattle.sheep_node.proofs.RefusedCourses.{course_refused-keeps, request_refused-keeps}
 use Rattle.sheep_node.proofs.SoleCommands.{CommandsAre, IsFreeFor, command_is_free, free, change_keeps_alone, received_alone}
-use Rattle.sheep_node.proofs.SessionViews.{IsSeen, same_inode, alike_inode, free_session, own_seen}
+use Rattle.sheep_node.proofs.SessionViews.{open_in, IsSeen, same_seen, alike_seen, free_seen, own_seen}
 use Rattle.sheep_node.proofs.WantedSteps.{driver_begins-wanted, driver_goes_on-wanted}
 use Rattle.sheep_node.proofs.StepChain.{kept_by_chain, step_chain}
 
@@ -93,22 +93,22 @@ begins_on disk ask is =
 session_on : (requests : Requests) (sessions : Sessions) (number : ℕ) (session : Session)
     → inode_open session.disk ≡ inode_open (session_among number sessions).disk → AreOnDisks requests sessions
     → AreOnDisks requests (tree.insert sessions number session)
-session_on requests sessions number session same all q = same_inode IsCourseOn sessions number session same (tree.get requests q) (all q)
+session_on requests sessions number session same all q = same_seen open_in IsCourseOn sessions number session same (tree.get requests q) (all q)
 
 -- a request is in another course, and its session changes so that others stay where they are
 moved_on : (req number : ℕ) (course : Course) (session : Session) (so_far : StepState) → IsCourseOn (inode_open session.disk) course
-    → ((q : ℕ) → q ≢ req → IsSeen IsCourseOn so_far.node.sessions (tree.get so_far.node.requests q)
-    → IsSeen IsCourseOn (tree.insert so_far.node.sessions number session) (tree.get so_far.node.requests q))
+    → ((q : ℕ) → q ≢ req → IsSeen open_in IsCourseOn so_far.node.sessions (tree.get so_far.node.requests q)
+    → IsSeen open_in IsCourseOn (tree.insert so_far.node.sessions number session) (tree.get so_far.node.requests q))
     → OnDisks so_far
     → AreOnDisks (tree.insert so_far.node.requests req (record { session = number; course = course }))
     (tree.insert so_far.node.sessions number session)
 moved_on req number course session so_far is view all q = ⊎_elim
     (λ (own : q ≡ req).
-    subst (λ (k : ℕ). IsSeen IsCourseOn (tree.insert so_far.node.sessions number session)
+    subst (λ (k : ℕ). IsSeen open_in IsCourseOn (tree.insert so_far.node.sessions number session)
     (tree.get (tree.insert so_far.node.requests req (record { session = number; course = course })) k)) (sym own)
-    (own_seen IsCourseOn so_far.node.sessions number session req course so_far.node.requests is))
+    (own_seen open_in IsCourseOn so_far.node.sessions number session req course so_far.node.requests is))
     (λ (other : q ≢ req).
-    subst (IsSeen IsCourseOn (tree.insert so_far.node.sessions number session))
+    subst (IsSeen open_in IsCourseOn (tree.insert so_far.node.sessions number session))
     (sym (get-insert_other so_far.node.requests req (record { session = number; course = course }) q other)) (view q other (all q)))
     (cases_eq q req)
 
@@ -127,14 +127,14 @@ ended_on number req reply so_far all =
     (λ (own : q ≡ req).
     let none : tree.get (tree.remove so_far.node.requests req) q ≡ None
     = ap (tree.get (tree.remove so_far.node.requests req)) own ∙ get-remove_same so_far.node.requests req in
-    subst (IsSeen IsCourseOn so_far.node.sessions) (sym none) tt)
-    (λ (other : q ≢ req). subst (IsSeen IsCourseOn so_far.node.sessions) (sym (get-remove_other so_far.node.requests req q other)) (all q))
+    subst (IsSeen open_in IsCourseOn so_far.node.sessions) (sym none) tt)
+    (λ (other : q ≢ req). subst (IsSeen open_in IsCourseOn so_far.node.sessions) (sym (get-remove_other so_far.node.requests req q other)) (all q))
     (cases_eq q req))
 
 -- where a request is
 course_on : (number req : ℕ) (course : Course) (so_far : StepState) → HasRequest number req course so_far → OnDisks so_far
     → IsCourseOn (inode_open (session_in number so_far).disk) course
-course_on number req course so_far there all = subst (IsSeen IsCourseOn so_far.node.sessions) there (all req)
+course_on number req course so_far there all = subst (IsSeen open_in IsCourseOn so_far.node.sessions) there (all req)
 
 driven_on : (number req : ℕ) (disk : Disk) (step : DriverStep) (so_far : StepState) → (session_in number so_far).disk ≡ Some disk
     → IsDriverOn step.inode step.driver → step.inode.spec ≡ disk.inode.spec → OnDisks so_far
@@ -142,7 +142,7 @@ driven_on : (number req : ℕ) (disk : Disk) (step : DriverStep) (so_far : StepS
 driven_on number req disk step so_far on is same all =
     let after : Session = record (session_in number so_far) { disk = Some (record disk { inode = step.inode }) } in
     moved_on req number (Driving step.driver) after so_far is
-    (λ q other seen. alike_inode IsCourseOn so_far.node.sessions number after disk.inode step.inode (ap inode_open on) refl
+    (λ q other seen. alike_seen open_in IsCourseOn so_far.node.sessions number after (Some disk.inode) (Some step.inode) (ap inode_open on) refl
     (still_on disk.inode step.inode same) (tree.get so_far.node.requests q) seen) all
 
 command_on : (number req : ℕ) (step : OpStep) (so_far : StepState) → IsFreeFor number req so_far.node.requests → OnDisks so_far
@@ -150,14 +150,14 @@ command_on : (number req : ℕ) (step : OpStep) (so_far : StepState) → IsFreeF
 command_on number req step so_far alone all =
     let after : Session = record (session_in number so_far) { disk = disk_after (disk_change step) (session_in number so_far).disk; command = Some req } in
     moved_on req number (Commanding step.op) after so_far tt
-    (λ q other seen. free_session IsCourseOn so_far.node.sessions number after req q so_far.node.requests alone other seen) all
+    (λ q other seen. free_seen open_in IsCourseOn so_far.node.sessions number after req q so_far.node.requests alone other seen) all
 
 sole_on : (number req : ℕ) (course : Course) (so_far : StepState) → IsCourseOn (inode_open (session_in number so_far).disk) course → OnDisks so_far
     → OnDisks (with_sole_request number req course so_far)
 sole_on number req course so_far is all =
     let after : Session = record (session_in number so_far) { command = Some req } in
     moved_on req number course after so_far is
-    (λ q other seen. same_inode IsCourseOn so_far.node.sessions number after refl (tree.get so_far.node.requests q) seen) all
+    (λ q other seen. same_seen open_in IsCourseOn so_far.node.sessions number after refl (tree.get so_far.node.requests q) seen) all
 
 -- ---- every change
 
@@ -241,7 +241,7 @@ module _ {input : Input} {node : Node} (may : May input node) (queued : QueuesAr
   change_keeps_on so_far next (changes.Arrives session req ask disk arrival on) all =
       let after : Session = record (session_in session so_far) { queue = (session_in session so_far).queue ++ queued_as disk.inode.spec.shift req ask ∷ [] } in
       moved_on req session (Waiting ask) after so_far (asks_blocks so_far session req ask None arrival)
-      (λ q other seen. same_inode IsCourseOn so_far.node.sessions session after refl (tree.get so_far.node.requests q) seen) all.1
+      (λ q other seen. same_seen open_in IsCourseOn so_far.node.sessions session after refl (tree.get so_far.node.requests q) seen) all.1
   change_keeps_on so_far next (changes.Rejects session req ask cause arrival) all = all.1
   change_keeps_on so_far next (changes.Recovers due) all = all.1
 
@@ -249,7 +249,7 @@ module _ {input : Input} {node : Node} (may : May input node) (queued : QueuesAr
   change_keeps_place so_far next change all = (change_keeps_alone may queued sole so_far next change all.0, change_keeps_on so_far next change all)
 
 none_on : AreOnDisks tree.empty tree.empty
-none_on req = subst (IsSeen IsCourseOn tree.empty) (sym (tree.get-empty {X = Request} nat_cmp req)) tt
+none_on req = subst (IsSeen open_in IsCourseOn tree.empty) (sym (tree.get-empty {X = Request} nat_cmp req)) tt
 
 received_on : (input : Input) (node : Node) → OnDisks (at_first node) → OnDisks (input_received input (at_first node))
 unfolding entry_read on_request on_recover_tick on_back

@@ -18,6 +18,7 @@ pub mod SessionViews
 pub mod WantedSteps
 pub mod WantedChanges
 pub mod DrivenChanges
+pub mod TurnChanges
 pub mod RefusedCourses
 pub mod RequestChanges
 pub mod PeerLog

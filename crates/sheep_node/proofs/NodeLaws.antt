@@ -15,6 +15,7 @@ use Rattle.sheep_node.proofs.QueueLengths.{queues_short_at_opening, queues_stay_
 use Rattle.sheep_node.proofs.SoleCommands.{commands_alone_at_opening, commands_stay_alone}
 use Rattle.sheep_node.proofs.WantedChanges.{works_wanted_at_opening, works_stay_wanted}
 use Rattle.sheep_node.proofs.DrivenChanges.{on_disks_at_opening, stay_on_disks}
+use Rattle.sheep_node.proofs.TurnChanges.{in_turn_at_opening, stay_in_turn}
 use Rattle.sheep_node.proofs.ReadLogs.{log_at_opening, log_stays}
 use Rattle.sheep_node.proofs.LogLaws.{opening_follows, step_follows}
 use Rattle.sheep_node.proofs.StepResults.{none_due_at_opening, step_not_due}
@@ -28,6 +29,7 @@ IsSoundNode-initial me tries = record {
   sole_commands = commands_alone_at_opening me tries;
   wanted_works = works_wanted_at_opening me tries;
   on_disks = on_disks_at_opening me tries;
+  in_turn = in_turn_at_opening me tries;
   log = log_at_opening me tries;
   by_the_log = opening_follows me tries;
   none_due = none_due_at_opening me tries;
@@ -43,6 +45,7 @@ IsSoundNode-step input node may is = record {
   sole_commands = commands_stay_alone input node may is.queues is.sole_commands;
   wanted_works = works_stay_wanted input node may is.one_work is.queues is.sole_commands is.wanted_works;
   on_disks = stay_on_disks input node may is.queues is.sole_commands is.on_disks;
+  in_turn = stay_in_turn input node is.in_turn;
   log = log_stays input node may is.log;
   by_the_log = step_follows input node may is.by_the_log;
   none_due = step_not_due input node;

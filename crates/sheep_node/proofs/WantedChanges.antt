@@ -60,7 +60,7 @@ use Rattle.sheep_node.proofs.AwaitedWorks.{Works}
 use Rattle.sheep_node.proofs.OneWorkParts.{Requests, Sessions, same_waiting}
 use Rattle.sheep_node.proofs.OneWorkChanges.{StepHasOneWork, HasNoWorkIn, steps_free, free_in, awaited_of, change_keeps_one_work, received_one_work}
 use Rattle.sheep_node.proofs.NumberChanges.{meets_numbers}
-use Rattle.sheep_node.proofs.SessionViews.{same_inode, alike_inode, free_session, own_seen}
+use Rattle.sheep_node.proofs.SessionViews.{open_in, same_seen, alike_seen, free_seen, own_seen}
 use Rattle.sheep_node.proofs.RefusedCourses.{course_refused-keeps, request_refused-keeps}
 use Rattle.sheep_node.proofs.SoleCommands.{CommandsAre, IsFreeFor, command_is_free, free, change_keeps_alone, received_alone}
 use Rattle.sheep_node.proofs.WantedSteps.{IsDriverActWanted, IsWantedStep, driver_begins-wanted, driver_goes_on-wanted, work_of_driver-alike, IsCheckActWanted, check_begins-wanted, check_goes_on-wanted}
@@ -118,7 +118,7 @@ session_wanted : (works : Works) (requests : Requests) (sessions : Sessions) (nu
     → session.inode_queue.waiting ≡ waiting_in number sessions → inode_open session.disk ≡ inode_open (session_among number sessions).disk
     → HaveWantedWorks works requests sessions → HaveWantedWorks works requests (tree.insert sessions number session)
 session_wanted works requests sessions number session line same all q work has =
-    same_inode (Waits work) sessions number session same (tree.get requests q) (all q work (line_had works sessions number session line q work has))
+    same_seen open_in (Waits work) sessions number session same (tree.get requests q) (all q work (line_had works sessions number session line q work has))
 
 -- a work comes to a request that waits for it
 work_wanted : (works : Works) (requests : Requests) (sessions : Sessions) (req : ℕ) (now : Work) → IsWantedAt sessions (tree.get requests req) now.work
@@ -200,7 +200,7 @@ module _ (session req : ℕ) (work : ObjWork) (so_far : StepState) (all : AreWan
 
   lined_wanted : HaveWantedWorks so_far.node.gateway.works so_far.node.requests (tree.insert so_far.node.sessions session session_lined)
   lined_wanted q other has =
-      same_inode (Waits other) so_far.node.sessions session session_lined refl (tree.get so_far.node.requests q) (had_or_lined q other has)
+      same_seen open_in (Waits other) so_far.node.sessions session session_lined refl (tree.get so_far.node.requests q) (had_or_lined q other has)
 
 -- ---- a step that a request takes
 
@@ -238,7 +238,7 @@ driven_wanted : (number req : ℕ) (disk : Disk) (step : DriverStep) (so_far : S
     × IsOutcomeWanted req (outcome_of_driver step.act) (after_driver_step number req disk step so_far)
 driven_wanted number req disk step so_far on wanted free all = (
   moved_wanted req (record { session = number; course = Driving step.driver }) number after so_far free refl
-      (λ q other work is. alike_inode (Waits work) so_far.node.sessions number after disk.inode step.inode (ap inode_open on) refl
+      (λ q other work is. alike_seen open_in (Waits work) so_far.node.sessions number after (Some disk.inode) (Some step.inode) (ap inode_open on) refl
       (still_waits disk.inode step.inode work wanted.spec wanted.vid) (tree.get so_far.node.requests q) is) all,
   by_act step.act wanted.act,
 )
@@ -248,7 +248,7 @@ driven_wanted number req disk step so_far on wanted free all = (
 
     by_act : (act : DriverAct) → IsDriverActWanted step.inode step.driver act
         → IsOutcomeWanted req (outcome_of_driver act) (after_driver_step number req disk step so_far)
-    by_act (driver_acts.Work work) is = own_seen (Waits work) so_far.node.sessions number after req (Driving step.driver) so_far.node.requests is
+    by_act (driver_acts.Work work) is = own_seen open_in (Waits work) so_far.node.sessions number after req (Driving step.driver) so_far.node.requests is
     by_act (driver_acts.Reply reply) is = tt
 
 command_wanted : (number req : ℕ) (step : ops.OpStep) (so_far : StepState) → IsAwaitedByCommand step → IsFreeFor number req so_far.node.requests
@@ -257,7 +257,7 @@ command_wanted : (number req : ℕ) (step : ops.OpStep) (so_far : StepState) →
     × IsOutcomeWanted req (outcome_of_command step.act) (after_command_step number req step so_far)
 command_wanted number req step so_far awaited alone free all = (
   moved_wanted req (record { session = number; course = Commanding step.op }) number after so_far free refl
-      (λ q other work is. free_session (Waits work) so_far.node.sessions number after req q so_far.node.requests alone other is) all,
+      (λ q other work is. free_seen open_in (Waits work) so_far.node.sessions number after req q so_far.node.requests alone other is) all,
   by_act step.act awaited,
 )
   where
@@ -266,7 +266,7 @@ command_wanted number req step so_far awaited alone free all = (
 
     by_act : (act : OpAct) → IsAwaitedAtOpStage act step.op.stage
         → IsOutcomeWanted req (outcome_of_command act) (after_command_step number req step so_far)
-    by_act (op_acts.Work work) is = own_seen (Waits work) so_far.node.sessions number after req (Commanding step.op) so_far.node.requests is
+    by_act (op_acts.Work work) is = own_seen open_in (Waits work) so_far.node.sessions number after req (Commanding step.op) so_far.node.requests is
     by_act (op_acts.Append entry) is = tt
     by_act (op_acts.Reply reply) is = tt
 
@@ -275,7 +275,7 @@ sole_wanted : (number req : ℕ) (course : Course) (so_far : StepState) → HasN
 sole_wanted number req course so_far free all =
     let after : Session = record (session_in number so_far) { command = Some req } in
     moved_wanted req (record { session = number; course = course }) number after so_far free refl
-    (λ q other work is. same_inode (Waits work) so_far.node.sessions number after refl (tree.get so_far.node.requests q) is) all
+    (λ q other work is. same_seen open_in (Waits work) so_far.node.sessions number after refl (tree.get so_far.node.requests q) is) all
 
 -- a work that it comes to there
 sole_outcome : (number req : ℕ) (course : Course) (so_far : StepState) (work : ObjWork)
@@ -283,7 +283,7 @@ sole_outcome : (number req : ℕ) (course : Course) (so_far : StepState) (work :
     → IsWantedAt (with_sole_request number req course so_far).node.sessions
     (tree.get (with_sole_request number req course so_far).node.requests req) work
 sole_outcome number req course so_far work is =
-    own_seen (Waits work) so_far.node.sessions number (record (session_in number so_far) { command = Some req }) req course so_far.node.requests is
+    own_seen open_in (Waits work) so_far.node.sessions number (record (session_in number so_far) { command = Some req }) req course so_far.node.requests is
 
 check_outcome : (number req : ℕ) (step : checks.CheckStep) (so_far : StepState) → IsCheckActWanted step.check step.act
     → IsOutcomeWanted req (outcome_of_check step.act) (with_sole_request number req (Checking step.check) so_far)
@@ -356,11 +356,11 @@ module _ {input : Input} {node : Node} (may : May input node) (sound : IsSoundSt
       let now = steps_wanted so_far session req (ToWork work) moved steps all in
       let after : Session = record (session_in session moved) { inode_queue = queue_with_open (session_in session moved).inode_queue req work } in (
         session_wanted moved.node.gateway.works moved.node.requests moved.node.sessions session after refl refl now.0,
-        same_inode (Waits work) moved.node.sessions session after refl (tree.get moved.node.requests req) now.1,
+        same_seen open_in (Waits work) moved.node.sessions session after refl (tree.get moved.node.requests req) now.1,
       )
   next_wanted so_far session req asked lined (InTurn work later none is) all = (
-    λ q other has. same_inode (Waits other) so_far.node.sessions session after refl (tree.get so_far.node.requests q) (all.2 q other (had q other has)),
-    same_inode (Waits work) so_far.node.sessions session after refl (tree.get so_far.node.requests req)
+    λ q other has. same_seen open_in (Waits other) so_far.node.sessions session after refl (tree.get so_far.node.requests q) (all.2 q other (had q other has)),
+    same_seen open_in (Waits work) so_far.node.sessions session after refl (tree.get so_far.node.requests req)
         (all.2 req work (inr (session, subst (λ (list : List lines.Waiting). Contains list first) (sym is) (Contains-first first first later refl)))),
   )
     where
@@ -441,7 +441,7 @@ module _ {input : Input} {node : Node} (may : May input node) (sound : IsSoundSt
         out = λ k waiting there.
             free.out k waiting (subst (λ (list : List lines.Waiting). Contains list waiting) (same_waiting so_far.node.sessions session after refl k) there);
       }) refl
-      (λ q other work is. same_inode (Waits work) so_far.node.sessions session after refl (tree.get so_far.node.requests q) is) all.2
+      (λ q other work is. same_seen open_in (Waits work) so_far.node.sessions session after refl (tree.get so_far.node.requests q) is) all.2
   change_keeps_wanted so_far next (changes.Rejects session req ask cause arrival) all = all.2
   change_keeps_wanted so_far next (changes.Recovers due) all = all.2
 

@@ -1,12 +1,13 @@
 -- A session's queue has exactly its reads and writes without reply, and no more than there may be at once; any other request is alone in
--- its session.
-use Rattle.std.specs.Prelude.{◌≡◌, ℕ, ◌≤◌, length, ◌==◌, ◌&&◌, Bool, true, false, List, Contains, Option, Some, unwrap_or}
+-- its session. A read or write begins once it has no object in common with an earlier one.
+use Rattle.std.specs.Prelude.{◌≡◌, ℕ, ◌≤◌, length, ◌==◌, ◌&&◌, Bool, true, false, List, Contains, Option, Some, IfSome, unwrap_or}
 use Rattle.std.specs.Ordering.{nat_cmp}
 use Rattle.std.specs.Option.{option_map_or}
 use Rattle.std.specs.FinMap as tree
 use Rattle.gateway_queue.specs.declared.queue.Queued.{Queued}
+use Rattle.gateway_queue.specs.Queue.{may_run}
 use Rattle.object_id.specs.declared.limits.TheConstants.{REQUESTS_AT_ONCE}
-use Rattle.sheep_node.specs.State.{Request, Session, Node, new_session}
+use Rattle.sheep_node.specs.State.{Course, Waiting, Driving, Commanding, Checking, DoingWork, AwaitingDecision, Request, Session, Node, new_session}
 use Rattle.sheep_node.specs.May.{is_disk_course}
 
 -- whether a request that was looked up is a read or write of a session
@@ -55,3 +56,21 @@ pub record HaveSoleCommands (requests : tree.FinMap nat_cmp Request) (sessions :
 -- a node's requests are so
 abbrev pub CommandsAreAlone : Node → Type 0
 CommandsAreAlone node = HaveSoleCommands node.requests node.sessions
+
+-- where a read or write has begun it has no object in common with an earlier one in this queue
+abbrev pub IsInTurn : ℕ → List Queued → Course → Type 0
+IsInTurn req queue (Waiting ask) = Unit {0}
+IsInTurn req queue (Driving driver) = may_run req queue ≡ true
+IsInTurn req queue (Commanding op) = Unit {0}
+IsInTurn req queue (Checking check) = Unit {0}
+IsInTurn req queue (DoingWork work) = Unit {0}
+IsInTurn req queue (AwaitingDecision entry) = Unit {0}
+
+-- each request is so in its session's queue
+abbrev pub AreInTurn : tree.FinMap nat_cmp Request → tree.FinMap nat_cmp Session → Type 0
+AreInTurn requests sessions = (req : ℕ) → IfSome (tree.get requests req) (λ (request : Request). IsInTurn req
+    (queue_in request.session sessions) request.course)
+
+-- and so are a node's
+abbrev pub RequestsAreInTurn : Node → Type 0
+RequestsAreInTurn node = AreInTurn node.requests node.sessions

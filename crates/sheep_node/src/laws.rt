@@ -29,7 +29,7 @@ ghost use Rattle.sheep_node.specs.RecoveryRange.{RecoversInRange};
 ghost use Rattle.sheep_node.specs.NodeInvariant.{IsSoundNode};
 ghost use Rattle.sheep_node.specs.OneWork.{HasOneWorkPerRequest};
 ghost use Rattle.sheep_node.specs.OwnEntries.{AsksForOwn, HasOnlyOwnEntries};
-ghost use Rattle.sheep_node.specs.SessionQueues.{QueuesAreDiskRequests, QueuesAreShort, CommandsAreAlone};
+ghost use Rattle.sheep_node.specs.SessionQueues.{QueuesAreDiskRequests, QueuesAreShort, CommandsAreAlone, RequestsAreInTurn};
 ghost use Rattle.sheep_node.specs.WantedWorks.{WorksAreWanted};
 ghost use Rattle.sheep_node.specs.DrivenDisks.{RequestsAreOnDisks};
 ghost use Rattle.sheep_node.specs.Changes.{input_received, Leads};
@@ -211,7 +211,8 @@ pub fn a_create_begins_with_its_reservation()
 
 /// A node opens as one, and each step that it may take leaves it one: its requests have one work each at most, which is what they wait
 /// for, its entries are its own, its queues are its reads and writes, no more than there may be at once, and any other request is alone
-/// in its session, its reads and writes are on the disks that are open, what it has read is a log, it is in the epoch of that, no `Recovered` is due, and what it has of disks is valid.
+/// in its session, its reads and writes are on the disks that are open, and one that began is
+/// apart from the earlier ones, what it has read is a log, it is in the epoch of that, no `Recovered` is due, and what it has of disks is valid.
 pub fn a_node_stays_one()
     ensures opens { (me : NodeId) (tries : ℕ) → IsSoundNode (initial_node me tries) }
     ensures stays { (input : Input) (node : Node) → May input node → IsSoundNode node → IsSoundNode (node_step input node).node }
@@ -271,6 +272,13 @@ pub fn a_disk_request_is_on_its_disk()
     ensures opens { (me : NodeId) (tries : ℕ) → RequestsAreOnDisks (initial_node me tries) }
     ensures stays { (input : Input) (node : Node) → May input node → QueuesAreDiskRequests node → CommandsAreAlone node
         → RequestsAreOnDisks node → RequestsAreOnDisks (node_step input node).node }
+{}
+
+/// A read or write that has begun has no object in common with an earlier one of its session that has no reply: so a node opens, and so
+/// it stays at each step, whatever the input.
+pub fn a_begun_request_is_apart_from_earlier_ones()
+    ensures opens { (me : NodeId) (tries : ℕ) → RequestsAreInTurn (initial_node me tries) }
+    ensures stays { (input : Input) (node : Node) → RequestsAreInTurn node → RequestsAreInTurn (node_step input node).node }
 {}
 
 /// A node's requests are those that it had, and the guest's request that it steps on.

@@ -33,6 +33,7 @@ pub use ask::Ask;
 pub use event::Event;
 pub use input::Input;
 pub use laws::{
+    a_begun_request_is_apart_from_earlier_ones,
     a_check_begins_on_the_open_disk, a_client_is_told_what_its_ask_came_to,
     a_clients_ask_begins_at_once, a_clients_work_may_be_done, a_command_is_alone,
     a_create_begins_with_its_reservation,
