@@ -1,5 +1,5 @@
 -- Every change leaves each read and write on the disk that its session has open.
-use Rattle.std.proofs.Common.{◌≡◌, ◌≢◌, ℕ, ◌≤◌, length, List, [], ◌∷◌, ◌++◌, All, Option, Some, None, IfSome, refl, sym, ap, subst, ◌∙◌, ⊎_elim}
+use Rattle.std.proofs.Common.{◌≡◌, ◌≢◌, ℕ, List, [], ◌∷◌, ◌++◌, All, Option, Some, None, refl, sym, ap, subst, ◌∙◌, ⊎_elim}
 use Rattle.std.specs.Prelude.{false, IsTrue}
 use Rattle.std.specs.Ordering.{nat_cmp}
 use Rattle.std.specs.FinMap as tree
@@ -26,13 +26,12 @@ use Rattle.guest_driver.specs.declared.disk.Disk.{Disk}
 use Rattle.guest_driver.specs.Pieces.{is_ask}
 use Rattle.guest_driver.specs.OnDisk.{IsDriverOn, IsPieceOf, pieces_left}
 use Rattle.guest_driver.specs.Refusals.{refusal_on}
-use Rattle.guest_driver.specs.Driver.{Driver, DriverStep, begin_unless_refused, begin_driver}
+use Rattle.guest_driver.specs.Driver.{DriverStep, begin_unless_refused, begin_driver}
 use Rattle.guest_driver.specs.InodeQueue.{queue_with_open, queue_with_waiting, queue_after_end}
 use Rattle.guest_driver.proofs.BeginLemmas.{asks-some, ends-inside, read-begins-on, write-begins-on}
 use Rattle.guest_driver.proofs.NextLemmas.{stays-on}
 use Rattle.disk_check.specs.Check.{begin_check}
 use Rattle.vdi_ops.specs.Op.{OpStep, disk_change}
-use Rattle.peer_proto.specs.declared.guest.VdiAsk.TheVariants.{Check}
 use Rattle.sheep_node.specs.declared.ask.Ask.TheVariants as asks
 use Rattle.sheep_node.specs.declared.input.Input.{Input}
 use Rattle.sheep_node.specs.declared.input.Input.TheVariants as inputs

@@ -16,6 +16,7 @@ pub mod QueueLengths
 pub mod SoleCommands
 pub mod SessionViews
 pub mod WantedSteps
+pub mod WantedParts
 pub mod WantedChanges
 pub mod DrivenChanges
 pub mod TurnChanges

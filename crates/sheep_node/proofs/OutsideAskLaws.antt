@@ -1,5 +1,5 @@
 -- What a client without a script may ask is a work that a gateway may do, and it waits for exactly its own entry.
-use Rattle.std.proofs.Common.{◌≡◌, ◌↔◌, ℕ, ◌+◌, ◌^◌, ◌≤◌, true, All, Option, Some, None, length, refl, sym, ap, subst, ◌∙◌, arith, List, [], ◌∷◌, ◌++◌}
+use Rattle.std.proofs.Common.{◌≡◌, ◌↔◌, ℕ, ◌^◌, ◌≤◌, true, All, Option, Some, None, refl, sym, ap, subst, ◌∙◌, arith, List, [], ◌∷◌, ◌++◌}
 use Rattle.std.specs.Option.{option_map, option_map_or}
 use Rattle.object_id.specs.declared.oid.Kind.{Kind}
 use Rattle.object_id.specs.declared.oid.Kind.TheVariants.{Block, Inode}
@@ -15,7 +15,7 @@ use Rattle.gf256.specs.Part.{IsAligned}
 use Rattle.epoch_log.specs.Appending.{IsReservable}
 use Rattle.vdi_directory.specs.declared.header.Header.{Header}
 use Rattle.vdi_directory.proofs.ValidLemmas.{header-valid}
-use Rattle.peer_proto.specs.Work.{oid_of, policy_of, IsWork}
+use Rattle.peer_proto.specs.Work.{IsWork}
 use Rattle.peer_proto.specs.declared.work.ObjWork.{ObjWork}
 use Rattle.peer_proto.specs.declared.work.ObjWork.TheVariants.{Create, Write, Read, ReadAll}
 use Rattle.peer_service.specs.State.{Peer, header_at, spec_of, object_size}

@@ -1,10 +1,9 @@
 -- How sends and replies go in a step, and what its changes leave alone: who the node is, its peer, its epochs and its recovery, and
 -- what is said and put. These are as they were when the input was received.
-use Rattle.std.proofs.Common.{◌≡◌, ℕ, ◌+◌, ◌≤◌, nat_lt, Bool, true, false, cond, List, [], ◌∷◌, length, map, Option, Some, None, refl, sym, ap, subst, ◌∙◌, arith}
+use Rattle.std.proofs.Common.{◌≡◌, ℕ, ◌+◌, ◌≤◌, nat_lt, Bool, true, false, cond, List, [], ◌∷◌, length, map, Option, refl, sym, ap, subst, ◌∙◌, arith}
 use Rattle.std.proofs.lemmas.Bool.{ltb-true, ltb-false}
 use Rattle.std.proofs.lemmas.List.{length-append}
 use Rattle.proof_tools.proofs.Booleans.{cond_either}
-use Rattle.object_id.specs.declared.cause.Cause.{Cause}
 use Rattle.object_id.specs.declared.cause.Cause.TheVariants.{Halt}
 use Rattle.object_id.specs.declared.node.NodeId.{NodeId}
 use Rattle.object_id.specs.declared.entry.Entry.{Entry}
@@ -27,9 +26,9 @@ use Rattle.recovery.specs.State.{Recovery, RecoveryState}
 use Rattle.recovery.specs.Steps as recovery_steps
 use Rattle.sheep_node.specs.declared.input.Input.{Input}
 use Rattle.sheep_node.specs.declared.input.Input.TheVariants as inputs
-use Rattle.sheep_node.specs.State.{Course, Node}
+use Rattle.sheep_node.specs.State.{Node}
 use Rattle.sheep_node.specs.RecoveryView.{recovery_state_of}
-use Rattle.sheep_node.specs.StepState.{StepState, at_first, with_sends, replies_in_order, with_guest_reply, with_optional_entry, with_gateway, without_request, request_ended, with_sole_request}
+use Rattle.sheep_node.specs.StepState.{StepState, at_first, with_sends, replies_in_order, with_guest_reply, with_gateway, without_request, request_ended}
 use Rattle.sheep_node.specs.LogReading.{entry_read, on_back}
 use Rattle.sheep_node.specs.Step.{on_request, recovery_stepped, on_put, on_recover_tick, node_step}
 use Rattle.sheep_node.specs.StepFacts.{AscendFrom, Ascend}

@@ -33,7 +33,7 @@ use Rattle.sheep_node.specs.Courses.{after_driver_step, disk_after, after_comman
 use Rattle.sheep_node.specs.Guests.{queued_as}
 use Rattle.sheep_node.specs.LogReading.{entry_read, on_back}
 use Rattle.sheep_node.specs.Step.{on_request, recovery_stepped, on_put, on_recover_tick, node_step}
-use Rattle.sheep_node.specs.SessionQueues.{session_among, queue_in, IsInTurn, AreInTurn, RequestsAreInTurn}
+use Rattle.sheep_node.specs.SessionQueues.{queue_in, IsInTurn, AreInTurn, RequestsAreInTurn}
 use Rattle.sheep_node.specs.Changes as changes
 use Rattle.sheep_node.specs.Changes.{HasRequest, Outcome, ToWork, ToEntry, ToReply, without_ended_work, without_denied_work, zones_of_members, RequestSteps, DiskBegins, DiskGoesOn, CommandBegins, CommandGoesOn, CommandDecided, CheckBegins, CheckGoesOn, ObjectBegins, ObjectIsDone, EntryBegins, EntryDecided, WorkIsNext, AtOnce, InTurn, Again, AgainAlone, input_received, Change}
 use Rattle.sheep_node.proofs.OneWorkParts.{Requests, Sessions}

@@ -16,7 +16,7 @@ use Rattle.guest_driver.specs.declared.act.DriverAct.{DriverAct}
 use Rattle.guest_driver.specs.declared.act.DriverAct.TheVariants as driver_acts
 use Rattle.object_id.specs.Piece.{laid_over}
 use Rattle.guest_driver.specs.Pieces.{Piece, pieces, piece_bytes}
-use Rattle.guest_driver.specs.PieceWorks.{Backing, Hole, Own, Inherited, entry_of, backing_of, object_bytes, read_piece, table_with_entry}
+use Rattle.guest_driver.specs.PieceWorks.{Backing, Hole, Own, Inherited, entry_of, backing_of, read_piece, table_with_entry}
 use Rattle.guest_driver.specs.Refusals.{refusal_on}
 use Rattle.guest_driver.specs.Driver as drivers
 use Rattle.guest_driver.specs.Driver.{DriverStage, InPlace, Fetching, Creating, Entering, Driver, Reads, Writes, DriverStep, work_step, read_on, write_piece_on, write_on, begin_unless_refused, begin_driver, write_done, driver_on_done}

@@ -2,7 +2,6 @@
 use Rattle.std.specs.Prelude.{ℕ, List, Option, Some, None}
 use Rattle.std.specs.Option.{option_map, option_map_or}
 use Rattle.inode.specs.Layout.{Content}
-use Rattle.peer_proto.specs.declared.guest.DiskAsk.{DiskAsk}
 use Rattle.peer_proto.specs.declared.guest.GuestRsp.{GuestRsp}
 use Rattle.peer_proto.specs.declared.guest.GuestRsp.TheVariants as replies
 use Rattle.peer_proto.specs.declared.work.ObjWork.{ObjWork}

@@ -1,5 +1,5 @@
 -- What a client without a script may ask of a node: one work on one object, or a lock and its end.
-use Rattle.std.specs.Prelude.{◌≡◌, ℕ, ◌+◌, ◌≤◌, List, length, Some}
+use Rattle.std.specs.Prelude.{◌≡◌, ℕ, ◌+◌, ◌≤◌, length, Some}
 use Rattle.object_id.specs.Oid.{kind_of}
 use Rattle.object_id.specs.declared.node.NodeId.{NodeId}
 use Rattle.object_id.specs.declared.entry.VdiSpec.{VdiSpec}

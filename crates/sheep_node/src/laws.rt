@@ -260,7 +260,8 @@ pub fn a_command_is_alone()
         → CommandsAreAlone (node_step input node).node }
 {}
 
-/// Each work of a node, open or in a session's line, is the one that its request waits for: so a node opens, and so it stays at each step.
+/// Each work of a node, open or in a session's line, is the one that its request waits for: so a node opens, and so it stays at each
+/// step.
 pub fn a_work_is_what_its_request_waits_for()
     ensures opens { (me : NodeId) (tries : ℕ) → WorksAreWanted (initial_node me tries) }
     ensures stays { (input : Input) (node : Node) → May input node → HasOneWorkPerRequest node → QueuesAreDiskRequests node
