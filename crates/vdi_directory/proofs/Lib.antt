@@ -12,6 +12,8 @@ pub mod HolderLemmas
 pub mod AscentLemmas
 pub mod SnapshotLemmas
 pub mod WorkingLemmas
+pub mod StandingLemmas
+pub mod TagLemmas
 pub mod ChainLemmas
 pub mod PlaceLemmas
 pub mod DeadLemmas

@@ -64,7 +64,7 @@ owner-kept before effect vid other =
 
 module _ (before : List Effect) (sound : IsSound before) where
   -- an id that is known is not granted again
-  not-granted : (effect : Effect) → IsLawful before effect → (vid : ℕ) (name : List ℕ) → owner_of before vid ≡ Some name → grants vid effect ≡ false
+  pub not-granted : (effect : Effect) → IsLawful before effect → (vid : ℕ) (name : List ℕ) → owner_of before vid ≡ Some name → grants vid effect ≡ false
   not-granted (effects.Reserved grant) lawful vid name owner = by_test (grant.reservation.vid.0 == vid) refl
     where
       by_test : (b : Bool) → (grant.reservation.vid.0 == vid) ≡ b → (grant.reservation.vid.0 == vid) ≡ false

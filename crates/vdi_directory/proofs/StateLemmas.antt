@@ -27,6 +27,7 @@ use Rattle.vdi_directory.specs.declared.decision.Outcome.{Outcome}
 use Rattle.vdi_directory.specs.declared.directory_state.DirectoryState.{DirectoryState}
 use Rattle.vdi_directory.specs.Vids.{VID_COUNT, free_id}
 use Rattle.vdi_directory.specs.Names.{no_disk}
+use Rattle.vdi_directory.specs.NameRows.{Standing, standing_of, standing_after, name_in}
 use Rattle.vdi_directory.specs.Effects.{grants, is_used, header_after, header_of, name_after, name_of, reservations_after, reservations_of, reservation_on, live_after, live_of, holder_after, holder_of}
 use Rattle.vdi_directory.specs.Decisions.{nothing, silent_outcome, grant_outcome, refusal_outcome, outcome, happens, log_effects, or_full, grant_of, with_spec, reservation_outcome, reserved_snapshot, reserved_clone, reserve_outcome, publication, replacement, snapshot_outcome, deletion, lock, target, held_disk, is_held_by, is_reserved_by, is_taken}
 use Rattle.vdi_directory.specs.Names.{is_live_name, snapshot_with_tag}
@@ -64,12 +65,20 @@ pub holder_of-push : (before : List Effect) (effect : Effect) (vid : ℕ) → ho
 unfolding holder_of
 holder_of-push before effect vid = fold-append (holder_after vid) None before (effect ∷ [])
 
+-- what a name stands for, asked by tag
+pub stands : (before : List Effect) (state : DirectoryState) → IsDirectoryState before state → (name : List ℕ)
+    → name_in state.names.rows name ≡ standing_of (name_of before name)
+stands before state is name = λ i. record { working = is.working name i; tagged = λ tag. is.tagged name tag i; taken = is.taken name i }
+
 pub state-push : (before : List Effect) (effect : Effect) (old new : DirectoryState) → IsDirectoryState before old → AreMade effect old new
+    → ((name : List ℕ) → standing_of (name_after name (name_of before name) effect) ≡ standing_after name (standing_of (name_of before name)) effect)
     → AreReferenceCounts (parent_of (before ++ effect ∷ [])) (own_of (before ++ effect ∷ [])) (count_in new.references)
     → AreKnown (before ++ effect ∷ []) → IsDirectoryState (before ++ effect ∷ []) new
-state-push before effect old new is made references known = record {
+state-push before effect old new is made follows references known = record {
   headers = λ vid. made.headers vid ∙ ap (λ header. header_after vid header effect) (is.headers vid) ∙ sym (header_of-push before effect vid);
-  names = λ name. made.names name ∙ ap (λ now. name_after name now effect) (is.names name) ∙ sym (name_of-push before effect name);
+  working = λ name. ap (λ (now : Standing). now.working) (standing name);
+  tagged = λ name tag. ap (λ (now : Standing). now.tagged tag) (standing name);
+  taken = λ name. ap (λ (now : Standing). now.taken) (standing name);
   reservations = made.reservations ∙ ap (λ reservations. reservations_after reservations effect) is.reservations ∙ sym (reservations_of-push before effect);
   live = made.live ∙ ap (λ live. live_after live effect) is.live ∙ sym (live_of-push before effect);
   ranges = made.ranges;
@@ -77,6 +86,10 @@ state-push before effect old new is made references known = record {
   references = references;
   known = known;
 }
+  where
+    standing : (name : List ℕ) → name_in new.names.rows name ≡ standing_of (name_of (before ++ effect ∷ []) name)
+    standing name = made.names name ∙ ap (λ now. standing_after name now effect) (stands before old is name) ∙ sym (follows name)
+        ∙ ap standing_of (sym (name_of-push before effect name))
 
 pub locks-push : (before : List Effect) (effect : Effect) (old new : Holders) → AreLocks before old → AreLocksMade effect old new
     → AreLocks (before ++ effect ∷ []) new

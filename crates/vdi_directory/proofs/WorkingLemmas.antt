@@ -81,10 +81,10 @@ none-is : {X : Type 0} (o : Option X) → is_some o ≡ false → o ≡ None
 none-is None is = refl
 none-is (Some x) is = cc
 
-vid-is : (a b : Vid) → a.0 ≡ b.0 → a ≡ b
+pub vid-is : (a b : Vid) → a.0 ≡ b.0 → a ≡ b
 vid-is a b same = λ i. record { 0 = same i }
 
-some-vid : (a b : Vid) → Some a ≡ Some b → a.0 ≡ b.0
+pub some-vid : (a b : Vid) → Some a ≡ Some b → a.0 ≡ b.0
 some-vid a b e = let same : a ≡ b = cc in ap (λ (v : Vid). v.0) same
 
 module _ (before : List Effect) (named : AreNamed before) (effect : Effect) (lawful : IsLawful before effect) where

@@ -66,9 +66,9 @@ impl Directory {
 
     /// Reads the next entry of the log: decides on it, and changes directory and locks by what was decided. Each entry is kept, also one
     /// that is refused, so each takes memory. Without it both are as before, and the entry isn't read.
-    /// Costs the logarithm of the names, the known ids and the used ranges; a look at each reservation that stands and at each live
-    /// snapshot of the name; the move of the live ids or used ranges behind the one that changes. An entry that frees ids costs the
-    /// logarithm for each that it makes dead besides, and a Leave a look at each lock.
+    /// Costs the logarithm of the names, of the live snapshots of the name, of the known ids and of the used ranges; a look at each
+    /// reservation that stands; the move of the live ids or used ranges behind the one that changes. An entry that frees ids costs
+    /// the logarithm for each that it makes dead besides, and a Leave a look at each lock.
     pub fn read_entry(&mut self, entry: &Entry, locks: &mut Locks) -> Result<Decision, NoMemory>
         requires reservable { IsReservable entry.now }
         requires locks { AreLocks (log_effects self.old) locks.old }
@@ -99,8 +99,8 @@ impl Directory {
         self.state.dead_by(self.alloc, &outcome.effect)
     }
 
-    /// The live published working disk of a name, or its live snapshot with the tag; `None` exactly where there is none. Costs the
-    /// logarithm of the names, and with a tag a look at each live snapshot of the name.
+    /// The live published working disk of a name, or its live snapshot with the tag; `None` exactly where there is none. No two
+    /// live snapshots of a name have one tag. Costs the logarithm of the names, and with a tag that of the name's live snapshots.
     pub fn find(&self, name: &[u8], tag: Option<&[u8]>) -> Option<Vid>
         ensures { result ≡ disk_found self.now name.now (option_copied tag.entry) }
     {

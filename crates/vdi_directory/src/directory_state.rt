@@ -2,12 +2,12 @@ ghost use Rattle.std.specs.Prelude.{◌≡◌, ◌≤◌, ◌<◌, ℕ, ◌==◌
 ghost use Rattle.std.specs.List.Sorted.{IsNonDecreasing, IsStrictlyIncreasing};
 ghost use Rattle.vdi_directory.specs.declared.effect.Effect.TheVariants as effects;
 ghost use Rattle.vdi_directory.specs.Vids.{AreRanges};
-ghost use Rattle.vdi_directory.specs.DirectoryState.{IsDirectoryState, AreMade, AreLocksMade, IsFresh, CanMake, lost_by, IsDeadList};
+ghost use Rattle.vdi_directory.specs.DirectoryState.{IsDirectoryState, AreMade, AreLocksMade, IsFresh, CanMake, HasItsTag, lost_by, IsDeadList};
 ghost use Rattle.vdi_directory.specs.References.{one, reserved_by, parent_in, count_in, CanLose};
 
 use crate::effect::{Effect, Grant, Reservation, Snap};
 use crate::header::Header;
-use crate::headers::set_tag;
+use crate::headers::{set_tag, tag_of};
 use crate::live_ids::{add_id, drop_id};
 use crate::losses::Losses;
 use crate::names::Names;
@@ -86,6 +86,7 @@ impl DirectoryState {
 
     /// Makes a working disk a snapshot, and the reserved id the working disk. Without memory nothing changes.
     fn snap(&mut self, alloc: Global, snap: Snap, locks: &mut Locks) -> Result<(), NoMemory>
+        requires tag { HasItsTag (effects.Snapped snap) self.old }
         requires sorted { IsNonDecreasing self.old.live.items }
         requires ranges { AreRanges self.old.used.items }
         ensures ok { OnOk result (AreMade (effects.Snapped snap) self.old self.new) }
@@ -104,11 +105,13 @@ impl DirectoryState {
 
     fn delete(&mut self, vid: Vid, name: &Bytes)
         requires references { CanMake (effects.Deleted vid name.now) self.old }
+        requires tag { HasItsTag (effects.Deleted vid name.now) self.old }
         requires strict { IsStrictlyIncreasing self.old.live.items }
         requires ranges { AreRanges self.old.used.items }
         ensures { AreMade (effects.Deleted vid name.now) self.old self.new }
     {
-        self.names.delete(name.as_slice(), vid);
+        let tag = tag_of(&self.headers, vid);
+        self.names.delete(name.as_slice(), vid, tag);
         drop_id(&mut self.live, vid);
         drop_reference(&self.headers, &mut self.references, vid);
     }
@@ -176,6 +179,7 @@ impl DirectoryState {
     pub fn make(&mut self, alloc: Global, effect: Effect, locks: &mut Locks) -> Result<(), NoMemory>
         requires fresh { IsFresh effect self.old }
         requires references { CanMake effect self.old }
+        requires tag { HasItsTag effect self.old }
         requires sorted { IsNonDecreasing self.old.live.items }
         requires strict { IsStrictlyIncreasing self.old.live.items }
         requires ranges { AreRanges self.old.used.items }

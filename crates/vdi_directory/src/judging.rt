@@ -2,6 +2,7 @@
 //! effect alone: a refusal, and a decision that names nothing, is never answered as `NoMemory`.
 ghost use Rattle.std.specs.Prelude.{◌≡◌, true, IfOk, OnErr};
 ghost use Rattle.std.specs.Option.{option_copied};
+ghost use Rattle.vdi_directory.specs.Names.{is_live_name};
 ghost use Rattle.vdi_directory.specs.Effects.{reservations_of, reservation_on as the_reservation, name_of};
 ghost use Rattle.vdi_directory.specs.Decisions.{has_names, is_reserved_by, publication, snapshot_outcome as the_replacement};
 ghost use Rattle.vdi_directory.specs.Decisions.{free_disk as the_free, target as the_target, deletion, lock as the_lock};
@@ -118,6 +119,13 @@ impl Directory {
         }
     }
 
+    /// Whether a live published disk or snapshot has the name.
+    pub(crate) fn is_live(&self, name: &Bytes) -> bool
+        ensures { result ≡ is_live_name (name_of (log_effects self.now) name.now) }
+    {
+        self.state.names.is_live(name.as_slice())
+    }
+
     /// Which disk or snapshot is meant by a name and a tag.
     fn target(&self, name: &Bytes, tag: &Option<Bytes>, locks: &Locks) -> Result<Vid, Cause>
         requires { AreLocks (log_effects self.now) locks.now }
@@ -126,7 +134,7 @@ impl Directory {
         let Some(tag) = tag else {
             return self.free_disk(name, locks);
         };
-        if !self.state.names.is_live(name.as_slice()) {
+        if !self.is_live(name) {
             return Err(Cause::NoVdi);
         }
         match self.state.names.tagged(name.as_slice(), tag.as_slice()) {

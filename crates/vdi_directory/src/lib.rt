@@ -6,7 +6,7 @@
 //! Locks stand beside it, since the layers above ask for them alone: [`Directory::read_entry`] asks that they are those
 //! of its entries, and keeps them so.
 //!
-//! No question scans the entries: names and headers stand in trees, the live ids in order, the used ids as sorted ranges,
+//! No question scans the entries: names, tags and headers stand in trees, the live ids in order, the used ids as sorted ranges,
 //! and the reservations that stand in a list, since a session has one command at a time (`specs/DirectoryState.antt`). Beside each
 //! id stands how many bear it, by which the dead are told (`specs/References.antt`): an entry changes these counts along the
 //! parent chains of what it frees, and no further than they change.
@@ -29,6 +29,7 @@ mod names;
 mod references;
 mod reservations;
 mod reserving;
+mod tags;
 #[cfg(test)]
 mod tests;
 mod used_ids;

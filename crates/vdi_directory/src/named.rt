@@ -1,32 +1,27 @@
-ghost use Rattle.std.specs.Prelude.{◌≡◌, ℕ, OnOk, OnErr};
-ghost use Rattle.std.specs.Option.{option_copied};
+ghost use Rattle.std.specs.Prelude.{◌≡◌, ℕ, List, None, Some, OnOk, OnErr};
 ghost use Rattle.std.specs.FinMap as tree;
 ghost use Rattle.vdi_directory.specs.declared.effect.Effect.TheVariants as effects;
-ghost use Rattle.vdi_directory.specs.Names.{no_disk, is_same_bytes, is_live_name, has_tag, snapshot_with_tag, name_with_working};
-ghost use Rattle.vdi_directory.specs.Names.{name_with_snapshot, unless, name_without};
+ghost use Rattle.vdi_directory.specs.Names.{Name, is_live_name, unless};
+ghost use Rattle.vdi_directory.specs.NameRows.{no_standing, standing_of, tag_in, standing_in, standing_with_working};
+ghost use Rattle.vdi_directory.specs.NameRows.{standing_with_snapshot, standing_without};
 ghost use Rattle.vdi_directory.specs.Effects.{holder_after};
 
 use crate::effect::Snap;
-use crate::live_snapshot::LiveSnapshot;
+use crate::tags::{add_tag, drop_tag, tagged};
 use disk_lock::Locks;
 use object_id::{NoMemory, Vid};
 use std::alloc::Global;
-use std::marker::Model;
+use std::collections::BTreeMap;
 
-/// What a name stands for: its published working disk, and its live snapshots.
+/// What a name stands for: its published working disk, and its live snapshots by tag. The definitions list these in order, and a tag
+/// finds the first that has it. It is the only one: a tag has to be free when an id is reserved for a snapshot with it, and until
+/// the working disk of the name becomes that snapshot no other can (`proofs/TagLemmas.antt`).
 #[derive(Drop)]
 pub struct Named {
-    working: Option<Vid>,
-    live_snapshots: Vec<LiveSnapshot>,
-    taken: u32,
-}
-
-impl Model for Named {
-    ghost use Rattle.vdi_directory.specs.Names.{Name};
-
-    ghost Value = { Name };
-
-    ghost view = { λ n. record { working = n.working; live_snapshots = n.live_snapshots.items; taken = n.taken } };
+    pub working: Option<Vid>,
+    pub tags: BTreeMap<Vec<u8>, Vid>,
+    /// How many snapshots were ever taken.
+    pub taken: u32,
 }
 
 /// What is left of a working disk where this one goes.
@@ -39,89 +34,72 @@ fn unless(vid: Vid, working: Option<Vid>) -> Option<Vid>
     }
 }
 
-fn has_tag(live_snapshot: &LiveSnapshot, tag: &[u8]) -> bool
-    ensures { result ≡ has_tag tag.now live_snapshot.now }
-{
-    live_snapshot.tag.as_slice() == tag
-}
-
 impl Named {
     /// No disk yet. Takes no memory.
     pub fn new(alloc: Global) -> Named
-        ensures { result ≡ no_disk }
+        ensures { standing_in result ≡ no_standing }
     {
         Named {
             working: None,
-            live_snapshots: Vec::new(alloc),
+            tags: BTreeMap::new(alloc),
             taken: 0,
         }
     }
 
-    pub fn working(&self) -> Option<Vid>
-        ensures { result ≡ self.now.working }
-    {
-        self.working
-    }
-
-    /// How many snapshots were ever taken.
-    pub fn taken(&self) -> u32
-        ensures { result ≡ self.now.taken }
-    {
-        self.taken
-    }
-
     /// The live snapshot with a tag.
     pub fn tagged(&self, tag: &[u8]) -> Option<Vid>
-        ensures { result ≡ snapshot_with_tag tag.now self.now }
+        ensures { result ≡ tag_in self.now.tags tag.now }
     {
-        match self
-            .live_snapshots
-            .iter()
-            .find(|live_snapshot| has_tag(live_snapshot, tag))
-        {
-            Some(live_snapshot) => Some(live_snapshot.vid),
-            None => None,
-        }
+        tagged(&self.tags, tag)
     }
 
     /// Whether there is a live published disk or snapshot.
     pub fn is_live(&self) -> bool
-        ensures { result ≡ is_live_name self.now }
+        ensures { (now : Name) → standing_in self.now ≡ standing_of now → result ≡ is_live_name now }
     {
-        self.working.is_some() || !self.live_snapshots.is_empty()
+        self.working.is_some() || !self.tags.is_empty()
     }
 
     pub fn publish(&mut self, vid: Vid)
-        ensures { self.new ≡ name_with_working vid self.old }
+        ensures { standing_in self.new ≡ standing_with_working vid (standing_in self.old) }
     {
         self.working = Some(vid);
     }
 
-    /// Makes the working disk a snapshot and moves its lock to the new one. Without memory nothing changes.
+    /// Makes the working disk a snapshot and moves its lock to the new one. Without memory each tag finds what it found.
     pub fn snap(&mut self, alloc: Global, snap: &Snap, locks: &mut Locks) -> Result<(), NoMemory>
-        ensures ok { OnOk result (self.new ≡ name_with_snapshot snap.now.old snap.now.vid snap.now.tag self.old) }
+        requires { tag_in self.old.tags snap.now.tag ≡ None }
+        ensures ok { OnOk result (standing_in self.new
+            ≡ standing_with_snapshot snap.now.old snap.now.vid snap.now.tag (standing_in self.old)) }
         ensures locks { OnOk result ((vid : ℕ) → tree.get locks.new vid
             ≡ holder_after vid (tree.get locks.old vid) (effects.Snapped snap.now)) }
-        ensures err { OnErr result (self.new ≡ self.old) }
+        ensures err { OnErr result (standing_in self.new ≡ standing_in self.old) }
         ensures locks_err { OnErr result (locks.new ≡ locks.old) }
     {
-        self.live_snapshots.reserve(1)?;
-        let tag = snap.tag.copy(alloc)?;
-        locks.grant(snap.vid, snap.holder)?;
-        locks.free(snap.old);
-        self.live_snapshots
-            .push_reserved(LiveSnapshot { vid: snap.old, tag });
-        self.working = Some(snap.vid);
-        self.taken = self.taken.saturating_add(1);
-        Ok(())
+        add_tag(alloc, &mut self.tags, snap.tag.as_slice(), snap.old)?;
+        match locks.grant(snap.vid, snap.holder) {
+            Ok(()) => {
+                locks.free(snap.old);
+                self.working = Some(snap.vid);
+                self.taken = self.taken.saturating_add(1);
+                Ok(())
+            }
+            Err(fault) => {
+                drop_tag(&mut self.tags, snap.tag.as_slice());
+                Err(fault)
+            }
+        }
     }
 
-    /// Forgets a disk that was deleted.
-    pub fn delete(&mut self, vid: Vid)
-        ensures { self.new ≡ name_without vid self.old }
+    /// Forgets a disk that was deleted. If it is a snapshot, this is its tag.
+    pub fn delete(&mut self, vid: Vid, tag: &[u8])
+        requires { (other : List ℕ) → tag_in self.old.tags other ≡ Some vid → tag.now ≡ other }
+        ensures { standing_in self.new ≡ standing_without vid (standing_in self.old) }
     {
         self.working = unless(vid, self.working);
-        self.live_snapshots
-            .retain(|live_snapshot| live_snapshot.vid != vid);
+        match self.tagged(tag) {
+            Some(other) if other == vid => drop_tag(&mut self.tags, tag),
+            _ => {}
+        }
     }
 }

@@ -1,9 +1,9 @@
-ghost use Rattle.std.specs.Prelude.{◌≡◌, ℕ, List, IsSome, OnOk, OnErr};
+ghost use Rattle.std.specs.Prelude.{◌≡◌, ℕ, List, None, Some, IsSome, OnOk, OnErr};
 ghost use Rattle.std.specs.FinMap as tree;
 ghost use Rattle.vdi_directory.specs.declared.effect.Effect.TheVariants as effects;
-ghost use Rattle.vdi_directory.specs.Names.{no_disk, snapshot_with_tag, is_live_name};
-ghost use Rattle.vdi_directory.specs.Effects.{name_after, holder_after};
-ghost use Rattle.vdi_directory.specs.NameRows.{name_row_of, name_in};
+ghost use Rattle.vdi_directory.specs.Names.{Name, is_live_name};
+ghost use Rattle.vdi_directory.specs.Effects.{holder_after};
+ghost use Rattle.vdi_directory.specs.NameRows.{no_standing, standing_of, name_row_of, name_in, standing_after};
 
 use crate::effect::Snap;
 use crate::named::Named;
@@ -21,7 +21,7 @@ pub struct Names {
 impl Names {
     /// No name stands for a disk. Takes no memory.
     pub fn new(alloc: Global) -> Names
-        ensures { (name : List ℕ) → name_in result.rows name ≡ no_disk }
+        ensures { (name : List ℕ) → name_in result.rows name ≡ no_standing }
     {
         Names {
             rows: BTreeMap::new(alloc),
@@ -32,7 +32,7 @@ impl Names {
         ensures { result ≡ (name_in self.now.rows name.now).working }
     {
         match self.rows.get(name) {
-            Some(named) => named.working(),
+            Some(named) => named.working,
             None => None,
         }
     }
@@ -41,13 +41,13 @@ impl Names {
         ensures { result ≡ (name_in self.now.rows name.now).taken }
     {
         match self.rows.get(name) {
-            Some(named) => named.taken(),
+            Some(named) => named.taken,
             None => 0,
         }
     }
 
     pub fn tagged(&self, name: &[u8], tag: &[u8]) -> Option<Vid>
-        ensures { result ≡ snapshot_with_tag tag.now (name_in self.now.rows name.now) }
+        ensures { result ≡ (name_in self.now.rows name.now).tagged tag.now }
     {
         match self.rows.get(name) {
             Some(named) => named.tagged(tag),
@@ -56,7 +56,7 @@ impl Names {
     }
 
     pub fn is_live(&self, name: &[u8]) -> bool
-        ensures { result ≡ is_live_name (name_in self.now.rows name.now) }
+        ensures { (now : Name) → name_in self.now.rows name.now ≡ standing_of now → result ≡ is_live_name now }
     {
         match self.rows.get(name) {
             Some(named) => named.is_live(),
@@ -79,7 +79,7 @@ impl Names {
     pub fn publish(&mut self, name: &[u8], vid: Vid)
         requires { IsSome (name_row_of self.old.rows name.now) }
         ensures { (other : List ℕ) → name_in self.new.rows other
-            ≡ name_after other (name_in self.old.rows other) (effects.Published vid name.now) }
+            ≡ standing_after other (name_in self.old.rows other) (effects.Published vid name.now) }
     {
         if let Some(named) = self.rows.get_mut(name) {
             named.publish(vid);
@@ -88,9 +88,10 @@ impl Names {
 
     /// Without memory nothing changes.
     pub fn snap(&mut self, alloc: Global, snap: &Snap, locks: &mut Locks) -> Result<(), NoMemory>
-        requires { IsSome (name_row_of self.old.rows snap.now.name) }
+        requires there { IsSome (name_row_of self.old.rows snap.now.name) }
+        requires free { (name_in self.old.rows snap.now.name).tagged snap.now.tag ≡ None }
         ensures ok { OnOk result ((other : List ℕ) → name_in self.new.rows other
-            ≡ name_after other (name_in self.old.rows other) (effects.Snapped snap.now)) }
+            ≡ standing_after other (name_in self.old.rows other) (effects.Snapped snap.now)) }
         ensures locks { OnOk result ((vid : ℕ) → tree.get locks.new vid
             ≡ holder_after vid (tree.get locks.old vid) (effects.Snapped snap.now)) }
         ensures err { OnErr result ((other : List ℕ) → name_in self.new.rows other ≡ name_in self.old.rows other) }
@@ -102,12 +103,13 @@ impl Names {
         }
     }
 
-    pub fn delete(&mut self, name: &[u8], vid: Vid)
+    pub fn delete(&mut self, name: &[u8], vid: Vid, tag: &[u8])
+        requires { (other : List ℕ) → (name_in self.old.rows name.now).tagged other ≡ Some vid → tag.now ≡ other }
         ensures { (other : List ℕ) → name_in self.new.rows other
-            ≡ name_after other (name_in self.old.rows other) (effects.Deleted vid name.now) }
+            ≡ standing_after other (name_in self.old.rows other) (effects.Deleted vid name.now) }
     {
         if let Some(named) = self.rows.get_mut(name) {
-            named.delete(vid);
+            named.delete(vid, tag);
         }
     }
 }

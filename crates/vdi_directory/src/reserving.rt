@@ -176,7 +176,7 @@ impl Directory {
                 self.reserved_snapshot(by, session, name, tag, held)
             }
             Origin::CloneOf { base, tag } => {
-                if !self.state.names.is_live(base.as_slice()) {
+                if !self.is_live(base) {
                     return Ok(Outcome::refused(Cause::NoBaseVdi));
                 }
                 let from = self.state.names.tagged(base.as_slice(), tag.as_slice());

@@ -4,7 +4,7 @@ use Rattle.object_id.specs.declared.entry.Entry.{Entry}
 use Rattle.vdi_directory.specs.declared.effect.Effect.{Effect}
 use Rattle.vdi_directory.specs.declared.decision.Outcome.{Outcome}
 use Rattle.vdi_directory.specs.Decisions.{outcome as outcome_of, log_effects}
-use Rattle.vdi_directory.specs.DirectoryState.{IsDirectoryState, AreMade, AreLocksMade, AreLocks, IsFresh, CanMake}
+use Rattle.vdi_directory.specs.DirectoryState.{IsDirectoryState, AreMade, AreLocksMade, AreLocks, IsFresh, CanMake, HasItsTag}
 use Rattle.vdi_directory.proofs.LiveLemmas.{live_of-sorted}
 use Rattle.vdi_directory.proofs.AscentLemmas.{live-ascends}
 use Rattle.vdi_directory.proofs.StateLemmas.{log_effects-push, state-push, locks-push, fresh-outcome}
@@ -12,6 +12,7 @@ use Rattle.vdi_directory.proofs.LawfulEntries.{lawful-outcome, sound-log_effects
 use Rattle.vdi_directory.proofs.LineLemmas.{line-log_effects}
 use Rattle.vdi_directory.proofs.ValidLemmas.{known-happens}
 use Rattle.vdi_directory.proofs.ReferencesByEffect.{reserved-log_effects, can-make, bear-push}
+use Rattle.vdi_directory.proofs.TagLemmas.{standing-outcome, its-tag-outcome}
 use Rattle.vdi_directory.proofs.directory.Directory.read_entry.Goals as goal
 
 pub make-requires-clause-fresh : goal.make-requires-clause-fresh
@@ -31,6 +32,14 @@ make-requires-clause-references c =
     (can-make (log_effects entries) (sound-log_effects entries) (reserved-log_effects entries) (line-log_effects entries) c.self.inside.state c.self.invariant
     (outcome_of (log_effects entries) c.args.entry.now).effect (lawful-outcome (log_effects entries) (sound-log_effects entries) c.args.entry.now))
 
+pub make-requires-clause-tag : goal.make-requires-clause-tag
+make-requires-clause-tag c =
+    let entries : List Entry = c.self.inside.entries.items in
+    let is : c.in_ok-outcome.outcome ≡ outcome_of (log_effects entries) c.args.entry.now
+    = c.in_ok-outcome.ensures.ok ∙ ap (λ (all : List Entry). outcome_of (log_effects all) c.args.entry.now) c.reserve.ensures.items in
+    subst (λ (o : Outcome). HasItsTag o.effect c.self.inside.state) (sym is)
+    (its-tag-outcome entries c.self.inside.state c.self.invariant c.args.entry.now)
+
 pub make-requires-clause-sorted : goal.make-requires-clause-sorted
 make-requires-clause-sorted c = subst IsNonDecreasing (sym c.self.invariant.live) (live_of-sorted (log_effects c.self.inside.entries.items))
 
@@ -48,6 +57,7 @@ invariant_of-self-3 c =
     = subst (λ (o : Outcome). AreMade o.effect c.self.inside.state c.make.new.self) is c.in_ok-make.ensures.ok in
     subst (λ (before : List Effect). IsDirectoryState before c.make.new.self) (sym (ap log_effects later ∙ log_effects-push before c.args.entry.now))
     (state-push (log_effects before) ((outcome_of (log_effects before) c.args.entry.now).effect) c.self.inside.state c.make.new.self c.self.invariant made
+    (standing-outcome before c.args.entry.now)
     (bear-push (log_effects before) (sound-log_effects before) (reserved-log_effects before) (line-log_effects before) c.self.inside.state c.self.invariant
     (outcome_of (log_effects before) c.args.entry.now).effect (lawful-outcome (log_effects before) (sound-log_effects before) c.args.entry.now) c.make.new.self made.references)
     (known-happens (log_effects before) (line-log_effects before) c.self.invariant.known (sound-log_effects before) c.args.entry.now c.requires.reservable))

@@ -2,6 +2,7 @@ use Rattle.std.proofs.Common.{[], unwrap_or, refl, ap, sym, subst}
 use Rattle.std.specs.Ordering.{nat_cmp}
 use Rattle.std.specs.Map.{lookup}
 use Rattle.std.specs.BTreeMap.{is_at}
+use Rattle.vdi_directory.specs.NameRows.{Standing}
 use Rattle.vdi_directory.specs.Vids.{is_in, AreRangesFrom}
 use Rattle.vdi_directory.specs.Effects.{is_used, header_of, name_of, reservations_of, live_of}
 use Rattle.vdi_directory.specs.States.{state_of}
@@ -14,7 +15,9 @@ pub returns : goal.returns
 unfolding is_used header_of name_of reservations_of live_of state_of
 returns c = record {
   headers = λ vid. ap (lookup (is_at (nat_cmp vid))) c.new.ensures.empty;
-  names = λ name. c.new-2.ensures name;
+  working = λ name. ap (λ (now : Standing). now.working) (c.new-2.ensures name);
+  tagged = λ name tag. ap (λ (now : Standing). now.tagged tag) (c.new-2.ensures name);
+  taken = λ name. ap (λ (now : Standing). now.taken) (c.new-2.ensures name);
   reservations = c.new-3.ensures.items;
   live = c.new-4.ensures.items;
   ranges = subst (AreRangesFrom 1) (sym c.new-5.ensures.items) tt;
