@@ -10,21 +10,25 @@ use Rattle.object_id.specs.declared.node.NodeId.{NodeId}
 use Rattle.object_id.specs.declared.policy.Policy.{Policy}
 use Rattle.object_id.specs.Oid.{kind_of}
 use Rattle.object_id.specs.Policy.{IsPolicy, wanted_of}
+use Rattle.object_store.specs.declared.key.Key.{Key}
 use Rattle.object_list.specs.Gathered.{is_same_node, nodes_without}
 use Rattle.peer_proto.specs.declared.ask.PeerAsk.{PeerAsk}
 use Rattle.peer_proto.specs.declared.ask.PeerAsk.TheVariants as asks
 use Rattle.peer_proto.specs.declared.say.PeerSay.{PeerSay}
 use Rattle.peer_proto.specs.declared.say.PeerSay.TheVariants as says
-use Rattle.recovery.specs.Shown.{NodeView, live_policy, is_pending_object, first_in, shown_with_pending}
+use Rattle.peer_proto.specs.declared.say.PeerRsp.{PeerRsp}
+use Rattle.recovery.specs.Shown.{NodeView, with_row, live_policy, is_pending_object, first_in, shown_with_pending}
 use Rattle.recovery.specs.State.{Message, Search, Recovery, RecoveryState, still_on, search_on, is_listed, has_number, message_of, MayBegin, MayTick}
 use Rattle.recovery.specs.Level.{is_of_search, with_part_found, with_object_missing, to_ask, one_lower, level_without_part, own_index, own_part, rows_found, are_enough, level_over_by, level_over, searching}
 use Rattle.recovery.specs.Tick.{request_message, messages_to, lists_asked, level_asked, asked_of, or_next, next_search, level_messages, tick_messages, with_messages, state_after_tick}
-use Rattle.recovery.specs.Steps.{recovery_from_epoch, to_recover, at_start, without_unanswered, search_after_answer, with_list_of, after_list, after_read, after_ask, message_end}
+use Rattle.recovery.specs.Fits.{fits_recovery}
+use Rattle.recovery.specs.Steps.{recovery_on_reply, recovery_on_loss, recovery_from_epoch, to_recover, at_start, without_unanswered, search_after_answer, with_list_of, after_list, after_read, after_ask, message_end}
 use Rattle.recovery.specs.Frame.{Frame, frame}
 use Rattle.recovery.specs.Step.{AnswersFit, IsFittingSay, SaysOfRow, IsPartSize, MayEndLevel, MayStep}
 use Rattle.recovery.proofs.StepLemmas.{frame_of_tick, frame_of_end}
 use Rattle.recovery.proofs.RangeLemmas.{above_1, others_few}
 use Rattle.recovery.proofs.TickLemmas.{kept_few}
+use Rattle.recovery.proofs.ReplyLemmas.{reply_fits}
 use Rattle.recovery.proofs.EndLemmas.{answers-after, same-level, same-object}
 use Rattle.recovery.proofs.FoundLemmas.{wanted-most}
 
@@ -227,7 +231,7 @@ may_after_tick first state may is =
     (All-append (λ (message : Message). message.wanted ≤ TARGETS_MAX) state.recovery.unanswered (tick_messages first state) is.wanted
     (tick-wanted first state is.policies)))
 
-pub may_after_end : (number : ℕ) (said : Option PeerSay) (state : RecoveryState)
+may_after_end : (number : ℕ) (said : Option PeerSay) (state : RecoveryState)
     → IfSome said (λ say. IfSome (message_of number state.recovery.unanswered) (λ (message : Message). SaysOfRow state.shown message.request.ask say))
     → MayStep state → MayStep (message_end number said state)
 may_after_end number said state told is =
@@ -237,6 +241,19 @@ may_after_end number said state told is =
     (end-may (message_of number state.recovery.unanswered) said let_go is.settled told (is.search, is.waiting))
     (subst (λ (f : Frame). AreWanted f.unanswered) (sym same)
     (All-filter (λ (message : Message). not (has_number number message)) (λ (message : Message). message.wanted ≤ TARGETS_MAX) state.recovery.unanswered is.wanted))
+
+pub may_after_reply : (rsp : PeerRsp) (state : RecoveryState) → fits_recovery rsp state ≡ true → MayStep state → MayStep (recovery_on_reply rsp state)
+unfolding recovery_on_reply
+may_after_reply rsp state fits is = may_after_end rsp.number (Some rsp.say) state (reply_fits rsp state fits is.wanted) is
+
+pub may_after_loss : (number : ℕ) (state : RecoveryState) → MayStep state → MayStep (recovery_on_loss number state)
+unfolding recovery_on_loss
+may_after_loss number state is = may_after_end number None state tt is
+
+pub may_after_row : (key : Key) (size : ℕ) (bytes : List ℕ) (state : RecoveryState) → MayStep state
+    → MayStep (record state { shown = with_row key size bytes state.shown })
+may_after_row key size bytes state is =
+    may-with (record state { shown = with_row key size bytes state.shown }) (rest-of state is) (is.search, is.waiting) is.wanted
 
 pub may_after_begin : (epoch : ℕ) (members : List NodeId) (state : RecoveryState) → MayBegin epoch members state
     → MayStep state → MayStep (recovery_from_epoch epoch members state)

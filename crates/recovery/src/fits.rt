@@ -25,7 +25,7 @@ fn reaches(level: Epoch, to: Option<Epoch>) -> bool
 }
 
 /// Whether a row is as an object's rows of this length are at a level.
-fn is_asked_row(level: Epoch, wanted: u8, size: Option<u32>, row: &RowCopy) -> bool
+pub(crate) fn is_asked_row(level: Epoch, wanted: u8, size: Option<u32>, row: &RowCopy) -> bool
     ensures { result ≡ is_asked_row level.0 wanted size row.now }
 {
     match size {

@@ -25,7 +25,7 @@ use peer_proto::SendList;
 use std::alloc::Global;
 
 /// Whether a node is one of the members. Looks at each member.
-fn is_member(members: &[NodeId], node: NodeId) -> bool
+pub(crate) fn is_member(members: &[NodeId], node: NodeId) -> bool
     ensures { result ≡ has_node node members.now }
 {
     members.contains(&node)
