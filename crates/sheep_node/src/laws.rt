@@ -212,7 +212,8 @@ pub fn a_create_begins_with_its_reservation()
 /// A node opens as one, and each step that it may take leaves it one: its requests have one work each at most, which is what they wait
 /// for, its entries are its own, its queues are its reads and writes, no more than there may be at once, and any other request is alone
 /// in its session, its reads and writes are on the disks that are open, and one that began is
-/// apart from the earlier ones, what it has read is a log, it is in the epoch of that, no `Recovered` is due, and what it has of disks is valid.
+/// apart from the earlier ones, what it has read is a log, it is in the epoch of that, no `Recovered` is due, and what it has of disks is
+/// valid.
 pub fn a_node_stays_one()
     ensures opens { (me : NodeId) (tries : ℕ) → IsSoundNode (initial_node me tries) }
     ensures stays { (input : Input) (node : Node) → May input node → IsSoundNode node → IsSoundNode (node_step input node).node }
