@@ -1,4 +1,12 @@
-//! What no clause says: that a recovery can be made.
+//! What no clause says: that each call comes through with ample memory, and what recoveries come to that were worked out apart from
+//! this program.
+
+mod answers;
+mod copies;
+mod node;
+mod steps;
+mod strips;
+mod trial;
 
 use crate::Recovery;
 use object_id::{NodeId, Oid, Vid};

@@ -1,0 +1,129 @@
+//! Which answers a recovery of a copy takes.
+
+use super::copies::a_trial;
+use super::steps::objects;
+use super::trial::Trial;
+use object_id::{Bytes, Epoch, NoMemory, NodeId};
+use object_store::RowCopy;
+use peer_proto::PeerSay;
+use std::alloc::Global;
+use std::test::*;
+
+/// Each other member names the first object.
+fn names_objects(trial: &mut Trial, alloc: Global) -> Result<bool, NoMemory> {
+    let first = trial.answer(7, PeerSay::Objects(objects(alloc, 1)?))?;
+    let second = trial.answer(8, PeerSay::Objects(objects(alloc, 1)?))?;
+    Ok(first && second)
+}
+
+/// Begins, and asks nodes 0 and 1 for rows of level 2, by messages 9 and 10. Whether each step may come.
+fn asks_for_rows(trial: &mut Trial, alloc: Global) -> Result<bool, NoMemory> {
+    let begins = trial.begin(&[NodeId(0), NodeId(1), NodeId(2)])?;
+    if !begins || trial.tick(7)?.is_none() || !names_objects(trial, alloc)? {
+        return Ok(false);
+    }
+    Ok(trial.tick(9)?.is_some())
+}
+
+/// A trial that waits for the answers of nodes 0 and 1 to messages 9 and 10, which ask for rows of level 2.
+fn searching(alloc: Global) -> Result<Option<Trial>, NoMemory> {
+    let Some(mut trial) = a_trial(alloc)? else {
+        return Ok(None);
+    };
+    if asks_for_rows(&mut trial, alloc)? {
+        Ok(Some(trial))
+    } else {
+        Ok(None)
+    }
+}
+
+/// Whether a row of these epochs, of this index and length, answers message 9; `None` if no answer is awaited.
+fn answers(
+    alloc: Global,
+    from: u32,
+    to: Option<Epoch>,
+    index: u8,
+    length: u32,
+) -> Result<Option<bool>, NoMemory> {
+    let Some(mut trial) = searching(alloc)? else {
+        return Ok(None);
+    };
+    let row = RowCopy {
+        index,
+        from: Epoch(from),
+        to,
+        length,
+        bytes: Bytes::new(alloc),
+    };
+    Ok(Some(trial.answer(9, PeerSay::Row(row))?))
+}
+
+/// Whether such a row answers message 9.
+fn fits(
+    alloc: Global,
+    from: u32,
+    to: Option<Epoch>,
+    index: u8,
+    length: u32,
+) -> Result<bool, NoMemory> {
+    Ok(answers(alloc, from, to, index, length)? == Some(true))
+}
+
+/// Whether message 9 is awaited, and such a row doesn't answer it.
+fn misfits(
+    alloc: Global,
+    from: u32,
+    to: Option<Epoch>,
+    index: u8,
+    length: u32,
+) -> Result<bool, NoMemory> {
+    Ok(answers(alloc, from, to, index, length)? == Some(false))
+}
+
+#[test]
+fn takes_rows_of_the_level(rt: HostRuntime) -> Result<(), Fail> {
+    let alloc = rt.alloc();
+    assert!(rt; fits(alloc, 1, None, 0, 512)?);
+    assert!(rt; fits(alloc, 2, Some(Epoch(2)), 1, 512)?);
+    assert!(rt; fits(alloc, 2, Some(Epoch(9)), 1, 512)?);
+    Ok(())
+}
+
+#[test]
+fn takes_no_rows_of_other_levels(rt: HostRuntime) -> Result<(), Fail> {
+    let alloc = rt.alloc();
+    assert!(rt; misfits(alloc, 3, None, 0, 512)?);
+    assert!(rt; misfits(alloc, 3, Some(Epoch(2)), 0, 512)?);
+    assert!(rt; misfits(alloc, 1, Some(Epoch(1)), 0, 512)?);
+    Ok(())
+}
+
+#[test]
+fn takes_no_rows_of_other_indexes_and_lengths(rt: HostRuntime) -> Result<(), Fail> {
+    let alloc = rt.alloc();
+    assert!(rt; misfits(alloc, 1, None, 2, 512)?);
+    assert!(rt; misfits(alloc, 1, None, 0, 511)?);
+    assert!(rt; misfits(alloc, 1, None, 0, 513)?);
+    Ok(())
+}
+
+#[test]
+fn takes_no_other_answers_to_a_request_for_a_row(rt: HostRuntime) -> Result<(), Fail> {
+    let alloc = rt.alloc();
+    let mut trial = searching(alloc)?.ok_or("no trial")?;
+    assert!(rt; !trial.answer(9, PeerSay::Success)?);
+    assert!(rt; !trial.answer(9, PeerSay::Piece(Bytes::new(alloc)))?);
+    assert!(rt; !trial.answer(9, PeerSay::Objects(objects(alloc, 1)?))?);
+    assert!(rt; trial.answer(9, PeerSay::NoRow)?);
+    Ok(())
+}
+
+#[test]
+fn takes_one_answer_to_each_message(rt: HostRuntime) -> Result<(), Fail> {
+    let mut trial = searching(rt.alloc())?.ok_or("no trial")?;
+    assert!(rt; !trial.answer(8, PeerSay::NoRow)?);
+    assert!(rt; !trial.answer(11, PeerSay::NoRow)?);
+    assert!(rt; trial.answer(9, PeerSay::NoRow)?);
+    assert!(rt; !trial.answer(9, PeerSay::NoRow)?);
+    Ok(())
+}
