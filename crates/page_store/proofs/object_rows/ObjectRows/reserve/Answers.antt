@@ -1,0 +1,34 @@
+use Rattle.std.proofs.Common.{◌≡◌, ◌∙◌, ◌+◌, ◌-◌, ◌≤◌, ap, sym, subst, length, map, cond, Some, None, true, IfSome, arith}
+use Rattle.std.proofs.lemmas.Result.{IfOk-weaker}
+use Rattle.object_store.specs.Rows.{is_open_at, open_at}
+use Rattle.page_store.specs.Pages.{HasPages}
+use Rattle.page_store.specs.KeptRows.{seen_page_row, PageRoomIn}
+use Rattle.object_store.proofs.RowLemmas.{open_last_at, orderly_set, map_set_same}
+use Rattle.page_store.proofs.KeptLemmas.{KeepsPageRoom-set, PageRoomIn-set}
+use Rattle.page_store.proofs.object_rows.ObjectRows.reserve.Goals as goal
+
+pub reserve_in-requires : goal.reserve_in-requires
+reserve_in-requires c = λ is.
+    let found = ap (open_at c.args.index) (sym c.self.view_is)
+    ∙ open_last_at c.args.index c.self.inside.rows.items (c.len-rows.result - 1) c.index_mut.result.now (omega arith) c.self.invariant c.index_mut.ensures.value
+    ∙ ap (λ b. cond b (Some c.index_mut.result.now) None) is in
+    subst (λ o. IfSome o (λ row. c.args.offset + c.args.count ≤ length row.bytes.bytes)) found c.requires
+
+pub invariant_of-self : goal.invariant_of-self
+invariant_of-self c = orderly_set c.self.inside.rows.items (c.len-rows.result - 1) _ (omega arith) c.self.invariant
+
+pub returns-clause-rows : goal.returns-clause-rows
+returns-clause-rows c =
+    map_set_same seen_page_row c.self.inside.rows.items (c.len-rows.result - 1) c.index_mut.result.now c.reserve_in.new.row (omega arith) c.index_mut.ensures.value c.reserve_in.ensures.row
+    ∙ ap (map seen_page_row) c.self.view_is
+
+pub returns-clause-room : goal.returns-clause-room
+returns-clause-room c = λ index offset n had.
+    KeepsPageRoom-set c.self.inside.rows.items (c.len-rows.result - 1) c.index_mut.result.now c.reserve_in.new.row (omega arith) c.self.invariant c.index_mut.ensures.value
+    c.reserve_in.ensures.row c.reserve_in.ensures.room index offset n (subst (λ rows. PageRoomIn (open_at index rows) offset n) (sym c.self.view_is) had)
+
+pub returns-clause-ok : goal.returns-clause-ok
+returns-clause-ok c =
+    IfOk-weaker c.reserve_in.result (λ _. is_open_at c.args.index c.reserve_in.new.row ≡ true → HasPages c.reserve_in.new.row.bytes.pages c.args.offset c.args.count) _
+    (λ _ room. PageRoomIn-set c.args.index c.args.offset c.args.count c.self.inside.rows.items (c.len-rows.result - 1) c.reserve_in.new.row (omega arith) c.self.invariant room)
+    c.reserve_in.ensures.ok

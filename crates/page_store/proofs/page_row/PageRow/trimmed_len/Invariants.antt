@@ -1,0 +1,13 @@
+use Rattle.std.proofs.Common.{◌≡◌, ◌≤◌, length, take}
+use Rattle.object_store.specs.Bytes.{trimmed_bytes}
+use Rattle.page_store.proofs.page_row.PageRow.trimmed_len.Given as goal
+
+-- the bytes behind are 0
+abbrev pub invariant-loop-end : goal.invariant-loop-end
+invariant-loop-end l = record {
+  value : trimmed_bytes (take l.end l.self.bytes) ≡ trimmed_bytes l.self.bytes;
+  within : l.end ≤ length l.self.bytes;
+}
+
+abbrev pub decreases-loop-end : goal.decreases-loop-end
+decreases-loop-end l = l.end
