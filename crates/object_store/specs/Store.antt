@@ -40,6 +40,10 @@ abbrev pub on_open : {A : Type 0} → ℕ → Option SeenRow → (SeenRow → A)
 on_open end None make = Err NoObj
 on_open end (Some row) make = value_within end (length row.bytes) (make row)
 
+-- how many bytes the open row of a key has, where there is one
+abbrev pub open_length : AllRows → Key → Option ℕ
+open_length all key = option_map (λ (row : SeenRow). length row.bytes) (open_row all key)
+
 -- whether the piece is inside an open row
 abbrev pub piece_there : AllRows → Key → ℕ → ℕ → Result (Unit {0}) StoreFault
 piece_there all key offset n = on_open (offset + n) (open_row all key) (λ row. tt)

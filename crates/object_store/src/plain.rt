@@ -185,6 +185,13 @@ impl ObjStore for PlainStore {
         Ok(())
     }
 
+    fn open_length(&self, key: Key) -> Option<u32> {
+        match self.open_row(&key) {
+            Some(row) => Some(row.bytes.len()),
+            None => None,
+        }
+    }
+
     fn row_at(&self, oid: Oid, level: Epoch) -> Result<Option<RowCopy>, NoMemory> {
         let Some(rows) = self.objects.get(&oid) else {
             return Ok(None);

@@ -3,7 +3,7 @@ ghost use Rattle.std.specs.FinMap as tree;
 ghost use Rattle.object_store.specs.declared.key.Key.{Key};
 ghost use Rattle.object_store.specs.Rows.{OpenFrom, closed_all, advanced, purged, without_disk};
 ghost use Rattle.object_store.specs.Store.{AllRows, rows_of, create_at, piece_there, write_at, read_at, copy_at, summary_at, row_count};
-ghost use Rattle.object_store.specs.Store.{each, HaveRows, OpenUpTo, OpenBelow};
+ghost use Rattle.object_store.specs.Store.{open_length, each, HaveRows, OpenUpTo, OpenBelow};
 ghost use Rattle.object_store.specs.Answers.{Makes, MakesSurely, KeepsRoom, KeepsOtherRoom};
 
 use crate::fault::StoreFault;
@@ -58,6 +58,11 @@ pub trait ObjStore: Drop {
     fn read(&self, key: Key, offset: u32, out: &mut [u8]) -> Result<(), StoreFault>
         ensures { MakesSurely (read_at (rows self.now) key offset (length out.old))
             (λ piece. out.new ≡ piece) (out.new ≡ out.old) result };
+
+    /// How many bytes the open row of a key has, or `None` exactly where there is none. Takes no memory. Costs the logarithm of the
+    /// objects.
+    fn open_length(&self, key: Key) -> Option<u32>
+        ensures { result ≡ open_length (rows self.now) key };
 
     /// A copy of the object's row whose epochs hold the level, or `None` where no row holds it. Of several it is
     /// the one with the greatest `from`, and of equal ones the one made last. Costs the logarithm of the objects, a look at each row of

@@ -94,6 +94,10 @@ impl<O: ObjStore> Tried<O> {
         Ok(out)
     }
 
+    fn open_length(&self, key: &Key) -> Option<u32> {
+        self.store.open_length(*key)
+    }
+
     fn row_at(&self, key: &Key, level: u32) -> Result<Option<RowCopy>, NoMemory> {
         self.store.row_at(key.oid, Epoch(level))
     }
@@ -224,6 +228,8 @@ fn copies_up_to_the_last_byte(rt: HostRuntime) -> Result<(), Fail> {
     let mut node = Tried::new(PlainStore::new(rt.alloc()));
     let strip = key(1, 0, 3);
     node.create(&strip, 1, 2, &[5, 0, 6, 0])?;
+    assert_eq!(rt; node.open_length(&strip), Some(4096));
+    assert_eq!(rt; node.open_length(&key(1, 0, 2)), None);
     let row = node.row_at(&strip, 1)?.ok_or(StoreFault::NoObj)?;
     let row = row.copy(rt.alloc())?;
     assert_eq!(rt; (row.index, row.length), (3, 4096));

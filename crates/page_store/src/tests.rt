@@ -94,6 +94,10 @@ impl<O: ObjStore> Tried<O> {
         Ok(out)
     }
 
+    fn open_length(&self, key: &Key) -> Option<u32> {
+        self.store.open_length(*key)
+    }
+
     fn row_at(&self, key: &Key, level: u32) -> Result<Option<RowCopy>, NoMemory> {
         self.store.row_at(key.oid, Epoch(level))
     }
@@ -190,6 +194,8 @@ fn copies_up_to_the_last_byte(rt: HostRuntime) -> Result<(), Fail> {
     node.write(&strip, 9000, &[0, 0])?;
     let row = node.row_at(&strip, 1)?.ok_or(StoreFault::NoObj)?;
     assert_eq!(rt; (row.index, row.length), (3, 12_288));
+    assert_eq!(rt; node.open_length(&strip), Some(12_288));
+    assert_eq!(rt; node.open_length(&key(1, 0, 2)), None);
     assert_eq!(rt; row.bytes.as_slice().len(), 4098);
     assert_eq!(rt; row.bytes.as_slice().last(), Some(&6));
     assert_eq!(rt; row.bytes.as_slice().get(4095), Some(&5));

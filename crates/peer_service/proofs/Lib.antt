@@ -8,3 +8,4 @@ pub mod DropLemmas
 pub mod EnteringLemmas
 pub mod BackLemmas
 pub mod ServingLemmas
+pub mod InsideLemmas

@@ -3,15 +3,59 @@
 ghost use Rattle.std.specs.Prelude.{◌≡◌, ◌+◌, length, true, false, IfOk, OnOk, OnErr};
 ghost use Rattle.object_store.specs.Store.{copy_at, open_row, read_at, write_at};
 ghost use Rattle.peer_proto.specs.declared.ask.PeerAsk.TheVariants as asks;
-ghost use Rattle.peer_service.specs.Serve.{MayServe, EndsInside, own_epoch_step, peer_write_step, piece_or_refusal, peer_step, reply_to};
+ghost use Rattle.peer_service.specs.Serve.{MayServe, EndsInside, ends_inside, may_serve, own_epoch_step, peer_write_step};
+ghost use Rattle.peer_service.specs.Serve.{piece_or_refusal, peer_step, reply_to};
 ghost use Rattle.peer_service.specs.Serve.{row_or_none, tells_refusal};
 
 use crate::peer_state::PeerState;
 use object_id::{Bytes, Epoch, NoMemory, Oid};
-use object_store::{Key, ObjStore, StoreFault};
+use object_store::{Key, ObjStore};
 use peer_proto::{PeerAsk, PeerReq, PeerRsp, PeerSay, Refusal};
 
+/// Where a piece from an offset on ends.
+fn end_of(offset: u32, piece: &[u8]) -> u64
+    ensures { result ≡ offset + length piece.now }
+{
+    u64::from(offset) + piece.len() as u64
+}
+
 impl<O: ObjStore> PeerState<O> {
+    /// Whether bytes up to this end are inside the open row of a key, if there is one.
+    #[tactic(auto, using(crate::proofs::InsideLemmas::inside_by_length, crate::proofs::InsideLemmas::inside_without_row))]
+    fn ends_inside(&self, key: Key, end: u64) -> bool
+        ensures { result ≡ ends_inside end (open_row self.now.rows key) }
+    {
+        match self.store.open_length(key) {
+            Some(length) => end <= u64::from(length),
+            None => true,
+        }
+    }
+
+    /// Whether a request may be served: the piece of a created row ends inside it, and that of a read or write inside the open row. Costs
+    /// a look-up, and takes no memory.
+    pub fn may_serve(&self, ask: &PeerAsk) -> bool
+        ensures { result ≡ may_serve self.now ask.now }
+    {
+        match ask {
+            PeerAsk::Create {
+                length,
+                offset,
+                bytes,
+                ..
+            } => end_of(*offset, bytes.as_slice()) <= u64::from(*length),
+            PeerAsk::Write { key, offset, bytes } => {
+                self.ends_inside(*key, end_of(*offset, bytes.as_slice()))
+            }
+            PeerAsk::Read {
+                key,
+                offset,
+                length,
+            } => self.ends_inside(*key, u64::from(*offset) + u64::from(*length)),
+            PeerAsk::List => true,
+            PeerAsk::RecoverRead { .. } => true,
+        }
+    }
+
     /// Answers a request, first by its epoch and then by what it asks. A refusal changes nothing. Nor does want of memory, which is
     /// never answered in a refusal's place. Costs a look-up in the store and among what is pending, and the bytes of the piece; a Create
     /// also the bytes up to the piece's end, a List the ids of the objects, and a RecoverRead a look at each row of the object.
