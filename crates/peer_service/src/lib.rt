@@ -28,3 +28,4 @@ pub use laws::{
     who_comes_back_has_closed_rows,
 };
 pub use peer_state::PeerState;
+pub use recovering::object_size;

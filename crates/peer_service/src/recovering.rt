@@ -1,7 +1,8 @@
 //! What a node's recovery asks of it beside the calls of the peer itself.
 
-ghost use Rattle.std.specs.Prelude.{◌≡◌, IfOk};
+ghost use Rattle.std.specs.Prelude.{◌≡◌, IfOk, IfSome};
 ghost use Rattle.std.specs.FinMap as tree;
+ghost use Rattle.object_id.specs.Policy.{IsPolicy};
 ghost use Rattle.object_id.specs.Spec.{IsSpec};
 ghost use Rattle.object_store.specs.Store.{copy_at};
 ghost use Rattle.peer_service.specs.State.{object_size, row_size, length_of_rows, policy_unless_dead, is_listed_pending, first_listed};
@@ -13,8 +14,8 @@ use object_id::{Epoch, Kind, NoMemory, Oid, Policy, VdiSpec};
 use object_store::{ObjStore, OidList, RowCopy};
 use strip_coding::part_size;
 
-/// How many bytes an object has.
-fn object_size(spec: VdiSpec, kind: Kind) -> u32
+/// How many bytes an object of this kind has, on a disk of this spec.
+pub fn object_size(spec: VdiSpec, kind: Kind) -> u32
     requires { IsSpec spec }
     ensures { result ≡ object_size spec kind }
 {
@@ -62,7 +63,8 @@ impl<O: ObjStore> PeerState<O> {
     /// The policy of an object; `None` exactly where its id isn't known or is dead. Takes no memory. Costs the logarithm of the known
     /// ids.
     pub fn live_policy(&self, oid: Oid) -> Option<Policy>
-        ensures { result ≡ policy_unless_dead self.now oid }
+        ensures value { result ≡ policy_unless_dead self.now oid }
+        ensures valid { IfSome result IsPolicy }
     {
         if is_dead(&self.directory, oid.vid()) {
             return None;
