@@ -30,7 +30,7 @@ use Rattle.sheep_world.specs.NodeSteps.{world_after_step, node_stepped, at_rest}
 use Rattle.sheep_world.specs.Conditions.{may_deliver}
 use Rattle.sheep_world.specs.Messages.{request_got, request_delivered, delivered_as, message_delivered}
 use Rattle.sheep_world.specs.HistoryAdditions.{reply_grown, check_write_grown, check_write_by}
-use Rattle.sheep_world.specs.Step.{EventOutcome, with_replies, step, delivery_made}
+use Rattle.sheep_world.specs.Step.{EventOutcome, step, delivery_made}
 use Rattle.overlap_law.specs.Words.{Hosts}
 use Rattle.overlap_law.specs.Past.{MomentWithPast, run_with_past}
 use Rattle.overlap_law.specs.Headline.{IsOfAnotherEpoch, ChangesNothing, OtherEpochsChangeNothing}

@@ -13,7 +13,7 @@ use Rattle.gateway.specs.declared.message.Message.{Message}
 use Rattle.gateway.specs.Work.{is_making}
 use Rattle.gateway.specs.Attempt as gateways
 use Rattle.gateway.specs.State.{WorkStage, Open, Ended, WaitsForMembers, Work, asker}
-use Rattle.sheep_node.specs.State.{Request}
+use Rattle.sheep_node.specs.declared.course.Request.{Request}
 use Rattle.sheep_node.specs.declared.event.Event.{Event}
 use Rattle.sheep_node.specs.declared.event.Event.TheVariants.{Guest, Deliver, LoseRequest, LoseReply, LogNext, RetryTick}
 use Rattle.sheep_world.specs.declared.name.MessageName.{MessageName}

@@ -12,7 +12,9 @@ use Rattle.gateway.specs.State.{Work}
 use Rattle.guest_driver.specs.declared.disk.Disk.{Disk}
 use Rattle.disk_check.specs.Table.{own_indexes}
 use Rattle.disk_check.specs.Check.{Check, left_of, write_value}
-use Rattle.sheep_node.specs.State.{Node, Request, Checking}
+use Rattle.sheep_node.specs.declared.course.Request.{Request}
+use Rattle.sheep_node.specs.declared.course.Course.TheVariants.{Checking}
+use Rattle.sheep_node.specs.State.{Node}
 use Rattle.overlap_law.specs.Attempts.{AttemptRecord}
 use Rattle.overlap_law.specs.Words.{Hosts, bytes_by}
 use Rattle.overlap_law.specs.Each.{EachUp}

@@ -16,7 +16,11 @@ use Rattle.guest_driver.specs.InodeQueue as lines
 use Rattle.vdi_ops.specs.InodeWorks.{read_inode, create_inode, write_tag}
 use Rattle.vdi_ops.specs.TaskWorks.{IsWrittenBack, IsBaseRead}
 use Rattle.vdi_ops.specs.Op.{Task, Opening, WritingBack, Tagging, Copying, Making, OpStage, Asked, Working, Publishing, Answered, Op}
-use Rattle.sheep_node.specs.State.{Node, Session, Request, Course, Waiting, Driving, Commanding, Checking, DoingWork, AwaitingDecision}
+use Rattle.sheep_node.specs.declared.course.Course.{Course}
+use Rattle.sheep_node.specs.declared.course.Request.{Request}
+use Rattle.sheep_node.specs.declared.session.Session.{Session}
+use Rattle.sheep_node.specs.declared.course.Course.TheVariants.{Waiting, Driving, Commanding, Checking, DoingWork, AwaitingDecision}
+use Rattle.sheep_node.specs.State.{Node}
 use Rattle.overlap_law.specs.Attempts.{AttemptRecord}
 use Rattle.overlap_law.specs.Reached.{Hosts}
 use Rattle.overlap_law.specs.Each.{EachUp}

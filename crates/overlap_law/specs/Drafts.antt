@@ -10,7 +10,8 @@ use Rattle.object_id.specs.Oid.{inode_number}
 use Rattle.object_id.specs.Spec.{objects_of}
 use Rattle.inode.specs.Layout.{Content}
 use Rattle.vdi_ops.specs.Op.{Publishing, Op}
-use Rattle.sheep_node.specs.State.{Request, Commanding}
+use Rattle.sheep_node.specs.declared.course.Request.{Request}
+use Rattle.sheep_node.specs.declared.course.Course.TheVariants.{Commanding}
 use Rattle.overlap_law.specs.Attempts.{AttemptRecord}
 use Rattle.overlap_law.specs.Reached.{Hosts}
 use Rattle.overlap_law.specs.Each.{EachUp}

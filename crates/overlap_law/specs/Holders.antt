@@ -1,6 +1,5 @@
 -- Live holders: whether enough nodes keep an object, and whether that was so of all objects that a disk is read from.
 use Rattle.std.specs.Prelude.{ℕ, ◌+◌, ◌-◌, ◌==◌, nat_le, Bool, true, false, not, ◌&&◌, ◌||◌, max, List, length, filter, map, IsTrue, Option}
-use Rattle.std.specs.Prelude.{Some, None}
 use Rattle.std.specs.Option.{option_map, option_map_or}
 use Rattle.std.specs.List.{find, list_any, list_all, range_with_len}
 use Rattle.object_id.specs.declared.node.NodeId.{NodeId}

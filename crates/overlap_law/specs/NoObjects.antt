@@ -22,7 +22,10 @@ use Rattle.guest_driver.specs.declared.disk.Disk.{Disk}
 use Rattle.cluster_script.specs.declared.statement.Statement.{Statement}
 use Rattle.cluster_script.specs.Language.{IsScript}
 use Rattle.sheep_node.specs.declared.event.Event.{Event}
-use Rattle.sheep_node.specs.State.{Node, Request, Course, Waiting, Driving, Commanding, session_at, Checking, DoingWork, AwaitingDecision}
+use Rattle.sheep_node.specs.declared.course.Course.{Course}
+use Rattle.sheep_node.specs.declared.course.Request.{Request}
+use Rattle.sheep_node.specs.declared.course.Course.TheVariants.{Waiting, Driving, Commanding, Checking, DoingWork, AwaitingDecision}
+use Rattle.sheep_node.specs.State.{Node, session_at}
 use Rattle.sheep_world.specs.World.{World}
 use Rattle.sheep_world.specs.Conditions.{is_disk_request_at}
 use Rattle.sheep_world.specs.HistoryAdditions.{disk_of}

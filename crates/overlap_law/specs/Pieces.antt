@@ -14,7 +14,10 @@ use Rattle.peer_proto.specs.declared.guest.DiskAsk.TheVariants.{Read, Write}
 use Rattle.guest_driver.specs.declared.disk.Disk.{Disk}
 use Rattle.guest_driver.specs.Pieces.{Piece, pieces}
 use Rattle.guest_driver.specs.Driver.{Driver, DriverStage, Reads, Writes, Answered}
-use Rattle.sheep_node.specs.State.{Node, Request, Course, Waiting, Driving, Commanding, session_at, Checking, DoingWork, AwaitingDecision}
+use Rattle.sheep_node.specs.declared.course.Course.{Course}
+use Rattle.sheep_node.specs.declared.course.Request.{Request}
+use Rattle.sheep_node.specs.declared.course.Course.TheVariants.{Waiting, Driving, Commanding, Checking, DoingWork, AwaitingDecision}
+use Rattle.sheep_node.specs.State.{Node, session_at}
 use Rattle.overlap_law.specs.Attempts.{AttemptRecord}
 use Rattle.overlap_law.specs.Words.{Hosts, bytes_by}
 use Rattle.overlap_law.specs.Each.{EachUp}

@@ -18,7 +18,10 @@ use Rattle.guest_driver.specs.declared.disk.Disk.{Disk}
 use Rattle.guest_driver.specs.Driver.{Driver}
 use Rattle.guest_driver.specs.InodeQueue.{is_on_inode}
 use Rattle.vdi_ops.specs.Op.{Op, entry_wanted}
-use Rattle.sheep_node.specs.State.{Node, Session, Request, Driving, Commanding}
+use Rattle.sheep_node.specs.declared.course.Request.{Request}
+use Rattle.sheep_node.specs.declared.session.Session.{Session}
+use Rattle.sheep_node.specs.declared.course.Course.TheVariants.{Driving, Commanding}
+use Rattle.sheep_node.specs.State.{Node}
 use Rattle.overlap_law.specs.Attempts.{AttemptRecord, object_of}
 use Rattle.overlap_law.specs.Words.{Hosts}
 use Rattle.overlap_law.specs.Each.{EachUp, EachAttempt}

@@ -21,7 +21,8 @@ use Rattle.peer_proto.specs.declared.work.ObjWork.TheVariants.{Create, Write, Re
 use Rattle.gateway.specs.State.{Work}
 use Rattle.guest_driver.specs.declared.disk.Disk.{Disk}
 use Rattle.guest_driver.specs.InodeQueue.{Waiting}
-use Rattle.sheep_node.specs.State.{Node, Session}
+use Rattle.sheep_node.specs.declared.session.Session.{Session}
+use Rattle.sheep_node.specs.State.{Node}
 use Rattle.overlap_law.specs.Attempts.{AttemptRecord, object_of, attempts_on}
 use Rattle.overlap_law.specs.Words.{Hosts, is_made, is_mute, covers_unit, bytes_by}
 use Rattle.overlap_law.specs.Each.{EachUp, EachAttempt, spec_in}

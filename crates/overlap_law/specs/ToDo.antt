@@ -11,7 +11,8 @@ use Rattle.peer_proto.specs.declared.work.ObjWork.{ObjWork}
 use Rattle.peer_proto.specs.Work.{oid_of}
 use Rattle.gateway.specs.State.{Work}
 use Rattle.guest_driver.specs.InodeQueue.{Waiting}
-use Rattle.sheep_node.specs.State.{Node, Session}
+use Rattle.sheep_node.specs.declared.session.Session.{Session}
+use Rattle.sheep_node.specs.State.{Node}
 use Rattle.overlap_law.specs.Attempts.{AttemptRecord}
 use Rattle.overlap_law.specs.Words.{Hosts}
 use Rattle.overlap_law.specs.Units.{covers_by, bytes_by}

@@ -11,7 +11,8 @@ use Rattle.vdi_directory.specs.Decisions.{log_effects}
 use Rattle.peer_proto.specs.Work.{oid_of}
 use Rattle.gateway.specs.Work.{is_making}
 use Rattle.gateway.specs.State.{Work}
-use Rattle.sheep_node.specs.State.{Node, Request}
+use Rattle.sheep_node.specs.declared.course.Request.{Request}
+use Rattle.sheep_node.specs.State.{Node}
 use Rattle.overlap_law.specs.Attempts.{AttemptRecord, object_of}
 use Rattle.overlap_law.specs.Words.{Hosts}
 use Rattle.overlap_law.specs.Each.{EachUp, EachAttempt}

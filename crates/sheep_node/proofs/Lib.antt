@@ -35,3 +35,5 @@ pub mod ValidLaws
 pub mod NodeLaws
 pub mod OutsideAskLaws
 mod MayTestLaws
+pub mod PlacedPeers
+pub mod StepStates

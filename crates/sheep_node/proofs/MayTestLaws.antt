@@ -1,32 +1,19 @@
 -- The tests of what an input must meet are true exactly if it is met.
-use Rattle.std.proofs.Common.{◌≡◌, ◌≢◌, ℕ, ◌+◌, ◌%◌, ◌*◌, ◌^◌, ◌<◌, ◌≤◌, ◌==◌, nat_le, nat_lt, not, ◌&&◌, Bool, true, false, cond, List, [], ◌∷◌, ◌++◌, length, Option, Some, None, refl, ap, ap₂, sym, subst, All}
+use Rattle.std.proofs.Common.{◌≡◌, ℕ, ◌+◌, ◌%◌, ◌≤◌, ◌==◌, not, Bool, true, false, cond, List, [], ◌∷◌, ◌++◌, length, Option, Some, None, refl, ap, ap₂, sym, subst}
 use Rattle.std.specs.Bool.{Decides}
-use Rattle.std.specs.List.{list_all}
-use Rattle.std.specs.List.Sorted.{IsStrictlyIncreasing}
 use Rattle.std.specs.Option.{option_map_or}
 use Rattle.std.specs.FinMap as tree
-use Rattle.std.proofs.lemmas.Bool.{and_parts, and_from, leb-true, le-leb}
-use Rattle.std.proofs.lemmas.Bool.Decides.{Decides-eqb, Decides-ltb, Decides-not}
-use Rattle.std.proofs.lemmas.List.Elements.{All-nil, All-cons, All-head, All-tail}
-use Rattle.proof_tools.proofs.AscendingNumbers.{IsStrictlyIncreasing-nil, IsStrictlyIncreasing-first, IsStrictlyIncreasing-tail, IsStrictlyIncreasing-cons}
+use Rattle.std.proofs.lemmas.Bool.Decides.{Decides-eqb, Decides-ltb}
 use Rattle.object_id.specs.declared.entry.Entry.{Entry}
 use Rattle.object_id.specs.declared.entry.Entry.TheVariants.{Format, Join, Leave, Reweight, Recovered, Reserve, Publish, Lock, Unlock}
-use Rattle.object_id.specs.declared.entry.Member.{Member}
-use Rattle.object_id.specs.declared.entry.Origin.{Origin}
-use Rattle.object_id.specs.declared.entry.Origin.TheVariants.{Fresh, SnapshotOf, CloneOf}
 use Rattle.object_id.specs.declared.entry.VdiSpec.{VdiSpec}
 use Rattle.object_id.specs.declared.policy.Policy.{Policy}
 use Rattle.object_id.specs.declared.policy.Policy.TheVariants.{Copies, Coded}
-use Rattle.object_id.specs.declared.limits.TheConstants.{BLOCK_BYTES, SHIFT_MIN, SHIFT_MAX, OBJECTS_MAX, NAME_BYTES_MAX}
-use Rattle.object_id.specs.declared.limits.TheConstants.{COPIES_MAX, PARITY_MAX, NODES_MAX, VNODES_MAX, EPOCH_MAX}
-use Rattle.object_id.specs.Policy.{is_width, IsPolicy}
-use Rattle.object_id.specs.Spec.{IsSpec, IsName, IsTag, IsOrigin}
-use Rattle.object_id.specs.Node.{IsNode, IsWeight}
+use Rattle.object_id.specs.declared.limits.TheConstants.{BLOCK_BYTES}
 use Rattle.object_id.specs.Same.{is_same_entry}
 use Rattle.object_id.proofs.SameLemmas.{policies_decided, entries_decided}
-use Rattle.epoch_log.specs.Members.{is_member, node_numbers}
+use Rattle.epoch_log.specs.Members.{is_member}
 use Rattle.epoch_log.specs.Epochs.{epoch_of, members_in}
-use Rattle.epoch_log.specs.Appending.{is_format, IsReservable, FitsMembers, MayAppend, MayOpen}
 use Rattle.peer_proto.specs.declared.ask.PeerAsk.{PeerAsk}
 use Rattle.peer_proto.specs.declared.ask.PeerAsk.TheVariants as peer_asks
 use Rattle.peer_proto.specs.declared.guest.VdiAsk.{VdiAsk}

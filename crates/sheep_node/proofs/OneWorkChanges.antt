@@ -35,7 +35,11 @@ use Rattle.vdi_ops.proofs.StepLemmas.{begin_awaited, done_awaited, decision_awai
 use Rattle.recovery.specs.Steps as recovery_steps
 use Rattle.sheep_node.specs.declared.input.Input.{Input}
 use Rattle.sheep_node.specs.declared.input.Input.TheVariants as inputs
-use Rattle.sheep_node.specs.State.{Course, Waiting, Driving, Commanding, Request, Session, Node, new_session, Checking, DoingWork, AwaitingDecision}
+use Rattle.sheep_node.specs.declared.course.Course.{Course}
+use Rattle.sheep_node.specs.declared.course.Request.{Request}
+use Rattle.sheep_node.specs.declared.session.Session.{Session}
+use Rattle.sheep_node.specs.declared.course.Course.TheVariants.{Waiting, Driving, Commanding, Checking, DoingWork, AwaitingDecision}
+use Rattle.sheep_node.specs.State.{Node, new_session}
 use Rattle.sheep_node.specs.RecoveryView.{recovery_state_of}
 use Rattle.sheep_node.specs.StepState.{StepState, at_first, with_optional_entry, with_gateway, session_in, request_ended, with_sole_request}
 use Rattle.sheep_node.specs.RequestWorks.{command_refused, course_refused}

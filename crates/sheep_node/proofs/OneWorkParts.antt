@@ -8,7 +8,9 @@ use Rattle.proof_tools.proofs.Lists.{Contains-cons, Contains-first, Contains-nil
 use Rattle.proof_tools.proofs.FiniteMaps.{get-insert_other, get-insert_same, get-remove_other, get-remove_same}
 use Rattle.gateway.specs.State.{Work}
 use Rattle.guest_driver.specs.InodeQueue as lines
-use Rattle.sheep_node.specs.State.{Request, Session, new_session}
+use Rattle.sheep_node.specs.declared.course.Request.{Request}
+use Rattle.sheep_node.specs.declared.session.Session.{Session}
+use Rattle.sheep_node.specs.State.{new_session}
 use Rattle.sheep_node.specs.OneWork.{may_work, may_work_at, may_work_of, waiting_in, AreOfDifferentRequests, HaveOneWorkPerRequest, HasNoWork}
 use Rattle.sheep_node.proofs.AwaitedWorks.{Works}
 

@@ -22,7 +22,7 @@ use Rattle.peer_service.specs.State.{Peer, header_at, spec_of, object_size}
 use Rattle.disk_check.proofs.WorkLemmas.{aligned, object_whole, object_most}
 use Rattle.sheep_node.specs.OutsideAsks.{IsObjectAsk}
 use Rattle.sheep_node.specs.AwaitedEntry.{waits_for_entry}
-use Rattle.sheep_node.specs.State.{AwaitingDecision, Checking, DoingWork}
+use Rattle.sheep_node.specs.declared.course.Course.TheVariants.{Checking, DoingWork, AwaitingDecision}
 use Rattle.object_id.specs.declared.cause.Cause.{Cause}
 use Rattle.vdi_directory.specs.declared.decision.Decision.{Decision}
 use Rattle.peer_proto.specs.declared.guest.VdiAsk.TheVariants as disk_commands

@@ -27,7 +27,10 @@ use Rattle.sheep_node.specs.declared.ask.Ask.TheVariants as asks
 use Rattle.sheep_node.specs.declared.input.Input.{Input}
 use Rattle.sheep_node.specs.declared.input.Input.TheVariants as inputs
 use Rattle.object_id.specs.declared.limits.TheConstants.{REQUESTS_AT_ONCE}
-use Rattle.sheep_node.specs.State.{Course, Session, Node, new_session, session_at, initial_node, Checking, DoingWork, AwaitingDecision}
+use Rattle.sheep_node.specs.declared.course.Course.{Course}
+use Rattle.sheep_node.specs.declared.session.Session.{Session}
+use Rattle.sheep_node.specs.declared.course.Course.TheVariants.{Checking, DoingWork, AwaitingDecision}
+use Rattle.sheep_node.specs.State.{Node, new_session, session_at, initial_node}
 use Rattle.sheep_node.specs.RecoveryView.{recovery_state_of}
 use Rattle.sheep_node.specs.StepState.{StepState, at_first, session_in, request_ended, with_sole_request}
 use Rattle.sheep_node.specs.Courses.{after_driver_step, disk_after, after_command_step}

@@ -5,7 +5,7 @@ use Rattle.object_id.specs.declared.oid.Vid.{Vid}
 use Rattle.object_id.specs.declared.entry.Entry.TheVariants as entries
 use Rattle.vdi_ops.specs.Op.{Op, OpStage, Task, Working}
 use Rattle.vdi_ops.specs.Steps.{refused_at, on_refusal}
-use Rattle.sheep_node.specs.State.{Commanding}
+use Rattle.sheep_node.specs.declared.course.Course.TheVariants.{Commanding}
 use Rattle.sheep_node.specs.StepState.{StepState, request_ended}
 use Rattle.sheep_node.specs.RequestWorks.{command_refused, course_refused}
 

@@ -4,7 +4,10 @@ use Rattle.std.specs.FinMap as tree
 use Rattle.std.proofs.lemmas.Bool.{cases_eq}
 use Rattle.proof_tools.proofs.FiniteMaps.{get-insert_other, get-insert_same}
 use Rattle.inode.specs.Layout.{Content}
-use Rattle.sheep_node.specs.State.{Course, Request, Session, new_session}
+use Rattle.sheep_node.specs.declared.course.Course.{Course}
+use Rattle.sheep_node.specs.declared.course.Request.{Request}
+use Rattle.sheep_node.specs.declared.session.Session.{Session}
+use Rattle.sheep_node.specs.State.{new_session}
 use Rattle.sheep_node.specs.Courses.{inode_open}
 use Rattle.sheep_node.specs.SessionQueues.{session_among}
 use Rattle.sheep_node.proofs.OneWorkParts.{Requests, Sessions}

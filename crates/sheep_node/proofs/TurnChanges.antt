@@ -26,7 +26,11 @@ use Rattle.disk_check.specs.Check.{begin_check}
 use Rattle.vdi_ops.specs.Op.{OpStep, disk_change}
 use Rattle.sheep_node.specs.declared.input.Input.{Input}
 use Rattle.sheep_node.specs.declared.input.Input.TheVariants as inputs
-use Rattle.sheep_node.specs.State.{Course, Waiting, Driving, Commanding, Checking, DoingWork, AwaitingDecision, Request, Session, Node, initial_node}
+use Rattle.sheep_node.specs.declared.course.Course.{Course}
+use Rattle.sheep_node.specs.declared.course.Request.{Request}
+use Rattle.sheep_node.specs.declared.session.Session.{Session}
+use Rattle.sheep_node.specs.declared.course.Course.TheVariants.{Waiting, Driving, Commanding, Checking, DoingWork, AwaitingDecision}
+use Rattle.sheep_node.specs.State.{Node, initial_node}
 use Rattle.sheep_node.specs.RecoveryView.{recovery_state_of}
 use Rattle.sheep_node.specs.StepState.{StepState, at_first, session_in, request_ended, with_sole_request}
 use Rattle.sheep_node.specs.Courses.{after_driver_step, disk_after, after_command_step}

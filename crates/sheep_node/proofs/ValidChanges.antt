@@ -34,7 +34,11 @@ use Rattle.vdi_ops.specs.Steps.{refused_at, on_refusal}
 use Rattle.disk_check.specs.Check.{begin_check}
 use Rattle.sheep_node.specs.declared.input.Input.{Input}
 use Rattle.sheep_node.specs.declared.input.Input.TheVariants as inputs
-use Rattle.sheep_node.specs.State.{Course, Waiting, Driving, Commanding, Checking, DoingWork, AwaitingDecision, Request, Session, Node, new_session}
+use Rattle.sheep_node.specs.declared.course.Course.{Course}
+use Rattle.sheep_node.specs.declared.course.Request.{Request}
+use Rattle.sheep_node.specs.declared.session.Session.{Session}
+use Rattle.sheep_node.specs.declared.course.Course.TheVariants.{Waiting, Driving, Commanding, Checking, DoingWork, AwaitingDecision}
+use Rattle.sheep_node.specs.State.{Node, new_session}
 use Rattle.sheep_node.specs.StepState.{StepState, with_session, session_in, with_course, with_sole_request, with_optional_entry, request_ended}
 use Rattle.sheep_node.specs.Courses.{after_driver_step, disk_after, inode_open, after_command_step}
 use Rattle.sheep_node.specs.RequestWorks.{command_refused, course_refused}

@@ -12,7 +12,11 @@ use Rattle.gateway.specs.State.{Work, Gateway}
 use Rattle.gateway_queue.specs.Queue.{queue_without}
 use Rattle.guest_driver.specs.InodeQueue as lines
 use Rattle.guest_driver.specs.InodeQueue.{queue_with_open, queue_with_waiting, queue_after_end}
-use Rattle.sheep_node.specs.State.{Course, Waiting, Driving, Commanding, Checking, DoingWork, AwaitingDecision, Request, Session, new_session}
+use Rattle.sheep_node.specs.declared.course.Course.{Course}
+use Rattle.sheep_node.specs.declared.course.Request.{Request}
+use Rattle.sheep_node.specs.declared.session.Session.{Session}
+use Rattle.sheep_node.specs.declared.course.Course.TheVariants.{Waiting, Driving, Commanding, Checking, DoingWork, AwaitingDecision}
+use Rattle.sheep_node.specs.State.{new_session}
 use Rattle.sheep_node.specs.StepState.{StepState, session_in, request_ended}
 use Rattle.sheep_node.specs.Courses.{inode_open}
 use Rattle.sheep_node.specs.OneWork.{waiting_in}

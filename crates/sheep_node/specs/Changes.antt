@@ -39,7 +39,10 @@ use Rattle.vdi_ops.specs.Op as ops
 use Rattle.vdi_ops.specs.Op.{Op}
 use Rattle.vdi_ops.specs.Steps.{begin_command, op_on_done, on_decision}
 use Rattle.recovery.specs.Steps as recovery_steps
-use Rattle.sheep_node.specs.State.{Course, Waiting, Driving, Commanding, Request, Node, Checking, DoingWork, AwaitingDecision}
+use Rattle.sheep_node.specs.declared.course.Course.{Course}
+use Rattle.sheep_node.specs.declared.course.Request.{Request}
+use Rattle.sheep_node.specs.declared.course.Course.TheVariants.{Waiting, Driving, Commanding, Checking, DoingWork, AwaitingDecision}
+use Rattle.sheep_node.specs.State.{Node}
 use Rattle.sheep_node.specs.RecoveryView.{recovery_state_of}
 use Rattle.sheep_node.specs.StepState.{StepState, at_first, with_node, with_sends, with_guest_reply, with_outbox_entry, with_gateway}
 use Rattle.sheep_node.specs.StepState.{with_sole_request}

@@ -9,7 +9,10 @@ use Rattle.disk_check.specs.Value.{pieces_in, value_of}
 use Rattle.disk_check.specs.Check.{CheckStage, Comparing, WritingBack, Answered, Check}
 use Rattle.sheep_node.specs.declared.input.Input.{Input}
 use Rattle.sheep_node.specs.declared.input.Input.TheVariants as inputs
-use Rattle.sheep_node.specs.State.{Course, Waiting, Driving, Commanding, Checking, DoingWork, AwaitingDecision, Request, Node}
+use Rattle.sheep_node.specs.declared.course.Course.{Course}
+use Rattle.sheep_node.specs.declared.course.Request.{Request}
+use Rattle.sheep_node.specs.declared.course.Course.TheVariants.{Waiting, Driving, Commanding, Checking, DoingWork, AwaitingDecision}
+use Rattle.sheep_node.specs.State.{Node}
 use Rattle.std.specs.Option.{option_map_or, option_and_then}
 
 -- a check, of the request of a number, writes a value over its disk's object of an index

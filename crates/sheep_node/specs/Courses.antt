@@ -23,7 +23,8 @@ use Rattle.vdi_ops.specs.declared.act.OpAct.TheVariants as op_acts
 use Rattle.vdi_ops.specs.Op as ops
 use Rattle.vdi_ops.specs.Op.{DiskChange, Stays, Opens, Closes, disk_change}
 use Rattle.vdi_ops.specs.Steps.{on_decision, op_on_done}
-use Rattle.sheep_node.specs.State.{Course, Waiting, Driving, Commanding, Checking, DoingWork, AwaitingDecision}
+use Rattle.sheep_node.specs.declared.course.Course.{Course}
+use Rattle.sheep_node.specs.declared.course.Course.TheVariants.{Waiting, Driving, Commanding, Checking, DoingWork, AwaitingDecision}
 use Rattle.sheep_node.specs.StepState.{StepState, with_outbox_entry, with_session, session_in, with_disk, with_course, with_sole_request}
 use Rattle.sheep_node.specs.StepState.{request_ended}
 use Rattle.sheep_node.specs.RequestWorks.{work_asked}

@@ -19,7 +19,7 @@ use Rattle.vdi_ops.specs.Entries as entries
 use Rattle.vdi_ops.specs.Steps.{begin_command}
 use Rattle.sheep_node.specs.declared.ask.Ask.{Ask}
 use Rattle.sheep_node.specs.declared.ask.Ask.TheVariants as asks
-use Rattle.sheep_node.specs.State.{Waiting, DoingWork, AwaitingDecision}
+use Rattle.sheep_node.specs.declared.course.Course.TheVariants.{Waiting, DoingWork, AwaitingDecision}
 use Rattle.sheep_node.specs.StepState.{StepState, with_guest_reply, with_outbox_entry, session_in, with_session, with_course}
 use Rattle.sheep_node.specs.StepState.{with_sole_request}
 use Rattle.sheep_node.specs.RequestWorks.{work_asked}

@@ -22,3 +22,4 @@ pub mod WantedWorks
 pub mod DrivenDisks
 pub mod NodeInvariant
 pub mod CheckWrites
+pub mod Kept

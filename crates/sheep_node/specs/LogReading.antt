@@ -19,7 +19,8 @@ use Rattle.gateway.specs.State as gateways
 use Rattle.recovery.specs.State as recoveries
 use Rattle.recovery.specs.State.{RecoveryState}
 use Rattle.recovery.specs.Steps.{recovery_from_epoch}
-use Rattle.sheep_node.specs.State.{Request, Node}
+use Rattle.sheep_node.specs.declared.course.Request.{Request}
+use Rattle.sheep_node.specs.State.{Node}
 use Rattle.sheep_node.specs.RecoveryView.{recovery_state_of, with_recovered_rows, with_state}
 use Rattle.sheep_node.specs.StepState.{StepState, with_node}
 use Rattle.sheep_node.specs.AwaitedEntry.{waits_for_entry}

@@ -20,7 +20,10 @@ use Rattle.object_id.specs.declared.limits.TheConstants.{REQUESTS_AT_ONCE}
 use Rattle.sheep_node.specs.declared.limits.TheConstants.{SENDS_MAX}
 use Rattle.sheep_node.specs.declared.input.Input.TheVariants as inputs
 use Rattle.peer_proto.specs.declared.say.PeerRsp.{PeerRsp}
-use Rattle.sheep_node.specs.State.{Course, Waiting, Driving, Commanding, Checking, DoingWork, AwaitingDecision, Session, Node, session_at}
+use Rattle.sheep_node.specs.declared.course.Course.{Course}
+use Rattle.sheep_node.specs.declared.session.Session.{Session}
+use Rattle.sheep_node.specs.declared.course.Course.TheVariants.{Waiting, Driving, Commanding, Checking, DoingWork, AwaitingDecision}
+use Rattle.sheep_node.specs.State.{Node, session_at}
 use Rattle.sheep_node.specs.OutsideAsks.{IsObjectAsk, IsEntryAsk}
 use Rattle.sheep_node.specs.RecoveryView.{recovery_state_of}
 use Rattle.sheep_node.specs.LogReading.{is_epoch_member}

@@ -10,7 +10,11 @@ use Rattle.gateway.specs.State.{Work, is_awaited_in}
 use Rattle.recovery.specs.State as recoveries
 use Rattle.guest_driver.specs.InodeQueue as lines
 use Rattle.vdi_ops.specs.Op.{entry_wanted}
-use Rattle.sheep_node.specs.State.{Course, Waiting, Driving, Commanding, Checking, DoingWork, AwaitingDecision, Request, Session, Node}
+use Rattle.sheep_node.specs.declared.course.Course.{Course}
+use Rattle.sheep_node.specs.declared.course.Request.{Request}
+use Rattle.sheep_node.specs.declared.session.Session.{Session}
+use Rattle.sheep_node.specs.declared.course.Course.TheVariants.{Waiting, Driving, Commanding, Checking, DoingWork, AwaitingDecision}
+use Rattle.sheep_node.specs.State.{Node}
 use Rattle.sheep_node.specs.State.{new_session}
 
 -- whether a request may have a work: a read or write that began, or another request that waits for no entry

@@ -11,7 +11,10 @@ use Rattle.gateway.specs.Step as gateways
 use Rattle.guest_driver.specs.InodeQueue.{may_open_work, queue_with_open, queue_with_waiting, queue_after_end}
 use Rattle.vdi_ops.specs.declared.end.OpEnd.{OpEnd}
 use Rattle.vdi_ops.specs.Steps.{on_refusal}
-use Rattle.sheep_node.specs.State.{Course, Waiting, Driving, Commanding, Checking, DoingWork, AwaitingDecision, Request, Node}
+use Rattle.sheep_node.specs.declared.course.Course.{Course}
+use Rattle.sheep_node.specs.declared.course.Request.{Request}
+use Rattle.sheep_node.specs.declared.course.Course.TheVariants.{Waiting, Driving, Commanding, Checking, DoingWork, AwaitingDecision}
+use Rattle.sheep_node.specs.State.{Node}
 use Rattle.sheep_node.specs.StepState.{StepState, with_sends, with_optional_entry, with_gateway, session_in, with_inode_queue}
 use Rattle.sheep_node.specs.StepState.{request_ended}
 

@@ -7,7 +7,11 @@ use Rattle.std.specs.FinMap as tree
 use Rattle.gateway_queue.specs.declared.queue.Queued.{Queued}
 use Rattle.gateway_queue.specs.Queue.{may_run}
 use Rattle.object_id.specs.declared.limits.TheConstants.{REQUESTS_AT_ONCE}
-use Rattle.sheep_node.specs.State.{Course, Waiting, Driving, Commanding, Checking, DoingWork, AwaitingDecision, Request, Session, Node, new_session}
+use Rattle.sheep_node.specs.declared.course.Course.{Course}
+use Rattle.sheep_node.specs.declared.course.Request.{Request}
+use Rattle.sheep_node.specs.declared.session.Session.{Session}
+use Rattle.sheep_node.specs.declared.course.Course.TheVariants.{Waiting, Driving, Commanding, Checking, DoingWork, AwaitingDecision}
+use Rattle.sheep_node.specs.State.{Node, new_session}
 use Rattle.sheep_node.specs.May.{is_disk_course}
 
 -- whether a request that was looked up is a read or write of a session

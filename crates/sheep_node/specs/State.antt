@@ -1,52 +1,19 @@
 -- A node: what it is, and what it begins as.
-use Rattle.std.specs.Prelude.{ℕ, Bool, true, List, [], Option, None, unwrap_or}
+use Rattle.std.specs.Prelude.{ℕ, Bool, true, List, [], None, unwrap_or}
 use Rattle.std.specs.Ordering.{nat_cmp}
 use Rattle.std.specs.FinMap as tree
 use Rattle.object_id.specs.declared.node.NodeId.{NodeId}
 use Rattle.object_id.specs.declared.entry.Entry.{Entry}
 use Rattle.vnode_table.specs.Epochs.{EpochMembers}
-use Rattle.peer_proto.specs.declared.guest.DiskAsk.{DiskAsk}
-use Rattle.peer_proto.specs.declared.work.ObjWork.{ObjWork}
 use Rattle.peer_service.specs.State as peers
 use Rattle.peer_service.specs.State.{Peer}
 use Rattle.gateway.specs.State as gateways
 use Rattle.gateway.specs.State.{Gateway}
 use Rattle.recovery.specs.State as recoveries
 use Rattle.recovery.specs.State.{Recovery}
-use Rattle.gateway_queue.specs.declared.queue.Queued.{Queued}
-use Rattle.guest_driver.specs.declared.disk.Disk.{Disk}
-use Rattle.guest_driver.specs.Driver.{Driver}
-use Rattle.guest_driver.specs.InodeQueue.{InodeQueue, empty_inode_queue}
-use Rattle.disk_check.specs.Check.{Check}
-use Rattle.vdi_ops.specs.Op.{Op}
-
--- where a request is that has no reply
-pub data Course : Type 0 where
-  -- a read or write that waits for its turn
-  Waiting : DiskAsk → Course
-  -- a read or write that began
-  Driving : Driver → Course
-  -- a command on disks
-  Commanding : Op → Course
-  -- a check of the open disk
-  Checking : Check → Course
-  -- one work on an object, which a client without a script asked for
-  DoingWork : ObjWork → Course
-  -- an entry of such a client, which waits for its decision
-  AwaitingDecision : Entry → Course
-
--- a request that has no reply: its session, and where it is
-pub record Request : Type 0 where
-  pub session : ℕ
-  pub course : Course
-
--- a session: the disk that it has open, its reads and writes without reply with their objects, or its one other request without reply,
--- which is alone in it, and the works on its disk's inode
-pub record Session : Type 0 where
-  pub disk : Option Disk
-  pub queue : List Queued
-  pub command : Option ℕ
-  pub inode_queue : InodeQueue
+use Rattle.guest_driver.specs.InodeQueue.{empty_inode_queue}
+use Rattle.sheep_node.specs.declared.course.Request.{Request}
+use Rattle.sheep_node.specs.declared.session.Session.{Session}
 
 -- a node: the peer that others ask, the epochs that it entered with their members, its works, its recovery, and whether
 -- `Recovered` of that was put; its sessions and their requests without reply, by number; the entries that it has still to

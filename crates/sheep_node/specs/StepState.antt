@@ -11,7 +11,9 @@ use Rattle.gateway_queue.specs.Queue.{queue_without}
 use Rattle.guest_driver.specs.declared.disk.Disk.{Disk}
 use Rattle.guest_driver.specs.InodeQueue.{InodeQueue}
 use Rattle.sheep_node.specs.declared.outputs.Outputs.{Outputs}
-use Rattle.sheep_node.specs.State.{Course, Session, Node, session_at}
+use Rattle.sheep_node.specs.declared.course.Course.{Course}
+use Rattle.sheep_node.specs.declared.session.Session.{Session}
+use Rattle.sheep_node.specs.State.{Node, session_at}
 
 -- the node, and the outputs
 pub record StepState : Type 0 where
@@ -84,14 +86,19 @@ abbrev pub with_sole_request : ℕ → ℕ → Course → StepState → StepStat
 with_sole_request number req course so_far =
     with_session number (record (session_in number so_far) { command = Some req }) (with_course number req course so_far)
 
--- a request is no more: the gateway forgets it, it leaves the requests and the session's queue, or was the session's command
+-- the gateway forgets a request, and it leaves the requests
+abbrev pub without_course : ℕ → StepState → StepState
+without_course req so_far = record so_far {
+  node = record so_far.node { gateway = without_touch req so_far.node.gateway; requests = tree.remove so_far.node.requests req };
+}
+
+-- a session without a request, which was in its queue or was its command
+abbrev pub session_without : ℕ → Session → Session
+session_without req session = record session { queue = queue_without req session.queue; command = None }
+
+-- a request is no more
 abbrev pub without_request : ℕ → ℕ → StepState → StepState
-without_request number req so_far = with_session
-    number
-    (record (session_in number so_far) { queue = queue_without req (session_in number so_far).queue; command = None })
-    (record so_far {
-      node = record so_far.node { gateway = without_touch req so_far.node.gateway; requests = tree.remove so_far.node.requests req };
-    })
+without_request number req so_far = with_session number (session_without req (session_in number so_far)) (without_course req so_far)
 
 -- a request ends with its reply
 unfoldable pub request_ended : ℕ → ℕ → GuestRsp → StepState → StepState

@@ -14,7 +14,10 @@ use Rattle.guest_driver.specs.declared.disk.Disk.{Disk}
 use Rattle.guest_driver.specs.Driver.{begin_driver}
 use Rattle.guest_driver.specs.InodeQueue as lines
 use Rattle.guest_driver.specs.InodeQueue.{next_work, queue_after_start}
-use Rattle.sheep_node.specs.State.{Course, Waiting, Driving, Commanding, Checking, DoingWork, AwaitingDecision, Request, Session}
+use Rattle.sheep_node.specs.declared.course.Course.{Course}
+use Rattle.sheep_node.specs.declared.course.Request.{Request}
+use Rattle.sheep_node.specs.declared.session.Session.{Session}
+use Rattle.sheep_node.specs.declared.course.Course.TheVariants.{Waiting, Driving, Commanding, Checking, DoingWork, AwaitingDecision}
 use Rattle.sheep_node.specs.StepState.{StepState, with_sends, with_gateway, session_in, with_inode_queue}
 use Rattle.sheep_node.specs.RequestWorks.{course_refused, queue_left, work_begun}
 use Rattle.sheep_node.specs.Courses.{driver_stepped, course_went_on}

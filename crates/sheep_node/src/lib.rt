@@ -14,22 +14,35 @@
 //! entries that it puts are its own (`specs/OwnEntries.antt`), and a session's queue is its reads and writes
 //! (`specs/SessionQueues.antt`), no more than there may be at once. A step is of so few changes that it sends 1,000 messages at most.
 //!
-//! The laws of `laws.rt` say this, and what holds of every step: its sends are numbered upwards, so no two of a node are
+//! Of the code stands what a node keeps (`state.rt`, with `requests.rt`, `sessions.rt` and, for its recovery, `node_rows.rt`), what a
+//! client may ask (`asks.rt`), and the elementary changes of a step (`step_state.rt`): each call is exactly the definition of its name,
+//! or out of memory. The step itself is still to come.
+//!
+//! The laws of `laws.rt` say what a step keeps, and what holds of every step: its sends are numbered upwards, so no two of a node are
 //! numbered alike; what it has read comes from the log alone, and its epochs and their members are those of what it has
 //! read; it puts `Recovered` once for each recovery; and a request of another epoch changes nothing.
 #![tactic(auto)]
 
 mod ask;
+mod asks;
+mod course;
 mod event;
 mod input;
 mod laws;
 mod limits;
+mod node_rows;
 mod outputs;
 mod replies;
+mod requests;
+mod session;
+mod sessions;
+mod state;
+mod step_state;
 #[cfg(test)]
 mod tests;
 
 pub use ask::Ask;
+pub use course::{Course, Request};
 pub use event::Event;
 pub use input::Input;
 pub use laws::{
@@ -48,3 +61,4 @@ pub use laws::{
 pub use limits::SENDS_MAX;
 pub use outputs::Outputs;
 pub use replies::ReplyList;
+pub use session::Session;

@@ -15,7 +15,7 @@ use Rattle.sheep_node.specs.declared.event.Event.{Event}
 use Rattle.sheep_node.specs.declared.ask.Ask.{Ask}
 use Rattle.sheep_node.specs.declared.input.Input.TheVariants as inputs
 use Rattle.sheep_node.specs.State as nodes
-use Rattle.sheep_node.specs.State.{Request}
+use Rattle.sheep_node.specs.declared.course.Request.{Request}
 use Rattle.sheep_node.specs.Step.{node_step}
 use Rattle.sheep_world.specs.World.{Host, SessionProgress, World, no_progress, progress_at}
 use Rattle.sheep_world.specs.Opening.{format_entry, initial_world}

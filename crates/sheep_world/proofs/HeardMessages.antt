@@ -39,7 +39,9 @@ use Rattle.vdi_ops.specs.declared.act.OpAct.{OpAct}
 use Rattle.vdi_ops.specs.declared.act.OpAct.TheVariants as op_acts
 use Rattle.vdi_ops.specs.Op as ops
 use Rattle.vdi_ops.specs.Steps.{op_on_done}
-use Rattle.sheep_node.specs.State.{Course, Waiting, Driving, Commanding, Request, Checking, DoingWork, AwaitingDecision}
+use Rattle.sheep_node.specs.declared.course.Course.{Course}
+use Rattle.sheep_node.specs.declared.course.Request.{Request}
+use Rattle.sheep_node.specs.declared.course.Course.TheVariants.{Waiting, Driving, Commanding, Checking, DoingWork, AwaitingDecision}
 use Rattle.sheep_node.specs.StepState.{StepState, with_gateway, session_in, with_inode_queue, request_ended, with_sole_request}
 use Rattle.sheep_node.specs.RequestWorks.{course_refused, queue_left, after_start, work_begun, work_asked}
 use Rattle.sheep_node.specs.Courses.{after_driver_step, driver_acted, driver_stepped, disk_went_on, after_command_step, command_acted, command_stepped, course_went_on, check_acted, check_stepped}

@@ -14,7 +14,8 @@ use Rattle.gateway.specs.State.{Work}
 use Rattle.sheep_node.specs.declared.event.Event.{Event}
 use Rattle.sheep_node.specs.declared.event.Event.TheVariants as events
 use Rattle.sheep_node.specs.State as nodes
-use Rattle.sheep_node.specs.State.{Node, Request}
+use Rattle.sheep_node.specs.declared.course.Request.{Request}
+use Rattle.sheep_node.specs.State.{Node}
 use Rattle.sheep_node.specs.May as may
 use Rattle.sheep_node.specs.StepState.{at_first, with_node}
 use Rattle.sheep_node.specs.LogReading.{is_epoch_member, decision_told, entry_read, on_log_entry}

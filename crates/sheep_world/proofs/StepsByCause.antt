@@ -19,7 +19,7 @@ use Rattle.vdi_directory.specs.Decisions.{log_effects}
 use Rattle.std.specs.Option.{option_map}
 use Rattle.sheep_node.specs.declared.input.Input.TheVariants as inputs
 use Rattle.sheep_node.specs.State.{Node}
-use Rattle.sheep_node.specs.State as nodes
+use Rattle.sheep_node.specs.declared.course.Request.{Request}
 use Rattle.sheep_node.specs.May.{has_numbers, fits_node, May}
 use Rattle.sheep_node.specs.StepState.{StepState, at_first}
 use Rattle.sheep_node.specs.Step as steps
@@ -125,7 +125,7 @@ reply_fits_here statements world n host name from rsp here ready = reply_fits
 pub sound_step : (statements : List Statement) (world : World) (n : ℕ) (host : Host) (cause : NodeCause) → IsCause statements world n host cause
     → IsReady statements world n host → IsSoundStep (input_of_cause cause) host.node
 sound_step statements world n host (GuestAsks session req ask) asked ready =
-    (ap (λ (o : Option nodes.Request). not (is_some o)) (asked_new statements world n host session req ask asked ready), ready.driven)
+    (ap (λ (o : Option Request). not (is_some o)) (asked_new statements world n host session req ask asked ready), ready.driven)
 sound_step statements world n host (RequestComes name to request) here ready = (tt, ready.driven)
 sound_step statements world n host (ReplyComes name from rsp) here ready = (reply_fits_here statements world n host name from rsp here ready, ready.driven)
 sound_step statements world n host (LossIsTold name packet) here ready = (tt, ready.driven)
@@ -185,7 +185,7 @@ steps_on_may statements world n host (GuestAsks session req ask) asked ready bes
   numbers = numbers_left host ready.up;
   condition = record {
     room = beside.0;
-    number = ap (λ (o : Option nodes.Request). not (is_some o)) (asked_new statements world n host session req ask asked ready);
+    number = ap (λ (o : Option Request). not (is_some o)) (asked_new statements world n host session req ask asked ready);
     member = asked.member;
     asked = beside.1;
   };

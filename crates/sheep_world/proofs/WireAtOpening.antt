@@ -17,7 +17,8 @@ use Rattle.gateway.specs.State as gateways
 use Rattle.recovery.specs.State as recoveries
 use Rattle.sheep_node.specs.declared.input.Input.TheVariants as inputs
 use Rattle.sheep_node.specs.State as nodes
-use Rattle.sheep_node.specs.State.{Node, Request}
+use Rattle.sheep_node.specs.declared.course.Request.{Request}
+use Rattle.sheep_node.specs.State.{Node}
 use Rattle.sheep_node.specs.StepState.{StepState, at_first, with_node}
 use Rattle.sheep_node.specs.LogReading.{asker_of, decision_told, entry_read, on_log_entry}
 use Rattle.sheep_node.specs.AwaitedEntry.{waits_for_entry}

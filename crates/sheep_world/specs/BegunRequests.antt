@@ -6,7 +6,7 @@ use Rattle.std.specs.FinMap as tree
 use Rattle.cluster_script.specs.declared.statement.Statement.{Statement}
 use Rattle.cluster_script.specs.NumberedRequests.{numbers_of_session}
 use Rattle.cluster_script.specs.Sessions.{ScriptSession, session_numbered}
-use Rattle.sheep_node.specs.State.{Request}
+use Rattle.sheep_node.specs.declared.course.Request.{Request}
 use Rattle.sheep_world.specs.World.{Host, SessionProgress, World, no_progress}
 
 -- how many of its requests a session has begun

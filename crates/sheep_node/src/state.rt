@@ -1,0 +1,106 @@
+ghost use Rattle.std.specs.Prelude.{◌≡◌};
+ghost use Rattle.sheep_node.specs.State.{initial_node};
+
+use crate::node_rows::NodeRows;
+use crate::requests::Requests;
+use crate::sessions::Sessions;
+use disk_lock::Locks;
+use epoch_log::Tally;
+use gateway::Gateway;
+use object_id::{Entry, Epoch, NodeId};
+use object_store::PlainStore;
+use peer_service::PeerState;
+use recovery::Recovery;
+use std::alloc::Global;
+use std::collections::VecDeque;
+use std::marker::Model;
+use vnode_table::Placement;
+
+/// The store in which a node keeps its rows.
+pub type NodeStore = PlainStore;
+
+/// What a node is as long as it isn't spent. Contracts see the record `Node` of `specs/State.antt`.
+#[derive(Drop)]
+pub(crate) struct NodeState {
+    pub alloc: Global,
+    pub me: NodeId,
+    /// Its peer, and the epochs that it entered.
+    pub rows: NodeRows<NodeStore>,
+    /// The entries read, counted; none before the first.
+    pub tally: Option<Tally>,
+    /// Who holds which disk, by the entries read.
+    pub locks: Locks,
+    pub gateway: Gateway,
+    pub recovery: Recovery,
+    /// Whether `Recovered` of the recovery was put.
+    pub recovered: bool,
+    pub sessions: Sessions,
+    pub requests: Requests,
+    /// The entries that are still to be put into the log.
+    pub outbox: VecDeque<Entry>,
+    /// How many requests were sent.
+    pub sends: u32,
+}
+
+impl Model for NodeState {
+    ghost use Rattle.std.specs.Prelude.{List};
+    ghost use Rattle.std.specs.Coded.{codes, coded_ℕ};
+    ghost use Rattle.std.specs.FinMap as tree;
+    ghost use Rattle.std.specs.FinSet as set;
+    ghost use Rattle.std.specs.Ordering.{nat_cmp};
+    ghost use Rattle.object_store.specs.Store.{SeenRow};
+    ghost use Rattle.gateway.specs.State.{Work};
+    ghost use Rattle.sheep_node.specs.declared.course.Request.{Request};
+    ghost use Rattle.sheep_node.specs.declared.session.Session.{Session};
+    ghost use Rattle.sheep_node.specs.State.{Node};
+
+    ghost Value = { Node };
+
+    ghost coded = { Prim.hlevel (
+      codes,
+      tree.code {X = List SeenRow} {R = nat_cmp} coded_ℕ (Prim.hlevel codes),
+      tree.code {X = Work} {R = nat_cmp} coded_ℕ (Prim.hlevel codes),
+      set.code {R = nat_cmp} coded_ℕ,
+      tree.code {X = Session} {R = nat_cmp} coded_ℕ (Prim.hlevel codes),
+      tree.code {X = Request} {R = nat_cmp} coded_ℕ (Prim.hlevel codes),
+    ) };
+
+    ghost view = { λ state. record {
+      me = state.me;
+      peer = state.rows.peer;
+      epochs = state.rows.epochs;
+      gateway = state.gateway;
+      recovery = state.recovery;
+      recovered = state.recovered;
+      sessions = state.sessions;
+      requests = state.requests;
+      outbox = state.outbox.items;
+      sends = state.sends;
+    } };
+}
+
+impl NodeState {
+    /// A node that has read nothing.
+    pub fn new(alloc: Global, me: NodeId, tries: u32) -> NodeState
+        ensures { result ≡ initial_node me tries }
+    {
+        let store = PlainStore::new(alloc);
+        NodeState {
+            alloc,
+            me,
+            rows: NodeRows {
+                peer: PeerState::new(alloc, store, Epoch(1)),
+                place: Placement::new(alloc),
+            },
+            tally: None,
+            locks: Locks::new(alloc),
+            gateway: Gateway::new(alloc, me, tries),
+            recovery: Recovery::new(alloc, me),
+            recovered: true,
+            sessions: Sessions::new(alloc),
+            requests: Requests::new(alloc),
+            outbox: VecDeque::new(alloc),
+            sends: 0,
+        }
+    }
+}
