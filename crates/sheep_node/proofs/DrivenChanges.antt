@@ -1,15 +1,13 @@
 -- Every change leaves each read and write on the disk that its session has open.
-use Rattle.std.proofs.Common.{◌≡◌, ◌≢◌, ℕ, List, [], ◌∷◌, ◌++◌, All, Option, Some, None, refl, sym, ap, subst, ◌∙◌, ⊎_elim}
+use Rattle.std.proofs.Common.{◌≡◌, ◌≢◌, ℕ, [], ◌∷◌, ◌++◌, All, Option, Some, None, refl, sym, ap, subst, ◌∙◌, ⊎_elim}
 use Rattle.std.specs.Prelude.{false, IsTrue}
 use Rattle.std.specs.Ordering.{nat_cmp}
 use Rattle.std.specs.FinMap as tree
 use Rattle.std.proofs.lemmas.Bool.{cases_eq}
 use Rattle.std.proofs.lemmas.List.Elements.{All-nil}
-use Rattle.proof_tools.proofs.Booleans.{cond_either}
 use Rattle.proof_tools.proofs.FiniteMaps.{get-insert_other, get-remove_other, get-remove_same}
 use Rattle.object_id.specs.declared.cause.Cause.{Cause}
 use Rattle.object_id.specs.declared.cause.Cause.TheVariants.{Halt}
-use Rattle.object_id.specs.declared.entry.Entry.{Entry}
 use Rattle.object_id.specs.declared.entry.VdiSpec.{VdiSpec}
 use Rattle.object_id.specs.declared.node.NodeId.{NodeId}
 use Rattle.inode.specs.Layout.{Content}
@@ -18,9 +16,7 @@ use Rattle.peer_proto.specs.declared.guest.DiskAsk.TheVariants as disk_asks
 use Rattle.peer_proto.specs.declared.guest.GuestRsp.{GuestRsp}
 use Rattle.gateway.specs.declared.message.Status.{Status}
 use Rattle.gateway.specs.Work.{zones_for}
-use Rattle.gateway.specs.State as gateways
 use Rattle.gateway.specs.State.{Work}
-use Rattle.recovery.specs.Steps as recovery_steps
 use Rattle.gateway_queue.specs.Queue.{queue_without}
 use Rattle.guest_driver.specs.declared.disk.Disk.{Disk}
 use Rattle.guest_driver.specs.Pieces.{is_ask}
@@ -34,18 +30,15 @@ use Rattle.disk_check.specs.Check.{begin_check}
 use Rattle.vdi_ops.specs.Op.{OpStep, disk_change}
 use Rattle.sheep_node.specs.declared.ask.Ask.TheVariants as asks
 use Rattle.sheep_node.specs.declared.input.Input.{Input}
-use Rattle.sheep_node.specs.declared.input.Input.TheVariants as inputs
 use Rattle.sheep_node.specs.declared.course.Course.{Course}
 use Rattle.sheep_node.specs.declared.course.Request.{Request}
 use Rattle.sheep_node.specs.declared.session.Session.{Session}
 use Rattle.sheep_node.specs.declared.course.Course.TheVariants.{Waiting, Driving, Commanding, Checking, DoingWork, AwaitingDecision}
 use Rattle.sheep_node.specs.State.{Node, initial_node}
-use Rattle.sheep_node.specs.RecoveryView.{recovery_state_of}
 use Rattle.sheep_node.specs.StepState.{StepState, at_first, session_in, request_ended, with_sole_request}
 use Rattle.sheep_node.specs.Courses.{after_driver_step, disk_after, inode_open, after_command_step}
 use Rattle.sheep_node.specs.Guests.{queued_as}
-use Rattle.sheep_node.specs.LogReading.{entry_read, on_back}
-use Rattle.sheep_node.specs.Step.{on_request, recovery_stepped, on_put, on_recover_tick, node_step}
+use Rattle.sheep_node.specs.Step.{node_step}
 use Rattle.sheep_node.specs.May.{May}
 use Rattle.sheep_node.specs.SessionQueues.{session_among, QueuesAreDiskRequests, CommandsAreAlone}
 use Rattle.sheep_node.specs.DrivenDisks.{IsCourseOn, AreOnDisks, RequestsAreOnDisks}
@@ -53,10 +46,12 @@ use Rattle.sheep_node.specs.Changes as changes
 use Rattle.sheep_node.specs.Changes.{HasRequest, Arrival, Outcome, ToWork, ToEntry, ToReply, without_ended_work, without_denied_work, zones_of_members, RequestSteps, DiskBegins, DiskGoesOn, CommandBegins, CommandGoesOn, CommandDecided, CheckBegins, CheckGoesOn, ObjectBegins, ObjectIsDone, EntryBegins, EntryDecided, WorkIsNext, AtOnce, InTurn, Again, AgainAlone, input_received, Change}
 use Rattle.sheep_node.proofs.OneWorkParts.{Requests, Sessions}
 use Rattle.sheep_node.proofs.RefusedCourses.{course_refused-keeps, request_refused-keeps}
-use Rattle.sheep_node.proofs.SoleCommands.{CommandsAre, IsFreeFor, command_is_free, free, change_keeps_alone, received_alone}
+use Rattle.sheep_node.proofs.SoleParts.{CommandsAre, IsFreeFor, command_is_free}
+use Rattle.sheep_node.proofs.SoleCommands.{free, change_keeps_alone, received_alone}
 use Rattle.sheep_node.proofs.SessionViews.{open_in, IsSeen, same_seen, alike_seen, free_seen, own_seen}
 use Rattle.sheep_node.proofs.WantedSteps.{driver_begins-wanted, driver_goes_on-wanted}
 use Rattle.sheep_node.proofs.StepChain.{kept_by_chain, step_chain}
+use Rattle.sheep_node.proofs.ReceivedInputs.{received_keeps}
 
 abbrev pub OnDisks : StepState → Type 0
 OnDisks so_far = AreOnDisks so_far.node.requests so_far.node.sessions
@@ -255,24 +250,7 @@ none_on : AreOnDisks tree.empty tree.empty
 none_on req = subst (IsSeen open_in IsCourseOn tree.empty) (sym (tree.get-empty {X = Request} nat_cmp req)) tt
 
 received_on : (input : Input) (node : Node) → OnDisks (at_first node) → OnDisks (input_received input (at_first node))
-unfolding entry_read on_request on_recover_tick on_back
-received_on (inputs.Guest req session ask) node all = all
-received_on (inputs.Request request) node all = all
-received_on (inputs.Reply rsp) node all =
-    cond_either OnDisks (gateways.gateway_awaits rsp.number node.gateway) (at_first node)
-    (recovery_stepped (recovery_steps.recovery_on_reply rsp (recovery_state_of node)) (at_first node)) all all
-received_on (inputs.Lost number) node all =
-    cond_either OnDisks (gateways.gateway_awaits number node.gateway) (at_first node)
-    (recovery_stepped (recovery_steps.recovery_on_loss number (recovery_state_of node)) (at_first node)) all all
-received_on (inputs.LogEntry entry) node all = all
-received_on inputs.Put node all = by_outbox node.outbox
-  where
-    by_outbox : (outbox : List Entry) → OnDisks (on_put outbox (at_first node))
-    by_outbox [] = all
-    by_outbox (entry ∷ later) = all
-received_on inputs.RecoverTick node all = all
-received_on inputs.RetryTick node all = all
-received_on (inputs.Back entries) node all = none_on
+received_on = received_keeps (λ works requests sessions. AreOnDisks requests sessions) none_on
 
 pub on_disks_at_opening : (me : NodeId) (tries : ℕ) → RequestsAreOnDisks (initial_node me tries)
 on_disks_at_opening me tries = none_on

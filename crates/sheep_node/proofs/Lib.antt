@@ -13,6 +13,7 @@ pub mod NumberChanges
 pub mod OwnEntryChanges
 pub mod QueueChanges
 pub mod QueueLengths
+pub mod SoleParts
 pub mod SoleCommands
 pub mod SessionViews
 pub mod WantedSteps
@@ -37,3 +38,4 @@ pub mod OutsideAskLaws
 mod MayTestLaws
 pub mod PlacedPeers
 pub mod StepStates
+pub mod ReceivedInputs

@@ -14,8 +14,7 @@ use Rattle.peer_service.specs.LogReading.{decision_on}
 use Rattle.gateway.specs.declared.message.Status.{Status}
 use Rattle.gateway.specs.Work.{zones_for}
 use Rattle.gateway.specs.Attempt.{Attempt}
-use Rattle.gateway.specs.State as gateways
-use Rattle.gateway.specs.State.{Work, Gateway, Open, Ended, WaitsForMembers}
+use Rattle.gateway.specs.State.{Work, Open, Ended, WaitsForMembers}
 use Rattle.gateway.specs.Step.{with_work, attempt_with_status}
 use Rattle.gateway_queue.specs.Queue.{queue_without}
 use Rattle.guest_driver.specs.declared.disk.Disk.{Disk}
@@ -32,25 +31,19 @@ use Rattle.vdi_ops.specs.Op as ops
 use Rattle.vdi_ops.specs.Op.{Op, OpStage, Asked, Working, Publishing, Answered, disk_change, entry_wanted_at, entry_wanted, IsAwaitedAtOpStage, IsAwaitedByCommand}
 use Rattle.vdi_ops.specs.Steps.{begin_command, op_on_done, on_decision, on_refusal}
 use Rattle.vdi_ops.proofs.StepLemmas.{begin_awaited, done_awaited, decision_awaited}
-use Rattle.recovery.specs.Steps as recovery_steps
 use Rattle.sheep_node.specs.declared.input.Input.{Input}
-use Rattle.sheep_node.specs.declared.input.Input.TheVariants as inputs
 use Rattle.sheep_node.specs.declared.course.Course.{Course}
 use Rattle.sheep_node.specs.declared.course.Request.{Request}
 use Rattle.sheep_node.specs.declared.session.Session.{Session}
 use Rattle.sheep_node.specs.declared.course.Course.TheVariants.{Waiting, Driving, Commanding, Checking, DoingWork, AwaitingDecision}
 use Rattle.sheep_node.specs.State.{Node, new_session}
-use Rattle.sheep_node.specs.RecoveryView.{recovery_state_of}
 use Rattle.sheep_node.specs.StepState.{StepState, at_first, with_optional_entry, with_gateway, session_in, request_ended, with_sole_request}
 use Rattle.sheep_node.specs.RequestWorks.{command_refused, course_refused}
 use Rattle.sheep_node.specs.Courses.{after_driver_step, disk_after, inode_open, after_command_step}
 use Rattle.sheep_node.specs.Guests.{queued_as}
 use Rattle.sheep_node.specs.AwaitedEntry.{waits_for_entry}
-use Rattle.sheep_node.specs.LogReading.{entry_read, on_back}
-use Rattle.sheep_node.specs.Step.{on_request, recovery_stepped, on_put, on_recover_tick}
 use Rattle.std.proofs.lemmas.Bool.{eq-eqb, eqb-true, and_parts}
 use Rattle.std.specs.Option.{option_map_or}
-use Rattle.proof_tools.proofs.Booleans.{cond_either}
 use Rattle.proof_tools.proofs.Lists.{Contains-first, Contains-nil}
 use Rattle.proof_tools.proofs.FiniteMaps.{get-insert_same, get-remove_same}
 use Rattle.sheep_node.specs.OneWork.{may_work, may_work_at, may_work_of, waiting_in, AreOfDifferentRequests, HaveOneWorkPerRequest, HasNoWork}
@@ -60,6 +53,7 @@ use Rattle.sheep_node.proofs.OneWorkParts.{driven_session, free_session, driven_
 use Rattle.disk_check.specs.declared.act.CheckAct.{CheckAct}
 use Rattle.disk_check.specs.declared.act.CheckAct.TheVariants as check_acts
 use Rattle.disk_check.specs.Check.{Check, begin_check}
+use Rattle.sheep_node.proofs.ReceivedInputs.{received_keeps}
 
 abbrev pub StepHasOneWork : StepState → Type 0
 StepHasOneWork so_far = HaveOneWorkPerRequest so_far.node.gateway.works so_far.node.requests so_far.node.sessions
@@ -401,21 +395,4 @@ change_keeps_one_work so_far next (changes.Recovers due) sound good = good
 
 -- a step begins so, on whatever input
 pub received_one_work : (input : Input) (node : Node) → StepHasOneWork (at_first node) → StepHasOneWork (input_received input (at_first node))
-unfolding entry_read on_request on_recover_tick on_back
-received_one_work (inputs.Guest req session ask) node good = good
-received_one_work (inputs.Request request) node good = good
-received_one_work (inputs.Reply rsp) node good =
-    cond_either StepHasOneWork (gateways.gateway_awaits rsp.number node.gateway) (at_first node)
-    (recovery_stepped (recovery_steps.recovery_on_reply rsp (recovery_state_of node)) (at_first node)) good good
-received_one_work (inputs.Lost number) node good =
-    cond_either StepHasOneWork (gateways.gateway_awaits number node.gateway) (at_first node)
-    (recovery_stepped (recovery_steps.recovery_on_loss number (recovery_state_of node)) (at_first node)) good good
-received_one_work (inputs.LogEntry entry) node good = good
-received_one_work inputs.Put node good = by_outbox node.outbox
-  where
-    by_outbox : (outbox : List Entry) → StepHasOneWork (on_put outbox (at_first node))
-    by_outbox [] = good
-    by_outbox (entry ∷ later) = good
-received_one_work inputs.RecoverTick node good = good
-received_one_work inputs.RetryTick node good = good
-received_one_work (inputs.Back entries) node good = none_good
+received_one_work = received_keeps (λ works requests sessions. HaveOneWorkPerRequest works requests sessions) none_good

@@ -6,20 +6,16 @@ use Rattle.std.specs.FinMap as tree
 use Rattle.std.proofs.Math.Bool.{and-false}
 use Rattle.std.proofs.lemmas.Bool.{eqb-true, eqb-false, eq-eqb, ne_eqb, and_parts, cases_eq}
 use Rattle.std.proofs.lemmas.List.Elements.{Contains-push_cases, Contains-append_left, Contains-append_right}
-use Rattle.proof_tools.proofs.Booleans.{cond_either}
 use Rattle.proof_tools.proofs.Lists.{Contains-cons, Contains-cons_cases, Contains-filter, Contains-first, Contains-nil}
 use Rattle.proof_tools.proofs.FiniteMaps.{get-insert_other, get-insert_same, get-remove_other, get-remove_same}
 use Rattle.object_id.specs.declared.cause.Cause.{Cause}
 use Rattle.object_id.specs.declared.cause.Cause.TheVariants.{Halt}
-use Rattle.object_id.specs.declared.entry.Entry.{Entry}
 use Rattle.peer_proto.specs.declared.guest.DiskAsk.{DiskAsk}
 use Rattle.peer_proto.specs.declared.guest.GuestRsp.{GuestRsp}
 use Rattle.peer_proto.specs.declared.guest.GuestRsp.TheVariants.{Refused}
 use Rattle.gateway.specs.declared.message.Status.{Status}
 use Rattle.gateway.specs.Work.{zones_for}
-use Rattle.gateway.specs.State as gateways
 use Rattle.gateway.specs.State.{Work}
-use Rattle.recovery.specs.Steps as recovery_steps
 use Rattle.gateway_queue.specs.declared.queue.Queued.{Queued}
 use Rattle.gateway_queue.specs.Queue.{has_request_number, queue_without}
 use Rattle.guest_driver.specs.declared.disk.Disk.{Disk}
@@ -31,19 +27,16 @@ use Rattle.vdi_ops.specs.Op as ops
 use Rattle.vdi_ops.specs.Op.{Op, disk_change}
 use Rattle.vdi_ops.specs.Steps.{on_refusal}
 use Rattle.sheep_node.specs.declared.input.Input.{Input}
-use Rattle.sheep_node.specs.declared.input.Input.TheVariants as inputs
 use Rattle.sheep_node.specs.declared.course.Course.{Course}
 use Rattle.sheep_node.specs.declared.course.Request.{Request}
 use Rattle.sheep_node.specs.declared.session.Session.{Session}
 use Rattle.sheep_node.specs.declared.course.Course.TheVariants.{Waiting, Driving, Commanding, Checking, DoingWork, AwaitingDecision}
 use Rattle.sheep_node.specs.State.{Node, new_session}
-use Rattle.sheep_node.specs.RecoveryView.{recovery_state_of}
 use Rattle.sheep_node.specs.StepState.{StepState, at_first, with_optional_entry, session_in, request_ended, with_sole_request}
 use Rattle.sheep_node.specs.RequestWorks.{command_refused, course_refused}
 use Rattle.sheep_node.specs.Courses.{after_driver_step, disk_after, after_command_step}
 use Rattle.sheep_node.specs.Guests.{queued_as}
-use Rattle.sheep_node.specs.LogReading.{entry_read, on_back}
-use Rattle.sheep_node.specs.Step.{on_request, recovery_stepped, on_put, on_recover_tick, node_step}
+use Rattle.sheep_node.specs.Step.{node_step}
 use Rattle.sheep_node.specs.May.{is_disk_course, May}
 use Rattle.sheep_node.specs.OneWork.{HasOneWorkPerRequest}
 use Rattle.sheep_node.specs.SessionQueues.{is_disk_request_of, session_among, queue_in, IsQueued, AreDiskRequests, QueuesAreDiskRequests}
@@ -53,6 +46,7 @@ use Rattle.sheep_node.proofs.OneWorkParts.{Requests, Sessions}
 use Rattle.sheep_node.proofs.NumberChanges.{meets_numbers}
 use Rattle.sheep_node.proofs.StepChain.{kept_by_chain, step_chain}
 use Rattle.disk_check.specs.Check.{begin_check}
+use Rattle.sheep_node.proofs.ReceivedInputs.{received_keeps}
 
 -- ---- a session among others
 
@@ -410,24 +404,7 @@ none_queued = record {
 }
 
 received_queues : (input : Input) (node : Node) → QueuesAre (at_first node) → QueuesAre (input_received input (at_first node))
-unfolding entry_read on_request on_recover_tick on_back
-received_queues (inputs.Guest req session ask) node queued = queued
-received_queues (inputs.Request request) node queued = queued
-received_queues (inputs.Reply rsp) node queued =
-    cond_either QueuesAre (gateways.gateway_awaits rsp.number node.gateway) (at_first node)
-    (recovery_stepped (recovery_steps.recovery_on_reply rsp (recovery_state_of node)) (at_first node)) queued queued
-received_queues (inputs.Lost number) node queued =
-    cond_either QueuesAre (gateways.gateway_awaits number node.gateway) (at_first node)
-    (recovery_stepped (recovery_steps.recovery_on_loss number (recovery_state_of node)) (at_first node)) queued queued
-received_queues (inputs.LogEntry entry) node queued = queued
-received_queues inputs.Put node queued = by_outbox node.outbox
-  where
-    by_outbox : (outbox : List Entry) → QueuesAre (on_put outbox (at_first node))
-    by_outbox [] = queued
-    by_outbox (entry ∷ later) = queued
-received_queues inputs.RecoverTick node queued = queued
-received_queues inputs.RetryTick node queued = queued
-received_queues (inputs.Back entries) node queued = none_queued
+received_queues = received_keeps (λ works requests sessions. AreDiskRequests requests sessions) none_queued
 
 pub queues_stay : (input : Input) (node : Node) → May input node → HasOneWorkPerRequest node → QueuesAreDiskRequests node
     → QueuesAreDiskRequests (node_step input node).node

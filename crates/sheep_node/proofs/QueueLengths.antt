@@ -4,39 +4,32 @@ use Rattle.std.specs.Ordering.{nat_cmp}
 use Rattle.std.specs.FinMap as tree
 use Rattle.std.proofs.lemmas.Bool.{and_parts, cases_eq, leb-true}
 use Rattle.std.proofs.lemmas.List.{length-append}
-use Rattle.proof_tools.proofs.Booleans.{cond_either}
 use Rattle.proof_tools.proofs.FiniteMaps.{get-insert_other, get-insert_same}
 use Rattle.object_id.specs.declared.cause.Cause.{Cause}
 use Rattle.object_id.specs.declared.cause.Cause.TheVariants.{Halt}
-use Rattle.object_id.specs.declared.entry.Entry.{Entry}
 use Rattle.object_id.specs.declared.node.NodeId.{NodeId}
 use Rattle.peer_proto.specs.declared.guest.DiskAsk.{DiskAsk}
 use Rattle.peer_proto.specs.declared.guest.GuestRsp.{GuestRsp}
 use Rattle.gateway.specs.declared.message.Status.{Status}
 use Rattle.gateway.specs.Work.{zones_for}
-use Rattle.gateway.specs.State as gateways
 use Rattle.gateway.specs.State.{Work}
 use Rattle.gateway_queue.specs.declared.queue.Queued.{Queued}
 use Rattle.gateway_queue.specs.Queue.{has_request_number, queue_without}
 use Rattle.guest_driver.specs.declared.disk.Disk.{Disk}
 use Rattle.guest_driver.specs.Driver.{DriverStep, begin_driver}
 use Rattle.guest_driver.specs.InodeQueue.{queue_with_open, queue_with_waiting, queue_after_end}
-use Rattle.recovery.specs.Steps as recovery_steps
 use Rattle.vdi_ops.specs.Op.{OpStep, disk_change}
 use Rattle.sheep_node.specs.declared.ask.Ask.TheVariants as asks
 use Rattle.sheep_node.specs.declared.input.Input.{Input}
-use Rattle.sheep_node.specs.declared.input.Input.TheVariants as inputs
 use Rattle.object_id.specs.declared.limits.TheConstants.{REQUESTS_AT_ONCE}
 use Rattle.sheep_node.specs.declared.course.Course.{Course}
 use Rattle.sheep_node.specs.declared.session.Session.{Session}
 use Rattle.sheep_node.specs.declared.course.Course.TheVariants.{Checking, DoingWork, AwaitingDecision}
 use Rattle.sheep_node.specs.State.{Node, new_session, session_at, initial_node}
-use Rattle.sheep_node.specs.RecoveryView.{recovery_state_of}
 use Rattle.sheep_node.specs.StepState.{StepState, at_first, session_in, request_ended, with_sole_request}
 use Rattle.sheep_node.specs.Courses.{after_driver_step, disk_after, after_command_step}
 use Rattle.sheep_node.specs.Guests.{queued_as}
-use Rattle.sheep_node.specs.LogReading.{entry_read, on_back}
-use Rattle.sheep_node.specs.Step.{on_request, recovery_stepped, on_put, on_recover_tick, node_step}
+use Rattle.sheep_node.specs.Step.{node_step}
 use Rattle.sheep_node.specs.May.{May}
 use Rattle.sheep_node.specs.SessionQueues.{HaveShortQueues, QueuesAreShort}
 use Rattle.sheep_node.specs.Changes as changes
@@ -46,6 +39,7 @@ use Rattle.sheep_node.proofs.OneWorkParts.{Sessions}
 use Rattle.sheep_node.proofs.ReachedSteps.{QueuesStayShort}
 use Rattle.sheep_node.proofs.StepChain.{kept_by_chain, step_chain}
 use Rattle.disk_check.specs.Check.{begin_check}
+use Rattle.sheep_node.proofs.ReceivedInputs.{received_keeps}
 
 abbrev pub QueuesAreShortIn : StepState → Type 0
 QueuesAreShortIn so_far = HaveShortQueues so_far.node.sessions
@@ -182,24 +176,7 @@ none_short number =
     subst (λ (o : Option Session). length (unwrap_or o new_session).queue ≤ REQUESTS_AT_ONCE) (sym (tree.get-empty {X = Session} nat_cmp number)) (omega arith)
 
 received_short : (input : Input) (node : Node) → QueuesAreShortIn (at_first node) → QueuesAreShortIn (input_received input (at_first node))
-unfolding entry_read on_request on_recover_tick on_back
-received_short (inputs.Guest req session ask) node all = all
-received_short (inputs.Request request) node all = all
-received_short (inputs.Reply rsp) node all =
-    cond_either QueuesAreShortIn (gateways.gateway_awaits rsp.number node.gateway) (at_first node)
-    (recovery_stepped (recovery_steps.recovery_on_reply rsp (recovery_state_of node)) (at_first node)) all all
-received_short (inputs.Lost number) node all =
-    cond_either QueuesAreShortIn (gateways.gateway_awaits number node.gateway) (at_first node)
-    (recovery_stepped (recovery_steps.recovery_on_loss number (recovery_state_of node)) (at_first node)) all all
-received_short (inputs.LogEntry entry) node all = all
-received_short inputs.Put node all = by_outbox node.outbox
-  where
-    by_outbox : (outbox : List Entry) → QueuesAreShortIn (on_put outbox (at_first node))
-    by_outbox [] = all
-    by_outbox (entry ∷ later) = all
-received_short inputs.RecoverTick node all = all
-received_short inputs.RetryTick node all = all
-received_short (inputs.Back entries) node all = none_short
+received_short = received_keeps (λ works requests sessions. HaveShortQueues sessions) none_short
 
 pub queues_short_at_opening : (me : NodeId) (tries : ℕ) → QueuesAreShort (initial_node me tries)
 queues_short_at_opening me tries = none_short

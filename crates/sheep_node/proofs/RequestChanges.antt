@@ -1,33 +1,27 @@
 -- A node's requests are those that it had, and the guest's request that it steps on.
-use Rattle.std.proofs.Common.{◌≡◌, ◌≢◌, ◌⊎◌, inl, inr, ℕ, true, List, [], ◌∷◌, Option, Some, None, is_some, refl, sym, ap, subst, ◌∙◌, ⊎_elim}
+use Rattle.std.proofs.Common.{◌≡◌, ◌≢◌, ◌⊎◌, inl, inr, ℕ, true, List, Option, Some, None, is_some, refl, sym, ap, subst, ◌∙◌, ⊎_elim}
 use Rattle.std.specs.Ordering.{nat_cmp}
 use Rattle.std.specs.FinMap as tree
 use Rattle.std.proofs.lemmas.Bool.{cases_eq}
-use Rattle.proof_tools.proofs.Booleans.{cond_either}
 use Rattle.proof_tools.proofs.FiniteMaps.{get-insert_cases, get-remove_other, get-remove_same}
-use Rattle.object_id.specs.declared.cause.Cause.{Cause}
 use Rattle.peer_proto.specs.declared.guest.GuestRsp.{GuestRsp}
 use Rattle.object_id.specs.declared.cause.Cause.TheVariants.{Halt}
 use Rattle.object_id.specs.declared.entry.Entry.{Entry}
 use Rattle.gateway.specs.Work.{zones_for}
-use Rattle.gateway.specs.State as gateways
 use Rattle.gateway.specs.State.{Work}
-use Rattle.recovery.specs.Steps as recovery_steps
 use Rattle.guest_driver.specs.Driver as drivers
 use Rattle.vdi_ops.specs.Op as ops
 use Rattle.sheep_node.specs.declared.ask.Ask.{Ask}
 use Rattle.sheep_node.specs.declared.ask.Ask.TheVariants as asks
 use Rattle.sheep_node.specs.declared.input.Input.{Input}
 use Rattle.sheep_node.specs.declared.input.Input.TheVariants as inputs
-use Rattle.sheep_node.specs.declared.course.Course.{Course}
 use Rattle.sheep_node.specs.declared.course.Request.{Request}
 use Rattle.sheep_node.specs.declared.course.Course.TheVariants.{Waiting, Driving, Commanding, Checking, DoingWork, AwaitingDecision}
 use Rattle.sheep_node.specs.State.{Node}
-use Rattle.sheep_node.specs.RecoveryView.{recovery_state_of}
-use Rattle.sheep_node.specs.StepState.{StepState, at_first, request_ended, with_sole_request}
+use Rattle.sheep_node.specs.StepState.{StepState, at_first, request_ended}
 use Rattle.sheep_node.specs.Courses.{after_command_step}
-use Rattle.sheep_node.specs.LogReading.{entry_read, on_back}
-use Rattle.sheep_node.specs.Step.{on_request, recovery_stepped, on_put, on_recover_tick, node_step}
+use Rattle.sheep_node.specs.LogReading.{on_back}
+use Rattle.sheep_node.specs.Step.{node_step}
 use Rattle.sheep_node.specs.Changes as changes
 use Rattle.sheep_node.specs.Changes.{Outcome, ToWork, ToEntry, ToReply, RequestSteps, DiskBegins, DiskGoesOn, CommandBegins, CommandGoesOn, CommandDecided, WorkIsNext, AtOnce, InTurn, Again, AgainAlone, input_received, Change, CheckBegins, CheckGoesOn, ObjectBegins, ObjectIsDone, EntryBegins, EntryDecided}
 use Rattle.sheep_node.proofs.RefusedCourses.{course_refused-keeps, request_refused-keeps}
@@ -35,6 +29,7 @@ use Rattle.sheep_node.proofs.OneWorkParts.{Requests}
 use Rattle.sheep_node.proofs.StepChain.{kept_by_chain, step_chain}
 use Rattle.disk_check.specs.Check.{begin_check}
 use Rattle.peer_proto.specs.declared.guest.VdiAsk.TheVariants as disk_commands
+use Rattle.sheep_node.proofs.ReceivedInputs.{received_keeps}
 
 -- each number of a request is so
 abbrev pub AllAre : (ℕ → Type 0) → Requests → Type 0
@@ -66,25 +61,9 @@ module _ (P : ℕ → Type 0) where
   ended_are session req reply so_far all = gone_are so_far.node.requests req all
 
   received_requests : (input : Input) (node : Node) → In (at_first node) → In (input_received input (at_first node))
-  unfolding entry_read on_request on_recover_tick on_back
-  received_requests (inputs.Guest req session ask) node all = all
-  received_requests (inputs.Request request) node all = all
-  received_requests (inputs.Reply rsp) node all =
-      cond_either In (gateways.gateway_awaits rsp.number node.gateway) (at_first node)
-      (recovery_stepped (recovery_steps.recovery_on_reply rsp (recovery_state_of node)) (at_first node)) all all
-  received_requests (inputs.Lost number) node all =
-      cond_either In (gateways.gateway_awaits number node.gateway) (at_first node)
-      (recovery_stepped (recovery_steps.recovery_on_loss number (recovery_state_of node)) (at_first node)) all all
-  received_requests (inputs.LogEntry entry) node all = all
-  received_requests inputs.Put node all = by_outbox node.outbox
-    where
-      by_outbox : (outbox : List Entry) → In (on_put outbox (at_first node))
-      by_outbox [] = all
-      by_outbox (entry ∷ later) = all
-  received_requests inputs.RecoverTick node all = all
-  received_requests inputs.RetryTick node all = all
-  received_requests (inputs.Back entries) node all =
-      λ req request got. let none = tree.get-empty {X = Request} nat_cmp req in absurd (cc (none, got))
+  received_requests =
+      received_keeps (λ works requests sessions. AllAre P requests)
+      (λ req request got. let none = tree.get-empty {X = Request} nat_cmp req in absurd (cc (none, got)))
 
   module _ (input : Input) (node : Node) (asked : (req session : ℕ) (ask : Ask) → input ≡ inputs.Guest req session ask → P req) where
     steps_are : (so_far : StepState) (session req : ℕ) (next : Outcome) (moved : StepState) → RequestSteps input node so_far session req next moved → In so_far → In moved

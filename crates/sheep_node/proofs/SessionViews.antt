@@ -12,7 +12,7 @@ use Rattle.sheep_node.specs.Courses.{inode_open}
 use Rattle.sheep_node.specs.SessionQueues.{session_among}
 use Rattle.sheep_node.proofs.OneWorkParts.{Requests, Sessions}
 use Rattle.sheep_node.proofs.QueueChanges.{same_view}
-use Rattle.sheep_node.proofs.SoleCommands.{IsFreeFor}
+use Rattle.sheep_node.proofs.SoleParts.{IsFreeFor}
 
 -- the inode that a session has open
 abbrev pub open_in : Session → Option Content

@@ -4,22 +4,17 @@ use Rattle.std.specs.Ordering.{nat_cmp}
 use Rattle.std.specs.Option.{option_map_or}
 use Rattle.std.specs.FinMap as tree
 use Rattle.std.proofs.lemmas.Bool.{and_parts, cases_eq, eq-eqb, leb-true}
-use Rattle.std.proofs.lemmas.Option.{same_Some}
-use Rattle.proof_tools.proofs.Booleans.{cond_either}
 use Rattle.proof_tools.proofs.Lists.{Contains-nil}
-use Rattle.proof_tools.proofs.FiniteMaps.{get-insert_cases, get-insert_other, get-insert_same, get-remove_other, get-remove_same}
+use Rattle.proof_tools.proofs.FiniteMaps.{get-insert_same, get-remove_other, get-remove_same}
 use Rattle.object_id.specs.declared.cause.Cause.{Cause}
 use Rattle.object_id.specs.declared.cause.Cause.TheVariants.{Halt}
-use Rattle.object_id.specs.declared.entry.Entry.{Entry}
 use Rattle.object_id.specs.declared.node.NodeId.{NodeId}
 use Rattle.peer_proto.specs.declared.guest.VdiAsk.TheVariants.{Check}
 use Rattle.peer_proto.specs.declared.guest.GuestRsp.{GuestRsp}
 use Rattle.peer_proto.specs.declared.guest.GuestRsp.TheVariants.{Refused}
 use Rattle.gateway.specs.declared.message.Status.{Status}
 use Rattle.gateway.specs.Work.{zones_for}
-use Rattle.gateway.specs.State as gateways
 use Rattle.gateway.specs.State.{Work}
-use Rattle.recovery.specs.Steps as recovery_steps
 use Rattle.gateway_queue.specs.declared.queue.Queued.{Queued}
 use Rattle.gateway_queue.specs.Queue.{queue_without}
 use Rattle.guest_driver.specs.declared.disk.Disk.{Disk}
@@ -32,120 +27,24 @@ use Rattle.vdi_ops.specs.Steps.{on_refusal}
 use Rattle.sheep_node.specs.declared.ask.Ask.{Ask}
 use Rattle.sheep_node.specs.declared.ask.Ask.TheVariants as asks
 use Rattle.sheep_node.specs.declared.input.Input.{Input}
-use Rattle.sheep_node.specs.declared.input.Input.TheVariants as inputs
 use Rattle.sheep_node.specs.declared.course.Course.{Course}
 use Rattle.sheep_node.specs.declared.course.Request.{Request}
 use Rattle.sheep_node.specs.declared.session.Session.{Session}
 use Rattle.sheep_node.specs.declared.course.Course.TheVariants.{Waiting, Driving, Commanding, Checking, DoingWork, AwaitingDecision}
 use Rattle.sheep_node.specs.State.{Node, new_session, session_at, initial_node}
-use Rattle.sheep_node.specs.RecoveryView.{recovery_state_of}
 use Rattle.sheep_node.specs.StepState.{StepState, at_first, with_optional_entry, session_in, request_ended, with_sole_request}
 use Rattle.sheep_node.specs.RequestWorks.{command_refused, course_refused}
 use Rattle.sheep_node.specs.Courses.{after_driver_step, disk_after, after_command_step}
 use Rattle.sheep_node.specs.Guests.{queued_as}
-use Rattle.sheep_node.specs.LogReading.{entry_read, on_back}
-use Rattle.sheep_node.specs.Step.{on_request, recovery_stepped, on_put, on_recover_tick, node_step}
+use Rattle.sheep_node.specs.Step.{node_step}
 use Rattle.sheep_node.specs.May.{is_disk_course, queued_at_most, May}
-use Rattle.sheep_node.specs.SessionQueues.{queue_in, QueuesAreDiskRequests, is_disk_request_of, command_in, HaveSoleCommands, CommandsAreAlone}
+use Rattle.sheep_node.specs.SessionQueues.{queue_in, QueuesAreDiskRequests, is_disk_request_of, command_in, IsSoleRequestOf, HaveSoleCommands, CommandsAreAlone}
 use Rattle.sheep_node.specs.Changes as changes
 use Rattle.sheep_node.specs.Changes.{HasRequest, Outcome, ToWork, ToEntry, ToReply, without_ended_work, without_denied_work, zones_of_members, Arrival, RequestSteps, DiskBegins, DiskGoesOn, CommandBegins, CommandGoesOn, CommandDecided, CheckBegins, CheckGoesOn, ObjectBegins, ObjectIsDone, EntryBegins, EntryDecided, WorkIsNext, AtOnce, InTurn, Again, AgainAlone, input_received, Change}
 use Rattle.sheep_node.proofs.OneWorkParts.{Requests, Sessions}
-use Rattle.sheep_node.proofs.QueueChanges.{same_view}
-use Rattle.sheep_node.proofs.StepChain.{kept_by_chain, step_chain}
-
-abbrev pub CommandsAre : StepState → Type 0
-CommandsAre so_far = HaveSoleCommands so_far.node.requests so_far.node.sessions
-
--- a session has no other request than this one
-abbrev pub IsFreeFor : ℕ → ℕ → Requests → Type 0
-IsFreeFor number req requests = (other : ℕ) (request : Request) → tree.get requests other ≡ Some request → request.session ≡ number → other ≡ req
-
--- ---- a session among others
-
--- one that keeps its command
-same_command : (requests : Requests) (sessions : Sessions) (number : ℕ) (session : Session) → session.command ≡ command_in number sessions
-    → HaveSoleCommands requests sessions → HaveSoleCommands requests (tree.insert sessions number session)
-same_command requests sessions number session same all =
-    let so = same_view (λ (session : Session). session.command) sessions number session same in
-    record {
-      named = λ req request there other. so request.session ∙ all.named req request there other;
-      alone = λ q req other request is there of. all.alone q req other request (sym (so q) ∙ is) there of;
-    }
-
-module _ (sessions : Sessions) (number : ℕ) (session : Session) where
-  command_own : (q : ℕ) → q ≡ number → command_in q (tree.insert sessions number session) ≡ session.command
-  command_own q own =
-      ap (λ (k : ℕ). command_in k (tree.insert sessions number session)) own
-      ∙ ap (λ (o : Option Session). (unwrap_or o new_session).command) (get-insert_same sessions number session)
-
-  command_other : (q : ℕ) → q ≢ number → command_in q (tree.insert sessions number session) ≡ command_in q sessions
-  command_other q other = ap (λ (o : Option Session). (unwrap_or o new_session).command) (get-insert_other sessions number session q other)
-
--- ---- a request among others
-
--- a read or write, of a session without a command or of which it was already
-disk_request : (requests : Requests) (sessions : Sessions) (number req : ℕ) (course : Course) → is_disk_course course ≡ true
-    → ((r : ℕ) → command_in number sessions ≡ Some r → req ≡ r) → HaveSoleCommands requests sessions
-    → HaveSoleCommands (tree.insert requests req (record { session = number; course = course })) sessions
-disk_request requests sessions number req course disk fits all = record {
-  named = λ q request got other. ⊎_elim
-      (λ (own : (q ≡ req) × (now ≡ request)).
-      let on : is_disk_course request.course ≡ true = ap (λ (request : Request). is_disk_course request.course) (sym own.1) ∙ disk in
-      absurd (cc (on, other)))
-      (λ (later : (q ≢ req) × (tree.get requests q ≡ Some request)). all.named q request later.1 other)
-      (get-insert_cases requests req now q request got);
-  alone = λ q r other request is got of. ⊎_elim
-      (λ (own : (other ≡ req) × (now ≡ request)).
-      let here : number ≡ q = ap (λ (request : Request). request.session) own.1 ∙ of in
-      own.0 ∙ fits r (ap (λ (k : ℕ). command_in k sessions) here ∙ is))
-      (λ (later : (other ≢ req) × (tree.get requests other ≡ Some request)). all.alone q r other request is later.1 of)
-      (get-insert_cases requests req now other request got);
-}
-  where
-    now : Request
-    now = record { session = number; course = course }
-
--- a request that is alone in its session from now on
-sole_request : (requests : Requests) (sessions : Sessions) (number req : ℕ) (course : Course) (session : Session) → session.command ≡ Some req
-    → IsFreeFor number req requests → HaveSoleCommands requests sessions
-    → HaveSoleCommands (tree.insert requests req (record { session = number; course = course })) (tree.insert sessions number session)
-sole_request requests sessions number req course session is free all = record {
-  named = λ q request got other. ⊎_elim
-      (λ (own : (q ≡ req) × (now ≡ request)).
-      command_own sessions number session request.session (sym (ap (λ (request : Request). request.session) own.1)) ∙ is ∙ ap Some (sym own.0))
-      (λ (later : (q ≢ req) × (tree.get requests q ≡ Some request)). ⊎_elim
-      (λ (here : request.session ≡ number). absurd (later.0 (free q request later.1 here)))
-      (λ (apart : request.session ≢ number). command_other sessions number session request.session apart ∙ all.named q request later.1 other)
-      (cases_eq request.session number))
-      (get-insert_cases requests req now q request got);
-  alone = λ q r other request had got of. ⊎_elim
-      (λ (here : q ≡ number).
-      let same : req ≡ r = same_Some req r (sym (command_own sessions number session q here ∙ is) ∙ had) in
-      ⊎_elim
-      (λ (own : (other ≡ req) × (now ≡ request)). own.0 ∙ same)
-      (λ (later : (other ≢ req) × (tree.get requests other ≡ Some request)). free other request later.1 (of ∙ here) ∙ same)
-      (get-insert_cases requests req now other request got))
-      (λ (apart : q ≢ number). ⊎_elim
-      (λ (own : (other ≡ req) × (now ≡ request)). absurd (apart (sym of ∙ sym (ap (λ (request : Request). request.session) own.1))))
-      (λ (later : (other ≢ req) × (tree.get requests other ≡ Some request)).
-      all.alone q r other request (sym (command_other sessions number session q apart) ∙ had) later.1 of)
-      (get-insert_cases requests req now other request got))
-      (cases_eq q number);
-}
-  where
-    now : Request
-    now = record { session = number; course = course }
-
--- a request that is its session's command has no other beside it
-pub command_is_free : (number req : ℕ) (course : Course) (so_far : StepState) → HasRequest number req course so_far → is_disk_course course ≡ false
-    → CommandsAre so_far → IsFreeFor number req so_far.node.requests
-command_is_free number req course so_far there off all other request got of =
-    all.alone number req other request (all.named req (record { session = number; course = course }) there off) got of
-
--- and one that is a read or write has no command beside it
-disk_fits : (number req : ℕ) (course : Course) (so_far : StepState) → HasRequest number req course so_far → CommandsAre so_far → (r : ℕ)
-    → command_in number so_far.node.sessions ≡ Some r → req ≡ r
-disk_fits number req course so_far there all r is = all.alone number r req (record { session = number; course = course }) is there refl
+use Rattle.sheep_node.proofs.SoleParts.{CommandsAre, IsOwn, IsFreeFor, same_command, command_own, command_other, disk_request, sole_request, command_is_free, disk_is_none, there_is_own, disk_beside}
+use Rattle.sheep_node.proofs.StepChain.{untaken, kept_by_chain, step_chain}
+use Rattle.sheep_node.proofs.ReceivedInputs.{received_keeps}
 
 -- ---- a request ends
 
@@ -161,7 +60,7 @@ ended_alone number req course reply so_far is_there all = record {
       (λ (here : request.session ≡ number).
       let before : command_in number sessions ≡ Some q
       = ap (λ (k : ℕ). command_in k sessions) (sym here) ∙ all.named q request there other in
-      absurd (later (sym (disk_fits number req course so_far is_there all q before))))
+      absurd (later (sym (all.alone number q req (record { session = number; course = course }) before is_there refl))))
       (λ (apart : request.session ≢ number). command_other sessions number after request.session apart ∙ all.named q request there other)
       (cases_eq request.session number))
       (cases_eq q req);
@@ -174,6 +73,17 @@ ended_alone number req course reply so_far is_there all = record {
       (λ (later : other ≢ req).
       all.alone q r other request (sym (command_other sessions number after q apart) ∙ had) (sym (get-remove_other requests req other later) ∙ got) of)
       (cases_eq other req))
+      (cases_eq q number);
+  there = λ q r had. ⊎_elim
+      (λ (here : q ≡ number).
+      let none : command_in q (tree.insert sessions number after) ≡ None = command_own sessions number after q here in
+      absurd (cc (none, had)))
+      (λ (apart : q ≢ number).
+      let before = all.there q r (sym (command_other sessions number after q apart) ∙ had) in
+      let (request, got, of, command) = before in
+      let other : r ≢ req = λ (same : r ≡ req).
+      apart (sym of ∙ there_is_own number req course so_far is_there request (sym (ap (tree.get requests) same) ∙ got)) in
+      subst (IsSoleRequestOf q) (sym (get-remove_other requests req r other)) before)
       (cases_eq q number);
 }
   where
@@ -225,8 +135,8 @@ record HasSteppedAlone (number req : ℕ) (so_far : StepState) : Type 0 where
   all : CommandsAre so_far
 
 driven_alone : (number req : ℕ) (disk : Disk) (step : DriverStep) (course : Course) (so_far : StepState) → HasRequest number req course so_far
-    → CommandsAre so_far → HasSteppedAlone number req (after_driver_step number req disk step so_far)
-driven_alone number req disk step course so_far there all =
+    → is_disk_course course ≡ true → CommandsAre so_far → HasSteppedAlone number req (after_driver_step number req disk step so_far)
+driven_alone number req disk step course so_far there on all =
     let after : Session = record (session_in number so_far) { disk = Some (record disk { inode = step.inode }) } in
     record {
       course = Driving step.driver;
@@ -234,26 +144,27 @@ driven_alone number req disk step course so_far there all =
       all = same_command (tree.insert so_far.node.requests req (record { session = number; course = Driving step.driver }))
           so_far.node.sessions number after refl
           (disk_request so_far.node.requests so_far.node.sessions number req (Driving step.driver) refl
-          (disk_fits number req course so_far there all) all);
+          (disk_beside number req course so_far there on all) (disk_is_none number req course so_far there on all) all);
     }
 
-command_alone : (number req : ℕ) (step : OpStep) (so_far : StepState) → IsFreeFor number req so_far.node.requests → CommandsAre so_far
-    → HasSteppedAlone number req (after_command_step number req step so_far)
-command_alone number req step so_far free all = record {
+command_alone : (number req : ℕ) (step : OpStep) (so_far : StepState) → IsFreeFor number req so_far.node.requests
+    → IsOwn number req so_far.node.requests → CommandsAre so_far → HasSteppedAlone number req (after_command_step number req step so_far)
+command_alone number req step so_far free own all = record {
   course = Commanding step.op;
   there = get-insert_same so_far.node.requests req (record { session = number; course = Commanding step.op });
   all = sole_request so_far.node.requests so_far.node.sessions number req (Commanding step.op)
       (record (session_in number so_far) { disk = disk_after (disk_change step) (session_in number so_far).disk; command = Some req })
-      refl free all;
+      refl refl free own all;
 }
 
-sole_alone : (number req : ℕ) (course : Course) (so_far : StepState) → IsFreeFor number req so_far.node.requests → CommandsAre so_far
+sole_alone : (number req : ℕ) (course : Course) (so_far : StepState) → is_disk_course course ≡ false → IsFreeFor number req so_far.node.requests
+    → IsOwn number req so_far.node.requests → CommandsAre so_far
     → HasSteppedAlone number req (with_sole_request number req course so_far)
-sole_alone number req course so_far free all = record {
+sole_alone number req course so_far off free own all = record {
   course = course;
   there = get-insert_same so_far.node.requests req (record { session = number; course = course });
   all = sole_request so_far.node.requests so_far.node.sessions number req course
-      (record (session_in number so_far) { command = Some req }) refl free all;
+      (record (session_in number so_far) { command = Some req }) refl off free own all;
 }
 
 -- ---- every change
@@ -268,12 +179,24 @@ module _ {input : Input} {node : Node} (may : May input node) (queued : QueuesAr
         asked.condition.room in
         (parts.0, leb-true (length (session_at number node).queue) (queued_at_most ask) parts.1)
 
-    no_command : (r : ℕ) → command_in number so_far.node.sessions ≡ Some r → req ≡ r
+    no_command : (r : ℕ) → command_in number so_far.node.sessions ≢ Some r
     no_command r is =
         let none : is_none (command_in number so_far.node.sessions) ≡ true
         = subst (λ (start : StepState). is_none (command_in number start.node.sessions) ≡ true) (sym arrival.first) room.0 in
         let some : is_none (command_in number so_far.node.sessions) ≡ false = ap (λ (o : Option ℕ). is_none o) is in
         absurd (cc (none, some))
+
+    -- and it is new
+    is_new : tree.get so_far.node.requests req ≡ None
+    is_new =
+        let asked = subst (λ (input : Input). May input node) arrival.from may in
+        subst (λ (start : StepState). tree.get start.node.requests req ≡ None) (sym arrival.first) (untaken node req asked.condition.number)
+
+    new_is_none : CommandsAre so_far → (q : ℕ) → command_in q so_far.node.sessions ≢ Some req
+    new_is_none all q is = let (request, got, of, off) = all.there q req is in absurd (cc (is_new, got))
+
+    new_is_own : IsOwn number req so_far.node.requests
+    new_is_own request got = absurd (cc (is_new, got))
 
     none_at_node : queued_at_most ask ≡ 0 → IsFreeFor number req node.requests
     none_at_node most other request got of = by_course (is_disk_course request.course) refl
@@ -303,28 +226,35 @@ module _ {input : Input} {node : Node} (may : May input node) (queued : QueuesAr
   steps_alone : (so_far : StepState) (number req : ℕ) (next : Outcome) (moved : StepState) → RequestSteps input node so_far number req next moved
       → CommandsAre so_far → HasSteppedAlone number req moved
   steps_alone so_far number req next moved (DiskBegins ask disk there on may_run) all =
-      driven_alone number req disk (begin_driver disk ask) (Waiting ask) so_far there all
+      driven_alone number req disk (begin_driver disk ask) (Waiting ask) so_far there refl all
   steps_alone so_far number req next moved (DiskGoesOn message work attempt status bytes driver disk step ends on is) all =
       driven_alone number req disk step (Driving driver) (without_ended_work number req work status so_far) ends.ends.request
-      (freed_alone number req work status so_far all)
+      refl (freed_alone number req work status so_far all)
   steps_alone so_far number req next moved (CommandBegins ask step arrival is) all =
-      command_alone number req step so_far (free so_far number req (asks.Vdi ask) None arrival refl) all
+      command_alone number req step so_far (free so_far number req (asks.Vdi ask) None arrival refl)
+      (new_is_own so_far number req (asks.Vdi ask) None arrival) all
   steps_alone so_far number req next moved (CommandGoesOn message work attempt status bytes op step ends is) all =
       command_alone number req step (without_ended_work number req work status so_far)
-      (command_is_free number req (Commanding op) so_far ends.ends.request refl all) (freed_alone number req work status so_far all)
+      (command_is_free number req (Commanding op) so_far ends.ends.request refl all)
+      (there_is_own number req (Commanding op) so_far ends.ends.request) (freed_alone number req work status so_far all)
   steps_alone so_far number req next moved (CommandDecided entry op step from read there waits is) all =
-      command_alone number req step so_far (command_is_free number req (Commanding op) so_far there refl all) all
+      command_alone number req step so_far (command_is_free number req (Commanding op) so_far there refl all)
+      (there_is_own number req (Commanding op) so_far there) all
   steps_alone so_far number req next moved (CheckBegins inode arrival on) all =
-      sole_alone number req (Checking (begin_check inode).check) so_far (free so_far number req (asks.Vdi Check) None arrival refl) all
+      sole_alone number req (Checking (begin_check inode).check) so_far refl (free so_far number req (asks.Vdi Check) None arrival refl)
+      (new_is_own so_far number req (asks.Vdi Check) None arrival) all
   steps_alone so_far number req next moved (CheckGoesOn message work attempt status bytes check step ends is) all =
-      sole_alone number req (Checking step.check) (without_ended_work number req work status so_far)
-      (command_is_free number req (Checking check) so_far ends.ends.request refl all) (freed_alone number req work status so_far all)
+      sole_alone number req (Checking step.check) (without_ended_work number req work status so_far) refl
+      (command_is_free number req (Checking check) so_far ends.ends.request refl all)
+      (there_is_own number req (Checking check) so_far ends.ends.request) (freed_alone number req work status so_far all)
   steps_alone so_far number req next moved (ObjectBegins asked arrival) all =
-      sole_alone number req (DoingWork asked) so_far (free so_far number req (asks.Object asked) None arrival refl) all
+      sole_alone number req (DoingWork asked) so_far refl (free so_far number req (asks.Object asked) None arrival refl)
+      (new_is_own so_far number req (asks.Object asked) None arrival) all
   steps_alone so_far number req next moved (ObjectIsDone message work attempt status bytes asked ends) all =
       record { course = DoingWork asked; there = ends.ends.request; all = freed_alone number req work status so_far all }
   steps_alone so_far number req next moved (EntryBegins entry arrival) all =
-      sole_alone number req (AwaitingDecision entry) so_far (free so_far number req (asks.Entry entry) None arrival refl) all
+      sole_alone number req (AwaitingDecision entry) so_far refl (free so_far number req (asks.Entry entry) None arrival refl)
+      (new_is_own so_far number req (asks.Entry entry) None arrival) all
   steps_alone so_far number req next moved (EntryDecided entry wanted from read there waits) all =
       record { course = AwaitingDecision wanted; there = there; all = all }
 
@@ -368,7 +298,7 @@ module _ {input : Input} {node : Node} (may : May input node) (queued : QueuesAr
       same_command (tree.insert so_far.node.requests req (record { session = session; course = Waiting ask })) so_far.node.sessions session
       (record (session_in session so_far) { queue = (session_in session so_far).queue ++ queued_as disk.inode.spec.shift req ask ∷ [] }) refl
       (disk_request so_far.node.requests so_far.node.sessions session req (Waiting ask) refl
-      (no_command so_far session req (asks.Disk ask) None arrival) all)
+      (no_command so_far session req (asks.Disk ask) None arrival) (new_is_none so_far session req (asks.Disk ask) None arrival all) all)
   change_keeps_alone so_far next (changes.Rejects session req ask cause arrival) all = all
   change_keeps_alone so_far next (changes.Recovers due) all = all
 
@@ -376,27 +306,14 @@ none_alone : HaveSoleCommands tree.empty tree.empty
 none_alone = record {
   named = λ req request got other. let none = tree.get-empty {X = Request} nat_cmp req in absurd (cc (none, got));
   alone = λ number req other request is got of. let none = tree.get-empty {X = Request} nat_cmp other in absurd (cc (none, got));
+  there = λ number req is.
+      let none : command_in number tree.empty ≡ None
+      = ap (λ (o : Option Session). (unwrap_or o new_session).command) (tree.get-empty {X = Session} nat_cmp number) in
+      absurd (cc (none, is));
 }
 
 pub received_alone : (input : Input) (node : Node) → CommandsAre (at_first node) → CommandsAre (input_received input (at_first node))
-unfolding entry_read on_request on_recover_tick on_back
-received_alone (inputs.Guest req session ask) node all = all
-received_alone (inputs.Request request) node all = all
-received_alone (inputs.Reply rsp) node all =
-    cond_either CommandsAre (gateways.gateway_awaits rsp.number node.gateway) (at_first node)
-    (recovery_stepped (recovery_steps.recovery_on_reply rsp (recovery_state_of node)) (at_first node)) all all
-received_alone (inputs.Lost number) node all =
-    cond_either CommandsAre (gateways.gateway_awaits number node.gateway) (at_first node)
-    (recovery_stepped (recovery_steps.recovery_on_loss number (recovery_state_of node)) (at_first node)) all all
-received_alone (inputs.LogEntry entry) node all = all
-received_alone inputs.Put node all = by_outbox node.outbox
-  where
-    by_outbox : (outbox : List Entry) → CommandsAre (on_put outbox (at_first node))
-    by_outbox [] = all
-    by_outbox (entry ∷ later) = all
-received_alone inputs.RecoverTick node all = all
-received_alone inputs.RetryTick node all = all
-received_alone (inputs.Back entries) node all = none_alone
+received_alone = received_keeps (λ works requests sessions. HaveSoleCommands requests sessions) none_alone
 
 pub commands_alone_at_opening : (me : NodeId) (tries : ℕ) → CommandsAreAlone (initial_node me tries)
 commands_alone_at_opening me tries = none_alone

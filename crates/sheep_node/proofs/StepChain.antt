@@ -198,7 +198,7 @@ fits_settled node rsp apart fit = ⊎_elim
     by_message (Some message) none fit = absurd (cc (none))
 
 -- a number that isn't taken has nothing
-untaken : (node : Node) (req : ℕ) → IsTrue (not (tree.contains_key node.requests req)) → tree.get node.requests req ≡ None
+pub untaken : (node : Node) (req : ℕ) → IsTrue (not (tree.contains_key node.requests req)) → tree.get node.requests req ≡ None
 untaken node req free = by_got (tree.get node.requests req) refl free
   where
     by_got : (o : Option Request) → tree.get node.requests req ≡ o → IsTrue (not (is_some o)) → tree.get node.requests req ≡ None

@@ -5,17 +5,13 @@ use Rattle.std.specs.FinMap as tree
 use Rattle.std.specs.List.{find, list_any}
 use Rattle.std.specs.Option.{option_map_or}
 use Rattle.std.proofs.lemmas.Bool.{cases_eq}
-use Rattle.proof_tools.proofs.Booleans.{cond_either}
 use Rattle.proof_tools.proofs.FiniteMaps.{get-insert_other, get-remove_other, get-remove_same}
 use Rattle.object_id.specs.declared.cause.Cause.TheVariants.{Halt}
-use Rattle.object_id.specs.declared.entry.Entry.{Entry}
 use Rattle.object_id.specs.declared.node.NodeId.{NodeId}
 use Rattle.peer_proto.specs.declared.guest.GuestRsp.{GuestRsp}
 use Rattle.gateway.specs.declared.message.Status.{Status}
 use Rattle.gateway.specs.Work.{zones_for}
-use Rattle.gateway.specs.State as gateways
 use Rattle.gateway.specs.State.{Work}
-use Rattle.recovery.specs.Steps as recovery_steps
 use Rattle.gateway_queue.specs.declared.queue.Queued.{Queued}
 use Rattle.gateway_queue.specs.Queue.{has_request_number, is_queued, queue_without, earlier, meet, may_run}
 use Rattle.gateway_queue.proofs.RequestOrder.{may_run-pushed, may_run-done}
@@ -25,18 +21,15 @@ use Rattle.guest_driver.specs.InodeQueue.{queue_with_open, queue_with_waiting, q
 use Rattle.disk_check.specs.Check.{begin_check}
 use Rattle.vdi_ops.specs.Op.{OpStep, disk_change}
 use Rattle.sheep_node.specs.declared.input.Input.{Input}
-use Rattle.sheep_node.specs.declared.input.Input.TheVariants as inputs
 use Rattle.sheep_node.specs.declared.course.Course.{Course}
 use Rattle.sheep_node.specs.declared.course.Request.{Request}
 use Rattle.sheep_node.specs.declared.session.Session.{Session}
 use Rattle.sheep_node.specs.declared.course.Course.TheVariants.{Waiting, Driving, Commanding, Checking, DoingWork, AwaitingDecision}
 use Rattle.sheep_node.specs.State.{Node, initial_node}
-use Rattle.sheep_node.specs.RecoveryView.{recovery_state_of}
 use Rattle.sheep_node.specs.StepState.{StepState, at_first, session_in, request_ended, with_sole_request}
 use Rattle.sheep_node.specs.Courses.{after_driver_step, disk_after, after_command_step}
 use Rattle.sheep_node.specs.Guests.{queued_as}
-use Rattle.sheep_node.specs.LogReading.{entry_read, on_back}
-use Rattle.sheep_node.specs.Step.{on_request, recovery_stepped, on_put, on_recover_tick, node_step}
+use Rattle.sheep_node.specs.Step.{node_step}
 use Rattle.sheep_node.specs.SessionQueues.{queue_in, IsInTurn, AreInTurn, RequestsAreInTurn}
 use Rattle.sheep_node.specs.Changes as changes
 use Rattle.sheep_node.specs.Changes.{HasRequest, Outcome, ToWork, ToEntry, ToReply, without_ended_work, without_denied_work, zones_of_members, RequestSteps, DiskBegins, DiskGoesOn, CommandBegins, CommandGoesOn, CommandDecided, CheckBegins, CheckGoesOn, ObjectBegins, ObjectIsDone, EntryBegins, EntryDecided, WorkIsNext, AtOnce, InTurn, Again, AgainAlone, input_received, Change}
@@ -44,6 +37,7 @@ use Rattle.sheep_node.proofs.OneWorkParts.{Requests, Sessions}
 use Rattle.sheep_node.proofs.RefusedCourses.{course_refused-keeps, request_refused-keeps}
 use Rattle.sheep_node.proofs.SessionViews.{IsSeen, same_seen, alike_seen, own_seen}
 use Rattle.sheep_node.proofs.StepChain.{kept_by_chain, step_chain}
+use Rattle.sheep_node.proofs.ReceivedInputs.{received_keeps}
 
 abbrev pub InTurnSoFar : StepState → Type 0
 InTurnSoFar so_far = AreInTurn so_far.node.requests so_far.node.sessions
@@ -227,24 +221,7 @@ none_turn : AreInTurn tree.empty tree.empty
 none_turn req = subst (IsSeen queue_of (IsInTurn req) tree.empty) (sym (tree.get-empty {X = Request} nat_cmp req)) tt
 
 received_turn : (input : Input) (node : Node) → InTurnSoFar (at_first node) → InTurnSoFar (input_received input (at_first node))
-unfolding entry_read on_request on_recover_tick on_back
-received_turn (inputs.Guest req session ask) node all = all
-received_turn (inputs.Request request) node all = all
-received_turn (inputs.Reply rsp) node all =
-    cond_either InTurnSoFar (gateways.gateway_awaits rsp.number node.gateway) (at_first node)
-    (recovery_stepped (recovery_steps.recovery_on_reply rsp (recovery_state_of node)) (at_first node)) all all
-received_turn (inputs.Lost number) node all =
-    cond_either InTurnSoFar (gateways.gateway_awaits number node.gateway) (at_first node)
-    (recovery_stepped (recovery_steps.recovery_on_loss number (recovery_state_of node)) (at_first node)) all all
-received_turn (inputs.LogEntry entry) node all = all
-received_turn inputs.Put node all = by_outbox node.outbox
-  where
-    by_outbox : (outbox : List Entry) → InTurnSoFar (on_put outbox (at_first node))
-    by_outbox [] = all
-    by_outbox (entry ∷ later) = all
-received_turn inputs.RecoverTick node all = all
-received_turn inputs.RetryTick node all = all
-received_turn (inputs.Back entries) node all = none_turn
+received_turn = received_keeps (λ works requests sessions. AreInTurn requests sessions) none_turn
 
 pub in_turn_at_opening : (me : NodeId) (tries : ℕ) → RequestsAreInTurn (initial_node me tries)
 in_turn_at_opening me tries = none_turn

@@ -3,20 +3,16 @@ use Rattle.std.proofs.Common.{◌≡◌, ◌≢◌, ℕ, ◌+◌, List, [], ◌�
 use Rattle.std.specs.Ordering.{nat_cmp}
 use Rattle.std.specs.FinMap as tree
 use Rattle.std.proofs.lemmas.Bool.{cases_eq}
-use Rattle.proof_tools.proofs.Booleans.{cond_either}
 use Rattle.proof_tools.proofs.Lists.{Contains-cons, Contains-first}
 use Rattle.proof_tools.proofs.FiniteMaps.{get-insert_other, get-insert_same}
 use Rattle.object_id.specs.declared.cause.Cause.TheVariants.{Halt}
-use Rattle.object_id.specs.declared.entry.Entry.{Entry}
 use Rattle.object_id.specs.declared.node.NodeId.{NodeId}
 use Rattle.peer_proto.specs.declared.work.ObjWork.{ObjWork}
 use Rattle.peer_service.specs.State.{effects_of}
 use Rattle.peer_service.specs.LogReading.{decision_on}
 use Rattle.gateway.specs.Work.{zones_for}
-use Rattle.gateway.specs.State as gateways
-use Rattle.gateway.specs.State.{Work, WorkStage, Open, Ended, WaitsForMembers, Gateway}
+use Rattle.gateway.specs.State.{Work, Open, Ended, WaitsForMembers}
 use Rattle.gateway.specs.Step.{attempt_with_status}
-use Rattle.recovery.specs.Steps as recovery_steps
 use Rattle.guest_driver.specs.declared.disk.Disk.{Disk}
 use Rattle.guest_driver.specs.declared.act.DriverAct.{DriverAct}
 use Rattle.guest_driver.specs.declared.act.DriverAct.TheVariants as driver_acts
@@ -35,18 +31,15 @@ use Rattle.vdi_ops.specs.Steps.{begin_command, op_on_done, on_decision}
 use Rattle.vdi_ops.proofs.StepLemmas.{begin_awaited, done_awaited, decision_awaited}
 use Rattle.sheep_node.specs.declared.ask.Ask.TheVariants as asks
 use Rattle.sheep_node.specs.declared.input.Input.{Input}
-use Rattle.sheep_node.specs.declared.input.Input.TheVariants as inputs
 use Rattle.sheep_node.specs.declared.course.Course.{Course}
 use Rattle.sheep_node.specs.declared.course.Request.{Request}
 use Rattle.sheep_node.specs.declared.session.Session.{Session}
 use Rattle.sheep_node.specs.declared.course.Course.TheVariants.{Waiting, Driving, Commanding, Checking, DoingWork, AwaitingDecision}
 use Rattle.sheep_node.specs.State.{Node, new_session, initial_node}
-use Rattle.sheep_node.specs.RecoveryView.{recovery_state_of}
 use Rattle.sheep_node.specs.StepState.{StepState, at_first, session_in, with_sole_request}
 use Rattle.sheep_node.specs.Courses.{after_driver_step, disk_after, inode_open, after_command_step}
 use Rattle.sheep_node.specs.Guests.{queued_as}
-use Rattle.sheep_node.specs.LogReading.{entry_read, on_back}
-use Rattle.sheep_node.specs.Step.{on_request, recovery_stepped, on_put, on_recover_tick, node_step}
+use Rattle.sheep_node.specs.Step.{node_step}
 use Rattle.sheep_node.specs.May.{May}
 use Rattle.sheep_node.specs.OneWork.{may_work_at, waiting_in, HasOneWorkPerRequest, HasNoWork}
 use Rattle.sheep_node.specs.SessionQueues.{QueuesAreDiskRequests, CommandsAreAlone}
@@ -58,10 +51,12 @@ use Rattle.sheep_node.proofs.OneWorkChanges.{StepHasOneWork, HasNoWorkIn, steps_
 use Rattle.sheep_node.proofs.NumberChanges.{meets_numbers}
 use Rattle.sheep_node.proofs.SessionViews.{open_in, same_seen, alike_seen, free_seen, own_seen}
 use Rattle.sheep_node.proofs.RefusedCourses.{course_refused-keeps, request_refused-keeps}
-use Rattle.sheep_node.proofs.SoleCommands.{CommandsAre, IsFreeFor, command_is_free, free, change_keeps_alone, received_alone}
+use Rattle.sheep_node.proofs.SoleParts.{CommandsAre, IsFreeFor, command_is_free}
+use Rattle.sheep_node.proofs.SoleCommands.{free, change_keeps_alone, received_alone}
 use Rattle.sheep_node.proofs.WantedSteps.{IsDriverActWanted, IsWantedStep, driver_begins-wanted, driver_goes_on-wanted, IsCheckActWanted, check_begins-wanted, check_goes_on-wanted}
 use Rattle.sheep_node.proofs.WantedParts.{AreWanted, Waits, still_waits, line_had, stage_had, gone_had, session_wanted, work_wanted, freed_wanted, ended_wanted, strayed_wanted, lined_wanted}
 use Rattle.sheep_node.proofs.StepChain.{kept_by_chain, step_chain}
+use Rattle.sheep_node.proofs.ReceivedInputs.{received_keeps}
 
 -- ---- a step that a request takes
 
@@ -317,24 +312,7 @@ none_wanted : HaveWantedWorks tree.empty tree.empty tree.empty
 none_wanted req work has = subst (λ (o : Option Request). IsWantedAt tree.empty o work) (sym (tree.get-empty {X = Request} nat_cmp req)) tt
 
 received_wanted : (input : Input) (node : Node) → AreWanted (at_first node) → AreWanted (input_received input (at_first node))
-unfolding entry_read on_request on_recover_tick on_back
-received_wanted (inputs.Guest req session ask) node all = all
-received_wanted (inputs.Request request) node all = all
-received_wanted (inputs.Reply rsp) node all =
-    cond_either AreWanted (gateways.gateway_awaits rsp.number node.gateway) (at_first node)
-    (recovery_stepped (recovery_steps.recovery_on_reply rsp (recovery_state_of node)) (at_first node)) all all
-received_wanted (inputs.Lost number) node all =
-    cond_either AreWanted (gateways.gateway_awaits number node.gateway) (at_first node)
-    (recovery_stepped (recovery_steps.recovery_on_loss number (recovery_state_of node)) (at_first node)) all all
-received_wanted (inputs.LogEntry entry) node all = all
-received_wanted inputs.Put node all = by_outbox node.outbox
-  where
-    by_outbox : (outbox : List Entry) → AreWanted (on_put outbox (at_first node))
-    by_outbox [] = all
-    by_outbox (entry ∷ later) = all
-received_wanted inputs.RecoverTick node all = all
-received_wanted inputs.RetryTick node all = all
-received_wanted (inputs.Back entries) node all = none_wanted
+received_wanted = received_keeps (λ works requests sessions. HaveWantedWorks works requests sessions) none_wanted
 
 pub works_wanted_at_opening : (me : NodeId) (tries : ℕ) → WorksAreWanted (initial_node me tries)
 works_wanted_at_opening me tries = none_wanted

@@ -50,12 +50,18 @@ QueuesAreDiskRequests node = AreDiskRequests node.requests node.sessions
 abbrev pub command_in : ℕ → tree.FinMap nat_cmp Session → Option ℕ
 command_in number sessions = (session_among number sessions).command
 
--- a request that is no read or write is its session's command, and a session that has a command has no other request
+-- a request that was looked up is one of a session, and no read or write
+abbrev pub IsSoleRequestOf : ℕ → Option Request → Type 0
+IsSoleRequestOf number found =
+    (request : Request) × (found ≡ Some request) × (request.session ≡ number) × (is_disk_course request.course ≡ false)
+
+-- a request that is no read or write is its session's command, and a session that has a command has that request and no other
 pub record HaveSoleCommands (requests : tree.FinMap nat_cmp Request) (sessions : tree.FinMap nat_cmp Session) : Type 0 where
   pub named : (req : ℕ) (request : Request) → tree.get requests req ≡ Some request → is_disk_course request.course ≡ false
       → command_in request.session sessions ≡ Some req
   pub alone : (number req other : ℕ) (request : Request) → command_in number sessions ≡ Some req
       → tree.get requests other ≡ Some request → request.session ≡ number → other ≡ req
+  pub there : (number req : ℕ) → command_in number sessions ≡ Some req → IsSoleRequestOf number (tree.get requests req)
 
 -- a node's requests are so
 abbrev pub CommandsAreAlone : Node → Type 0

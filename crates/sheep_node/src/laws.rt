@@ -255,7 +255,8 @@ pub fn a_queue_is_short()
     ensures stays { (input : Input) (node : Node) → May input node → QueuesAreShort node → QueuesAreShort (node_step input node).node }
 {}
 
-/// A request that is no read or write is alone in its session: so a node opens, and so it stays at each step.
+/// A request that is no read or write is alone in its session, and a session's command is there, and is such: so a node opens, and so it
+/// stays at each step.
 pub fn a_command_is_alone()
     ensures opens { (me : NodeId) (tries : ℕ) → CommandsAreAlone (initial_node me tries) }
     ensures stays { (input : Input) (node : Node) → May input node → QueuesAreDiskRequests node → CommandsAreAlone node
