@@ -39,3 +39,4 @@ mod MayTestLaws
 pub mod PlacedPeers
 pub mod StepStates
 pub mod ReceivedInputs
+pub mod RefusedEnds

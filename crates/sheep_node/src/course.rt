@@ -1,11 +1,14 @@
-ghost use Rattle.std.specs.Prelude.{◌≡◌};
+ghost use Rattle.std.specs.Prelude.{◌≡◌, None};
+ghost use Rattle.peer_proto.specs.declared.guest.GuestRsp.TheVariants.{Refused};
+ghost use Rattle.vdi_ops.specs.Steps.{on_refusal};
 ghost use Rattle.sheep_node.specs.AwaitedEntry.{waits_for_entry};
+ghost use Rattle.sheep_node.specs.Kept.{end_on_refusal};
 
 use disk_check::CheckOp;
 use guest_driver::Driver;
-use object_id::Entry;
-use peer_proto::{DiskAsk, ObjWork};
-use vdi_ops::VdiOp;
+use object_id::{Cause, Entry};
+use peer_proto::{DiskAsk, GuestRsp, ObjWork};
+use vdi_ops::{OpEnd, VdiOp};
 
 /// Where a request is that has no reply.
 #[derive(Debug, Drop)]
@@ -44,5 +47,40 @@ impl Course {
             Course::DoingWork(_) => false,
             Course::AwaitingDecision(wanted) => wanted.same(entry),
         }
+    }
+
+    /// How the request ends when its work is refused; `None` where it has no work.
+    pub fn on_refused(&self, cause: Cause) -> Option<OpEnd>
+        ensures { result ≡ end_on_refusal cause self.now }
+    {
+        match self {
+            Course::Waiting(_) => None,
+            Course::Driving(_) => Some(refusal(cause)),
+            Course::Commanding(op) => command_end(op, cause),
+            Course::Checking(_) => Some(refusal(cause)),
+            Course::DoingWork(_) => Some(refusal(cause)),
+            Course::AwaitingDecision(_) => None,
+        }
+    }
+}
+
+/// An end with nothing to give back.
+fn refusal(cause: Cause) -> OpEnd
+    ensures { result ≡ record { unlock = None; reply = Refused cause } }
+{
+    OpEnd {
+        unlock: None,
+        reply: GuestRsp::Refused(cause),
+    }
+}
+
+/// How a command ends whose work is refused, if it waits for one.
+fn command_end(op: &VdiOp, cause: Cause) -> Option<OpEnd>
+    ensures { result ≡ on_refusal cause op.now }
+{
+    if op.bytes_wanted().is_some() {
+        Some(op.on_refused(cause))
+    } else {
+        None
     }
 }

@@ -33,6 +33,7 @@ mod limits;
 mod node_rows;
 mod outputs;
 mod replies;
+mod request_works;
 mod requests;
 mod session;
 mod sessions;

@@ -1,4 +1,4 @@
-use Rattle.std.proofs.Common.{OnOk, ◌≡◌, sym, ap, subst}
+use Rattle.std.proofs.Common.{OnOk, ◌≡◌, subst}
 use Rattle.sheep_node.specs.declared.session.Session.{Session}
 use Rattle.sheep_node.specs.StepState.{StepState, session_in, with_session, session_without}
 use Rattle.sheep_node.proofs.StepStates.{session_changed}
