@@ -40,3 +40,4 @@ pub mod PlacedPeers
 pub mod StepStates
 pub mod ReceivedInputs
 pub mod RefusedEnds
+pub mod GivenNumbers

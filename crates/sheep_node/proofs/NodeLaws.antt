@@ -8,6 +8,7 @@ use Rattle.sheep_node.specs.May.{May}
 use Rattle.sheep_node.specs.RecoveryRange.{RecoversInRange}
 use Rattle.sheep_node.specs.NodeInvariant.{IsSoundNode}
 use Rattle.sheep_node.proofs.NumberChanges.{one_work_at_opening, one_work_stays}
+use Rattle.sheep_node.proofs.GivenNumbers.{numbers_given_at_opening, numbers_stay_given}
 use Rattle.sheep_node.proofs.OwnEntryChanges.{own_entries_at_opening, own_entries_stay, asks_for_own}
 use Rattle.sheep_node.proofs.ValidLaws.{valid_disks_at_opening, valid_disks_stay, sends_few, valid_input}
 use Rattle.sheep_node.proofs.QueueChanges.{none_queued, queues_stay}
@@ -23,6 +24,7 @@ use Rattle.sheep_node.proofs.StepResults.{none_due_at_opening, step_not_due}
 pub IsSoundNode-initial : (me : NodeId) (tries : ℕ) → IsSoundNode (initial_node me tries)
 IsSoundNode-initial me tries = record {
   one_work = one_work_at_opening me tries;
+  given = numbers_given_at_opening me tries;
   own_entries = own_entries_at_opening me tries;
   queues = none_queued;
   short_queues = queues_short_at_opening me tries;
@@ -39,6 +41,7 @@ IsSoundNode-initial me tries = record {
 pub IsSoundNode-step : (input : Input) (node : Node) → May input node → IsSoundNode node → IsSoundNode (node_step input node).node
 IsSoundNode-step input node may is = record {
   one_work = one_work_stays input node may is.one_work;
+  given = numbers_stay_given input node may is.one_work is.given;
   own_entries = own_entries_stay input node (asks_for_own input node may) is.own_entries;
   queues = queues_stay input node may is.one_work is.queues;
   short_queues = queues_stay_short input node may is.short_queues;

@@ -54,13 +54,13 @@ use Rattle.sheep_node.proofs.ReachedSteps.{changes_in}
 -- ---- maps of which each value is so
 
 module _ {V : Type 0} (P : V → Type 0) (map : tree.FinMap nat_cmp V) (key : ℕ) where
-  put_is : (value : V) → P value → EachIs P map → EachIs P (tree.insert map key value)
+  pub put_is : (value : V) → P value → EachIs P map → EachIs P (tree.insert map key value)
   put_is value so all q at got = ⊎_elim
       (λ (own : (q ≡ key) × (value ≡ at)). subst P own.1 so)
       (λ (other : (q ≢ key) × (tree.get map q ≡ Some at)). all q at other.1)
       (get-insert_cases map key value q at got)
 
-  gone_is : EachIs P map → EachIs P (tree.remove map key)
+  pub gone_is : EachIs P map → EachIs P (tree.remove map key)
   gone_is all q at got = ⊎_elim
       (λ (own : q ≡ key).
       let none : tree.get (tree.remove map key) q ≡ None = ap (tree.get (tree.remove map key)) own ∙ get-remove_same map key in

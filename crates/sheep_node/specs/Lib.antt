@@ -23,3 +23,4 @@ pub mod DrivenDisks
 pub mod NodeInvariant
 pub mod CheckWrites
 pub mod Kept
+pub mod GivenNumbers

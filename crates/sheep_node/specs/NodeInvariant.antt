@@ -4,18 +4,20 @@ use Rattle.sheep_node.specs.State.{Node}
 use Rattle.sheep_node.specs.Step.{is_due}
 use Rattle.sheep_node.specs.StepFacts.{IsByTheLog, HasReadLog}
 use Rattle.sheep_node.specs.OneWork.{HasOneWorkPerRequest}
+use Rattle.sheep_node.specs.GivenNumbers.{NumbersWereGiven}
 use Rattle.sheep_node.specs.OwnEntries.{HasOnlyOwnEntries}
 use Rattle.sheep_node.specs.ValidDisks.{HasValidDisks}
 use Rattle.sheep_node.specs.SessionQueues.{QueuesAreDiskRequests, QueuesAreShort, CommandsAreAlone, RequestsAreInTurn}
 use Rattle.sheep_node.specs.WantedWorks.{WorksAreWanted}
 use Rattle.sheep_node.specs.DrivenDisks.{RequestsAreOnDisks}
 
--- its requests have one work each at most, which is what they wait for, the entries that it puts are its own, its sessions' queues are
--- their reads and writes, no more than there may be at once, and any other request is alone in its session, its reads and writes are on
--- the disks that are open, and one that began is apart from the earlier ones, what it has read is a log, it is in the epoch of that, no
--- `Recovered` is due, and what it has of disks is valid
+-- its requests have one work each at most, which is what they wait for, with numbers that it gave, the entries that it puts are its own,
+-- its sessions' queues are their reads and writes, no more than there may be at once, and any other request is alone in its session, its
+-- reads and writes are on the disks that are open, and one that began is apart from the earlier ones, what it has read is a log, it is in
+-- the epoch of that, no `Recovered` is due, and what it has of disks is valid
 pub record IsSoundNode (node : Node) : Type 0 where
   pub one_work : HasOneWorkPerRequest node
+  pub given : NumbersWereGiven node
   pub own_entries : HasOnlyOwnEntries node
   pub queues : QueuesAreDiskRequests node
   pub short_queues : QueuesAreShort node

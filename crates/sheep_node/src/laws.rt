@@ -29,6 +29,7 @@ ghost use Rattle.sheep_node.specs.StepState.{StepState, at_first, session_in, wi
 ghost use Rattle.sheep_node.specs.RecoveryRange.{RecoversInRange};
 ghost use Rattle.sheep_node.specs.NodeInvariant.{IsSoundNode};
 ghost use Rattle.sheep_node.specs.OneWork.{HasOneWorkPerRequest};
+ghost use Rattle.sheep_node.specs.GivenNumbers.{NumbersWereGiven};
 ghost use Rattle.sheep_node.specs.OwnEntries.{AsksForOwn, HasOnlyOwnEntries};
 ghost use Rattle.sheep_node.specs.SessionQueues.{QueuesAreDiskRequests, QueuesAreShort, CommandsAreAlone, RequestsAreInTurn};
 ghost use Rattle.sheep_node.specs.WantedWorks.{WorksAreWanted};
@@ -211,10 +212,9 @@ pub fn a_create_begins_with_its_reservation()
 {}
 
 /// A node opens as one, and each step that it may take leaves it one: its requests have one work each at most, which is what they wait
-/// for, its entries are its own, its queues are its reads and writes, no more than there may be at once, and any other request is alone
-/// in its session, its reads and writes are on the disks that are open, and one that began is
-/// apart from the earlier ones, what it has read is a log, it is in the epoch of that, no `Recovered` is due, and what it has of disks is
-/// valid.
+/// for, with numbers that it gave, its entries are its own, its queues are its reads and writes, no more than there may be at once, and any
+/// other request is alone in its session, its reads and writes are on the disks that are open, and one that began is apart from the earlier
+/// ones, what it has read is a log, it is in the epoch of that, no `Recovered` is due, and what it has of disks is valid.
 pub fn a_node_stays_one()
     ensures opens { (me : NodeId) (tries : ℕ) → IsSoundNode (initial_node me tries) }
     ensures stays { (input : Input) (node : Node) → May input node → IsSoundNode node → IsSoundNode (node_step input node).node }
@@ -240,6 +240,14 @@ pub fn a_node_puts_its_own_entries()
     ensures stays { (input : Input) (node : Node) → AsksForOwn node.me input → HasOnlyOwnEntries node
         → HasOnlyOwnEntries (node_step input node).node }
     ensures asked { (input : Input) (node : Node) → May input node → AsksForOwn node.me input }
+{}
+
+/// The numbers of the messages of a node's open attempts are below its count of sends, also those that were answered: so it opens, and so
+/// it stays at each step.
+pub fn numbers_of_attempts_were_given()
+    ensures opens { (me : NodeId) (tries : ℕ) → NumbersWereGiven (initial_node me tries) }
+    ensures stays { (input : Input) (node : Node) → May input node → HasOneWorkPerRequest node → NumbersWereGiven node
+        → NumbersWereGiven (node_step input node).node }
 {}
 
 /// A session's queue is its reads and writes without reply.

@@ -54,10 +54,11 @@ pub use laws::{
     a_node_is_where_its_entries_have_it, a_node_puts_its_own_entries, a_node_stays_one,
     a_queue_has_the_disk_requests, a_queue_is_short, a_refused_work_gives_its_id_back,
     a_request_has_one_work, a_step_is_a_chain_of_changes, a_touched_work_is_not_refused,
-    a_work_is_what_its_request_waits_for, conditions_are_tests, only_the_log_is_read,
-    other_epochs_are_refused, outputs_are_as_the_input, recovered_is_put_once,
-    requests_come_from_inputs, sends_are_numbered, the_history_has_the_write_of_a_check,
-    what_a_command_leaves_open, what_is_put_leaves_the_outbox,
+    a_work_is_what_its_request_waits_for, conditions_are_tests, numbers_of_attempts_were_given,
+    only_the_log_is_read, other_epochs_are_refused, outputs_are_as_the_input,
+    recovered_is_put_once, requests_come_from_inputs, sends_are_numbered,
+    the_history_has_the_write_of_a_check, what_a_command_leaves_open,
+    what_is_put_leaves_the_outbox,
 };
 pub use limits::SENDS_MAX;
 pub use outputs::Outputs;
