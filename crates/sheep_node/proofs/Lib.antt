@@ -41,3 +41,4 @@ pub mod StepStates
 pub mod ReceivedInputs
 pub mod RefusedEnds
 pub mod GivenNumbers
+pub mod BeginningWorks

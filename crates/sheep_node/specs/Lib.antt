@@ -24,3 +24,4 @@ pub mod NodeInvariant
 pub mod CheckWrites
 pub mod Kept
 pub mod GivenNumbers
+pub mod MayBegin
