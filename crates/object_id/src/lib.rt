@@ -30,7 +30,7 @@ pub use bytes::Bytes;
 pub use cause::Cause;
 pub use entry::{Entry, Member, MemberList, NodeList, Origin, VdiSpec};
 pub use fields::{u16_at, u32_at, u64_at};
-pub use hash::fnv1a;
+pub use hash::{FnvHasher, fnv1a};
 pub use items::{Duplicate, Items};
 pub use laws::{
     laid_over_laws, limits_in_numbers, read_numbers_fit, read_numbers_stand, sameness_is_decided,
