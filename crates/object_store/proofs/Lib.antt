@@ -5,7 +5,7 @@ pub mod KeptLemmas
 pub mod SeenLemmas
 pub mod MapLemmas
 pub mod ThereLemmas
-pub mod PlainLemmas
+pub mod ObjectLemmas
 pub mod RoomLemmas
 pub mod AnswerLemmas
 pub mod StoreLaws

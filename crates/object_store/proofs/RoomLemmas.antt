@@ -1,13 +1,12 @@
--- What closing, purging and dropping rows, and laying a piece over one, leave of the open row of an index.
+-- What closing, purging and dropping rows leave of the open row of an index.
 use Rattle.std.proofs.Common.{◌≡◌, ℕ, ◌-◌, Bool, true, false, not, cond, ◌&&◌, nat_eq, List, [], ◌∷◌, Option, Some, None, is_some, refl, ap, sym, ◌∙◌, subst}
 use Rattle.std.proofs.lemmas.Bool.{eqb-true, and_parts}
 use Rattle.object_id.specs.Oid.{vid_of}
 use Rattle.object_id.specs.declared.node.Epoch.{Epoch}
 use Rattle.object_store.specs.declared.key.Key.{Key}
 use Rattle.object_store.specs.declared.row.Row.{Row}
-use Rattle.object_store.specs.Bytes.{KeptBytes}
 use Rattle.object_store.specs.Rows.{is_open, is_open_at, open_at, closed, closed_all, is_kept, advanced, purged, has_ended_below, without_disk}
-use Rattle.object_store.specs.KeptRows.{RoomIn, KeepsRowRoom, lay, rows_with_piece}
+use Rattle.object_store.specs.KeptRows.{RoomIn, KeepsRowRoom}
 use Rattle.object_store.proofs.RowLemmas.{AllClosed, closed_all-closed}
 
 module _ {B : Type 0} where
@@ -94,48 +93,27 @@ module _ {B : Type 0} where
           let other : is_open_at index row ≡ false = ap (λ o. not (is_some o) && nat_eq row.index index) is in
           either (not (has_ended_below settled row.to)) other ∙ rest ∙ sym (ap (λ t. cond t (Some row) (open_at index rows)) other)
 
-pub KeepsRowRoom-closed_all : (last : ℕ) (rows : List (Row KeptBytes)) → KeepsRowRoom rows (closed_all last rows)
-KeepsRowRoom-closed_all last rows index n had = subst (λ o. RoomIn o n) (sym (open-closed_all index last rows)) tt
+module _ {K : Type 0} (HasRoom : K → ℕ → ℕ → Type 0) where
+  pub KeepsRowRoom-closed_all : (last : ℕ) (rows : List (Row K)) → KeepsRowRoom HasRoom rows (closed_all last rows)
+  KeepsRowRoom-closed_all last rows index offset n had = subst (λ o. RoomIn HasRoom o offset n) (sym (open-closed_all index last rows)) tt
 
-pub KeepsRowRoom-advanced : (keeps : List Key) (next oid : ℕ) (rows : List (Row KeptBytes)) → KeepsRowRoom rows (advanced keeps next oid rows)
-KeepsRowRoom-advanced keeps next oid rows index n had =
-    subst (λ o. RoomIn o n) (sym (open-advanced keeps next oid index rows)) (go (is_kept keeps oid index))
-  where
-    go : (b : Bool) → RoomIn (cond b (open_at index rows) None) n
-    go true = had
-    go false = tt
+  pub KeepsRowRoom-advanced : (keeps : List Key) (next oid : ℕ) (rows : List (Row K)) → KeepsRowRoom HasRoom rows (advanced keeps next oid rows)
+  KeepsRowRoom-advanced keeps next oid rows index offset n had =
+      subst (λ o. RoomIn HasRoom o offset n) (sym (open-advanced keeps next oid index rows)) (go (is_kept keeps oid index))
+    where
+      go : (b : Bool) → RoomIn HasRoom (cond b (open_at index rows) None) offset n
+      go true = had
+      go false = tt
 
-pub KeepsRowRoom-purged : (settled : ℕ) (rows : List (Row KeptBytes)) → KeepsRowRoom rows (purged settled rows)
-KeepsRowRoom-purged settled rows index n had = subst (λ o. RoomIn o n) (sym (open-purged settled index rows)) had
+  pub KeepsRowRoom-purged : (settled : ℕ) (rows : List (Row K)) → KeepsRowRoom HasRoom rows (purged settled rows)
+  KeepsRowRoom-purged settled rows index offset n had = subst (λ o. RoomIn HasRoom o offset n) (sym (open-purged settled index rows)) had
 
-pub KeepsRowRoom-without_disk : (vid oid : ℕ) (rows : List (Row KeptBytes)) → KeepsRowRoom rows (without_disk vid oid rows)
-KeepsRowRoom-without_disk vid oid rows index n had = go (nat_eq (vid_of oid) vid)
-  where
-    go : (b : Bool) → RoomIn (open_at index (cond b [] rows)) n
-    go true = tt
-    go false = had
-
-pub KeepsRowRoom-rows_with_piece : (at offset : ℕ) (piece : List ℕ) (rows : List (Row KeptBytes)) → KeepsRowRoom rows (rows_with_piece at offset piece rows)
-KeepsRowRoom-rows_with_piece at offset piece [] index n had = tt
-KeepsRowRoom-rows_with_piece at offset piece (row ∷ rows) index n had =
-    step (is_open_at at row) (KeepsRowRoom-rows_with_piece at offset piece rows index n)
-  where
-    new : Row KeptBytes
-    new = record row { bytes = lay offset piece row.bytes }
-
-    laid : (u : Bool) → RoomIn (cond u (Some row) (open_at index rows)) n → RoomIn (cond u (Some new) (open_at index rows)) n
-    laid true room = room
-    laid false room = room
-
-    passed : (u : Bool) → (RoomIn (open_at index rows) n → RoomIn (open_at index (rows_with_piece at offset piece rows)) n)
-        → RoomIn (cond u (Some row) (open_at index rows)) n → RoomIn (cond u (Some row) (open_at index (rows_with_piece at offset piece rows))) n
-    passed true rest room = room
-    passed false rest room = rest room
-
-    step : (t : Bool) → (RoomIn (open_at index rows) n → RoomIn (open_at index (rows_with_piece at offset piece rows)) n)
-        → RoomIn (open_at index (cond t (new ∷ rows) (row ∷ rows_with_piece at offset piece rows))) n
-    step true rest = laid (is_open_at index row) had
-    step false rest = passed (is_open_at index row) rest had
+  pub KeepsRowRoom-without_disk : (vid oid : ℕ) (rows : List (Row K)) → KeepsRowRoom HasRoom rows (without_disk vid oid rows)
+  KeepsRowRoom-without_disk vid oid rows index offset n had = go (nat_eq (vid_of oid) vid)
+    where
+      go : (b : Bool) → RoomIn HasRoom (open_at index (cond b [] rows)) offset n
+      go true = tt
+      go false = had
 
 pub without_disk-none : {B : Type 0} (vid oid : ℕ) → without_disk {B = B} vid oid [] ≡ []
 without_disk-none {B} vid oid = go (nat_eq (vid_of oid) vid)

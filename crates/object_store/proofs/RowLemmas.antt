@@ -170,6 +170,12 @@ module _ {B : Type 0} where
   orderly_created index epoch bytes rows =
       orderly_front (ended epoch rows) _ (closed_all-closed (epoch - 1) (filter (λ row. not (is_replaced epoch row)) rows))
 
+  pub orderly_pushed : (index epoch : ℕ) (bytes : B) (rows before new : List (Row B)) → before ≡ ended epoch rows
+      → new ≡ before ++ record { index = index; from = record { 0 = epoch }; to = None; bytes = bytes } ∷ [] → IsOrderly new
+  orderly_pushed index epoch bytes rows before new was is =
+      let row : Row B = record { index = index; from = record { 0 = epoch }; to = None; bytes = bytes } in
+      subst IsOrderly (sym (is ∙ ap (λ (front : List (Row B)). front ++ row ∷ []) was)) (orderly_created index epoch bytes rows)
+
 -- the last row is as it was, to one who sees it by g
 pub map_set_same : {A C : Type 0} (g : A → C) (rows : List A) (n : ℕ) (x y : A) → n + 1 ≡ length rows → x ≡ get_or rows n x → g y ≡ g x
     → map g (set rows n y) ≡ map g rows

@@ -10,7 +10,6 @@ abbrev pub trimmed_bytes : List ℕ → List ℕ
 trimmed_bytes [] = []
 trimmed_bytes (byte ∷ bytes) = if nat_eq byte 0 && nat_eq (length (trimmed_bytes bytes)) 0 then [] else byte ∷ trimmed_bytes bytes
 
--- a row's bytes, and how many of the first ones a store keeps; the others are 0
-pub record KeptBytes : Type 0 where
-  pub bytes : List ℕ
-  pub room : ℕ
+-- each piece, given by its offset and length, that had room has it
+abbrev pub KeepsPieces : (ℕ → ℕ → Type 0) → (ℕ → ℕ → Type 0) → Type 0
+KeepsPieces Old New = (offset n : ℕ) → Old offset n → New offset n

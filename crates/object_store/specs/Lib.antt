@@ -4,5 +4,7 @@ pub mod Store
 pub mod There
 pub mod Answers
 pub mod KeptRows
+pub mod Objects
+pub mod PlainBytes
 pub mod Plain
 pub mod Calls

@@ -3,20 +3,21 @@
 //!
 //! The crate stands on `object_id`. Everything above it names the trait [`ObjStore`] alone: what a store holds is
 //! seen as a finite map from object ids to lists of rows, beside it which pieces have room, and each call says
-//! what it does to each row, when it is refused and what stays. [`PlainStore`] keeps each row's bytes up to the
-//! last one that was ever written or reserved, and is proved against the trait. A call that can't answer
-//! `NoMemory` takes no memory.
+//! what it does to each row, when it is refused and what stays. A call that can't answer `NoMemory` takes no memory.
+//! [`RowStore`] is proved against the trait once, for any way of keeping a row's bytes that meets [`RowBytes`];
+//! [`PlainStore`] keeps them up to the last one that was ever written or reserved.
 #![tactic(auto)]
 
-mod content;
 mod fault;
 mod keeps;
 mod key;
 mod laws;
 mod object_rows;
 mod oid_list;
-mod plain;
+mod plain_row;
 mod row;
+mod row_bytes;
+mod row_store;
 mod store;
 #[cfg(test)]
 mod tests;
@@ -28,6 +29,8 @@ pub use laws::{
     reads_what_was_written_last, rows_are_in_order, rows_of_one_object,
 };
 pub use oid_list::OidList;
-pub use plain::PlainStore;
+pub use plain_row::{PlainRow, PlainStore, trimmed_len};
 pub use row::{Row, RowCopy, RowSummary};
+pub use row_bytes::RowBytes;
+pub use row_store::RowStore;
 pub use store::ObjStore;

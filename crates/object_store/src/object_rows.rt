@@ -1,13 +1,16 @@
 ghost use Rattle.std.specs.Prelude.{◌≡◌, ◌↔◌, ℕ, ◌+◌, ◌-◌, ◌≤◌, Bool, true, not, ◌&&◌, List, [], ◌∷◌, length, map, filter, slice_get};
 ghost use Rattle.std.specs.Prelude.{IfSome, OnOk, OnErr, IsTrue, nat_eq, if◌then◌else◌, Some, vec_len, vec_capacity};
 ghost use Rattle.std.specs.Option.{option_copied};
+ghost use Rattle.object_id.specs.Piece.{laid_over};
 ghost use Rattle.object_store.specs.Rows.{is_open_at, is_replaced, ended, open_at, closed, closed_all, created, advanced_row, advanced};
 ghost use Rattle.object_store.specs.Rows.{purged, without_disk, has_ended_below, row_holding, better, IsOrderly};
-ghost use Rattle.object_store.specs.KeptRows.{seen_row, rows_with_piece, lay, RoomIn, KeepsRowRoom};
+ghost use Rattle.object_store.specs.Bytes.{KeepsPieces};
+ghost use Rattle.object_store.specs.Store.{write_in};
+ghost use Rattle.object_store.specs.KeptRows.{seen_row, RoomIn, KeepsRowRoom};
 
-use crate::content::Content;
 use crate::keeps::Keeps;
 use crate::row::Row;
+use crate::row_bytes::RowBytes;
 use object_id::{Epoch, NoMemory, Oid, Vid};
 use std::alloc::Global;
 use std::marker::Model;
@@ -15,26 +18,25 @@ use std::marker::Model;
 /// The rows of one object, in the order in which they were made. At most the last is open, so that it is found
 /// without a look at the others.
 #[derive(Drop)]
-pub struct ObjectRows {
-    rows: Vec<Row<Content>>,
+pub struct ObjectRows<B: RowBytes> {
+    rows: Vec<Row<B>>,
 }
 
-impl Model for ObjectRows {
+impl<B: RowBytes> Model for ObjectRows<B> {
     ghost use Rattle.std.specs.Prelude.{List};
     ghost use Rattle.object_store.specs.declared.row.Row.{Row};
-    ghost use Rattle.object_store.specs.Bytes.{KeptBytes};
     ghost use Rattle.object_store.specs.Rows.{IsOrderly};
 
-    ghost Value = { List (Row KeptBytes) };
+    ghost Value = { List (Row B) };
 
     ghost view = { λ s. s.rows.items };
 
     ghost invariant = { λ s. IsOrderly s.rows.items };
 }
 
-impl ObjectRows {
+impl<B: RowBytes> ObjectRows<B> {
     /// No rows. Takes no memory.
-    pub fn new(alloc: Global) -> ObjectRows
+    pub fn new(alloc: Global) -> ObjectRows<B>
         ensures { result ≡ [] }
     {
         ObjectRows {
@@ -55,14 +57,14 @@ impl ObjectRows {
     }
 
     /// Row number `k`, from 0.
-    pub fn get(&self, k: usize) -> Option<&Row<Content>>
+    pub fn get(&self, k: usize) -> Option<&Row<B>>
         ensures { option_copied result ≡ slice_get self.now k }
     {
         self.rows.get(k)
     }
 
     /// The open row of an index.
-    pub fn open_row(&self, index: u8) -> Option<&Row<Content>>
+    pub fn open_row(&self, index: u8) -> Option<&Row<B>>
         ensures { option_copied result ≡ open_at index self.now }
     {
         let count = self.rows.len();
@@ -78,7 +80,7 @@ impl ObjectRows {
     }
 
     /// Makes the open row. Without memory the rows stay.
-    pub fn create(&mut self, index: u8, epoch: Epoch, bytes: Content) -> Result<(), NoMemory>
+    pub fn create(&mut self, index: u8, epoch: Epoch, bytes: B) -> Result<(), NoMemory>
         ensures ok { OnOk result (self.new ≡ created index epoch.0 bytes self.old) }
         ensures err { OnErr result (self.new ≡ self.old) }
     {
@@ -95,24 +97,32 @@ impl ObjectRows {
         Ok(())
     }
 
-    /// Keeps the first `end` bytes of the open row of an index.
-    pub fn reserve(&mut self, index: u8, end: usize) -> Result<(), NoMemory>
-        requires { IfSome (open_at index self.old) (λ row. end ≤ length row.bytes.bytes) }
-        ensures rows { map seen_row self.new ≡ map seen_row self.old }
-        ensures room { KeepsRowRoom self.old self.new }
-        ensures ok { OnOk result (RoomIn (open_at index self.new) end) }
+    /// Gives a piece of the open row of an index room.
+    pub fn reserve(
+        &mut self,
+        alloc: Global,
+        index: u8,
+        offset: u32,
+        count: u32,
+    ) -> Result<(), NoMemory>
+        requires { IfSome (open_at index self.old) (λ row. offset + count ≤ length (B.bytes row.bytes)) }
+        ensures rows { map (seen_row B.bytes) self.new ≡ map (seen_row B.bytes) self.old }
+        ensures room { KeepsRowRoom B.HasRoom self.old self.new }
+        ensures ok { OnOk result (RoomIn B.HasRoom (open_at index self.new) offset count) }
     {
-        let count = self.rows.len();
-        if count == 0 {
+        let rows = self.rows.len();
+        if rows == 0 {
             return Ok(());
         }
-        reserve_in(&mut self.rows[count - 1], index, end)
+        reserve_in(&mut self.rows[rows - 1], alloc, index, offset, count)
     }
 
     /// Lays a piece over the bytes of the open row of an index.
     pub fn write(&mut self, index: u8, offset: u32, piece: &[u8])
-        requires { RoomIn (open_at index self.old) (offset + length piece.now) }
-        ensures { self.new ≡ rows_with_piece index offset piece.now self.old }
+        requires within { IfSome (open_at index self.old) (λ row. offset + length piece.now ≤ length (B.bytes row.bytes)) }
+        requires room { RoomIn B.HasRoom (open_at index self.old) offset (length piece.now) }
+        ensures rows { map (seen_row B.bytes) self.new ≡ write_in index offset piece.now (map (seen_row B.bytes) self.old) }
+        ensures room { KeepsRowRoom B.HasRoom self.old self.new }
     {
         let count = self.rows.len();
         if count > 0 {
@@ -157,7 +167,7 @@ impl ObjectRows {
     }
 
     /// The row whose epochs hold the level: of several the one with the greatest `from`, of equal ones the last.
-    pub fn row_holding(&self, level: Epoch) -> Option<&Row<Content>>
+    pub fn row_holding(&self, level: Epoch) -> Option<&Row<B>>
         ensures { option_copied result ≡ row_holding level.0 self.now }
     {
         let mut best = None;
@@ -170,19 +180,19 @@ impl ObjectRows {
     }
 }
 
-fn is_open_row(row: &Row<Content>, index: u8) -> bool
+fn is_open_row<B>(row: &Row<B>, index: u8) -> bool
     ensures { result ≡ is_open_at index row.now }
 {
     row.to.is_none() && row.index == index
 }
 
-fn is_replaced(row: &Row<Content>, epoch: Epoch) -> bool
+fn is_replaced<B>(row: &Row<B>, epoch: Epoch) -> bool
     ensures { result ≡ is_replaced epoch.0 row.now }
 {
     row.to.is_none() && row.from == epoch
 }
 
-fn is_old(row: &Row<Content>, settled: Epoch) -> bool
+fn is_old<B>(row: &Row<B>, settled: Epoch) -> bool
     ensures { result ≡ has_ended_below settled.0 row.now.to }
 {
     match row.to {
@@ -191,7 +201,7 @@ fn is_old(row: &Row<Content>, settled: Epoch) -> bool
     }
 }
 
-fn is_better(row: &Row<Content>, best: Option<&Row<Content>>, level: Epoch) -> bool
+fn is_better<B>(row: &Row<B>, best: Option<&Row<B>>, level: Epoch) -> bool
     ensures { better level.0 (option_copied best.entry) row.now ≡ (if result then Some row.now else option_copied best.entry) }
 {
     let holds = row.from.0 <= level.0
@@ -206,7 +216,7 @@ fn is_better(row: &Row<Content>, best: Option<&Row<Content>>, level: Epoch) -> b
     holds && is_no_later
 }
 
-fn close(row: &mut Row<Content>, last: Epoch)
+fn close<B>(row: &mut Row<B>, last: Epoch)
     ensures { row.new ≡ closed last.0 row.old }
 {
     if row.to.is_none() {
@@ -214,7 +224,7 @@ fn close(row: &mut Row<Content>, last: Epoch)
     }
 }
 
-fn advance_row(row: &mut Row<Content>, keeps: &Keeps, next: Epoch, oid: Oid)
+fn advance_row<B>(row: &mut Row<B>, keeps: &Keeps, next: Epoch, oid: Oid)
     ensures { row.new ≡ advanced_row keeps.now next.0 oid row.old }
 {
     if !keeps.has(oid, row.index) {
@@ -223,7 +233,7 @@ fn advance_row(row: &mut Row<Content>, keeps: &Keeps, next: Epoch, oid: Oid)
 }
 
 /// Makes room for a new open row: the last one ends with the epoch before, and goes if it is from this epoch.
-fn end_open(rows: &mut Vec<Row<Content>>, epoch: Epoch)
+fn end_open<B: Drop>(rows: &mut Vec<Row<B>>, epoch: Epoch)
     requires { IsOrderly rows.old.items }
     ensures items { rows.new.items ≡ ended epoch.0 rows.old.items }
     ensures len { vec_len rows.new ≤ vec_len rows.old }
@@ -240,22 +250,31 @@ fn end_open(rows: &mut Vec<Row<Content>>, epoch: Epoch)
     }
 }
 
-/// What a row keeps, if it is the open one of the index.
-fn reserve_in(row: &mut Row<Content>, index: u8, end: usize) -> Result<(), NoMemory>
-    requires { is_open_at index row.old ≡ true → end ≤ length row.old.bytes.bytes }
-    ensures row { seen_row row.new ≡ seen_row row.old }
-    ensures room { row.old.bytes.room ≤ row.new.bytes.room }
-    ensures ok { OnOk result (is_open_at index row.new ≡ true → end ≤ row.new.bytes.room) }
+/// Gives a piece of a row room, if the row is the open one of the index.
+fn reserve_in<B: RowBytes>(
+    row: &mut Row<B>,
+    alloc: Global,
+    index: u8,
+    offset: u32,
+    count: u32,
+) -> Result<(), NoMemory>
+    requires { is_open_at index row.old ≡ true → offset + count ≤ length (B.bytes row.old.bytes) }
+    ensures row { seen_row B.bytes row.new ≡ seen_row B.bytes row.old }
+    ensures room { KeepsPieces (B.HasRoom row.old.bytes) (B.HasRoom row.new.bytes) }
+    ensures ok { OnOk result (is_open_at index row.new ≡ true → B.HasRoom row.new.bytes offset count) }
 {
     if is_open_row(row, index) {
-        row.bytes.reserve(end)?;
+        row.bytes.reserve(alloc, offset, count)?;
     }
     Ok(())
 }
 
-fn write_in(row: &mut Row<Content>, index: u8, offset: u32, piece: &[u8])
-    requires { is_open_at index row.old ≡ true → offset + length piece.now ≤ row.old.bytes.room }
-    ensures { row.new ≡ (if is_open_at index row.old then (record row.old { bytes = lay offset piece.now row.old.bytes }) else row.old) }
+fn write_in<B: RowBytes>(row: &mut Row<B>, index: u8, offset: u32, piece: &[u8])
+    requires within { is_open_at index row.old ≡ true → offset + length piece.now ≤ length (B.bytes row.old.bytes) }
+    requires room { is_open_at index row.old ≡ true → B.HasRoom row.old.bytes offset (length piece.now) }
+    ensures row { seen_row B.bytes row.new ≡ (if is_open_at index row.old
+        then (record (seen_row B.bytes row.old) { bytes = laid_over (B.bytes row.old.bytes) offset piece.now }) else seen_row B.bytes row.old) }
+    ensures room { KeepsPieces (B.HasRoom row.old.bytes) (B.HasRoom row.new.bytes) }
 {
     if is_open_row(row, index) {
         row.bytes.write(offset, piece);

@@ -2,8 +2,3 @@ pub mod PieceLemmas
 pub mod TrimLemmas
 pub mod ZeroLemmas
 pub mod PageLemmas
-pub mod SeenLemmas
-pub mod KeptLemmas
-pub mod ObjectLemmas
-pub mod RoomLemmas
-pub mod AnswerLemmas

@@ -38,3 +38,10 @@ HasPages pages offset n = (place : ℕ) → offset ≤ place → place < offset 
 -- each page that was there is there
 abbrev pub KeepsPages : List ℕ → List ℕ → Type 0
 KeepsPages old new = (number : ℕ) → has_page number old ≡ true → has_page number new ≡ true
+
+abbrev pub page_bytes : KeptPages → List ℕ
+page_bytes kept = kept.bytes
+
+-- the pages of the n bytes from offset on are there
+abbrev pub HasPagesKept : KeptPages → ℕ → ℕ → Type 0
+HasPagesKept kept offset n = HasPages kept.pages offset n

@@ -7,12 +7,14 @@
 //! is written to the open row of an object changes no closed row, and no copy that was given.
 #![tactic(auto)]
 
-mod keeps;
-mod object_rows;
 mod page;
 mod page_row;
-mod store;
 #[cfg(test)]
 mod tests;
 
-pub use store::PageStore;
+use object_store::RowStore;
+pub use page_row::PageRow;
+
+/// A store in memory that keeps of each row the pages that were written or reserved. A piece costs the logarithm of the pages that its row
+/// has, for each page that it is in.
+pub type PageStore = RowStore<PageRow>;

@@ -1,21 +1,16 @@
-ghost use Rattle.std.specs.Prelude.{◌≡◌, ◌+◌, ◌-◌, ◌<◌, ◌≤◌, ◌/◌, ◌%◌, true, length, take, fold, IfOk, OnOk};
+ghost use Rattle.std.specs.Prelude.{◌≡◌, ◌+◌, ◌<◌, ◌≤◌, ◌/◌, ◌%◌, true, length, take, OnOk};
 ghost use Rattle.object_id.specs.Piece.{laid_over};
 ghost use Rattle.object_id.specs.Fields.{zeros};
-ghost use Rattle.object_id.specs.Hash.{fnv1a_of, fnv1a_step};
 ghost use Rattle.object_store.specs.Bytes.{piece_at, trimmed_bytes};
 ghost use Rattle.page_store.specs.declared.page.TheConstants.{PAGE_BYTES};
-ghost use Rattle.page_store.specs.Pages.{has_page, HasPages, KeepsPages};
+ghost use Rattle.page_store.specs.Pages.{has_page, HasPages, KeepsPages, page_bytes, HasPagesKept};
 
 use crate::page::{PAGE_BYTES, Page};
-use object_id::{Bytes, NoMemory, lay_over};
+use object_id::{Bytes, FnvHasher, NoMemory, lay_over};
+use object_store::{RowBytes, trimmed_len};
 use std::alloc::Global;
 use std::collections::BTreeMap;
 use std::marker::Model;
-
-/// What FNV-1a begins with, and what it multiplies by.
-const FNV_OFFSET: u64 = 0xcbf2_9ce4_8422_2325;
-
-const FNV_PRIME: u64 = 0x100_0000_01b3;
 
 /// The bytes of a row, page by page. A page that isn't there is zeros.
 #[derive(Drop)]
@@ -44,22 +39,6 @@ impl PageRow {
         }
     }
 
-    /// A piece from `offset` on, in `size` bytes that are else 0. A page that would be zeros isn't made.
-    pub fn new(alloc: Global, size: u32, offset: u32, piece: &[u8]) -> Result<PageRow, NoMemory>
-        requires { offset + length piece.now ≤ size }
-        ensures { IfOk result (λ row. row.bytes ≡ laid_over (zeros size) offset piece.now) }
-    {
-        let mut row = PageRow::zeros(alloc, size);
-        let mut done = 0;
-        while done < piece.len() {
-            let place = offset as usize + done;
-            let count = count_in_page(place, piece.len() - done);
-            row.put_part(alloc, place, &piece[done..done + count])?;
-            done += count;
-        }
-        Ok(row)
-    }
-
     /// Lays over zeros a piece that ends in the same page. For zeros no page is made.
     fn put_part(&mut self, alloc: Global, place: usize, piece: &[u8]) -> Result<(), NoMemory>
         requires within { place + length piece.now ≤ length self.old.bytes }
@@ -76,15 +55,8 @@ impl PageRow {
         Ok(())
     }
 
-    /// How many bytes there are, in pages or not.
-    pub fn len(&self) -> u32
-        ensures { result ≡ length self.now.bytes }
-    {
-        self.size
-    }
-
     /// Makes the pages of a piece, so that it is written without memory. No byte changes.
-    pub fn reserve(&mut self, alloc: Global, offset: u32, count: u32) -> Result<(), NoMemory>
+    fn add_pages(&mut self, alloc: Global, offset: u32, count: u32) -> Result<(), NoMemory>
         requires { offset + count ≤ length self.old.bytes }
         ensures bytes { self.new.bytes ≡ self.old.bytes }
         ensures room { KeepsPages self.old.pages self.new.pages }
@@ -114,22 +86,6 @@ impl PageRow {
         Ok(())
     }
 
-    /// Lays a piece over the bytes from `offset` on.
-    pub fn write(&mut self, offset: u32, piece: &[u8])
-        requires within { offset + length piece.now ≤ length self.old.bytes }
-        requires room { HasPages self.old.pages offset (length piece.now) }
-        ensures bytes { self.new.bytes ≡ laid_over self.old.bytes offset piece.now }
-        ensures pages { self.new.pages ≡ self.old.pages }
-    {
-        let mut done = 0;
-        while done < piece.len() {
-            let place = offset as usize + done;
-            let count = count_in_page(place, piece.len() - done);
-            self.write_part(place, &piece[done..done + count]);
-            done += count;
-        }
-    }
-
     /// Lays over the bytes from `place` on a piece that ends in the same page.
     fn write_part(&mut self, place: usize, piece: &[u8])
         requires within { place + length piece.now ≤ length self.old.bytes }
@@ -155,20 +111,6 @@ impl PageRow {
         match self.pages.get(&(place / PAGE_BYTES)) {
             Some(page) => &page.as_slice()[start..start + count],
             None => &no_page()[..count],
-        }
-    }
-
-    /// Copies the bytes from `offset` on into all of `out`.
-    pub fn read(&self, offset: u32, out: &mut [u8])
-        requires { offset + length out.old ≤ length self.now.bytes }
-        ensures { out.new ≡ piece_at self.now.bytes offset (length out.old) }
-    {
-        let mut done = 0;
-        while done < out.len() {
-            let place = offset as usize + done;
-            let count = count_in_page(place, out.len() - done);
-            lay_over(out, done, self.part(place, count));
-            done += count;
         }
     }
 
@@ -204,26 +146,67 @@ impl PageRow {
         }
         0
     }
+}
 
-    /// The hash of the bytes up to the last one that isn't 0.
-    pub fn hash(&self) -> u64
-        ensures { result ≡ fnv1a_of (trimmed_bytes self.now.bytes) }
-    {
+impl RowBytes for PageRow {
+    ghost bytes = { page_bytes };
+
+    ghost HasRoom = { HasPagesKept };
+
+    // A page that would be zeros isn't made.
+    fn new(alloc: Global, size: u32, offset: u32, piece: &[u8]) -> Result<PageRow, NoMemory> {
+        let mut row = PageRow::zeros(alloc, size);
+        let mut done = 0;
+        while done < piece.len() {
+            let place = offset as usize + done;
+            let count = count_in_page(place, piece.len() - done);
+            row.put_part(alloc, place, &piece[done..done + count])?;
+            done += count;
+        }
+        Ok(row)
+    }
+
+    fn len(&self) -> u32 {
+        self.size
+    }
+
+    fn reserve(&mut self, alloc: Global, offset: u32, count: u32) -> Result<(), NoMemory> {
+        self.add_pages(alloc, offset, count)
+    }
+
+    fn write(&mut self, offset: u32, piece: &[u8]) {
+        let mut done = 0;
+        while done < piece.len() {
+            let place = offset as usize + done;
+            let count = count_in_page(place, piece.len() - done);
+            self.write_part(place, &piece[done..done + count]);
+            done += count;
+        }
+    }
+
+    fn read(&self, offset: u32, out: &mut [u8]) {
+        let mut done = 0;
+        while done < out.len() {
+            let place = offset as usize + done;
+            let count = count_in_page(place, out.len() - done);
+            lay_over(out, done, self.part(place, count));
+            done += count;
+        }
+    }
+
+    fn hash(&self) -> u64 {
         let end = self.trimmed_len();
-        let mut hash = FNV_OFFSET;
+        let mut hash = FnvHasher::new();
         let mut done = 0;
         while done < end {
             let count = count_in_page(done, end - done);
-            hash = fnv1a_on(hash, self.part(done, count));
+            hash.write(self.part(done, count));
             done += count;
         }
-        hash
+        hash.finish()
     }
 
-    /// The bytes up to the last one that isn't 0.
-    pub fn trimmed(&self, alloc: Global) -> Result<Bytes, NoMemory>
-        ensures { IfOk result (λ bytes. bytes ≡ trimmed_bytes self.now.bytes) }
-    {
+    fn trimmed(&self, alloc: Global) -> Result<Bytes, NoMemory> {
         let end = self.trimmed_len();
         let mut items = Vec::with_capacity(alloc, end)?;
         items.resize(end, 0)?;
@@ -246,29 +229,6 @@ fn count_in_page(place: usize, count: usize) -> usize
     ensures some { 0 < count → 0 < result }
 {
     count.min(PAGE_BYTES - place % PAGE_BYTES)
-}
-
-/// The hash of what was hashed so far and a piece.
-fn fnv1a_on(hash: u64, piece: &[u8]) -> u64
-    ensures { result ≡ fold fnv1a_step hash piece.now }
-{
-    let mut on = hash;
-    for byte in piece {
-        on = (on ^ u64::from(*byte)).wrapping_mul(FNV_PRIME);
-    }
-    on
-}
-
-/// Up to where bytes go that end at their last one that isn't 0.
-fn trimmed_len(bytes: &[u8]) -> usize
-    ensures value { take result bytes.now ≡ trimmed_bytes bytes.now }
-    ensures within { result ≤ length bytes.now }
-{
-    let mut end = bytes.len();
-    while end > 0 && bytes[end - 1] == 0 {
-        end -= 1;
-    }
-    end
 }
 
 #[cfg(test)]

@@ -4,10 +4,10 @@ use Rattle.object_store.proofs.RowLemmas.{map_last_at, advanced-same, orderly_se
 use Rattle.object_store.proofs.object_rows.ObjectRows.advance.Goals as goal
 
 pub invariant_of-self : goal.invariant_of-self
-invariant_of-self c = orderly_set c.self.inside.rows.items (c.len-count.result - 1) _ (omega arith) c.self.invariant
+invariant_of-self g c = orderly_set c.self.inside.rows.items (c.len-count.result - 1) _ (omega arith) c.self.invariant
 
 pub returns-then-count-gt0 : goal.returns-then-count-gt0
-returns-then-count-gt0 c =
+returns-then-count-gt0 g c =
     let keeps = c.args.keeps.now in
     let next = c.args.next.0 in
     let oid = c.args.oid in

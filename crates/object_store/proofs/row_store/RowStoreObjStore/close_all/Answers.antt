@@ -1,0 +1,29 @@
+use Rattle.std.proofs.Common.{◌≡◌, ◌∙◌, ap, sym, subst, refl, rules}
+use Rattle.object_store.specs.Rows.{closed_all}
+use Rattle.object_store.specs.Store.{each_entry, each}
+use Rattle.object_store.specs.Answers.{KeepsRoom}
+use Rattle.object_store.specs.Objects.{seen_objects, HasRoomIn}
+use Rattle.object_store.proofs.MapLemmas.{retained}
+use Rattle.object_store.proofs.SeenLemmas.{seen_row-closed_all}
+use Rattle.object_store.proofs.RoomLemmas.{KeepsRowRoom-closed_all}
+use Rattle.object_store.proofs.ObjectLemmas.{seen_objects-each_entry, KeepsRoom-each_entry}
+use Rattle.object_store.proofs.row_store.RowStoreObjStore.close_all.Goals as goal
+
+pub returns-clause-rows : goal.returns-clause-rows
+returns-clause-rows g c =
+    let bytes = g.B.RowBytes.bytes in
+    let last = c.args.last.0 in
+    let es = c.self.inside.objects.entries in
+    let kept : c.retain.new.self.entries ≡ each_entry (λ _. closed_all last) es = retained _ (λ _. closed_all last) _ (λ k v b w f' t. search rules) es _ c.retain.ensures.filtered in
+    ap (seen_objects bytes) kept ∙ seen_objects-each_entry bytes (λ _. closed_all last) (λ _. closed_all last) (λ _. refl) (λ _. seen_row-closed_all bytes last) es c.retain.ensures.was_ordered
+    ∙ ap (λ os. each (λ _. closed_all last) (seen_objects bytes os)) c.self.view_is
+
+pub returns-clause-room : goal.returns-clause-room
+returns-clause-room g c =
+    let HasRoom = g.B.RowBytes.HasRoom in
+    let last = c.args.last.0 in
+    let es = c.self.inside.objects.entries in
+    let kept : c.retain.new.self.entries ≡ each_entry (λ _. closed_all last) es = retained _ (λ _. closed_all last) _ (λ k v b w f' t. search rules) es _ c.retain.ensures.filtered in
+    subst (λ os. KeepsRoom (HasRoomIn HasRoom os) (HasRoomIn HasRoom c.retain.new.self.entries)) c.self.view_is
+    (subst (λ os. KeepsRoom (HasRoomIn HasRoom es) (HasRoomIn HasRoom os)) (sym kept)
+    (KeepsRoom-each_entry HasRoom (λ _. closed_all last) (λ _. refl) (λ _. KeepsRowRoom-closed_all HasRoom last) es c.retain.ensures.was_ordered))
