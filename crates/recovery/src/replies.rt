@@ -24,9 +24,9 @@ use object_store::OidList;
 use peer_proto::{PeerRsp, PeerSay};
 
 impl Recovery {
-    /// A reply to a message came. Costs the logarithm of the messages, and takes what it tells. With the last list it takes and costs the
-    /// ids of all objects; with the last answer of a level it looks at each answer for each target, and where there are enough rows takes
-    /// the object's bytes by them. Without memory nothing changes.
+    /// A reply to a message came. Costs the logarithm of the messages, and takes what it tells. A list takes and costs the ids that were
+    /// named so far and its own, and the last list also the node's; with the last answer of a level it looks at each answer for each
+    /// target, and where there are enough rows takes the object's bytes by them. Without memory nothing changes.
     #[tactic(auto, unfolding(crate::specs::Steps::recovery_on_reply))]
     pub fn on_reply<R: Rows>(&mut self, rsp: &PeerRsp, rows: &mut R) -> Result<(), NoMemory>
         requires fits { IsTrue (fits_recovery rsp.now (recovery_state self.old (R.shown rows.old))) }
