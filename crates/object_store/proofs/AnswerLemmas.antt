@@ -25,6 +25,9 @@ taken : (b : Bool) → answer b (tt {0}) ≡ Ok (tt {0}) → b ≡ true
 taken true e = refl
 taken false e = absurd (cc)
 
+pub ends_within : (end size : ℕ) → value_within end size (tt {0}) ≡ Ok (tt {0}) → end ≤ size
+ends_within end size e = let t = taken (nat_le end size) e in grind (arith, nat_tests)
+
 -- a piece within the size is within it for whatever is made
 pub value_within-Ok : {A : Type 0} (end size : ℕ) (there : A) → value_within end size (tt {0}) ≡ Ok (tt {0}) → value_within end size there ≡ Ok there
 value_within-Ok end size there e = ap (λ b. answer b there) (taken (nat_le end size) e)
@@ -36,7 +39,7 @@ on_open-Ok end (Some row) there e = value_within-Ok end (length row.bytes) there
 module _ {K : Type 0} (bytes : K → List ℕ) where
   kept_end : (end : ℕ) (o : Option (Row K)) → on_open end (option_map (seen_row bytes) o) (λ row. tt {0}) ≡ Ok (tt {0}) → IfSome o (λ row. end ≤ length (bytes row.bytes))
   kept_end end None e = absurd (cc)
-  kept_end end (Some row) e = let t = taken (nat_le end (length (bytes row.bytes))) e in grind (arith, nat_tests)
+  kept_end end (Some row) e = ends_within end (length (bytes row.bytes)) e
 
   -- the open row reaches to the piece's end
   pub piece_there-value_within : (es : Objects K) (key : Key) (offset n : ℕ) → piece_there (seen_objects bytes es) key offset n ≡ Ok (tt {0})

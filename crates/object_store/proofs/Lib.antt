@@ -11,5 +11,6 @@ pub mod AnswerLemmas
 pub mod StoreLaws
 pub mod CallLaws
 pub mod OrderLaws
+pub mod DiskLemmas
 pub mod KeepsLemmas
 pub mod CopyLaws

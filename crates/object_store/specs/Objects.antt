@@ -1,9 +1,13 @@
 -- What a store keeps: a list of objects with the rows of each, by ascending id; and how that is seen.
-use Rattle.std.specs.Prelude.{◌≡◌, ℕ, List, [], map, Some, cond, unwrap_or}
+use Rattle.std.specs.Prelude.{◌≡◌, ℕ, ◌-◌, Bool, List, [], map, None, Some, IsSome, cond, unwrap_or}
+use Rattle.std.specs.declared.ops.Bound.TheVariants.{Included}
+use Rattle.std.specs.BTreeMap.Range.{range_contains}
 use Rattle.std.specs.Map.{lookup}
 use Rattle.std.specs.BTreeMap.{is_at}
 use Rattle.std.specs.Ordering.{nat_cmp}
 use Rattle.std.specs.FinMap as tree
+use Rattle.object_id.specs.declared.limits.TheConstants.{OBJECTS_MAX}
+use Rattle.object_id.specs.Oid.{IsOid, object_number}
 use Rattle.object_store.specs.declared.key.Key.{Key}
 use Rattle.object_store.specs.declared.row.Row.{Row}
 use Rattle.object_store.specs.Rows.{open_at}
@@ -32,6 +36,18 @@ kept_of es oid = unwrap_or (lookup (is_at (nat_cmp oid)) es) []
 -- the open row of the key has room for the piece
 abbrev pub HasRoomIn : {K : Type 0} → (K → ℕ → ℕ → Type 0) → Objects K → Key → ℕ → ℕ → Type 0
 HasRoomIn HasRoom es key offset n = RoomIn HasRoom (open_at key.index (kept_of es key.oid)) offset n
+
+-- each object is there under an id
+abbrev pub HaveIds : {K : Type 0} → Objects K → Type 0
+HaveIds es = (q : ℕ) → IsSome (lookup (is_at (nat_cmp q)) es) → IsOid q
+
+-- a number in the range of the ids of a disk's data objects
+abbrev pub is_block_of : ℕ → ℕ → Bool
+is_block_of vid q = range_contains nat_cmp (Included (object_number vid 0)) (Included (object_number vid (OBJECTS_MAX - 1))) q
+
+-- the objects with these numbers are gone, and each other has what it had
+abbrev pub LacksOnly : {K : Type 0} → (ℕ → Bool) → Objects K → Objects K → Type 0
+LacksOnly gone old new = (q : ℕ) → lookup (is_at (nat_cmp q)) new ≡ cond (gone q) None (lookup (is_at (nat_cmp q)) old)
 
 -- one object has these rows, and each other what it had
 abbrev pub IsPut : {K : Type 0} → Objects K → Objects K → ℕ → List (Row K) → Type 0

@@ -3,7 +3,7 @@ ghost use Rattle.std.specs.Prelude.{IfSome, OnOk, OnErr, IsTrue, nat_eq, if◌th
 ghost use Rattle.std.specs.Option.{option_copied};
 ghost use Rattle.object_id.specs.Piece.{laid_over};
 ghost use Rattle.object_store.specs.Rows.{is_open_at, is_replaced, ended, open_at, closed, closed_all, created, advanced_row, advanced};
-ghost use Rattle.object_store.specs.Rows.{purged, without_disk, has_ended_below, row_holding, better, IsOrderly};
+ghost use Rattle.object_store.specs.Rows.{purged, has_ended_below, row_holding, better, IsOrderly};
 ghost use Rattle.object_store.specs.Bytes.{KeepsPieces};
 ghost use Rattle.object_store.specs.Store.{write_in};
 ghost use Rattle.object_store.specs.KeptRows.{seen_row, RoomIn, KeepsRowRoom};
@@ -11,7 +11,7 @@ ghost use Rattle.object_store.specs.KeptRows.{seen_row, RoomIn, KeepsRowRoom};
 use crate::keeps::Keeps;
 use crate::row::Row;
 use crate::row_bytes::RowBytes;
-use object_id::{Epoch, NoMemory, Oid, Vid};
+use object_id::{Epoch, NoMemory, Oid};
 use std::alloc::Global;
 use std::marker::Model;
 
@@ -155,15 +155,6 @@ impl<B: RowBytes> ObjectRows<B> {
         ensures { self.new ≡ purged settled.0 self.old }
     {
         self.rows.retain(|row| !is_old(row, settled));
-    }
-
-    /// Drops all rows where the object is one of the disk's.
-    pub fn drop_vid(&mut self, vid: Vid, oid: Oid)
-        ensures { self.new ≡ without_disk vid.0 oid self.old }
-    {
-        if oid.vid() == vid {
-            self.rows.clear();
-        }
     }
 
     /// The row whose epochs hold the level: of several the one with the greatest `from`, of equal ones the last.

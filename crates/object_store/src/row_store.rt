@@ -1,15 +1,16 @@
-ghost use Rattle.std.specs.Prelude.{◌≡◌, ℕ, ◌+◌, ◌≤◌, List, [], ◌∷◌, ◌++◌, length, nat_eq, slice_get, IfSome, IfOk, OnOk, OnErr, IsSome};
-ghost use Rattle.std.specs.Prelude.{if◌then◌else◌, Ok};
+ghost use Rattle.std.specs.Prelude.{◌≡◌, ℕ, ◌+◌, ◌≤◌, true, List, [], ◌∷◌, ◌++◌, length, nat_eq, slice_get, IfSome, IfOk, OnOk, OnErr, IsSome};
+ghost use Rattle.std.specs.Prelude.{if◌then◌else◌, Ok, None};
 ghost use Rattle.std.specs.Option.{option_map, option_copied};
 ghost use Rattle.std.specs.Map.{lookup};
 ghost use Rattle.std.specs.BTreeMap.{is_at};
 ghost use Rattle.std.specs.Ordering.{nat_cmp};
 ghost use Rattle.std.specs.FinMap as tree;
+ghost use Rattle.object_id.specs.Oid.{IsVid, vid_of};
 ghost use Rattle.object_store.specs.Rows.{open_at, created};
 ghost use Rattle.object_store.specs.Store.{open_row, rows_of, piece_there, write_at, value_within, copy_of, summary_of};
 ghost use Rattle.object_store.specs.Answers.{KeepsRoom};
 ghost use Rattle.object_store.specs.KeptRows.{seen_row};
-ghost use Rattle.object_store.specs.Objects.{seen_objects, kept_of, HasRoomIn, IsPut, HaveRows-seen_objects};
+ghost use Rattle.object_store.specs.Objects.{seen_objects, kept_of, HasRoomIn, IsPut, LacksOnly, is_block_of, HaveRows-seen_objects};
 
 use crate::fault::StoreFault;
 use crate::keeps::Keeps;
@@ -19,7 +20,7 @@ use crate::oid_list::OidList;
 use crate::row::{Row, RowCopy, RowSummary};
 use crate::row_bytes::RowBytes;
 use crate::store::ObjStore;
-use object_id::{Epoch, NoMemory, Oid, Vid};
+use object_id::{Epoch, NoMemory, OBJECTS_MAX, Oid, Vid};
 use std::alloc::Global;
 use std::collections::BTreeMap;
 use std::marker::Model;
@@ -32,11 +33,13 @@ pub struct RowStore<B: RowBytes> {
 }
 
 impl<B: RowBytes> Model for RowStore<B> {
-    ghost use Rattle.object_store.specs.Objects.{Objects};
+    ghost use Rattle.object_store.specs.Objects.{Objects, HaveIds};
 
     ghost Value = { Objects B };
 
     ghost view = { λ s. s.objects.entries };
+
+    ghost invariant = { λ s. HaveIds s.objects.entries };
 }
 
 impl<B: RowBytes> RowStore<B> {
@@ -113,6 +116,7 @@ impl<B: RowBytes> RowStore<B> {
     {
         let mut rows = ObjectRows::new(self.alloc);
         rows.create(key.index, epoch, bytes)?;
+        let _number = key.oid.as_u64();
         self.objects.insert(key.oid, rows)?;
         Ok(())
     }
@@ -142,6 +146,42 @@ impl<B: RowBytes> RowStore<B> {
             return;
         };
         rows.write(key.index, offset, piece);
+    }
+
+    /// A data object of a disk that is there, if there is one.
+    fn block_of(&self, vid: Vid) -> Option<Oid>
+        requires { IsVid vid.0 }
+        ensures some { IfSome result (λ oid. (is_block_of vid.0 oid ≡ true) × IsSome (lookup (is_at (nat_cmp oid)) self.now)) }
+        ensures none { result ≡ None → (q : ℕ) → is_block_of vid.0 q ≡ true → lookup (is_at (nat_cmp q)) self.now ≡ None }
+    {
+        let first = Oid::object(vid, 0);
+        let last = Oid::object(vid, OBJECTS_MAX - 1);
+        match self.objects.range(first..=last).next() {
+            Some((oid, _)) => Some(*oid),
+            None => None,
+        }
+    }
+
+    /// Drops the data objects of a disk, each with a look-up.
+    fn drop_blocks(&mut self, vid: Vid)
+        requires { IsVid vid.0 }
+        ensures { LacksOnly (is_block_of vid.0) self.old self.new }
+    {
+        while let Some(oid) = self.block_of(vid) {
+            self.objects.remove(&oid);
+        }
+    }
+
+    /// Drops the objects of a disk. No other number is the id of one.
+    fn drop_disk(&mut self, vid: Vid)
+        ensures { LacksOnly (λ q. nat_eq (vid_of q) vid.0) self.old self.new }
+    {
+        let objects = &mut self.objects;
+        if !vid.is_valid() {
+            return;
+        }
+        objects.remove(&Oid::inode(vid));
+        self.drop_blocks(vid);
     }
 }
 
@@ -239,10 +279,7 @@ impl<B: RowBytes> ObjStore for RowStore<B> {
     }
 
     fn drop_vid(&mut self, vid: Vid) {
-        self.objects.retain(|oid, rows| {
-            rows.drop_vid(vid, *oid);
-            !rows.is_empty()
-        });
+        self.drop_disk(vid);
     }
 
     fn list(&self) -> Result<OidList, NoMemory> {

@@ -97,7 +97,7 @@ pub trait ObjStore: Drop {
         ensures rows { rows self.new ≡ each (λ _. purged settled.0) (rows self.old) }
         ensures room { KeepsRoom (HasRoom self.old) (HasRoom self.new) };
 
-    /// Drops all rows of the objects of a disk. Takes no memory. Costs a look at each object.
+    /// Drops all rows of the objects of a disk. Takes no memory. Costs the logarithm of the objects, for each object of the disk.
     fn drop_vid(&mut self, vid: Vid)
         ensures rows { rows self.new ≡ each (without_disk vid.0) (rows self.old) }
         ensures room { KeepsRoom (HasRoom self.old) (HasRoom self.new) };

@@ -155,8 +155,8 @@ impl<O: ObjStore> PeerState<O> {
 
     /// Reads the next entry of the log, and decides on it as [`Directory::read_entry`] does. The rows of the ids that it makes dead go,
     /// and their objects are pending no more. Without memory nothing changes, and the entry isn't read. Costs what the directory's call
-    /// costs; an entry that makes ids dead costs besides a look at each object for each of them, and at each of them for each pending
-    /// object.
+    /// costs; an entry that makes ids dead costs besides a look-up of each of their objects, and for each pending object a look at
+    /// each of these ids.
     pub fn read_entry(&mut self, entry: &Entry, locks: &mut Locks) -> Result<Decision, NoMemory>
         requires reservable { IsReservable entry.now }
         requires locks { AreLocks (effects_of self.old) locks.old }
@@ -176,8 +176,8 @@ impl<O: ObjStore> PeerState<O> {
     /// The node was lost and comes back with its rows: each open one ends with the epoch in which it was lost. It has read this log
     /// instead, and is in its last epoch. The rows that ended below the log's settled epoch go, and so do those of dead ids. Nothing is
     /// pending until the recovery begins. The tally is that of the log, and the locks become those of it. Without memory nothing
-    /// changes. Costs the reading of each entry, a look at each row, a look-up of each object's disk, and a look at each object for each
-    /// dead id of which there are rows.
+    /// changes. Costs the reading of each entry, a look at each row, a look-up of each object's disk, and one of each object of a
+    /// dead id.
     pub fn come_back(
         &mut self,
         entries: &[Entry],

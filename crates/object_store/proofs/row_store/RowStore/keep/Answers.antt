@@ -6,9 +6,10 @@ use Rattle.std.specs.Ordering.{nat_cmp}
 use Rattle.std.proofs.lemmas.Result.{IfOk-weaker}
 use Rattle.object_store.specs.Rows.{open_at}
 use Rattle.object_store.specs.KeptRows.{RoomIn, KeepsRowRoom}
-use Rattle.object_store.specs.Objects.{kept_of}
+use Rattle.object_store.specs.Objects.{kept_of, HaveIds}
 use Rattle.object_store.proofs.ObjectLemmas.{put_unseen, KeepsRoom-put, HasRoomIn-put}
 use Rattle.object_store.proofs.AnswerLemmas.{piece_there-value_within}
+use Rattle.object_store.proofs.DiskLemmas.{ids_after}
 use Rattle.object_store.proofs.row_store.RowStore.keep.Goals as goal
 
 pub reserve-requires : goal.reserve-requires
@@ -55,3 +56,15 @@ returns-clause-ok g c =
     (λ q. ((c.get_mut.follows.holds new).3 (subst IsSome (sym found) refl)).0 q ∙ ap (λ os. cond (is_at (nat_cmp key.oid) q) (Some new) (lookup (is_at (nat_cmp q)) os)) c.self.view_is)
     room)
     c.reserve.ensures.ok
+
+pub invariant_of-self : goal.invariant_of-self
+invariant_of-self g c = subst (λ m. HaveIds m.entries) (sym c.get_mut.follows.holds-at-none) c.self.invariant
+
+pub invariant_of-self-2 : goal.invariant_of-self-2
+invariant_of-self-2 g c =
+    let key = c.args.key.now in
+    let es = c.self.inside.objects.entries in
+    let new = c.reserve.new.self in
+    let found : lookup (is_at (nat_cmp key.oid)) es ≡ Some c.in-Some.rows.now = sym c.get_mut.ensures.value ∙ ap option_copied_mut c.in-Some.is in
+    ids_after key.oid (Some new) es (c.get_mut.follows.lender new).entries (λ _. c.self.invariant key.oid (subst IsSome (sym found) refl))
+    ((c.get_mut.follows.holds new).3 (subst IsSome (sym found) refl)).0 c.self.invariant

@@ -6,9 +6,10 @@ use Rattle.std.specs.Ordering.{nat_cmp}
 use Rattle.object_store.specs.Rows.{open_at}
 use Rattle.object_store.specs.Store.{write_in}
 use Rattle.object_store.specs.KeptRows.{seen_row, RoomIn, KeepsRowRoom}
-use Rattle.object_store.specs.Objects.{kept_of}
+use Rattle.object_store.specs.Objects.{kept_of, HaveIds}
 use Rattle.object_store.proofs.ObjectLemmas.{KeepsRoom-put}
 use Rattle.object_store.proofs.AnswerLemmas.{piece_there-value_within, piece_there-found, write_at-put}
+use Rattle.object_store.proofs.DiskLemmas.{ids_after}
 use Rattle.object_store.proofs.row_store.RowStore.lay.Goals as goal
 
 pub write-requires-clause-within : goal.write-requires-clause-within
@@ -61,3 +62,15 @@ returns-in_default-clause-rows g c =
     ap (lookup (is_at (nat_cmp key.oid))) (sym c.self.view_is) ∙ sym c.get_mut.ensures.value ∙ ap option_copied_mut c.in_default.is in
     let there = piece_there-found g.B.RowBytes.bytes c.args.self.now key c.args.offset (length c.args.piece.now) c.requires.there in
     absurd (cc (subst IsSome none there))
+
+pub invariant_of-self : goal.invariant_of-self
+invariant_of-self g c = subst (λ m. HaveIds m.entries) (sym c.get_mut.follows.holds-at-none) c.self.invariant
+
+pub invariant_of-self-2 : goal.invariant_of-self-2
+invariant_of-self-2 g c =
+    let key = c.args.key.now in
+    let es = c.self.inside.objects.entries in
+    let new = c.write.new.self in
+    let found : lookup (is_at (nat_cmp key.oid)) es ≡ Some c.in-Some.rows.now = sym c.get_mut.ensures.value ∙ ap option_copied_mut c.in-Some.is in
+    ids_after key.oid (Some new) es (c.get_mut.follows.lender new).entries (λ _. c.self.invariant key.oid (subst IsSome (sym found) refl))
+    ((c.get_mut.follows.holds new).3 (subst IsSome (sym found) refl)).0 c.self.invariant

@@ -29,3 +29,6 @@ returns-clause-room g c =
     subst (λ os. KeepsRoom (HasRoomIn HasRoom os) (HasRoomIn HasRoom c.retain.new.self.entries)) c.self.view_is
     (subst (λ os. KeepsRoom (HasRoomIn HasRoom es) (HasRoomIn HasRoom os)) (sym kept)
     (KeepsRoom-each_entry HasRoom (advanced keeps next) (λ _. refl) (KeepsRowRoom-advanced HasRoom keeps next) es c.retain.ensures.was_ordered))
+
+pub invariant_of-self : goal.invariant_of-self
+invariant_of-self g c = λ q found. c.self.invariant q (c.retain.ensures.no_new_key q found)

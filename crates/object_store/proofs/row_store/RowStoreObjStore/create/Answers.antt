@@ -7,7 +7,7 @@ use Rattle.object_store.specs.Objects.{seen_objects, HaveRows-seen_objects, kept
 use Rattle.object_store.proofs.SeenLemmas.{seen_row-created}
 use Rattle.object_store.proofs.ObjectLemmas.{one_put, rows_of-seen_objects}
 use Rattle.object_store.proofs.ThereLemmas.{HaveRows-create}
-use Rattle.object_store.proofs.AnswerLemmas.{value_within-Ok}
+use Rattle.object_store.proofs.AnswerLemmas.{value_within-Ok, ends_within}
 use Rattle.object_store.proofs.row_store.RowStoreObjStore.create.Goals as goal
 
 pub returns-clause-rows : goal.returns-clause-rows
@@ -26,3 +26,9 @@ returns-clause-rows g c =
     (HaveRows-create (seen_objects bytes es) key epoch c.args.length c.args.offset piece (HaveRows-seen_objects bytes es)) in
     subst (λ step. Makes step (λ all. seen_objects bytes c.put.new.self ≡ all) (seen_objects bytes c.put.new.self ≡ seen_objects bytes es) (Ok (tt {0})))
     (sym (value_within-Ok (c.args.offset + length piece) c.args.length all there)) made
+
+pub new-requires : goal.new-requires
+new-requires g c =
+    let piece = c.args.bytes.now in
+    let there : value_within (c.args.offset + length piece) c.args.length (tt {0}) ≡ Ok (tt {0}) = sym c.check_end.ensures ∙ c.in_ok-check_end.was in
+    ends_within (c.args.offset + length piece) c.args.length there
