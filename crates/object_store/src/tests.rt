@@ -186,9 +186,9 @@ fn lays_pieces_over(rt: HostRuntime) -> Result<(), Fail> {
     let mut node = Tried::new(PlainStore::new(rt.alloc()));
     let strip = key(1, 0, 3);
     node.create(&strip, 1, 6, &[5, 6])?;
-    for (offset, bytes) in [(2, [7, 8]), (3, [9, 0]), (4094, [4, 0])] {
-        node.write(&strip, offset, &bytes)?;
-    }
+    node.write(&strip, 2, &[7, 8])?;
+    node.write(&strip, 3, &[9, 0])?;
+    node.write(&strip, 4094, &[4, 0])?;
     let pairs = [
         (0, [0, 0]),
         (2, [7, 9]),

@@ -130,9 +130,9 @@ fn lays_pieces_over_pages(rt: HostRuntime) -> Result<(), Fail> {
     let mut node = Tried::new(PageStore::new(rt.alloc()));
     let strip = key(1, 0, 3);
     node.create_long(&strip, 1, 12_288, 6, &[5, 6])?;
-    for (offset, bytes) in [(4095, [7, 8]), (8191, [9, 0]), (12_286, [4, 3])] {
-        node.write(&strip, offset, &bytes)?;
-    }
+    node.write(&strip, 4095, &[7, 8])?;
+    node.write(&strip, 8191, &[9, 0])?;
+    node.write(&strip, 12_286, &[4, 3])?;
     let pairs = [
         (0, [0, 0]),
         (6, [5, 6]),
