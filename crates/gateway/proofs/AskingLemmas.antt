@@ -2,7 +2,7 @@
 use Rattle.std.proofs.Common.{◌≡◌, ℕ, zero, suc, ◌+◌, ◌<◌, ◌≤◌, ◌^◌, ◌%◌, ◌==◌, Bool, true, false, cond, List, [], ◌∷◌, ◌++◌, length, min, take, drop, get_or, map, refl, sym, ap, ap₂, subst, ◌∙◌, arith}
 use Rattle.std.specs.List.{enumerate_from, range_with_len}
 use Rattle.std.proofs.lemmas.Bool.{ne_eqb}
-use Rattle.std.proofs.lemmas.List.{map-append}
+use Rattle.std.proofs.lemmas.List.{map-append, length-map}
 use Rattle.object_id.specs.declared.node.NodeId.{NodeId}
 use Rattle.object_id.specs.declared.limits.TheConstants.{TARGETS_MAX}
 use Rattle.object_id.specs.declared.oid.Kind.{Kind}
@@ -26,7 +26,7 @@ use Rattle.peer_proto.specs.Work.{IsWork, oid_of, policy_of}
 use Rattle.gateway.specs.declared.message.Message.{Message}
 use Rattle.gateway.specs.Work.{asks_all, read_from, targets_asked, zones_for}
 use Rattle.gateway.specs.Attempt.{message_for, messages_of}
-use Rattle.gateway.specs.Messages.{HasNoNumber, NumbersDiffer, HaveLength, ArePiecesFor, IndexesDiffer, IndexesFit, AreMessagesFor}
+use Rattle.gateway.specs.Messages.{HasNoNumber, NumbersDiffer, HaveLength, ArePiecesFor, IndexesDiffer, HaveCountFor, IndexesFit, AreMessagesFor}
 
 -- one more target
 enumerate-push : {X : Type 0} → (n : ℕ) (xs : List X) (x : X) → enumerate_from n (xs ++ x ∷ []) ≡ enumerate_from n xs ++ (n + length xs, x) ∷ []
@@ -92,7 +92,7 @@ need_wanted (Copies copies) Inode is = is.0
 need_wanted (Coded d p) Block is = omega arith
 need_wanted (Coded d p) Inode is = omega arith
 
-need_one : (policy : Policy) (kind : Kind) → IsPolicy policy → 1 ≤ need_of policy kind
+pub need_one : (policy : Policy) (kind : Kind) → IsPolicy policy → 1 ≤ need_of policy kind
 need_one (Copies copies) Block is = omega arith
 need_one (Copies copies) Inode is = omega arith
 need_one (Coded d p) Block is = by_cases (λ d. 1 ≤ d) (omega arith) (omega arith) (omega arith) (omega arith) d is.0
@@ -115,7 +115,9 @@ pub zones_wanted : (work : ObjWork) → IsWork work → zones_for work ≤ wante
 zones_wanted (Create oid policy size offset bytes) is = omega arith
 zones_wanted (Write oid policy offset bytes) is = omega arith
 zones_wanted (Read oid policy offset size) is = need_wanted policy (kind_of oid) is.0
-zones_wanted (ReadAll oid policy size) is = omega arith
+zones_wanted (ReadAll oid policy size) is =
+    let few : need_of policy (kind_of oid) ≤ wanted_of policy (kind_of oid) = need_wanted policy (kind_of oid) is.0 in
+    omega (arith, few)
 
 pub zones_one : (work : ObjWork) → IsWork work → 1 ≤ zones_for work
 zones_one (Create oid policy size offset bytes) is =
@@ -228,7 +230,7 @@ pieces-new : (work other : ObjWork) (first : ℕ) (targets : List (ℕ × NodeId
 pieces-new (Create oid policy size offset bytes) other first targets = tt
 pieces-new (Write oid policy offset bytes) other first targets = tt
 pieces-new (Read oid policy offset size) other first targets = have-length (part_size policy (kind_of oid) size) other first targets
-pieces-new (ReadAll oid policy size) other first targets = tt
+pieces-new (ReadAll oid policy size) other first targets = have-length (part_size policy (kind_of oid) size) other first targets
 
 indexes-strips : (work : ObjWork) (first place : ℕ) (targets : List NodeId) → is_in_strips (policy_of work) (kind_of (oid_of work)) ≡ true
     → map (λ (message : Message). message.index) (map (message_for work) (enumerate_from first (enumerate_from place targets)))
@@ -260,10 +262,23 @@ indexes-new (Read oid policy offset size) ended first targets few = by_strips (i
     by_strips false whole =
         one-point (Read oid policy offset size) first (drop (ended % length (enumerate_from 0 targets)) (enumerate_from 0 targets)) whole
 
+-- a read of all parts asks each target, and they are all that are wanted
+count-new : (work : ObjWork) (ended first : ℕ) (targets : List NodeId) → zones_for work ≤ length targets
+    → length targets ≤ wanted_of (policy_of work) (kind_of (oid_of work)) → HaveCountFor work (messages_of work ended first targets)
+count-new (Create oid policy size offset bytes) ended first targets enough most = tt
+count-new (Write oid policy offset bytes) ended first targets enough most = tt
+count-new (Read oid policy offset size) ended first targets enough most = tt
+count-new (ReadAll oid policy size) ended first targets enough most =
+    let all : length targets ≡ wanted_of policy (kind_of oid) = omega (arith, enough, most) in
+    length-map (enumerate_from first (enumerate_from 0 targets)) (message_for (ReadAll oid policy size))
+    ∙ length-enumerate first (enumerate_from 0 targets) ∙ length-enumerate 0 targets ∙ all
+
 pub AreMessagesFor-messages_of : (work : ObjWork) (ended first : ℕ) (targets : List NodeId) → length targets ≤ TARGETS_MAX
+    → zones_for work ≤ length targets → length targets ≤ wanted_of (policy_of work) (kind_of (oid_of work))
     → AreMessagesFor work (messages_of work ended first targets)
-AreMessagesFor-messages_of work ended first targets few = record {
+AreMessagesFor-messages_of work ended first targets few enough most = record {
   numbers = numbers-differ work first (targets_asked work ended targets);
   pieces = pieces-new work work first (targets_asked work ended targets);
   indexes = indexes-new work ended first targets few;
+  count = count-new work ended first targets enough most;
 }

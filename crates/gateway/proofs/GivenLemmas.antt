@@ -57,17 +57,17 @@ points-first n messages are =
 
 -- ---- the pieces that came are of one length
 
-abbrev AllLong : ℕ → List Message → Type 0
+abbrev pub AllLong : ℕ → List Message → Type 0
 AllLong size [] = Unit {0}
 AllLong size (message ∷ messages) = (length (piece_of message) ≡ size) × AllLong size messages
 
-long-piece : (size : ℕ) (status : Status) → is_success status ≡ true → HasLength size status → length (bytes_in status) ≡ size
+pub long-piece : (size : ℕ) (status : Status) → is_success status ≡ true → HasLength size status → length (bytes_in status) ≡ size
 long-piece size Unanswered is has = absurd (cc (is))
 long-piece size (Succeeded bytes) is has = has
 long-piece size (Refused refusal) is has = absurd (cc (is))
 long-piece size Lost is has = absurd (cc (is))
 
-long-kept : (size : ℕ) (messages : List Message) → HaveLength size messages → AllLong size (successes messages)
+pub long-kept : (size : ℕ) (messages : List Message) → HaveLength size messages → AllLong size (successes messages)
 long-kept size [] all = tt
 long-kept size (message ∷ messages) all = by_test (is_success message.status) refl (long-kept size messages all.1)
   where
@@ -76,18 +76,18 @@ long-kept size (message ∷ messages) all = by_test (is_success message.status) 
     by_test true is rest = (long-piece size message.status is all.0, rest)
     by_test false is rest = rest
 
-long-taken : (size n : ℕ) (messages : List Message) → AllLong size messages → AllLong size (take n messages)
+pub long-taken : (size n : ℕ) (messages : List Message) → AllLong size messages → AllLong size (take n messages)
 long-taken size zero messages all = tt
 long-taken size (suc n) [] all = tt
 long-taken size (suc n) (message ∷ messages) all = (all.0, long-taken size n messages all.1)
 
-length-pieces : (size : ℕ) (messages : List Message) → AllLong size messages → length (flat_map piece_of messages) ≡ length messages * size
+pub length-pieces : (size : ℕ) (messages : List Message) → AllLong size messages → length (flat_map piece_of messages) ≡ length messages * size
 length-pieces size [] all = grind arith
 length-pieces size (message ∷ messages) all =
     let rest : length (flat_map piece_of messages) ≡ length messages * size = length-pieces size messages all.1 in
     length-append (piece_of message) (flat_map piece_of messages) ∙ ap₂ ◌+◌ all.0 rest ∙ grind arith
 
-length-taken : (n : ℕ) (messages : List Message) → n ≤ length messages → length (take n messages) ≡ n
+pub length-taken : (n : ℕ) (messages : List Message) → n ≤ length messages → length (take n messages) ≡ n
 length-taken zero messages few = refl
 length-taken (suc n) [] few = absurd (omega (arith, few))
 length-taken (suc n) (message ∷ messages) few = ap suc (length-taken n messages (omega (arith, few)))

@@ -14,3 +14,5 @@ pub mod WorkedCases
 pub mod MapLaws
 pub mod FailureLaws
 mod WaitingWork
+mod BeginningLemmas
+pub mod LengthLaws

@@ -2,6 +2,7 @@
 use Rattle.std.proofs.Common.{◌≡◌, ℕ, zero, suc, ◌+◌, ◌<◌, ◌≤◌, ◌==◌, nat_lt, ◌||◌, not, Bool, true, false, cond, List, [], ◌∷◌, length, get_or, slice_set, map, Option, Some, None, refl, sym, ap, ap₂, subst, ◌∙◌, inl, inr, arith}
 use Rattle.std.specs.List.{list_any, position, prefix_len}
 use Rattle.std.proofs.lemmas.Bool.{eqb-true, cond-true, cond-false, cases_Bool}
+use Rattle.std.proofs.lemmas.List.{length-map}
 use Rattle.gateway.specs.declared.message.Message.{Message}
 use Rattle.gateway.specs.declared.message.Status.{Status}
 use Rattle.gateway.specs.declared.message.Status.TheVariants.{Unanswered, Succeeded, Refused, Lost}
@@ -11,7 +12,7 @@ use Rattle.gf256.specs.Polynomial.{ArePoints}
 use Rattle.peer_proto.specs.declared.work.ObjWork.{ObjWork}
 use Rattle.peer_proto.specs.declared.work.ObjWork.TheVariants.{Create, Write, Read, ReadAll}
 use Rattle.gateway.specs.Attempt.{is_unanswered, is_awaited_message, messages_with_status}
-use Rattle.gateway.specs.Messages.{HasNoNumber, NumbersDiffer, HasLength, HaveLength, IsPieceFor, ArePiecesFor, IndexesDiffer, AreMessagesFor}
+use Rattle.gateway.specs.Messages.{HasNoNumber, NumbersDiffer, HasLength, HaveLength, IsPieceFor, ArePiecesFor, IndexesDiffer, HaveCountFor, AreMessagesFor}
 
 abbrev pub has_number : ℕ → Message → Bool
 has_number number message = message.number == number
@@ -120,7 +121,8 @@ pieces-with_status (Create oid policy size offset bytes) number status messages 
 pieces-with_status (Write oid policy offset bytes) number status messages is all = tt
 pieces-with_status (Read oid policy offset size) number status messages is all =
     HaveLength-with_status (part_size policy (kind_of oid) size) number status messages is all
-pieces-with_status (ReadAll oid policy size) number status messages is all = tt
+pieces-with_status (ReadAll oid policy size) number status messages is all =
+    HaveLength-with_status (part_size policy (kind_of oid) size) number status messages is all
 
 points-with_status : (work : ObjWork) (number : ℕ) (status : Status) (messages : List Message) → IndexesDiffer work messages
     → IndexesDiffer work (messages_with_status number status messages)
@@ -130,12 +132,21 @@ points-with_status (Read oid policy offset size) number status messages differ =
     subst ArePoints (sym (indexes-with_status number status messages)) differ
 points-with_status (ReadAll oid policy size) number status messages differ = tt
 
+count-with_status : (work : ObjWork) (number : ℕ) (status : Status) (messages : List Message) → HaveCountFor work messages
+    → HaveCountFor work (messages_with_status number status messages)
+count-with_status (Create oid policy size offset bytes) number status messages count = tt
+count-with_status (Write oid policy offset bytes) number status messages count = tt
+count-with_status (Read oid policy offset size) number status messages count = tt
+count-with_status (ReadAll oid policy size) number status messages count =
+    length-map messages (λ (message : Message). cond (message.number == number) (record message { status = status }) message) ∙ count
+
 pub AreMessagesFor-with_status : (work : ObjWork) (number : ℕ) (status : Status) (messages : List Message) → IsPieceFor work status
     → AreMessagesFor work messages → AreMessagesFor work (messages_with_status number status messages)
 AreMessagesFor-with_status work number status messages is are = record {
   numbers = NumbersDiffer-with_status number status messages are.numbers;
   pieces = pieces-with_status work number status messages is are.pieces;
   indexes = points-with_status work number status messages are.indexes;
+  count = count-with_status work number status messages are.count;
 }
 
 -- a message that is unanswered is as it was when its status is taken back

@@ -11,7 +11,7 @@ use Rattle.peer_proto.specs.declared.work.ObjWork.TheVariants.{Create, Write, Re
 use Rattle.gateway.specs.declared.act.Act.{Act}
 use Rattle.gateway.specs.declared.act.Act.TheVariants as acts
 use Rattle.gateway.specs.declared.message.Message.{Message}
-use Rattle.gateway.specs.Work.{zones_for}
+use Rattle.gateway.specs.Work.{zones_for, bytes_of_work}
 use Rattle.gateway.specs.Attempt.{Attempt, is_success, successes, is_over, is_done, bytes_given, first_failure}
 use Rattle.gateway.specs.State.{Work, Gateway, is_touched}
 use Rattle.gateway.specs.Step.{refusal_after_attempt}
@@ -74,3 +74,10 @@ RefusesWork (acts.Send sends) = ⊥
 RefusesWork acts.Wait = ⊥
 RefusesWork (acts.Done ended done) = ⊥
 RefusesWork (acts.Refused ended number cause) = Unit {0}
+
+-- a work that is told done gave as many bytes as it gives by its kind and size
+abbrev pub GivesItsBytes : Act → Type 0
+GivesItsBytes (acts.Send sends) = Unit {0}
+GivesItsBytes acts.Wait = Unit {0}
+GivesItsBytes (acts.Done ended done) = length done.bytes ≡ bytes_of_work ended
+GivesItsBytes (acts.Refused ended number cause) = Unit {0}

@@ -1,5 +1,5 @@
 -- A work on one object: which targets an attempt asks, and for which part of the bytes.
-use Rattle.std.specs.Prelude.{ℕ, ◌%◌, ◌==◌, Bool, true, false, List, [], length, take, drop}
+use Rattle.std.specs.Prelude.{ℕ, ◌*◌, ◌%◌, ◌==◌, Bool, true, false, List, [], length, take, drop}
 use Rattle.std.specs.List.{enumerate_from}
 use Rattle.object_id.specs.declared.node.NodeId.{NodeId}
 use Rattle.object_id.specs.declared.oid.Kind.{Kind}
@@ -82,3 +82,11 @@ asks_all (Create oid policy size offset bytes) = true
 asks_all (Write oid policy offset bytes) = true
 asks_all (Read oid policy offset size) = is_in_strips policy (kind_of oid)
 asks_all (ReadAll oid policy size) = true
+
+-- how many bytes a done work gives: a read as many as it asks for, a read of all parts as many parts as are wanted, a create
+-- or write none
+abbrev pub bytes_of_work : ObjWork → ℕ
+bytes_of_work (Create oid policy size offset bytes) = 0
+bytes_of_work (Write oid policy offset bytes) = 0
+bytes_of_work (Read oid policy offset size) = size
+bytes_of_work (ReadAll oid policy size) = wanted_of policy (kind_of oid) * part_size policy (kind_of oid) size

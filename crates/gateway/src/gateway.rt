@@ -7,7 +7,7 @@ ghost use Rattle.gateway.specs.State.{initial_gateway, asker, has_work, gateway_
 ghost use Rattle.gateway.specs.State.{MaySend, MayStart};
 ghost use Rattle.gateway.specs.Messages.{IsPieceFor};
 ghost use Rattle.gateway.specs.Kept.{next_req};
-ghost use Rattle.gateway.specs.Outcomes.{RefusesWork};
+ghost use Rattle.gateway.specs.Outcomes.{RefusesWork, GivesItsBytes};
 ghost use Rattle.gateway.specs.Step.{start_step, retry_step, message_ended, gateway_on_reply, gateway_on_loss, without_touch};
 
 use crate::act::Act;
@@ -261,6 +261,7 @@ impl Gateway {
     pub fn on_reply(&mut self, rsp: &PeerRsp) -> Result<Act, NoMemory>
         requires { IsTrue (fits_gateway rsp.now self.old) }
         ensures ok { IfOk result (λ act. gateway_on_reply self.old rsp.now ≡ record { gateway = self.new; act = act }) }
+        ensures given { IfOk result GivesItsBytes }
         ensures err { OnErr result (self.new ≡ self.old) }
     {
         let status = status_by(self.alloc, &rsp.say)?;
@@ -272,6 +273,7 @@ impl Gateway {
     pub fn on_lost(&mut self, number: u32) -> Result<Act, NoMemory>
         requires { IsTrue (gateway_awaits number self.old) }
         ensures ok { IfOk result (λ act. gateway_on_loss self.old number ≡ record { gateway = self.new; act = act }) }
+        ensures given { IfOk result GivesItsBytes }
         ensures err { OnErr result (self.new ≡ self.old) }
     {
         self.message_ended(number, Status::Lost)
@@ -282,6 +284,7 @@ impl Gateway {
         requires known { is_unanswered status ≡ false }
         requires piece { IfSome (asker number self.old) (λ found. IsPieceFor found.1.work status) }
         ensures ok { IfOk result (λ act. message_ended self.old number status ≡ record { gateway = self.new; act = act }) }
+        ensures given { IfOk result GivesItsBytes }
         ensures err { OnErr result (self.new ≡ self.old) }
     {
         let Some((req, work)) = self.asked(number) else {

@@ -1,27 +1,30 @@
 //! Laws of the definitions, for the proofs of the layers above: each is the contract of a function that does nothing.
-ghost use Rattle.std.specs.Prelude.{◌≡◌, ◌≢◌, ◌⊎◌, ℕ, ◌≤◌, true, false, List, length, map, Some, None};
+ghost use Rattle.std.specs.Prelude.{◌≡◌, ◌≢◌, ◌⊎◌, ℕ, ◌*◌, ◌<◌, ◌≤◌, true, false, List, length, map, Some, None};
 ghost use Rattle.std.specs.List.{concat, list_any, range_with_len};
 ghost use Rattle.std.specs.FinMap.{get};
 ghost use Rattle.object_id.specs.declared.node.Epoch.{Epoch};
 ghost use Rattle.object_id.specs.declared.node.NodeId.{NodeId};
 ghost use Rattle.object_id.specs.declared.oid.Kind.{Kind};
+ghost use Rattle.object_id.specs.declared.oid.Kind.TheVariants.{Block};
 ghost use Rattle.object_id.specs.declared.policy.Policy.{Policy};
-ghost use Rattle.object_id.specs.Oid.{kind_of};
-ghost use Rattle.object_id.specs.Policy.{IsPolicy, need_of};
+ghost use Rattle.object_id.specs.declared.limits.TheConstants.{OBJECTS_MAX};
+ghost use Rattle.object_id.specs.Oid.{IsVid, kind_of, object_number};
+ghost use Rattle.object_id.specs.Policy.{IsPolicy, wanted_of, need_of};
 ghost use Rattle.object_id.specs.Fields.{AreBytes};
 ghost use Rattle.gf256.specs.Polynomial.{ArePoints};
-ghost use Rattle.gf256.specs.Part.{IsAligned, part, bytes_of_parts, is_in_strips, index_at};
+ghost use Rattle.gf256.specs.Part.{IsAligned, part, part_size, bytes_of_parts, is_in_strips, index_at};
 ghost use Rattle.hash_ring.specs.Placement.{zone_count};
 ghost use Rattle.vnode_table.specs.Epochs.{EpochMembers, members_at};
 ghost use Rattle.peer_proto.specs.declared.work.ObjWork.{ObjWork};
 ghost use Rattle.gateway.specs.declared.message.Message.{Message};
 ghost use Rattle.gateway.specs.declared.message.Status.{Status};
 ghost use Rattle.gateway.specs.declared.message.Status.TheVariants.{Succeeded, Lost};
-ghost use Rattle.peer_proto.specs.Work.{oid_of, policy_of};
+ghost use Rattle.peer_proto.specs.Work.{IsWork, oid_of, policy_of};
 ghost use Rattle.peer_proto.specs.declared.work.ObjWork.TheVariants.{Create, Write, ReadAll};
-ghost use Rattle.gateway.specs.Work.{is_making, ask_for, bytes_asked};
+ghost use Rattle.gateway.specs.Work.{is_making, ask_for, bytes_asked, bytes_of_work};
 ghost use Rattle.gateway.specs.Attempt.{Attempt, is_unanswered, is_awaited_message, may_be_made, messages_with_status, messages_of};
 ghost use Rattle.gateway.specs.Attempt.{is_done, bytes_in, bytes_given, bytes_through};
+ghost use Rattle.gateway.specs.Messages.{AreMessagesFor};
 ghost use Rattle.gateway.specs.State.{Open, Work, Gateway, is_touched, has_work, asker, next_try};
 ghost use Rattle.gateway.specs.Step.{with_work, without_work, without_touch, waiting_step, attempt_with_status, attempt_continued};
 ghost use Rattle.gateway.specs.Step.{touched_by, refusal_after_attempt, message_ended, attempt_step};
@@ -115,6 +118,16 @@ pub fn enough_messages_give_the_bytes()
         ≡ map (λ (message : Message). part policy kind message.index bytes) messages
         → AreBytes bytes → IsAligned policy kind (length bytes)
         → bytes_through policy kind messages ≡ bytes }
+{}
+
+/// A done work gives as many bytes as its kind and size say: of a read each message that succeeded gave a part, so as many
+/// parts came as a read needs, and of a read of all parts as many as are wanted.
+pub fn a_done_work_gives_its_bytes()
+    ensures given { (work : ObjWork) (messages : List Message) → IsWork work → AreMessagesFor work messages
+        → is_done work messages ≡ true → length (bytes_given work messages) ≡ bytes_of_work work }
+    // All parts of a disk's data object are those of a block.
+    ensures object { (vid index size : ℕ) (policy : Policy) → IsVid vid → index < OBJECTS_MAX
+        → bytes_of_work (ReadAll (object_number vid index) policy size) ≡ wanted_of policy Block * part_size policy Block size }
 {}
 
 /// A create or write message that succeeded or was lost touches its request, and touched it stays until it has ended.

@@ -29,10 +29,10 @@ mod works;
 pub use act::{Act, Sends};
 pub use gateway::Gateway;
 pub use laws::{
-    all_parts_are_read, an_open_attempt_is_waited_for, an_untouched_request_is_refused,
-    enough_messages_give_the_bytes, every_target_is_asked, the_parts_asked_are_the_bytes,
-    what_a_beginning_tells, what_an_answer_tells, what_may_be_made_touches,
-    works_stand_by_their_requests,
+    a_done_work_gives_its_bytes, all_parts_are_read, an_open_attempt_is_waited_for,
+    an_untouched_request_is_refused, enough_messages_give_the_bytes, every_target_is_asked,
+    the_parts_asked_are_the_bytes, what_a_beginning_tells, what_an_answer_tells,
+    what_may_be_made_touches, works_stand_by_their_requests,
 };
 pub use message::{Message, Status};
 pub use peer_proto::WorkDone;

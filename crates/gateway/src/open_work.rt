@@ -4,7 +4,7 @@ ghost use Rattle.gateway.specs.Work.{is_making};
 ghost use Rattle.gateway.specs.Attempt.{is_unanswered};
 ghost use Rattle.gateway.specs.State.{is_awaited_in, may_try};
 ghost use Rattle.gateway.specs.Messages.{AreMessagesFor, IsPieceFor};
-ghost use Rattle.gateway.specs.Stage.{work_stage, IsStageFor, IsOpenStage};
+ghost use Rattle.gateway.specs.Stage.{work_stage, IsStageFor, IsOpenWork, IsOpenStage};
 ghost use Rattle.gateway.specs.Kept.{work_with_status, work_failed, work_by, outcome_with, outcome_at, failure_outcome};
 
 use crate::given::bytes_given;
@@ -54,6 +54,7 @@ impl OpenWork {
     pub fn work(&self) -> &ObjWork
         ensures value { result.now ≡ self.now.work }
         ensures valid { IsWork self.now.work }
+        ensures open { IsOpenWork self.now }
     {
         &self.work
     }

@@ -13,7 +13,7 @@ use Rattle.gateway.specs.Messages.{IsPieceFor}
 use Rattle.gateway.specs.State.{Work, Gateway, asker, is_awaited_in, is_touched}
 use Rattle.gateway.proofs.AskerLemmas.{asker-has, on_err}
 use Rattle.gateway.proofs.StepLemmas.{message_ended-none, told-step}
-use Rattle.gateway.proofs.WorkLemmas.{if_some, some_if}
+use Rattle.gateway.proofs.WorkLemmas.{if_some, some_if, told-gives}
 use Rattle.gateway.proofs.gateway.Gateway.message_ended.Goals as goal
 
 pub returns-in_default-clause-ok : goal.returns-in_default-clause-ok
@@ -64,6 +64,22 @@ returns-clause-ok c =
     }) c.self.view_is
     (told-step seen number c.args.status req work c.end_and_tell.new.self c.touch.new.self c.in_ok-act.act found has.1 touched_is
     (subst (λ (b : Bool). MessageEnds req number c.args.status c.self.inside.tries b work c.self.inside.works c.end_and_tell.new.self c.in_ok-act.act) touched ends))
+
+pub returns-clause-given : goal.returns-clause-given
+returns-clause-given c =
+    let number : ℕ = c.args.number in
+    let req : ℕ = c.in-Some.req in
+    let work : Work = c.in-Some.work.now in
+    let found : asker number c.args.self.now ≡ Some (req, work)
+    = sym c.asked.ensures ∙ ap (option_map (λ found. (found.0, found.1.now))) c.in-Some.is in
+    let has = asker-has number c.args.self.now req work found in
+    let at : tree.get c.self.inside.works req ≡ Some work = ap (λ (g : Gateway). tree.get g.works req) c.self.view_is ∙ has.0 in
+    let ends : MessageEnds req number c.args.status c.self.inside.tries c.has-touched.result work c.self.inside.works c.end_and_tell.new.self c.in_ok-act.act
+    = some_if (tree.get c.self.inside.works req) (λ (w : Work). MessageEnds req number c.args.status c.self.inside.tries c.has-touched.result w c.self.inside.works c.end_and_tell.new.self c.in_ok-act.act)
+    work at c.in_ok-act.ensures.ok in
+    told-gives req number c.args.status c.self.inside.tries c.has-touched.result work c.self.inside.works c.end_and_tell.new.self c.in_ok-act.act
+    c.work.ensures.open
+    (some_if (asker number c.args.self.now) (λ (f : ℕ × Work). IsPieceFor f.1.work c.args.status) (req, work) found c.requires.piece) ends
 
 pub invariant_of-self-2 : goal.invariant_of-self-2
 invariant_of-self-2 c =

@@ -11,14 +11,13 @@ use Rattle.gateway.specs.declared.beginning.Beginning.{Beginning}
 use Rattle.gateway.specs.declared.beginning.Beginning.TheVariants as beginnings
 use Rattle.gateway.specs.declared.act.Act.TheVariants as acts
 use Rattle.gateway.specs.Attempt.{messages_of}
-use Rattle.gateway.specs.Messages.{AreMessagesFor}
 use Rattle.gateway.specs.Stage.{IsStageFor}
 use Rattle.gateway.proofs.WorkLemmas.{if_some, some_if}
 use Rattle.gateway.specs.State.{Work, Open, Ended, WaitsForMembers, Gateway, is_awaited_in, open_numbers, is_touched}
 use Rattle.gateway.specs.Step.{retry_step}
 use Rattle.gateway.specs.Kept.{AreAskers, beginning_of, next_req}
 use Rattle.gateway.proofs.MessageLemmas.{has_number}
-use Rattle.gateway.proofs.AskingLemmas.{AreMessagesFor-messages_of, targets-most, policy_is}
+use Rattle.gateway.proofs.BeginningLemmas.{AreMessagesFor-sent}
 use Rattle.gateway.proofs.AskersKept.{messages-sent, sent-others, AreAskers-some, AreAskers-open, AreAskers-quiet, AreAskers-without, awaited-open}
 use Rattle.gateway.proofs.StepLemmas.{retry-from, next-there}
 use Rattle.gateway.proofs.gateway.Gateway.retry_of.Goals as goal
@@ -49,19 +48,12 @@ invariant_of-self c =
 pub set_stage-requires : goal.set_stage-requires
 set_stage-requires c =
     let work : Work = c.in-Some.work.now in
-    let seen : Gateway = record { me = c.self.inside.me; tries = c.self.inside.tries; works = c.self.inside.works; touched = c.self.inside.touched } in
     let at : tree.get c.self.inside.works c.args.req ≡ Some work = sym c.get.ensures ∙ ap option_copied c.in-Some.is in
-    let targets : List NodeId = targets_in c.args.place.now c.args.epoch.0 (oid_of work.work) (policy_of work.work) in
-    let all : list_all (λ (number : ℕ). nat_lt number c.args.first) (open_numbers seen) ≡ true
-    = ap (λ (g : Gateway). list_all (λ (number : ℕ). nat_lt number c.args.first) (open_numbers g)) c.self.view_is ∙ c.requires.may_send.numbers in
-    let is : c.in-Sends.messages ≡ messages_of work.work work.ended c.args.first targets
-    = messages-sent c.args.place.now c.self.inside.me work.work work.ended c.has-touched.result c.args.first c.args.epoch c.in-Sends.messages c.in-Sends.sends
-    (sym c.in-Sends.is ∙ c.in_ok-beginning.ensures
-    ∙ ap₂ (λ w e. beginning_of c.args.place.now c.self.inside.me w e c.has-touched.result c.args.first c.args.epoch) c.work.ensures.value c.ended-2.ensures) in
     if_some (tree.get c.self.inside.works c.args.req) _ work at (
-      subst (AreMessagesFor work.work) (sym is)
-          (AreMessagesFor-messages_of work.work work.ended c.args.first targets
-          (targets-most c.args.place.now c.args.epoch.0 (oid_of work.work) (policy_of work.work) (policy_is work.work c.work.ensures.valid))),
+      AreMessagesFor-sent c.args.place.now c.self.inside.me work.work work.ended c.has-touched.result c.args.first c.args.epoch c.in-Sends.messages c.in-Sends.sends
+          c.work.ensures.valid
+          (sym c.in-Sends.is ∙ c.in_ok-beginning.ensures
+          ∙ ap₂ (λ w e. beginning_of c.args.place.now c.self.inside.me w e c.has-touched.result c.args.first c.args.epoch) c.work.ensures.value c.ended-2.ensures),
       omega (arith, c.if-ended.false, c.ended.ensures, c.ended.type_inv),
     )
 

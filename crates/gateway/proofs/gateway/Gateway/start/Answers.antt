@@ -10,12 +10,11 @@ use Rattle.gateway.specs.declared.beginning.Beginning.{Beginning}
 use Rattle.gateway.specs.declared.beginning.Beginning.TheVariants as beginnings
 use Rattle.gateway.specs.declared.act.Act.TheVariants as acts
 use Rattle.gateway.specs.Attempt.{messages_of}
-use Rattle.gateway.specs.Messages.{AreMessagesFor}
 use Rattle.gateway.specs.State.{Work, Open, Ended, WaitsForMembers, Gateway, is_awaited_in, open_numbers, is_touched}
 use Rattle.gateway.specs.Step.{start_step}
 use Rattle.gateway.specs.Kept.{AreAskers, step_from, beginning_of}
 use Rattle.gateway.proofs.MessageLemmas.{has_number}
-use Rattle.gateway.proofs.AskingLemmas.{AreMessagesFor-messages_of, targets-most, policy_is}
+use Rattle.gateway.proofs.BeginningLemmas.{AreMessagesFor-sent}
 use Rattle.gateway.proofs.AskersKept.{messages-sent, sent-others, AreAskers-some, AreAskers-open, AreAskers-quiet, awaited-open}
 use Rattle.gateway.proofs.StepLemmas.{start-from, refused-start}
 use Rattle.gateway.proofs.gateway.Gateway.start.Goals as goal
@@ -34,16 +33,11 @@ invariant_of-self c =
     (sent-others seen c.args.work 0 c.args.first targets c.in-Sends.messages all is)
 
 pub new-requires-clause-stage : goal.new-requires-clause-stage
-new-requires-clause-stage c =
-    let targets : List NodeId = targets_in c.args.place.now c.args.epoch.0 (oid_of c.args.work) (policy_of c.args.work) in
-    let is : c.in-Sends.messages ≡ messages_of c.args.work 0 c.args.first targets
-    = messages-sent c.args.place.now c.self.inside.me c.args.work 0 c.has-touched.result c.args.first c.args.epoch c.in-Sends.messages c.in-Sends.sends
-    (sym c.in-Sends.is ∙ c.in_ok-beginning.ensures) in (
-      subst (AreMessagesFor c.args.work) (sym is)
-          (AreMessagesFor-messages_of c.args.work 0 c.args.first targets
-          (targets-most c.args.place.now c.args.epoch.0 (oid_of c.args.work) (policy_of c.args.work) (policy_is c.args.work c.requires.may_start.is_work))),
-      omega arith,
-    )
+new-requires-clause-stage c = (
+  AreMessagesFor-sent c.args.place.now c.self.inside.me c.args.work 0 c.has-touched.result c.args.first c.args.epoch c.in-Sends.messages c.in-Sends.sends
+      c.requires.may_start.is_work (sym c.in-Sends.is ∙ c.in_ok-beginning.ensures),
+  omega arith,
+)
 
 pub invariant_of-self-in_err-put-in-Sends : goal.invariant_of-self-in_err-put-in-Sends
 invariant_of-self-in_err-put-in-Sends c =
