@@ -1,6 +1,6 @@
 -- How a request begins: what its refusal says, and that its pieces are in the disk's objects.
 use Rattle.std.proofs.Common.{◌≡◌, ℕ, zero, suc, ◌+◌, ◌*◌, ◌^◌, ◌<◌, ◌≤◌, ◌==◌, ◌&&◌, ◌%◌, not, nat_le, Bool, true, false, cond, List, [], length, All, Option, Some, None, IsTrue, is_some, refl, ap, sym, subst, ◌∙◌, arith}
-use Rattle.std.proofs.lemmas.Bool.{leb-true}
+use Rattle.std.proofs.lemmas.Bool.{leb-true, eqb-true}
 use Rattle.std.proofs.Math.Pow.{pow_mono}
 use Rattle.std.proofs.Math.Nat.{mul-le-mul_left}
 use Rattle.object_id.specs.declared.cause.Cause.{Cause}
@@ -74,13 +74,25 @@ some-by false other size none e is = absurd (cc (is))
 pub asks-some : (ask : DiskAsk) → IsTrue (is_ask ask) → 1 ≤ size_of ask
 asks-some ask is = some-by (offset_of ask % 512 == 0) (size_of ask % 512 == 0) (size_of ask) (size_of ask == 0) refl is
 
+-- whole blocks
+blocks-by : (at long : ℕ) (whole other some : Bool) → (at == 0) ≡ whole → (long == 0) ≡ other → IsTrue (whole && other && some)
+    → (at ≡ 0) × (long ≡ 0)
+blocks-by at long true true some e f is = (eqb-true _ _ e, eqb-true _ _ f)
+blocks-by at long true false some e f is = absurd (cc (is))
+blocks-by at long false other some e f is = absurd (cc (is))
+
+pub asks-blocks : (ask : DiskAsk) → IsTrue (is_ask ask) → (offset_of ask % 512 ≡ 0) × (size_of ask % 512 ≡ 0)
+asks-blocks ask is =
+    blocks-by (offset_of ask % 512) (size_of ask % 512) (offset_of ask % 512 == 0) (size_of ask % 512 == 0) (not (size_of ask == 0)) refl refl is
+
 -- where it is on the disk
-pub extent-is : (spec : VdiSpec) (shift offset size : ℕ) → IsSpec spec → shift ≡ spec.shift → 1 ≤ size → offset + size ≤ spec.size
-    → IsExtent (record { shift = shift; offset = offset; size = size })
-extent-is spec shift offset size is e some within =
+pub extent-is : (spec : VdiSpec) (shift offset size : ℕ) → IsSpec spec → shift ≡ spec.shift → 1 ≤ size
+    → (offset % 512 ≡ 0) × (size % 512 ≡ 0) → offset + size ≤ spec.size → IsExtent (record { shift = shift; offset = offset; size = size })
+extent-is spec shift offset size is e some blocks within =
     subst (λ shift. IsExtent (record { shift = shift; offset = offset; size = size })) (sym e) (record {
       shift = is.shift;
       some = some;
+      blocks = blocks;
       end = omega (arith, most, within, wide);
       objects = omega (arith, most, within);
     })

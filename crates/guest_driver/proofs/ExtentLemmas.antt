@@ -1,17 +1,17 @@
 -- The pieces of a request from one of its objects on, and where they stand among its bytes.
-use Rattle.std.proofs.Common.{◌≡◌, ◌⊎◌, ⊎_elim, ℕ, zero, suc, ◌+◌, ◌-◌, ◌*◌, ◌/◌, ◌^◌, ◌<◌, ◌≤◌, max, min, [], ◌∷◌, map, All, refl, ap, subst, ◌∙◌, arith}
+use Rattle.std.proofs.Common.{◌≡◌, ⊎_elim, ℕ, zero, suc, ◌+◌, ◌-◌, ◌*◌, ◌/◌, ◌^◌, ◌<◌, ◌≤◌, max, min, [], ◌∷◌, map, All, refl, ap, subst, ◌∙◌, arith}
 use Rattle.std.specs.List.{range_with_len}
 use Rattle.std.proofs.lemmas.Bool.{cases_lt}
 use Rattle.std.proofs.lemmas.Nat.{pow_pos}
-use Rattle.std.proofs.Math.Nat.{max-eq_left, max-eq_right, min-eq_left, min-eq_right, lt-div-mul-add, div-mul-le_self, mul-le-mul_right, le-div_iff_mul-le}
+use Rattle.std.proofs.Math.Nat.{pow-le-pow_right, max-eq_left, max-eq_right, min-eq_left, min-eq_right, lt-div-mul-add, div-mul-le_self, mul-le-mul_right, le-div_iff_mul-le}
 use Rattle.std.proofs.lemmas.List.Elements.{All-head, All-tail}
 use Rattle.object_id.specs.declared.entry.VdiSpec.{VdiSpec}
-use Rattle.object_id.specs.declared.limits.TheConstants.{OBJECTS_MAX}
+use Rattle.object_id.specs.declared.limits.TheConstants.{OBJECTS_MAX, OBJECT_BYTES_MAX}
 use Rattle.object_id.specs.Spec.{IsSpec, objects_of}
 use Rattle.guest_driver.specs.declared.extent.Extent.{Extent}
-use Rattle.guest_driver.specs.Pieces.{Piece, piece_in, pieces}
+use Rattle.guest_driver.specs.Pieces.{Piece, piece_in, pieces, IsPiece, AreBlocks}
 use Rattle.guest_driver.specs.Extent.{IsExtent, Touches, first_index_of, last_index_of, piece_at_index, pieces_from, place_at}
-use Rattle.guest_driver.proofs.PieceLemmas.{Meets, meets}
+use Rattle.guest_driver.proofs.PieceLemmas.{Meets, meets, one_inside, one_blocks}
 
 -- an object of a request is one that a disk may have
 pub quotient_below : (n shift : ℕ) → n < OBJECTS_MAX * 2 ^ shift → n / 2 ^ shift < OBJECTS_MAX
@@ -135,6 +135,22 @@ place_at-next extent index at = (all_places extent index at).next
 -- and ends among the bytes of the request
 pub piece-within : (extent : Extent) (index : ℕ) → Touches extent index → (piece_at_index extent index).place + (piece_at_index extent index).size ≤ extent.size
 piece-within extent index at = (all_places extent index at).most
+
+-- it lies in its object, and goes by whole blocks
+pub piece-inside : (extent : Extent) (index : ℕ) → Touches extent index → IsPiece extent.shift (piece_at_index extent index)
+piece-inside extent index at = one_inside extent.shift extent.offset extent.size index at.is.some (touched extent index at)
+
+pub piece-most : (extent : Extent) (index : ℕ) → Touches extent index
+    → (piece_at_index extent index).offset + (piece_at_index extent index).size ≤ OBJECT_BYTES_MAX
+piece-most extent index at =
+    let inside = (piece-inside extent index at).inside in
+    let most : 2 ^ extent.shift ≤ OBJECT_BYTES_MAX = pow-le-pow_right (omega arith) at.is.shift.1 in
+    omega (arith, inside, most)
+
+pub piece-blocks : (extent : Extent) (index : ℕ) → Touches extent index → AreBlocks (piece_at_index extent index)
+piece-blocks extent index at =
+    let least = at.is.shift.0 in
+    one_blocks extent.shift extent.offset extent.size index (omega (arith, least)) at.is.blocks.0 at.is.blocks.1
 
 -- nothing stands before the first object, and all bytes before one past the last
 pub place_at-first : (extent : Extent) → IsExtent extent → place_at extent (first_index_of extent) ≡ 0

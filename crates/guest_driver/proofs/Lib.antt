@@ -6,4 +6,5 @@ mod ReadLemmas
 mod ExtentLemmas
 pub mod NextLemmas
 pub mod BeginLemmas
+mod WorkLemmas
 mod WorkedRequests

@@ -164,7 +164,7 @@ from_end P end high in_object at_border = ⊎_elim
 abbrev pub between : ℕ → ℕ → ℕ → ℕ → ℕ → Piece
 between k offset low start end = record { index = k; offset = start - low; place = start - offset; size = end - start }
 
-one_inside : (shift offset size k : ℕ) → 1 ≤ size → Meets shift offset size k → IsPiece shift (piece_in shift offset size k)
+pub one_inside : (shift offset size k : ℕ) → 1 ≤ size → Meets shift offset size k → IsPiece shift (piece_in shift offset size k)
 one_inside shift offset size k some met =
     let wide : 0 < 2 ^ shift = pow_pos shift in
     let step : (k + 1) * 2 ^ shift ≡ k * 2 ^ shift + 2 ^ shift = grind arith in
@@ -185,7 +185,7 @@ pub pieces_inside : (shift offset size : ℕ) → 1 ≤ size → All (IsPiece sh
 pieces_inside shift offset size some =
     each_met (IsPiece shift) shift offset size some (λ k within met. one_inside shift offset size k some met)
 
-one_blocks : (shift offset size k : ℕ) → 9 ≤ shift → offset % 512 ≡ 0 → size % 512 ≡ 0 → AreBlocks (piece_in shift offset size k)
+pub one_blocks : (shift offset size k : ℕ) → 9 ≤ shift → offset % 512 ≡ 0 → size % 512 ≡ 0 → AreBlocks (piece_in shift offset size k)
 one_blocks shift offset size k long whole_offset whole_size =
     let split : shift ≡ 9 + (shift - 9) = omega (arith, long) in
     let object : 2 ^ shift ≡ 512 * 2 ^ (shift - 9) = ap (λ n. 2 ^ n) split ∙ pow-add 2 9 (shift - 9) in
@@ -210,6 +210,30 @@ pub pieces_blocks : (shift offset size : ℕ) → 9 ≤ shift → 1 ≤ size →
     → All AreBlocks (pieces shift offset size)
 pieces_blocks shift offset size long some whole_offset whole_size =
     each_met AreBlocks shift offset size some (λ k within met. one_blocks shift offset size k long whole_offset whole_size)
+
+one_among : (shift offset size k : ℕ) → 1 ≤ size → Meets shift offset size k
+    → (piece_in shift offset size k).place + (piece_in shift offset size k).size ≤ size
+one_among shift offset size k some met =
+    let wide : 0 < 2 ^ shift = pow_pos shift in
+    let step : (k + 1) * 2 ^ shift ≡ k * 2 ^ shift + 2 ^ shift = grind arith in
+    let begun : offset < (k + 1) * 2 ^ shift = met.begun in
+    let there : k * 2 ^ shift < offset + size = met.there in
+    from_start (λ start. start - offset + (min (offset + size) ((k + 1) * 2 ^ shift) - start) ≤ size)
+    offset (k * 2 ^ shift)
+    (λ (first : k * 2 ^ shift ≤ offset).
+    from_end (λ end. offset - offset + (end - offset) ≤ size) (offset + size) ((k + 1) * 2 ^ shift)
+    (λ (last : offset + size ≤ (k + 1) * 2 ^ shift). omega arith)
+    (λ (last : (k + 1) * 2 ^ shift < offset + size). omega (arith, last)))
+    (λ (first : offset < k * 2 ^ shift).
+    from_end (λ end. k * 2 ^ shift - offset + (end - k * 2 ^ shift) ≤ size) (offset + size) ((k + 1) * 2 ^ shift)
+    (λ (last : offset + size ≤ (k + 1) * 2 ^ shift). omega (arith, there, first))
+    (λ (last : (k + 1) * 2 ^ shift < offset + size). omega (arith, last, first, step)))
+
+pub pieces_among : (shift offset size : ℕ) → 1 ≤ size
+    → All (λ (piece : Piece). piece.place + piece.size ≤ size) (pieces shift offset size)
+pieces_among shift offset size some =
+    each_met (λ (piece : Piece). piece.place + piece.size ≤ size) shift offset size some
+    (λ k within met. one_among shift offset size k some met)
 
 -- the last object of a request that ends inside the disk is one of the disk's
 last_there : (object offset size whole : ℕ) → 0 < object → 1 ≤ size → offset + size ≤ whole

@@ -1,15 +1,16 @@
 -- Where a request is on its disk, as a driver keeps it, and its pieces by the index of their objects.
-use Rattle.std.specs.Prelude.{ℕ, ◌+◌, ◌-◌, ◌*◌, ◌^◌, ◌≤◌, min, List, map}
+use Rattle.std.specs.Prelude.{◌≡◌, ℕ, ◌+◌, ◌-◌, ◌*◌, ◌%◌, ◌^◌, ◌≤◌, min, List, map}
 use Rattle.std.specs.List.{range_with_len}
-use Rattle.object_id.specs.declared.limits.TheConstants.{SHIFT_MIN, SHIFT_MAX, SIZE_MAX, OBJECTS_MAX}
+use Rattle.object_id.specs.declared.limits.TheConstants.{BLOCK_BYTES, SHIFT_MIN, SHIFT_MAX, SIZE_MAX, OBJECTS_MAX}
 use Rattle.guest_driver.specs.declared.extent.Extent.{Extent}
 use Rattle.guest_driver.specs.declared.piece.Piece as code
 use Rattle.guest_driver.specs.Pieces.{Piece, first_index, last_index, common_start, piece_in}
 
--- a request that isn't empty, and ends where a disk with such objects may end
+-- a request of whole blocks that isn't empty, and ends where a disk with such objects may end
 pub record IsExtent (extent : Extent) : Type 0 where
   pub shift : (SHIFT_MIN ≤ extent.shift) × (extent.shift ≤ SHIFT_MAX)
   pub some : 1 ≤ extent.size
+  pub blocks : (extent.offset % BLOCK_BYTES ≡ 0) × (extent.size % BLOCK_BYTES ≡ 0)
   pub end : extent.offset + extent.size ≤ SIZE_MAX
   pub objects : extent.offset + extent.size ≤ OBJECTS_MAX * 2 ^ extent.shift
 

@@ -8,4 +8,5 @@ pub mod InodeQueue
 pub mod Extent
 pub mod Progress
 pub mod OnDisk
+pub mod BegunWorks
 pub mod WaitingWork

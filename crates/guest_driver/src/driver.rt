@@ -3,6 +3,7 @@ ghost use Rattle.guest_driver.specs.declared.act.DriverAct.TheVariants.{Reply};
 ghost use Rattle.guest_driver.specs.Pieces.{is_ask};
 ghost use Rattle.guest_driver.specs.Driver.{Answered, begin_driver, driver_on_done, driver_bytes_wanted};
 ghost use Rattle.guest_driver.specs.OnDisk.{IsDriverOn, act_takes_memory, beginning_takes_memory};
+ghost use Rattle.guest_driver.specs.BegunWorks.{BeginsWork};
 
 use crate::act::DriverAct;
 use crate::disk::Disk;
@@ -51,6 +52,7 @@ pub fn begin_disk(alloc: Global, disk: &Disk, ask: DiskAsk) -> Result<(Driver, D
     ensures step { IfOk result (λ begun. begin_driver disk.now ask
         ≡ record { driver = begun.0; act = begun.1; inode = disk.now.inode }) }
     ensures on { IfOk result (λ begun. IsDriverOn disk.now.inode begun.0) }
+    ensures work { IfOk result (λ begun. BeginsWork begun.1) }
     ensures memory { beginning_takes_memory disk.now ask ≡ false → IsOk result }
 {
     if let Some(cause) = refusal_on(disk, false, &ask) {
@@ -126,6 +128,7 @@ impl Driver {
             ≡ Some (record { driver = self.new; act = act; inode = disk.new.inode })) }
         ensures snapshot { disk.new.snapshot ≡ disk.old.snapshot }
         ensures on { IfOk result (λ _. IsDriverOn disk.new.inode self.new) }
+        ensures work { IfOk result BeginsWork }
         ensures err { OnErr result ((self.new ≡ self.old) × (disk.new ≡ disk.old)) }
         ensures memory { IfSome (driver_on_done disk.old.inode done.now.bytes self.old)
             (λ step. act_takes_memory step.act ≡ false → IsOk result) }

@@ -1,5 +1,6 @@
 ghost use Rattle.std.specs.Prelude.{◌≡◌, ◌+◌, ◌<◌, ◌≤◌};
-ghost use Rattle.object_id.specs.declared.limits.TheConstants.{OBJECTS_MAX};
+ghost use Rattle.object_id.specs.declared.limits.TheConstants.{OBJECTS_MAX, OBJECT_BYTES_MAX};
+ghost use Rattle.guest_driver.specs.Pieces.{AreBlocks};
 ghost use Rattle.guest_driver.specs.Extent.{IsExtent, Touches, first_index_of, last_index_of, piece_at_index, piece_of};
 
 use crate::piece::Piece;
@@ -36,6 +37,8 @@ impl Extent {
         ensures value { piece_of result ≡ piece_at_index self index }
         ensures index { result.index ≡ index }
         ensures within { result.place + result.size ≤ self.size }
+        ensures inside { result.offset + result.size ≤ OBJECT_BYTES_MAX }
+        ensures blocks { AreBlocks (piece_of result) }
     {
         let low = u64::from(index) << self.shift;
         let high = low + (1 << self.shift);

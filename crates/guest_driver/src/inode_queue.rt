@@ -1,6 +1,7 @@
 //! The queue of a session's works on its disk's inode.
 
-ghost use Rattle.std.specs.Prelude.{◌≡◌, IsTrue, OnErr, OnOk, option_map};
+ghost use Rattle.std.specs.Prelude.{◌≡◌, IfSome, IsTrue, OnErr, OnOk, is_some, option_map};
+ghost use Rattle.peer_proto.specs.Work.{IsWork};
 ghost use Rattle.guest_driver.specs.InodeQueue.{is_on_inode, empty_inode_queue, may_open_work, queue_with_open, queue_with_waiting};
 ghost use Rattle.guest_driver.specs.InodeQueue.{queue_after_end, next_work, queue_after_start};
 ghost use Rattle.guest_driver.specs.WaitingWork.{waiting_of};
@@ -18,7 +19,8 @@ fn is_on_inode(work: &ObjWork) -> bool
     work.oid().kind() == Kind::Inode
 }
 
-/// The request whose work on the inode is open, and the works that wait, the first to come in front.
+/// The request whose work on the inode is open, and the works that wait, the first to come in front. Each is one that a gateway
+/// takes.
 #[derive(Debug, Drop)]
 pub struct InodeQueue {
     current: Option<u32>,
@@ -28,11 +30,13 @@ pub struct InodeQueue {
 impl Model for InodeQueue {
     ghost use Rattle.std.specs.Prelude.{map};
     ghost use Rattle.guest_driver.specs.InodeQueue.{InodeQueue as TheQueue};
-    ghost use Rattle.guest_driver.specs.WaitingWork.{waiting_of};
+    ghost use Rattle.guest_driver.specs.WaitingWork.{waiting_of, AreWorks};
 
     ghost Value = { TheQueue };
 
     ghost view = { λ queue. record { current = queue.current; waiting = map waiting_of queue.waiting.items } };
+
+    ghost invariant = { λ queue. AreWorks queue.waiting.items };
 }
 
 impl InodeQueue {
@@ -65,6 +69,7 @@ impl InodeQueue {
 
     /// Lets a work wait behind the others. Without memory the queue stays as it was.
     pub fn wait(&mut self, req: u32, work: ObjWork) -> Result<(), NoMemory>
+        requires { IsWork work }
         ensures ok { OnOk result (self.new ≡ queue_with_waiting self.old req work) }
         ensures err { OnErr result (self.new ≡ self.old) }
     {
@@ -81,10 +86,18 @@ impl InodeQueue {
         }
     }
 
+    /// Whether a work begins next: one waits, and no other is open.
+    pub fn has_next(&self) -> bool
+        ensures { result ≡ is_some (next_work self.now) }
+    {
+        self.current.is_none() && !self.waiting.is_empty()
+    }
+
     /// The work that begins next, if no other is open: the first that waits. Moves the others one place down, and takes no memory.
     pub fn start(&mut self) -> Option<WaitingWork>
         ensures next { option_map waiting_of result ≡ next_work self.old }
         ensures after { self.new ≡ queue_after_start self.old }
+        ensures work { IfSome result (λ waiting. IsWork waiting.work) }
     {
         if self.current.is_some() || self.waiting.is_empty() {
             return None;

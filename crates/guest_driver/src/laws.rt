@@ -2,16 +2,19 @@
 ghost use Rattle.std.specs.Prelude.{◌≡◌, ℕ, ◌+◌, ◌%◌, ◌<◌, ◌≤◌, List, [], ◌∷◌, ◌++◌, length, map, filter, flat_map, All, Some, None};
 ghost use Rattle.std.specs.Prelude.{IfSome, IsTrue, is_some};
 ghost use Rattle.object_id.specs.declared.entry.VdiSpec.{VdiSpec};
-ghost use Rattle.object_id.specs.Spec.{objects_of};
+ghost use Rattle.object_id.specs.Oid.{IsVid};
+ghost use Rattle.object_id.specs.Spec.{IsSpec, objects_of};
 ghost use Rattle.inode.specs.Layout.{Content};
 ghost use Rattle.peer_proto.specs.declared.guest.DiskAsk.{DiskAsk};
 ghost use Rattle.peer_proto.specs.declared.work.ObjWork.{ObjWork};
 ghost use Rattle.peer_proto.specs.declared.guest.GuestRsp.TheVariants.{Done, Piece as Told};
 ghost use Rattle.guest_driver.specs.declared.act.DriverAct.TheVariants.{Reply};
 ghost use Rattle.guest_driver.specs.declared.disk.Disk.{Disk as TheDisk};
-ghost use Rattle.guest_driver.specs.Pieces.{Piece, indexes, pieces, piece_bytes, IsPiece, AreBlocks};
+ghost use Rattle.guest_driver.specs.Pieces.{Piece, indexes, pieces, piece_bytes, is_ask, IsPiece, AreBlocks};
 ghost use Rattle.guest_driver.specs.Driver.{Driver, read_on, write_on, begin_driver, driver_on_done, driver_bytes_wanted};
 ghost use Rattle.guest_driver.specs.Course.{Goes, inode_after, driver_acts_from, has_object, read_act, told_of, write_acts, answers};
+ghost use Rattle.guest_driver.specs.OnDisk.{IsDriverOn};
+ghost use Rattle.guest_driver.specs.BegunWorks.{GoesByBlocks, StepsByBlocks};
 ghost use Rattle.guest_driver.specs.InodeQueue.{InodeQueue, is_on_inode, requests_in, may_open_work, queue_with_waiting, queue_after_end};
 ghost use Rattle.guest_driver.specs.InodeQueue.{queue_after_start};
 
@@ -55,6 +58,16 @@ pub fn entries_follow_their_objects()
     ensures begun { (before : Driver) (disk : TheDisk) (ask : DiskAsk) → Goes before disk.inode (begin_driver disk ask) }
     ensures done { (inode : Content) (bytes : List ℕ) (driver : Driver)
         → IfSome (driver_on_done inode bytes driver) (λ step. Goes driver (inode_after inode driver) step) }
+{}
+
+/// What a driver begins is a work that a gateway takes: a request of whole blocks goes by whole blocks to its end, and ends inside
+/// each object.
+pub fn a_driver_begins_works()
+    ensures begun { (disk : TheDisk) (ask : DiskAsk) → IsSpec disk.inode.spec → IsTrue (is_ask ask)
+        → StepsByBlocks (begin_driver disk ask) }
+    ensures done { (inode : Content) (bytes : List ℕ) (driver : Driver) → IsSpec inode.spec → IsVid inode.vid
+        → IsDriverOn inode driver → GoesByBlocks driver → driver_bytes_wanted inode driver ≡ Some (length bytes)
+        → IfSome (driver_on_done inode bytes driver) StepsByBlocks }
 {}
 
 /// A driver goes on exactly where it waits for a work.

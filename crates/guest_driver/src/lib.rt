@@ -9,10 +9,11 @@
 //! of an object and which works a piece asks for (`specs/PieceWorks.antt`), when a request is refused (`specs/Refusals.antt`), each
 //! of the steps that the calls make (`specs/Driver.antt`), the whole course of a request (`specs/Course.antt`), and how the works of
 //! a session's requests on its disk's inode wait for each other (`specs/InodeQueue.antt`). How the code keeps a driver is in
-//! `specs/Extent.antt` and `specs/Progress.antt`, and what a call asks for in `specs/OnDisk.antt`.
+//! `specs/Extent.antt` and `specs/Progress.antt`, what a call asks for in `specs/OnDisk.antt`, and that what a driver begins is a
+//! work that a gateway takes in `specs/BegunWorks.antt`.
 //! The laws of `laws.rt` say what these mean: the pieces are the request, cut at the borders of objects; how pieces are
 //! read and written, each by what the table says of its object; an entry is written only after its object was created;
-//! and works on an inode are done one at a time.
+//! what a driver begins is a work that a gateway takes; and works on an inode are done one at a time.
 #![tactic(auto)]
 
 mod act;
@@ -37,8 +38,9 @@ pub use disk::Disk;
 pub use driver::{Driver, begin_disk};
 pub use inode_queue::InodeQueue;
 pub use laws::{
-    a_driver_waits_for_works, a_read_goes_by_its_pieces, a_write_goes_by_its_entries,
-    entries_follow_their_objects, pieces_are_the_request, the_line_keeps_its_order,
+    a_driver_begins_works, a_driver_waits_for_works, a_read_goes_by_its_pieces,
+    a_write_goes_by_its_entries, entries_follow_their_objects, pieces_are_the_request,
+    the_line_keeps_its_order,
 };
 pub use peer_proto::{DiskAsk, GuestRsp};
 pub use refusals::{disk_refusal, is_ask};

@@ -7,6 +7,7 @@ ghost use Rattle.guest_driver.specs.Driver.{read_on, driver_on_done, driver_byte
 ghost use Rattle.guest_driver.specs.Extent.{IsExtent, first_index_of, last_index_of, place_at, pieces_from};
 ghost use Rattle.guest_driver.specs.Progress.{IsReading, IsToldUpTo};
 ghost use Rattle.guest_driver.specs.OnDisk.{IsDriverOn};
+ghost use Rattle.guest_driver.specs.BegunWorks.{BeginsWork};
 
 use crate::act::DriverAct;
 use crate::disk::Disk;
@@ -28,8 +29,9 @@ pub(crate) fn begin_read(
 ) -> Result<(Driver, DriverAct), NoMemory>
     requires extent { IsExtent extent }
     requires there { last_index_of extent < objects_of disk.now.inode.spec }
-    ensures { IfOk result (λ begun. read_on disk.now.inode [] (pieces_from extent (first_index_of extent))
+    ensures step { IfOk result (λ begun. read_on disk.now.inode [] (pieces_from extent (first_index_of extent))
         ≡ record { driver = begun.0; act = begun.1; inode = disk.now.inode }) }
+    ensures work { IfOk result (λ begun. BeginsWork begun.1) }
 {
     let mut told = Vec::new(alloc);
     told.resize(extent.size, 0)?;
@@ -49,8 +51,9 @@ fn read_on(
     requires from { (first_index_of extent ≤ from) × (from ≤ last_index_of extent + 1) }
     requires told { IsToldUpTo extent.size told.items (place_at extent from) }
     requires there { last_index_of extent < objects_of disk.now.inode.spec }
-    ensures { read_on disk.now.inode (take (place_at extent from) told.items) (pieces_from extent from)
+    ensures step { read_on disk.now.inode (take (place_at extent from) told.items) (pieces_from extent from)
         ≡ record { driver = result.0; act = result.1; inode = disk.now.inode } }
+    ensures work { BeginsWork result.1 }
 {
     let end = extent.last() + 1;
     let index = next_object(disk.inode().entries(), from, end);
@@ -84,8 +87,9 @@ impl Driver {
         requires reads { IsReading self.old }
         requires whole { driver_bytes_wanted disk.now.inode self.old ≡ Some (length bytes.now) }
         requires on { IsDriverOn disk.now.inode self.old }
-        ensures { driver_on_done disk.now.inode bytes.now self.old
+        ensures step { driver_on_done disk.now.inode bytes.now self.old
             ≡ Some (record { driver = self.new; act = result; inode = disk.now.inode }) }
+        ensures work { BeginsWork result }
     {
         let piece = self.extent.piece(self.index);
         let told = replace(&mut self.told, Vec::new(alloc));

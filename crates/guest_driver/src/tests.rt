@@ -3,6 +3,7 @@
 
 ghost use Rattle.std.specs.Prelude.{◌≤◌, IfOk, IfSome};
 ghost use Rattle.object_id.specs.declared.limits.TheConstants.{VID_MAX};
+ghost use Rattle.peer_proto.specs.Work.{IsWork};
 ghost use Rattle.guest_driver.specs.OnDisk.{IsDriverOn};
 
 use super::*;
@@ -298,7 +299,9 @@ fn asks_for_whole_blocks(rt: HostRuntime) -> Result<(), Fail> {
 }
 
 /// A read of an object of disk 5.
-fn read_of(oid: Oid) -> ObjWork {
+fn read_of(oid: Oid) -> ObjWork
+    ensures { IsWork result }
+{
     ObjWork::Read {
         oid,
         policy: Policy::Copies(2),

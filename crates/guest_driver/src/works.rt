@@ -1,11 +1,14 @@
 //! The works on a piece.
 
 ghost use Rattle.std.specs.Prelude.{◌≡◌, ◌+◌, ◌*◌, ◌^◌, ◌<◌, ◌≤◌, length, IfOk};
+ghost use Rattle.object_id.specs.declared.limits.TheConstants.{OBJECT_BYTES_MAX};
 ghost use Rattle.object_id.specs.Oid.{IsVid, object_number};
+ghost use Rattle.object_id.specs.Piece.{laid_over};
 ghost use Rattle.object_id.specs.Spec.{IsSpec, objects_of};
 ghost use Rattle.inode.specs.declared.layout.TheConstants.{INODE_HEADER_BYTES};
+ghost use Rattle.peer_proto.specs.Work.{IsWork};
 ghost use Rattle.guest_driver.specs.PieceWorks.{read_piece, write_piece, create_piece, read_object, create_copy, write_entry};
-ghost use Rattle.guest_driver.specs.Pieces.{piece_bytes};
+ghost use Rattle.guest_driver.specs.Pieces.{piece_bytes, AreBlocks};
 ghost use Rattle.guest_driver.specs.Extent.{piece_of};
 
 use crate::piece::Piece;
@@ -52,11 +55,31 @@ fn piece_bytes(alloc: Global, payload: &[u8], piece: Piece) -> Result<Bytes, NoM
     )
 }
 
+/// A copy of an object's bytes, with those of a write that belong to a piece laid over them.
+fn copy_with_piece(
+    alloc: Global,
+    payload: &[u8],
+    piece: Piece,
+    old: &[u8],
+) -> Result<Bytes, NoMemory>
+    requires inside { piece.place + piece.size ≤ length payload.now }
+    requires room { piece.offset + piece.size ≤ length old.now }
+    ensures { IfOk result (λ bytes. bytes ≡ laid_over old.now piece.offset (piece_bytes payload.now (piece_of piece))) }
+{
+    let mut bytes = Vec::from_slice(alloc, old)?;
+    let over = &payload[piece.place..piece.place + piece.size as usize];
+    lay_over(bytes.as_mut_slice(), piece.offset as usize, over);
+    Ok(Bytes::from_vec(bytes))
+}
+
 /// A piece is read from the object of an id.
 pub(crate) fn read_piece(inode: &Inode, piece: Piece, vid: Vid) -> ObjWork
     requires vid { IsVid vid.0 }
     requires index { piece.index < objects_of inode.now.spec }
-    ensures { result ≡ read_piece inode.now (piece_of piece) vid.0 }
+    requires room { piece.offset + piece.size ≤ OBJECT_BYTES_MAX }
+    requires blocks { AreBlocks (piece_of piece) }
+    ensures value { result ≡ read_piece inode.now (piece_of piece) vid.0 }
+    ensures work { IsWork result }
 {
     ObjWork::Read {
         oid: object_of(inode.spec(), vid, piece.index),
@@ -76,7 +99,10 @@ pub(crate) fn write_piece(
     requires vid { IsVid inode.now.vid }
     requires index { piece.index < objects_of inode.now.spec }
     requires inside { piece.place + piece.size ≤ length payload.now }
-    ensures { IfOk result (λ work. work ≡ write_piece inode.now payload.now (piece_of piece)) }
+    requires room { piece.offset + piece.size ≤ OBJECT_BYTES_MAX }
+    requires blocks { AreBlocks (piece_of piece) }
+    ensures value { IfOk result (λ work. work ≡ write_piece inode.now payload.now (piece_of piece)) }
+    ensures work { IfOk result IsWork }
 {
     Ok(ObjWork::Write {
         oid: object_of(inode.spec(), inode.vid(), piece.index),
@@ -96,7 +122,10 @@ pub(crate) fn create_piece(
     requires vid { IsVid inode.now.vid }
     requires index { piece.index < objects_of inode.now.spec }
     requires inside { piece.place + piece.size ≤ length payload.now }
-    ensures { IfOk result (λ work. work ≡ create_piece inode.now payload.now (piece_of piece)) }
+    requires room { piece.offset + piece.size ≤ 2 ^ inode.now.spec.shift }
+    requires blocks { AreBlocks (piece_of piece) }
+    ensures value { IfOk result (λ work. work ≡ create_piece inode.now payload.now (piece_of piece)) }
+    ensures work { IfOk result IsWork }
 {
     Ok(ObjWork::Create {
         oid: object_of(inode.spec(), inode.vid(), piece.index),
@@ -111,7 +140,8 @@ pub(crate) fn create_piece(
 pub(crate) fn read_object(inode: &Inode, piece: Piece, vid: Vid) -> ObjWork
     requires vid { IsVid vid.0 }
     requires index { piece.index < objects_of inode.now.spec }
-    ensures { result ≡ read_object inode.now (piece_of piece) vid.0 }
+    ensures value { result ≡ read_object inode.now (piece_of piece) vid.0 }
+    ensures work { IsWork result }
 {
     ObjWork::Read {
         oid: object_of(inode.spec(), vid, piece.index),
@@ -133,17 +163,16 @@ pub(crate) fn create_copy(
     requires index { piece.index < objects_of inode.now.spec }
     requires inside { piece.place + piece.size ≤ length payload.now }
     requires room { piece.offset + piece.size ≤ length old.now }
-    ensures { IfOk result (λ work. work ≡ create_copy inode.now payload.now (piece_of piece) old.now) }
+    requires whole { length old.now ≡ 2 ^ inode.now.spec.shift }
+    ensures value { IfOk result (λ work. work ≡ create_copy inode.now payload.now (piece_of piece) old.now) }
+    ensures work { IfOk result IsWork }
 {
-    let mut bytes = Vec::from_slice(alloc, old)?;
-    let over = &payload[piece.place..piece.place + piece.size as usize];
-    lay_over(bytes.as_mut_slice(), piece.offset as usize, over);
     Ok(ObjWork::Create {
         oid: object_of(inode.spec(), inode.vid(), piece.index),
         policy: inode.spec().policy,
         length: object_bytes(inode.spec()),
         offset: 0,
-        bytes: Bytes::from_vec(bytes),
+        bytes: copy_with_piece(alloc, payload, piece, old)?,
     })
 }
 
@@ -151,7 +180,8 @@ pub(crate) fn create_copy(
 pub(crate) fn write_entry(alloc: Global, inode: &Inode, piece: Piece) -> Result<ObjWork, NoMemory>
     requires vid { IsVid inode.now.vid }
     requires index { piece.index < objects_of inode.now.spec }
-    ensures { IfOk result (λ work. work ≡ write_entry inode.now (piece_of piece)) }
+    ensures value { IfOk result (λ work. work ≡ write_entry inode.now (piece_of piece)) }
+    ensures work { IfOk result IsWork }
 {
     Ok(ObjWork::Write {
         oid: Oid::inode(inode.vid()),

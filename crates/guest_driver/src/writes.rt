@@ -2,10 +2,13 @@
 
 ghost use Rattle.std.specs.Prelude.{◌≡◌, ℕ, ◌<◌, List, length, false, IfOk, IsOk, OnErr, Some};
 ghost use Rattle.object_id.specs.Spec.{objects_of};
+ghost use Rattle.peer_proto.specs.Work.{IsWork};
+ghost use Rattle.guest_driver.specs.Pieces.{IsPiece};
 ghost use Rattle.guest_driver.specs.Driver.{Fetching, Creating, work_step, write_on, driver_on_done, driver_bytes_wanted};
-ghost use Rattle.guest_driver.specs.Extent.{IsExtent, Touches, first_index_of, last_index_of, pieces_from};
+ghost use Rattle.guest_driver.specs.Extent.{IsExtent, Touches, first_index_of, last_index_of, piece_at_index, pieces_from};
 ghost use Rattle.guest_driver.specs.Progress.{IsWriting, driver_stage, stage_of, payload_in_write, rest_of, piece_step, writes_at};
 ghost use Rattle.guest_driver.specs.OnDisk.{IsDriverOn, act_takes_memory};
+ghost use Rattle.guest_driver.specs.BegunWorks.{BeginsWork};
 
 use crate::act::DriverAct;
 use crate::disk::Disk;
@@ -27,8 +30,10 @@ pub(crate) fn begin_write(
     requires extent { IsExtent extent }
     requires whole { length payload ≡ extent.size }
     requires there { last_index_of extent < objects_of disk.now.inode.spec }
+    requires shift { extent.shift ≡ disk.now.inode.spec.shift }
     ensures ok { IfOk result (λ begun. write_on disk.now.inode payload (pieces_from extent (first_index_of extent))
         ≡ record { driver = begun.0; act = begun.1; inode = disk.now.inode }) }
+    ensures work { IfOk result (λ begun. BeginsWork begun.1) }
     ensures memory { act_takes_memory (write_on disk.now.inode payload (pieces_from extent (first_index_of extent))).act ≡ false
         → IsOk result }
 {
@@ -56,8 +61,10 @@ fn first_work(
     requires touched { Touches extent index }
     requires whole { length payload.now ≡ extent.size }
     requires there { index < objects_of disk.now.inode.spec }
+    requires inside { IsPiece disk.now.inode.spec.shift (piece_at_index extent index) }
     ensures ok { IfOk result (λ first. piece_step disk.now.inode payload.now extent index
         ≡ work_step disk.now.inode (writes_at payload.now extent index (driver_stage first.0)) first.1) }
+    ensures work { IfOk result (λ first. IsWork first.1) }
     ensures memory { act_takes_memory (piece_step disk.now.inode payload.now extent index).act ≡ false → IsOk result }
 {
     let piece = extent.piece(index);
@@ -81,6 +88,7 @@ impl Driver {
         requires on { IsDriverOn disk.now.inode self.old }
         ensures ok { IfOk result (λ act. write_on disk.now.inode (payload_in_write self.old) (rest_of self.old)
             ≡ record { driver = self.new; act = act; inode = disk.now.inode }) }
+        ensures work { IfOk result BeginsWork }
         ensures err { OnErr result (self.new ≡ self.old) }
         ensures memory { act_takes_memory (write_on disk.now.inode (payload_in_write self.old) (rest_of self.old)).act ≡ false
             → IsOk result }
@@ -108,6 +116,7 @@ impl Driver {
         requires on { IsDriverOn disk.now.inode self.old }
         ensures ok { IfOk result (λ act. driver_on_done disk.now.inode bytes.now self.old
             ≡ Some (record { driver = self.new; act = act; inode = disk.now.inode })) }
+        ensures work { IfOk result BeginsWork }
         ensures err { OnErr result (self.new ≡ self.old) }
     {
         let piece = self.extent.piece(self.index);
@@ -122,6 +131,7 @@ impl Driver {
         requires on { IsDriverOn disk.now.inode self.old }
         ensures ok { IfOk result (λ act. (bytes : List ℕ) → driver_on_done disk.now.inode bytes self.old
             ≡ Some (record { driver = self.new; act = act; inode = disk.now.inode })) }
+        ensures work { IfOk result BeginsWork }
         ensures err { OnErr result (self.new ≡ self.old) }
     {
         let piece = self.extent.piece(self.index);

@@ -1,4 +1,4 @@
-use Rattle.std.proofs.Common.{◌≡◌, ℕ, ◌+◌, ◌≤◌, List, [], length, false, None, sym, ap, subst, ◌∙◌}
+use Rattle.std.proofs.Common.{◌≡◌, ℕ, ◌+◌, ◌%◌, ◌≤◌, List, [], length, false, None, sym, ap, subst, ◌∙◌}
 use Rattle.std.proofs.lemmas.Result.{IfOk-weaker}
 use Rattle.object_id.specs.declared.entry.VdiSpec.{VdiSpec}
 use Rattle.object_id.specs.Spec.{IsSpec}
@@ -12,8 +12,9 @@ use Rattle.guest_driver.specs.Refusals.{refusal_on}
 use Rattle.guest_driver.specs.Driver.{Driver, Answered, DriverStep, read_on, write_on, begin_driver}
 use Rattle.guest_driver.specs.Extent.{first_index_of, pieces_from}
 use Rattle.guest_driver.specs.OnDisk.{IsDriverOn, act_takes_memory}
+use Rattle.guest_driver.specs.BegunWorks.{BeginsWork}
 use Rattle.guest_driver.proofs.ExtentLemmas.{pieces_from-first}
-use Rattle.guest_driver.proofs.BeginLemmas.{not-refused, begin-refused, begin-read, begin-write, ends-inside, asks-some, extent-is, read-begins-on, write-begins-on, begin-memory}
+use Rattle.guest_driver.proofs.BeginLemmas.{not-refused, begin-refused, begin-read, begin-write, ends-inside, asks-some, asks-blocks, extent-is, read-begins-on, write-begins-on, begin-memory}
 use Rattle.guest_driver.proofs.driver.begin_disk.Goals as goal
 
 pub returns-in-Some-clause-step : goal.returns-in-Some-clause-step
@@ -23,6 +24,9 @@ returns-in-Some-clause-step c =
     ∙ sym (ap (λ (act : DriverAct). record { driver = Answered; act = act; inode = inode }) c.answered.ensures.act)
     ∙ sym (ap (λ (driver : Driver). record { driver = driver; act = c.answered.result.1; inode = inode }) c.answered.ensures.driver)
 
+pub returns-in-Some-clause-work : goal.returns-in-Some-clause-work
+returns-in-Some-clause-work c = subst BeginsWork (sym c.answered.ensures.act) tt
+
 pub begin_read-requires-clause-extent : goal.begin_read-requires-clause-extent
 begin_read-requires-clause-extent c =
     let disk : Disk = c.args.disk.now in
@@ -31,6 +35,7 @@ begin_read-requires-clause-extent c =
     extent-is disk.inode.spec c.spec-shift.result.shift c.in-Read.offset c.in-Read.length (subst IsSpec spec c.spec-shift.ensures.valid)
     (ap (λ (spec : VdiSpec). spec.shift) spec)
     (subst (λ (ask : DiskAsk). 1 ≤ size_of ask) c.in-Read.is (asks-some c.args.ask c.requires))
+    (subst (λ (ask : DiskAsk). (offset_of ask % 512 ≡ 0) × (size_of ask % 512 ≡ 0)) c.in-Read.is (asks-blocks c.args.ask c.requires))
     (subst (λ (ask : DiskAsk). offset_of ask + size_of ask ≤ disk.inode.spec.size) c.in-Read.is (ends-inside disk c.args.ask none))
 
 pub begin_write-requires-clause-extent : goal.begin_write-requires-clause-extent
@@ -41,6 +46,8 @@ begin_write-requires-clause-extent c =
     extent-is disk.inode.spec c.spec-shift.result.shift c.in-Write.offset c.len.result (subst IsSpec spec c.spec-shift.ensures.valid)
     (ap (λ (spec : VdiSpec). spec.shift) spec)
     (subst (λ n. 1 ≤ n) (sym c.len.ensures) (subst (λ (ask : DiskAsk). 1 ≤ size_of ask) c.in-Write.is (asks-some c.args.ask c.requires)))
+    (subst (λ n. (c.in-Write.offset % 512 ≡ 0) × (n % 512 ≡ 0)) (sym c.len.ensures)
+    (subst (λ (ask : DiskAsk). (offset_of ask % 512 ≡ 0) × (size_of ask % 512 ≡ 0)) c.in-Write.is (asks-blocks c.args.ask c.requires)))
     (subst (λ n. c.in-Write.offset + n ≤ disk.inode.spec.size) (sym c.len.ensures)
     (subst (λ (ask : DiskAsk). offset_of ask + size_of ask ≤ disk.inode.spec.size) c.in-Write.is (ends-inside disk c.args.ask none)))
 
@@ -56,7 +63,7 @@ returns-in-Read-clause-step c =
     (λ begun made. begin-read disk c.args.ask c.in-Read.offset c.in-Read.length c.in-Read.is none
     ∙ sym (ap (λ (spec : VdiSpec). read_on disk.inode [] (pieces spec.shift c.in-Read.offset c.in-Read.length)) spec)
     ∙ ap (read_on disk.inode []) (pieces_from-first extent) ∙ made)
-    c.begin_read.ensures
+    c.begin_read.ensures.step
 
 pub returns-in-Read-clause-on : goal.returns-in-Read-clause-on
 returns-in-Read-clause-on c =
@@ -73,7 +80,12 @@ returns-in-Read-clause-on c =
     (read-begins-on disk.inode c.in-Read.offset c.in-Read.length
     (subst (λ (ask : DiskAsk). 1 ≤ size_of ask) c.in-Read.is (asks-some c.args.ask c.requires))
     (subst (λ (ask : DiskAsk). offset_of ask + size_of ask ≤ disk.inode.spec.size) c.in-Read.is (ends-inside disk c.args.ask none))))
-    c.begin_read.ensures
+    c.begin_read.ensures.step
+
+pub begin_write-requires-clause-shift : goal.begin_write-requires-clause-shift
+begin_write-requires-clause-shift c =
+    let spec : c.spec-shift.result ≡ c.args.disk.now.inode.spec = c.spec-shift.ensures.value ∙ ap (λ (inode : Content). inode.spec) c.inode.ensures.value in
+    ap (λ (spec : VdiSpec). spec.shift) spec
 
 pub returns-in-Write-clause-step : goal.returns-in-Write-clause-step
 returns-in-Write-clause-step c =

@@ -10,12 +10,13 @@ use Rattle.guest_driver.specs.PieceWorks.{read_piece}
 use Rattle.guest_driver.specs.Driver.{Driver, Reads, Answered, work_step}
 use Rattle.guest_driver.specs.Extent.{Touches, last_index_of, piece_at_index, piece_of, pieces_from}
 use Rattle.guest_driver.specs.Progress.{IsToldUpTo}
+use Rattle.guest_driver.specs.BegunWorks.{BeginsWork}
 use Rattle.guest_driver.proofs.ExtentLemmas.{place_at-here}
 use Rattle.guest_driver.proofs.NextLemmas.{holes-passed, read_on-past, read_on-object, index-within}
 use Rattle.guest_driver.proofs.reads.read_on.Goals as goal
 
-pub returns-then-index-end : goal.returns-then-index-end
-returns-then-index-end c =
+pub returns-then-index-end-clause-step : goal.returns-then-index-end-clause-step
+returns-then-index-end-clause-step c =
     let inode : Content = c.args.disk.now.inode in
     let extent : Extent = c.args.extent in
     let end : ℕ = last_index_of extent + 1 in
@@ -32,6 +33,9 @@ returns-then-index-end c =
     ∙ ap (λ (bytes : List ℕ). record { driver = Answered; act = Reply (Told bytes); inode = inode }) (sym c.from_vec.ensures)
     ∙ sym (ap (λ (act : DriverAct). record { driver = Answered; act = act; inode = inode }) c.answered.ensures.act)
     ∙ sym (ap (λ (driver : Driver). record { driver = driver; act = c.answered.result.1; inode = inode }) c.answered.ensures.driver)
+
+pub returns-then-index-end-clause-work : goal.returns-then-index-end-clause-work
+returns-then-index-end-clause-work c = subst BeginsWork (sym c.answered.ensures.act) tt
 
 pub invariant_of-driver : goal.invariant_of-driver
 invariant_of-driver c =
@@ -50,8 +54,8 @@ invariant_of-driver c =
     c.requires.told in
     (at, subst (IsToldUpTo extent.size c.args.told.items) (place_at-here extent index at) passed.1)
 
-pub returns : goal.returns
-returns c =
+pub returns-clause-step : goal.returns-clause-step
+returns-clause-step c =
     let inode : Content = c.args.disk.now.inode in
     let extent : Extent = c.args.extent in
     let index : ℕ = c.next_object-index.result in
@@ -71,7 +75,7 @@ returns c =
     (λ (none : slice_index inode.table index ≡ 0).
     c.next_object-index.ensures.object (omega (arith, within, end)) (ap (λ (table : List ℕ). slice_index table index) table ∙ none))
     ∙ sym (ap (λ (work : ObjWork). work_step inode (Reads (take (piece_at_index extent index).place c.args.told.items) (piece_at_index extent index) (pieces_from extent (index + 1))) work)
-    (c.read_piece-work.ensures
+    (c.read_piece-work.ensures.value
     ∙ ap (λ (i : Content). read_piece i (piece_of c.piece.result) c.entry.result) c.inode-3.ensures.value
     ∙ ap (λ (piece : Piece). read_piece inode piece c.entry.result) c.piece.ensures.value
     ∙ ap (λ entry. read_piece inode (piece_at_index extent index) entry)

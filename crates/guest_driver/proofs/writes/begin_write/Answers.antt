@@ -1,14 +1,24 @@
-use Rattle.std.proofs.Common.{◌≡◌, ℕ, ◌+◌, ◌≤◌, List, sym, ap, subst, ◌∙◌}
+use Rattle.std.proofs.Common.{◌≡◌, ℕ, ◌+◌, ◌≤◌, List, sym, ap, subst, ◌∙◌, arith}
 use Rattle.inode.specs.Layout.{Content}
 use Rattle.guest_driver.specs.declared.extent.Extent.{Extent}
+use Rattle.guest_driver.specs.Pieces.{IsPiece}
 use Rattle.guest_driver.specs.PieceWorks.{backing_of}
 use Rattle.guest_driver.specs.Driver.{Writes, DriverStep, work_step, write_piece_on, write_on}
-use Rattle.guest_driver.specs.Extent.{last_index_of, piece_at_index, pieces_from}
+use Rattle.guest_driver.specs.Extent.{Touches, first_index_of, last_index_of, piece_at_index, pieces_from}
 use Rattle.guest_driver.specs.Progress.{driver_stage}
 use Rattle.guest_driver.specs.OnDisk.{act_takes_memory}
-use Rattle.guest_driver.proofs.ExtentLemmas.{first-le-last}
+use Rattle.guest_driver.proofs.ExtentLemmas.{first-le-last, piece-inside}
 use Rattle.guest_driver.proofs.NextLemmas.{write_on-piece}
 use Rattle.guest_driver.proofs.writes.begin_write.Goals as goal
+
+pub first_work-requires-clause-inside : goal.first_work-requires-clause-inside
+first_work-requires-clause-inside c =
+    let extent : Extent = c.args.extent in
+    let first : c.first-index.result ≡ first_index_of extent = c.first-index.ensures in
+    let within : c.first-index.result ≤ last_index_of extent
+    = subst (λ k. k ≤ last_index_of extent) (sym first) (first-le-last extent c.requires.extent) in
+    let at : Touches extent c.first-index.result = record { is = c.requires.extent; first = omega (arith, first); last = within } in
+    subst (λ shift. IsPiece shift (piece_at_index extent c.first-index.result)) c.requires.shift (piece-inside extent c.first-index.result at)
 
 pub returns-in_err-stage-clause-memory : goal.returns-in_err-stage-clause-memory
 returns-in_err-stage-clause-memory c none =

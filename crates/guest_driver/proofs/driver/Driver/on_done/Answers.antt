@@ -154,11 +154,12 @@ returns-in_default c =
     let inode : Content = c.args.disk.now.inode in
     let ok : driver_on_done inode c.args.done.now.bytes c.args.self.now
     ≡ Some (record { driver = c.read_next.new.self; act = c.read_next.result; inode = inode })
-    = ap (λ (bytes : List ℕ). driver_on_done inode bytes c.args.self.now) (sym c.as_slice-bytes.ensures) ∙ c.read_next.ensures in
+    = ap (λ (bytes : List ℕ). driver_on_done inode bytes c.args.self.now) (sym c.as_slice-bytes.ensures) ∙ c.read_next.ensures.step in
     record {
       ok = ok;
       snapshot = refl;
       on = stays-on inode inode c.args.done.now.bytes c.args.self.now c.read_next.new.self c.read_next.result c.requires.on refl ok;
+      work = c.read_next.ensures.work;
       err = tt;
       memory = no-memory-wanted (driver_on_done inode c.args.done.now.bytes c.args.self.now);
     }

@@ -53,8 +53,8 @@ read_on-driver-requires-clause-there c =
     (on-each c.args.disk.now.inode c.args.self.now extent index (ap pieces_left now.is) now.at c.requires.on
     (last_index_of extent) now.at.last (omega arith)).object
 
-pub returns : goal.returns
-returns c =
+pub returns-clause-step : goal.returns-clause-step
+returns-clause-step c =
     let extent : Extent = c.self.inside.extent in
     let index : ℕ = c.self.inside.index in
     let told : List ℕ = c.self.inside.told.items in
@@ -73,5 +73,5 @@ returns c =
     ∙ ap (λ (piece : Piece). laid_over told piece.place c.args.bytes.now) c.piece-piece.ensures.value in
     done-reading c.args.disk.now.inode c.args.bytes.now c.args.self.now extent index told c.with_piece-told.result.items now
     (ap (λ (xs : List ℕ). take (place_at extent (index + 1)) xs) is ∙ over.0)
-    ∙ ap (λ (step : DriverStep). Some step) c.read_on-driver.ensures
+    ∙ ap (λ (step : DriverStep). Some step) c.read_on-driver.ensures.step
     ∙ sym (ap (λ (driver : Driver). Some (record { driver = driver; act = c.read_on-driver.result.1; inode = c.args.disk.now.inode })) c.drop.view_is)

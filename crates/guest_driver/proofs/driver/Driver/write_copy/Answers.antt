@@ -42,6 +42,18 @@ create_copy-requires-clause-room c =
     subst (λ n. c.piece-piece.result.offset + c.piece-piece.result.size ≤ n) long
     (subst (λ (piece : Piece). piece.offset + piece.size ≤ 2 ^ c.args.disk.now.inode.spec.shift) (sym c.piece-piece.ensures.value) inside)
 
+pub create_copy-requires-clause-whole : goal.create_copy-requires-clause-whole
+create_copy-requires-clause-whole c =
+    let now : WritesNow c.args.self.now c.self.inside.extent c.self.inside.index c.self.inside.payload
+    = writes-now c.args.self.now c.self.inside.progress c.self.inside.extent c.self.inside.index c.self.inside.told.items c.self.inside.payload
+    c.self.view_is (stage-writes c.args.self.now Fetching c.requires.stage) c.self.invariant in
+    let is : c.args.self.now ≡ Writes c.self.inside.payload Fetching (piece_at_index c.self.inside.extent c.self.inside.index) (pieces_from c.self.inside.extent (c.self.inside.index + 1))
+    = at-stage c.args.self.now Fetching c.self.inside.extent c.self.inside.index c.self.inside.payload c.requires.stage now in
+    let long : 2 ^ c.args.disk.now.inode.spec.shift ≡ length c.args.bytes.now
+    = ap (λ (wanted : Option ℕ). unwrap_or wanted 0)
+    (sym (ap (driver_bytes_wanted c.args.disk.now.inode) is) ∙ c.requires.whole) in
+    subst (λ (inode : Content). length c.args.bytes.now ≡ 2 ^ inode.spec.shift) (sym c.inode.ensures.value) (sym long)
+
 pub returns-clause-ok : goal.returns-clause-ok
 returns-clause-ok c =
     let now : WritesNow c.args.self.now c.self.inside.extent c.self.inside.index c.self.inside.payload
@@ -50,7 +62,7 @@ returns-clause-ok c =
     done-fetching c.args.disk.now.inode c.args.bytes.now c.self.inside.payload (piece_at_index c.self.inside.extent c.self.inside.index)
     (pieces_from c.self.inside.extent (c.self.inside.index + 1)) c.args.self.now c.in_ok-work.work
     (at-stage c.args.self.now Fetching c.self.inside.extent c.self.inside.index c.self.inside.payload c.requires.stage now)
-    (c.in_ok-work.ensures
+    (c.in_ok-work.ensures.value
     ∙ ap (λ (inode : Content). create_copy inode c.as_slice.result.now (piece_of c.piece-piece.result) c.args.bytes.now) c.inode.ensures.value
     ∙ ap (λ (payload : List ℕ). create_copy c.args.disk.now.inode payload (piece_of c.piece-piece.result) c.args.bytes.now) c.as_slice.ensures
     ∙ ap (λ (piece : Piece). create_copy c.args.disk.now.inode c.self.inside.payload piece c.args.bytes.now) c.piece-piece.ensures.value)

@@ -27,6 +27,6 @@ returns-clause-ok c bytes =
     done-creating c.args.disk.now.inode bytes c.self.inside.payload (piece_at_index c.self.inside.extent c.self.inside.index)
     (pieces_from c.self.inside.extent (c.self.inside.index + 1)) c.args.self.now c.in_ok-work.work
     (at-stage c.args.self.now Creating c.self.inside.extent c.self.inside.index c.self.inside.payload c.requires.stage now)
-    (c.in_ok-work.ensures
+    (c.in_ok-work.ensures.value
     ∙ ap (λ (inode : Content). write_entry inode (piece_of c.piece-piece.result)) c.inode.ensures.value
     ∙ ap (λ (piece : Piece). write_entry c.args.disk.now.inode piece) c.piece-piece.ensures.value)

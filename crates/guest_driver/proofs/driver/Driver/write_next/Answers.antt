@@ -27,6 +27,16 @@ first_work-requires-clause-there c =
     (on-each c.args.disk.now.inode c.args.self.now c.self.inside.extent c.self.inside.index now.left now.at c.requires.on
     (c.self.inside.index + 1) (omega arith) within).object
 
+pub first_work-requires-clause-inside : goal.first_work-requires-clause-inside
+first_work-requires-clause-inside c =
+    let now : WritesNow c.args.self.now c.self.inside.extent c.self.inside.index c.self.inside.payload
+    = writes-now c.args.self.now c.self.inside.progress c.self.inside.extent c.self.inside.index c.self.inside.told.items c.self.inside.payload
+    c.self.view_is c.requires.writes c.self.invariant in
+    let within : c.self.inside.index + 1 ≤ last_index_of c.self.inside.extent
+    = next-within c.self.inside.index (last_index_of c.self.inside.extent) c.last.result now.at.last c.last.ensures.value c.if-self-last.false in
+    (on-each c.args.disk.now.inode c.args.self.now c.self.inside.extent c.self.inside.index now.left now.at c.requires.on
+    (c.self.inside.index + 1) (omega arith) within).within
+
 pub returns-in_err-stage-clause-memory : goal.returns-in_err-stage-clause-memory
 returns-in_err-stage-clause-memory c none =
     let now : WritesNow c.args.self.now c.self.inside.extent c.self.inside.index c.self.inside.payload

@@ -1,7 +1,10 @@
-use Rattle.std.proofs.Common.{◌≡◌, ℕ, ◌+◌, ◌*◌, ◌%◌, ◌^◌, ◌≤◌, max, min, ap, ap₂, ◌∙◌, arith}
+use Rattle.std.proofs.Common.{◌≡◌, ℕ, ◌+◌, ◌*◌, ◌%◌, ◌^◌, ◌≤◌, max, min, ap, ap₂, sym, subst, ◌∙◌, arith}
 use Rattle.std.proofs.Math.Pow.{pow_mono}
 use Rattle.std.proofs.Math.Nat.{mod-eq_of_lt}
+use Rattle.object_id.specs.declared.limits.TheConstants.{OBJECT_BYTES_MAX}
+use Rattle.guest_driver.specs.Pieces.{Piece, AreBlocks}
 use Rattle.guest_driver.proofs.PieceLemmas.{Meets, meets, between}
+use Rattle.guest_driver.proofs.ExtentLemmas.{piece-most, piece-blocks}
 use Rattle.guest_driver.proofs.extent.Extent.piece.Goals as goal
 
 pub returns-clause-value : goal.returns-clause-value
@@ -25,3 +28,10 @@ returns-clause-value c =
     ap (λ l. between index offset l c.max-start.result c.min-end.result) low
     ∙ ap (λ s. between index offset (index * 2 ^ shift) s c.min-end.result) start
     ∙ ap (λ e. between index offset (index * 2 ^ shift) (max offset (index * 2 ^ shift)) e) end
+
+pub returns-clause-inside : goal.returns-clause-inside
+returns-clause-inside c =
+    subst (λ (piece : Piece). piece.offset + piece.size ≤ OBJECT_BYTES_MAX) (sym (returns-clause-value c)) (piece-most c.args.self c.args.index c.requires)
+
+pub returns-clause-blocks : goal.returns-clause-blocks
+returns-clause-blocks c = subst AreBlocks (sym (returns-clause-value c)) (piece-blocks c.args.self c.args.index c.requires)
