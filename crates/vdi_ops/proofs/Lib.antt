@@ -1,5 +1,6 @@
 pub mod StepLemmas
 mod TableLemmas
+mod WorkLemmas
 mod IdLemmas
 mod MovedSteps
 mod TagLemmas

@@ -54,7 +54,7 @@ thirteen : (a b c d e f g h i j k l m : List ℕ)
     ≡ length a + length b + length c + length d + length e + length f + length g + length h + length i + length j + length k + length l + length m
 thirteen a b c d e f g h i j k l m = simp length-append
 
-header_length : (content : Content) (unread : UnreadParts) → Fills content unread → length (header_bytes content unread) ≡ INODE_HEADER_BYTES
+pub header_length : (content : Content) (unread : UnreadParts) → Fills content unread → length (header_bytes content unread) ≡ INODE_HEADER_BYTES
 header_length content unread fills =
     let sum = thirteen
     (text_bytes content.name unread.after_name) (text_bytes content.tag unread.after_tag) unread.times
@@ -109,7 +109,7 @@ children_fill : length no_children ≡ CHILDREN_BYTES
 unfolding no_children
 children_fill = length-replicate {A = ℕ} CHILDREN_BYTES 0
 
-blank_fills : (content : Content) → IsFieldText content.name → IsFieldText content.tag → Fills content (unread_zeros content)
+pub blank_fills : (content : Content) → IsFieldText content.name → IsFieldText content.tag → Fills content (unread_zeros content)
 blank_fills content name tag = record {
   name = text_fills content.name name.0;
   tag = text_fills content.tag tag.0;

@@ -8,6 +8,9 @@ use Rattle.inode.specs.declared.layout.TheConstants.{INODE_BYTES, INODE_HEADER_B
 use Rattle.inode.specs.Layout.{Content, header_bytes, inode_bytes, unread_zeros}
 use Rattle.peer_proto.specs.declared.work.ObjWork.{ObjWork}
 use Rattle.peer_proto.specs.declared.work.ObjWork.TheVariants.{Create, Write, Read}
+use Rattle.peer_proto.specs.Work.{IsWork}
+use Rattle.vdi_ops.specs.declared.act.OpAct.{OpAct}
+use Rattle.vdi_ops.specs.declared.act.OpAct.TheVariants.{Append, Work, Reply}
 
 -- how many bytes of an inode are ever written: the header, and the entries that the disk has
 abbrev pub written_bytes : VdiSpec → ℕ
@@ -32,3 +35,9 @@ write_back inode bytes = Write (inode_number inode.vid) inode.spec.policy 0 (wri
 -- a disk that becomes a snapshot gets its tag
 abbrev pub write_tag : Content → List ℕ → ObjWork
 write_tag inode tag = Write (inode_number inode.vid) inode.spec.policy TEXT_BYTES tag
+
+-- what an act begins is a work that a gateway takes: an entry and a reply begin none
+abbrev pub CommandBeginsWork : OpAct → Type 0
+CommandBeginsWork (Append entry) = Unit {0}
+CommandBeginsWork (Work work) = IsWork work
+CommandBeginsWork (Reply reply) = Unit {0}

@@ -1,13 +1,13 @@
 -- What always holds of a command, what its calls ask for, and which of them take memory.
-use Rattle.std.specs.Prelude.{◌≡◌, ◌⊎◌, Bool, true, false, [], Option, Some, None, IfSome, IsTrue, is_some}
+use Rattle.std.specs.Prelude.{◌≡◌, ◌⊎◌, Bool, true, false, [], length, Option, Some, None, IfSome, IsTrue, is_some}
 use Rattle.object_id.specs.Oid.{IsVid}
-use Rattle.object_id.specs.Spec.{IsName, IsSpec}
+use Rattle.object_id.specs.Spec.{IsName, IsSpec, objects_of}
 use Rattle.object_id.specs.declared.oid.Vid.{Vid}
 use Rattle.object_id.specs.declared.entry.Origin.{Origin}
 use Rattle.object_id.specs.declared.entry.Origin.TheVariants.{Fresh, SnapshotOf, CloneOf}
 use Rattle.object_id.specs.declared.entry.Entry.{Entry}
 use Rattle.object_id.specs.declared.entry.Entry.TheVariants as entries
-use Rattle.inode.specs.Layout.{Content}
+use Rattle.inode.specs.Layout.{Content, IsFieldText}
 use Rattle.peer_proto.specs.declared.guest.VdiAsk.{VdiAsk}
 use Rattle.peer_proto.specs.declared.guest.VdiAsk.TheVariants.{Create, Attach, Close, Snapshot, Clone, Delete, Check}
 use Rattle.vdi_directory.specs.declared.header.Header.{Header}
@@ -22,26 +22,46 @@ pub record IsInodeHeader (header : Header) : Type 0 where
   pub tag : (header.tag ≡ []) ⊎ IsName header.tag
   pub spec : IsSpec header.spec
 
--- the works of a task, and those that come after it, are on ids, and its header is one of an inode
+-- an inode that can be created: its id is one, its texts end inside their fields, and each object of its valid spec has an entry
+pub record IsWholeInode (inode : Content) : Type 0 where
+  pub vid : IsVid inode.vid
+  pub name : IsFieldText inode.name
+  pub tag : IsFieldText inode.tag
+  pub spec : IsSpec inode.spec
+  pub count : length inode.table ≡ objects_of inode.spec
+
+-- the tag that a disk is to have as a snapshot is one
+abbrev pub OriginHasTag : Origin → Type 0
+OriginHasTag (Fresh spec) = Unit {0}
+OriginHasTag (SnapshotOf tag) = IsName tag
+OriginHasTag (CloneOf base tag) = Unit {0}
+
+abbrev pub EntryHasTag : Entry → Type 0
+EntryHasTag (entries.Reserve by session name origin) = OriginHasTag origin
+EntryHasTag _ = Unit {0}
+
+-- the works of a task, and those that come after it, are on ids; its header is one of an inode, and the inode that it is to create
+-- can be created
 abbrev pub IsSoundTask : Vid → Task → Type 0
 IsSoundTask vid (Opening snapshot ids header) = IsVid vid.0 × IsInodeHeader header
 IsSoundTask vid (WritingBack inode) = Unit {0}
-IsSoundTask vid (Tagging old inode) = IsVid inode.vid
+IsSoundTask vid (Tagging old inode) = IsWholeInode inode
 IsSoundTask vid (Copying ids header) = IsVid vid.0 × IsInodeHeader header
 IsSoundTask vid (Making entry opened) = Unit {0}
 
+-- what a command waits for leads to works that a gateway takes
 abbrev pub IsSoundOpStage : OpStage → Type 0
-IsSoundOpStage (Asked entry) = Unit {0}
+IsSoundOpStage (Asked entry) = EntryHasTag entry
 IsSoundOpStage (Working vid task) = IsSoundTask vid task
 IsSoundOpStage (Publishing entry opened) = Unit {0}
 IsSoundOpStage (Answered change) = Unit {0}
 
--- a command has a first entry: it isn't a check, and if it is about the open disk there is one
+-- a command has a first entry: it isn't a check, if it is about the open disk there is one, and a snapshot's tag is such as there may be
 abbrev pub HasFirstEntry : Option Content → VdiAsk → Type 0
 HasFirstEntry disk (Create name spec) = Unit {0}
 HasFirstEntry disk (Attach name tag) = Unit {0}
 HasFirstEntry disk Close = IsTrue (is_some disk)
-HasFirstEntry disk (Snapshot tag) = IsTrue (is_some disk)
+HasFirstEntry disk (Snapshot tag) = IsTrue (is_some disk) × IsName tag
 HasFirstEntry disk (Clone base tag name) = Unit {0}
 HasFirstEntry disk (Delete name tag) = Unit {0}
 HasFirstEntry disk Check = ⊥

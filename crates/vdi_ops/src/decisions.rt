@@ -8,8 +8,10 @@ ghost use Rattle.object_id.specs.declared.oid.Vid.{Vid as TheVid};
 ghost use Rattle.vdi_directory.specs.Decisions.{log_effects};
 ghost use Rattle.vdi_directory.specs.Effects.{header_of};
 ghost use Rattle.vdi_ops.specs.Steps.{change_without_grant, step_after_grant, step_after_decision, decided_at};
+ghost use Rattle.vdi_ops.specs.InodeWorks.{CommandBeginsWork};
 ghost use Rattle.vdi_ops.specs.Stage.{op_change, op_stage, bare_op, step_to};
-ghost use Rattle.vdi_ops.specs.Kept.{IsSoundOpStage, FitsEntry, FitsOpStage, vid_granted, first_takes_memory, decision_takes_memory};
+ghost use Rattle.vdi_ops.specs.Kept.{EntryHasTag, IsSoundOpStage, FitsEntry, FitsOpStage, vid_granted, first_takes_memory};
+ghost use Rattle.vdi_ops.specs.Kept.{decision_takes_memory};
 
 use crate::granted::{reply, step_after_grant};
 use crate::stage::{Change, Next, Stage};
@@ -92,9 +94,11 @@ fn step_after_decision(
         decision.now)) }
     requires disk { IfSome (option_and_then (λ vid. header_of (log_effects directory.now) vid.0) (vid_granted decision.now))
         (λ header. IfSome (option_copied disk) (λ inode. FitsEntry header inode entry.now)) }
+    requires tag { EntryHasTag entry.now }
     ensures ok { IfOk result (λ next. step_after_decision (log_effects directory.now) (option_copied disk.entry) (bare_op by) entry.now
         decision.now ≡ Some (step_to (bare_op by) next)) }
     ensures sound { IfOk result (λ next. IsSoundOpStage (op_stage next.stage)) }
+    ensures work { IfOk result (λ next. CommandBeginsWork next.act) }
     ensures memory { first_takes_memory decision.now entry.now ≡ false → IsOk result }
 {
     match *decision {
@@ -139,9 +143,11 @@ pub(crate) fn after_decision(
         (op_stage stage))) }
     requires disk { FitsOpStage (option_and_then (λ vid. header_of (log_effects directory.now) vid.0) (vid_granted decision.now))
         (option_copied disk) (op_stage stage) }
+    requires sound { IsSoundOpStage (op_stage stage) }
     ensures ok { IfOk result (λ next. decided_at (log_effects directory.now) (option_copied disk.entry) decision.now (bare_op by)
         (op_stage stage) ≡ Some (step_to (bare_op by) next)) }
     ensures sound { IfOk result (λ next. IsSoundOpStage (op_stage next.stage)) }
+    ensures work { IfOk result (λ next. CommandBeginsWork next.act) }
     ensures err { IfErr result (λ kept. kept ≡ stage) }
     ensures memory { decision_takes_memory decision.now (op_stage stage) ≡ false → IsOk result }
 {

@@ -3,7 +3,7 @@ ghost use Rattle.std.specs.Prelude.{◌≡◌, true, Some, IfOk, IsOk};
 ghost use Rattle.std.specs.Option.{option_copied};
 ghost use Rattle.peer_proto.specs.declared.guest.VdiAsk.TheVariants.{Close};
 ghost use Rattle.vdi_ops.specs.Entries.{first_entry};
-ghost use Rattle.vdi_ops.specs.Kept.{HasFirstEntry, gives_back};
+ghost use Rattle.vdi_ops.specs.Kept.{HasFirstEntry, EntryHasTag, gives_back};
 
 use inode::Inode;
 use object_id::{Bytes, Entry, NoMemory, NodeId, Origin};
@@ -31,6 +31,7 @@ pub(crate) fn first_entry(
 ) -> Result<Entry, NoMemory>
     requires { HasFirstEntry (option_copied disk) ask }
     ensures ok { IfOk result (λ entry. first_entry node session (option_copied disk.entry) ask ≡ Some entry) }
+    ensures tag { IfOk result EntryHasTag }
     ensures memory { ask ≡ Close → IfOk result (λ entry. gives_back entry ≡ true) × IsOk result }
 {
     let by = node;

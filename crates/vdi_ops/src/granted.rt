@@ -2,17 +2,18 @@
 ghost use Rattle.std.specs.Prelude.{◌≡◌, [], ◌∷◌, false, Some, None, IfOk, IfSome, IsOk, IsTrue, is_some};
 ghost use Rattle.std.specs.Option.{option_copied};
 ghost use Rattle.object_id.specs.Oid.{IsVid};
+ghost use Rattle.object_id.specs.Spec.{IsName};
 ghost use Rattle.object_id.specs.declared.entry.Entry.TheVariants as entries;
 ghost use Rattle.vdi_directory.specs.Decisions.{log_effects};
 ghost use Rattle.vdi_directory.specs.Chains.{chain_of};
 ghost use Rattle.vdi_ops.specs.declared.act.OpAct.TheVariants.{Work, Reply};
 ghost use Rattle.vdi_ops.specs.declared.stage.Stage.TheVariants as stages;
 ghost use Rattle.vdi_ops.specs.Tables.{holes, inode_by};
-ghost use Rattle.vdi_ops.specs.InodeWorks.{read_inode, create_inode, write_tag};
+ghost use Rattle.vdi_ops.specs.InodeWorks.{read_inode, create_inode, write_tag, CommandBeginsWork};
 ghost use Rattle.vdi_ops.specs.Op.{Opening, Tagging, Copying, Making, Working};
 ghost use Rattle.vdi_ops.specs.Steps.{step_after_grant};
 ghost use Rattle.vdi_ops.specs.Stage.{op_stage, bare_op, step_to, id_numbers};
-ghost use Rattle.vdi_ops.specs.Kept.{IsInodeHeader, IsSoundOpStage, FitsOrigin, FitsEntry, grant_takes_memory};
+ghost use Rattle.vdi_ops.specs.Kept.{IsInodeHeader, EntryHasTag, IsSoundOpStage, FitsOrigin, FitsEntry, grant_takes_memory};
 
 use crate::act::OpAct;
 use crate::inode_works::{
@@ -41,6 +42,7 @@ fn make_disk(alloc: Global, by: NodeId, vid: Vid, header: &Header) -> Result<Nex
     requires header { IsInodeHeader header.now }
     ensures stage { IfOk result (λ next. op_stage next.stage ≡ Working vid (Making (entries.Publish by vid) None)) }
     ensures act { IfOk result (λ next. next.act ≡ Work (create_inode (inode_by header.now vid.0 (holes header.now.spec)))) }
+    ensures work { IfOk result (λ next. CommandBeginsWork next.act) }
 {
     let inode = inode_of_holes(alloc, header, vid)?;
     let work = create_inode(alloc, &inode)?;
@@ -68,9 +70,12 @@ fn tag_disk(
     requires vid { IsVid vid.0 }
     requires header { IsInodeHeader header.now }
     requires disk { IsVid disk.now.vid × (header.now.spec ≡ disk.now.spec) }
+    requires tag { IsName tag.now }
     ensures stage { IfOk result (λ next. op_stage next.stage
         ≡ Working vid (Tagging (record { 0 = disk.now.vid }) (inode_by header.now vid.0 disk.now.table))) }
     ensures act { IfOk result (λ next. next.act ≡ Work (write_tag disk.now tag.now)) }
+    ensures sound { IfOk result (λ next. IsSoundOpStage (op_stage next.stage)) }
+    ensures work { IfOk result (λ next. CommandBeginsWork next.act) }
 {
     let inode = inode_by(alloc, header, vid, disk.entries())?;
     let work = write_tag(alloc, disk, tag)?;
@@ -101,6 +106,7 @@ fn read_base(
     ensures stage { IfOk result (λ next. op_stage next.stage
         ≡ Working vid (Copying (chain_of (log_effects directory.now) vid.0) header.now)) }
     ensures act { IfOk result (λ next. next.act ≡ Work (read_inode parent.0 header.now.spec)) }
+    ensures work { IfOk result (λ next. CommandBeginsWork next.act) }
 {
     let chain = chain_above(directory, vid)?;
     let header = copy_header(alloc, header)?;
@@ -124,6 +130,7 @@ fn read_disk(
     ensures stage { IfOk result (λ next. op_stage next.stage
         ≡ Working vid (Opening snapshot (vid.0 ∷ chain_of (log_effects directory.now) vid.0) header.now)) }
     ensures act { IfOk result (λ next. next.act ≡ Work (read_inode vid.0 header.now.spec)) }
+    ensures work { IfOk result (λ next. CommandBeginsWork next.act) }
 {
     let chain = chain_above(directory, vid)?;
     let header = copy_header(alloc, header)?;
@@ -155,11 +162,13 @@ pub(crate) fn step_after_grant(
     requires header { IsInodeHeader header.now }
     requires base { IfSome header.now.parent (λ parent. IsVid parent.0) }
     requires disk { IfSome (option_copied disk) (λ inode. FitsEntry header.now inode entry.now) }
+    requires tag { EntryHasTag entry.now }
     requires step { IsTrue (is_some (step_after_grant (bare_op by) vid (chain_of (log_effects directory.now) vid.0)
         (option_copied disk) entry.now header.now)) }
     ensures ok { IfOk result (λ next. step_after_grant (bare_op by) vid (chain_of (log_effects directory.now) vid.0)
         (option_copied disk.entry) entry.now header.now ≡ Some (step_to (bare_op by) next)) }
     ensures sound { IfOk result (λ next. IsSoundOpStage (op_stage next.stage)) }
+    ensures work { IfOk result (λ next. CommandBeginsWork next.act) }
     ensures memory { grant_takes_memory entry.now ≡ false → IsOk result }
 {
     match entry {

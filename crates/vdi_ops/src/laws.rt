@@ -11,6 +11,7 @@ ghost use Rattle.object_id.specs.declared.entry.Origin.TheVariants.{Fresh, Snaps
 ghost use Rattle.object_id.specs.declared.entry.Entry.{Entry};
 ghost use Rattle.object_id.specs.declared.entry.Entry.TheVariants as entries;
 ghost use Rattle.object_id.specs.declared.policy.Policy.{Policy};
+ghost use Rattle.object_id.specs.Oid.{IsVid};
 ghost use Rattle.object_id.specs.Spec.{IsSpec, objects_of};
 ghost use Rattle.object_id.specs.Piece.{laid_over};
 ghost use Rattle.inode.specs.declared.layout.TheConstants.{INODE_HEADER_BYTES, INODE_BYTES};
@@ -29,10 +30,12 @@ ghost use Rattle.vdi_ops.specs.Entries.{OpenDisk, own_bytes, command_refusal, fi
 ghost use Rattle.vdi_directory.specs.Chains.{chain_of};
 ghost use Rattle.vdi_ops.specs.Tables.{kept_entry, table_in, holes, inode_by};
 ghost use Rattle.vdi_ops.specs.InodeWorks.{written_bytes, written_back, read_inode, create_inode, write_back, write_tag};
+ghost use Rattle.vdi_ops.specs.InodeWorks.{CommandBeginsWork};
 ghost use Rattle.vdi_ops.specs.Op.{Op, Opening, WritingBack, Asked, Working, Publishing, Stays, Opens, Closes, entry_wanted};
 ghost use Rattle.vdi_ops.specs.Op.{op_bytes_wanted};
 ghost use Rattle.vdi_ops.specs.Op.{IsAwaitedByCommand, disk_change};
-ghost use Rattle.vdi_ops.specs.Steps.{begin_command, on_decision, op_on_done, on_refusal};
+ghost use Rattle.vdi_ops.specs.Kept.{IsInodeHeader, EntryHasTag, IsSoundOpStage, FitsEntry};
+ghost use Rattle.vdi_ops.specs.Steps.{begin_command, step_after_grant, on_decision, op_on_done, on_refusal};
 ghost use Rattle.vdi_ops.specs.Course.{Decided, Given, op_acts_from};
 
 /// How each command goes, from its first entry to its reply, where each is granted and each work is done.
@@ -169,4 +172,15 @@ pub fn the_tag_is_written_in_its_field()
 /// What is written of an inode fits into its object.
 pub fn an_inode_has_room()
     ensures { (spec : VdiSpec) → IsSpec spec → written_bytes spec ≤ INODE_BYTES }
+{}
+
+/// What a command begins is a work that a gateway takes, where the header that was granted is one of an inode, the tag that was asked
+/// for is one, and a read gives as many bytes as are waited for.
+pub fn a_command_begins_works()
+    ensures granted { (op : Op) (vid : Vid) (chain : List ℕ) (disk : Option Content) (entry : Entry) (header : TheHeader)
+        → IsVid vid.0 → IsInodeHeader header → IfSome header.parent (λ parent. IsVid parent.0)
+        → IfSome disk (λ inode. FitsEntry header inode entry) → EntryHasTag entry
+        → IfSome (step_after_grant op vid chain disk entry header) (λ step. CommandBeginsWork step.act) }
+    ensures done { (bytes : List ℕ) (op : Op) → IsSoundOpStage op.stage → op_bytes_wanted op ≡ Some (length bytes)
+        → IfSome (op_on_done bytes op) (λ step. CommandBeginsWork step.act) }
 {}

@@ -12,7 +12,8 @@
 //! How the code keeps what it waits for is in `specs/Stage.antt`, and what always holds of it in `specs/Kept.antt`.
 //! The laws of `laws.rt` say what these mean: how each command goes from its first entry to its reply; of an inode
 //! that is read the table alone is taken, and of that the disk's own entries and its parents'; what is written back has
-//! the directory's header and the table as it was read; and a command waits for what it did last.
+//! the directory's header and the table as it was read; a command waits for what it did last;
+//! and each work that it begins is one that a gateway takes.
 #![tactic(auto)]
 
 mod act;
@@ -38,9 +39,9 @@ mod works_done;
 pub use act::OpAct;
 pub use end::OpEnd;
 pub use laws::{
-    a_command_waits_for_what_it_did, an_inode_has_room, checks_are_refused_so, commands_go_so,
-    the_table_alone_is_taken, the_table_is_written_back, the_tag_is_written_in_its_field,
-    what_becomes_of_the_open_disk,
+    a_command_begins_works, a_command_waits_for_what_it_did, an_inode_has_room,
+    checks_are_refused_so, commands_go_so, the_table_alone_is_taken, the_table_is_written_back,
+    the_tag_is_written_in_its_field, what_becomes_of_the_open_disk,
 };
 pub use limits::CHECKED_BYTES_MAX;
 pub use op::{VdiOp, begin_vdi};

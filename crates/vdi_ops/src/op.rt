@@ -4,6 +4,7 @@ ghost use Rattle.peer_proto.specs.declared.guest.VdiAsk.TheVariants.{Close};
 ghost use Rattle.vdi_directory.specs.Decisions.{log_effects};
 ghost use Rattle.vdi_directory.specs.Effects.{header_of};
 ghost use Rattle.vdi_ops.specs.Entries.{first_entry};
+ghost use Rattle.vdi_ops.specs.InodeWorks.{CommandBeginsWork};
 ghost use Rattle.vdi_ops.specs.Op.{disk_change_at, entry_wanted, op_bytes_wanted};
 ghost use Rattle.vdi_ops.specs.Steps.{begin_command, on_decision, op_on_done, on_refusal};
 ghost use Rattle.vdi_ops.specs.Kept.{HasFirstEntry, FitsOpStage, vid_granted, decision_takes_memory, stage_takes_memory};
@@ -140,6 +141,7 @@ impl VdiOp {
             (option_copied disk) self.old.stage }
         ensures ok { IfOk result (λ act. on_decision (log_effects directory.now) (option_copied disk.entry) decision.now self.old
             ≡ Some (record { op = self.new; act = act })) }
+        ensures work { IfOk result CommandBeginsWork }
         ensures err { OnErr result (self.new ≡ self.old) }
         ensures memory { decision_takes_memory decision.now self.old.stage ≡ false → IsOk result }
     {
@@ -162,6 +164,7 @@ impl VdiOp {
     pub fn on_done(&mut self, alloc: Global, done: &WorkDone) -> Result<OpAct, NoMemory>
         requires { op_bytes_wanted self.old ≡ Some (length done.now.bytes) }
         ensures ok { IfOk result (λ act. op_on_done done.now.bytes self.old ≡ Some (record { op = self.new; act = act })) }
+        ensures work { IfOk result CommandBeginsWork }
         ensures err { OnErr result (self.new ≡ self.old) }
         ensures memory { stage_takes_memory self.old.stage ≡ false → IsOk result }
     {

@@ -225,9 +225,11 @@ pub(crate) fn take_snapshot(
     requires { AreLocks (log_effects directory.old) locks.old }
     ensures { OnOk result (AreLocks (log_effects directory.new) locks.new) }
 {
-    let ask = VdiAsk::Snapshot {
-        tag: bytes(alloc, b"t")?,
-    };
+    let tag = bytes(alloc, b"t")?;
+    if !is_name(tag.as_slice()) {
+        return Ok(None);
+    }
+    let ask = VdiAsk::Snapshot { tag };
     match disk {
         Some(disk) => Ok(Some(course(alloc, ask, &[], Some(&disk), directory, locks)?)),
         None => Ok(None),
