@@ -1,8 +1,9 @@
 -- The works of a check meet what works must: an own object is read and written whole, and its value is as long as it.
-use Rattle.std.proofs.Common.{◌≡◌, ℕ, zero, suc, ◌+◌, ◌-◌, ◌*◌, ◌/◌, ◌%◌, ◌^◌, ◌≤◌, List, length, take, drop, map, refl, sym, ap, ◌∙◌, pow-add, arith}
+use Rattle.std.proofs.Common.{◌≡◌, ℕ, zero, suc, ◌+◌, ◌-◌, ◌*◌, ◌/◌, ◌%◌, ◌^◌, ◌≤◌, List, [], ◌∷◌, length, take, drop, map, Option, Some, IfSome, refl, sym, ap, subst, ◌∙◌, pow-add, arith}
 use Rattle.std.specs.List.{range_with_len}
 use Rattle.std.proofs.Math.Nat.{pow-le-pow_right, zero-mul}
 use Rattle.std.proofs.lemmas.List.{length-append, length-take-le}
+use Rattle.std.proofs.lemmas.Option.{same_Some}
 use Rattle.object_id.specs.declared.entry.VdiSpec.{VdiSpec}
 use Rattle.object_id.specs.declared.limits.TheConstants.{OBJECT_BYTES_MAX}
 use Rattle.object_id.specs.declared.oid.Kind.{Kind}
@@ -19,7 +20,9 @@ use Rattle.gf256.proofs.Widths.{by_cases}
 use Rattle.inode.specs.Layout.{Content}
 use Rattle.peer_proto.specs.Work.{IsWork}
 use Rattle.disk_check.specs.Value.{all_bytes, pieces_in, value_of}
-use Rattle.disk_check.specs.Check.{begun_check, read_copies, write_value}
+use Rattle.disk_check.specs.Table.{own_indexes}
+use Rattle.disk_check.specs.Check.{Check, CheckStage, CheckStep, Comparing, WritingBack, Answered, CheckBeginsWork, begun_check, read_copies, write_value}
+use Rattle.disk_check.specs.Check.{check_on, begin_check, check_done_at, check_on_done, bytes_at, check_bytes_wanted}
 
 -- objects go by whole blocks
 object_blocks : (shift : ℕ) → 9 ≤ shift → 2 ^ shift ≡ 512 * 2 ^ (shift - 9)
@@ -91,20 +94,52 @@ object_whole spec is =
 pub object_most : (spec : VdiSpec) → IsSpec spec → 2 ^ spec.shift ≤ OBJECT_BYTES_MAX
 object_most spec is = pow-le-pow_right (omega arith) is.shift.1
 
-pub read_copies-work : (inode : Content) (index : ℕ) → IsSpec inode.spec → IsWork (read_copies (begun_check inode) index)
-read_copies-work inode index is = (
+any_read-work : (check : Check) (index : ℕ) → IsSpec check.spec → IsWork (read_copies check index)
+any_read-work check index is = (
   is.policy,
-  object_most inode.spec is,
-  aligned inode.spec.policy (kind_of (object_number inode.vid index)) (2 ^ inode.spec.shift) (object_whole inode.spec is),
+  object_most check.spec is,
+  aligned check.spec.policy (kind_of (object_number check.vid index)) (2 ^ check.spec.shift) (object_whole check.spec is),
 )
+
+any_write-work : (check : Check) (index : ℕ) (value : List ℕ) → IsSpec check.spec → length value ≡ 2 ^ check.spec.shift
+    → IsWork (write_value check index value)
+any_write-work check index value is long =
+    let most : 2 ^ check.spec.shift ≤ OBJECT_BYTES_MAX = object_most check.spec is in
+    let whole : length value % 512 ≡ 0 = ap (λ n. n % 512) long ∙ object_whole check.spec is in
+    let kind : Kind = kind_of (object_number check.vid index) in (
+      is.policy,
+      omega (arith, long, most),
+      (aligned check.spec.policy kind 0 refl, aligned check.spec.policy kind (length value) whole),
+    )
+
+pub read_copies-work : (inode : Content) (index : ℕ) → IsSpec inode.spec → IsWork (read_copies (begun_check inode) index)
+read_copies-work inode index is = any_read-work (begun_check inode) index is
 
 pub write_value-work : (inode : Content) (index : ℕ) (value : List ℕ) → IsSpec inode.spec → length value ≡ 2 ^ inode.spec.shift
     → IsWork (write_value (begun_check inode) index value)
-write_value-work inode index value is long =
-    let most : 2 ^ inode.spec.shift ≤ OBJECT_BYTES_MAX = object_most inode.spec is in
-    let whole : length value % 512 ≡ 0 = ap (λ n. n % 512) long ∙ object_whole inode.spec is in
-    let kind : Kind = kind_of (object_number inode.vid index) in (
-      is.policy,
-      omega (arith, long, most),
-      (aligned inode.spec.policy kind 0 refl, aligned inode.spec.policy kind (length value) whole),
-    )
+write_value-work inode index value is long = any_write-work (begun_check inode) index value is long
+
+-- ---- the steps
+
+on-work : (check : Check) (indexes : List ℕ) → IsSpec check.spec → CheckBeginsWork (check_on check indexes).act
+on-work check [] is = tt
+on-work check (index ∷ later) is = any_read-work check index is
+
+pub begin-work : (inode : Content) → IsSpec inode.spec → CheckBeginsWork (begin_check inode).act
+unfolding begin_check
+begin-work inode is = on-work (begun_check inode) (own_indexes inode) is
+
+stage-work : (bytes : List ℕ) (check : Check) (stage : CheckStage) → IsSpec check.spec → bytes_at check.spec stage ≡ Some (length bytes)
+    → IfSome (check_done_at bytes check stage) (λ step. CheckBeginsWork step.act)
+stage-work bytes check (Comparing index later) is all =
+    any_write-work check index (value_of check.spec.policy (pieces_in check.spec bytes)) is
+    (value-length check.spec bytes is (sym (same_Some (all_bytes check.spec) (length bytes) all)))
+stage-work bytes check (WritingBack later) is all = on-work check later is
+stage-work bytes check Answered is all = tt
+
+-- the step that a work's bytes make, where as many came as were waited for
+pub done-work : (bytes : List ℕ) (check : Check) (step : CheckStep) → IsSpec check.spec → check_bytes_wanted check ≡ Some (length bytes)
+    → check_on_done bytes check ≡ Some step → CheckBeginsWork step.act
+unfolding check_on_done
+done-work bytes check step is all made =
+    subst (λ (step : Option CheckStep). IfSome step (λ step. CheckBeginsWork step.act)) made (stage-work bytes check check.stage is all)

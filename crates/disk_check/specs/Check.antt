@@ -10,6 +10,7 @@ use Rattle.inode.specs.Layout.{Content}
 use Rattle.peer_proto.specs.declared.guest.Checked.{Checked}
 use Rattle.peer_proto.specs.declared.work.ObjWork.{ObjWork}
 use Rattle.peer_proto.specs.declared.work.ObjWork.TheVariants.{Write, ReadAll}
+use Rattle.peer_proto.specs.Work.{IsWork}
 use Rattle.disk_check.specs.declared.act.CheckAct.{CheckAct}
 use Rattle.disk_check.specs.declared.act.CheckAct.TheVariants.{Work, Reply}
 use Rattle.disk_check.specs.Table.{own_indexes, inherited_count}
@@ -54,6 +55,11 @@ abbrev pub check_on : Check → List ℕ → CheckStep
 check_on check [] = record { check = record check { stage = Answered }; act = Reply check.found }
 check_on check (index ∷ later) =
     record { check = record check { stage = Comparing index later }; act = Work (read_copies check index) }
+
+-- what an act begins is a work that a gateway takes: the answer begins none
+abbrev pub CheckBeginsWork : CheckAct → Type 0
+CheckBeginsWork (Work work) = IsWork work
+CheckBeginsWork (Reply found) = Unit {0}
 
 -- a check begins: nothing was found yet but the entries that are another disk's
 abbrev pub begun_check : Content → Check

@@ -2,7 +2,7 @@ ghost use Rattle.std.specs.Prelude.{◌≡◌, ◌^◌, ◌∷◌, length, false
 ghost use Rattle.object_id.specs.Oid.{IsVid};
 ghost use Rattle.disk_check.specs.Value.{all_bytes, pieces_in};
 ghost use Rattle.disk_check.specs.Check.{CheckStage, Comparing, WritingBack, later_of, check_on, begin_check, write_back_step};
-ghost use Rattle.disk_check.specs.Check.{check_on_done, check_bytes_wanted, takes_memory};
+ghost use Rattle.disk_check.specs.Check.{check_on_done, check_bytes_wanted, takes_memory, CheckBeginsWork};
 
 use crate::act::CheckAct;
 use crate::compare::{all_bytes, differ, value_of};
@@ -55,7 +55,8 @@ impl Model for CheckOp {
 /// Begins the check of an open disk: looks through its table once, and takes four bytes for each own object.
 pub fn begin_check(alloc: Global, inode: &Inode) -> Result<(CheckOp, CheckAct), NoMemory>
     requires { IsVid inode.now.vid }
-    ensures { IfOk result (λ begun. record { check = begun.0; act = begun.1 } ≡ begin_check inode.now) }
+    ensures ok { IfOk result (λ begun. record { check = begun.0; act = begun.1 } ≡ begin_check inode.now) }
+    ensures work { IfOk result (λ begun. CheckBeginsWork begun.1) }
 {
     let spec = inode.spec();
     let entries = entries_by_owner(alloc, inode)?;
@@ -93,6 +94,7 @@ impl CheckOp {
     pub fn on_done(&mut self, alloc: Global, done: &WorkDone) -> Result<CheckAct, NoMemory>
         requires { check_bytes_wanted self.old ≡ Some (length done.now.bytes) }
         ensures ok { IfOk result (λ act. check_on_done done.now.bytes self.old ≡ Some (record { check = self.new; act = act })) }
+        ensures work { IfOk result CheckBeginsWork }
         ensures err { OnErr result (self.new ≡ self.old) }
         ensures memory { takes_memory self.old ≡ false → IsOk result }
     {
