@@ -1,5 +1,5 @@
 -- What a command begins is a work that a gateway takes.
-use Rattle.std.proofs.Common.{◌≡◌, ◌⊎◌, inl, inr, ℕ, ◌+◌, ◌≤◌, ◌==◌, ◌≢◌, true, false, List, [], ◌∷◌, length, drop, All, Option, Some, None, IfSome, option_map, if◌then◌else◌, sym, ap, subst, arith}
+use Rattle.std.proofs.Common.{◌≡◌, ◌⊎◌, inl, inr, ℕ, ◌+◌, ◌≤◌, ◌==◌, ◌≢◌, true, false, List, [], length, drop, Option, Some, None, IfSome, option_map, if◌then◌else◌, sym, ap, subst, arith}
 use Rattle.std.proofs.lemmas.List.{length-append, length-drop, length-replicate}
 use Rattle.std.proofs.lemmas.List.Elements.{All-nil}
 use Rattle.std.proofs.lemmas.Option.{same_Some}
