@@ -43,7 +43,7 @@ use Rattle.sheep_node.specs.May.{May}
 use Rattle.sheep_node.specs.SessionQueues.{session_among, QueuesAreDiskRequests, CommandsAreAlone}
 use Rattle.sheep_node.specs.DrivenDisks.{IsCourseOn, AreOnDisks, RequestsAreOnDisks}
 use Rattle.sheep_node.specs.Changes as changes
-use Rattle.sheep_node.specs.Changes.{HasRequest, Arrival, Outcome, ToWork, ToEntry, ToReply, without_ended_work, without_denied_work, zones_of_members, RequestSteps, DiskBegins, DiskGoesOn, CommandBegins, CommandGoesOn, CommandDecided, CheckBegins, CheckGoesOn, ObjectBegins, ObjectIsDone, EntryBegins, EntryDecided, WorkIsNext, AtOnce, InTurn, Again, AgainAlone, input_received, Change}
+use Rattle.sheep_node.specs.Changes.{HasRequest, Arrival, Outcome, ToWork, ToEntry, ToReply, without_ended_work, without_denied_work, zones_of_members, RequestSteps, DiskBegins, DiskGoesOn, CommandBegins, CommandGoesOn, CommandDecided, CheckBegins, CheckGoesOn, ObjectBegins, ObjectIsDone, EntryBegins, EntryDecided, WorkIsNext, AtOnce, InTurn, Again, AgainAlone, input_received, Change, Leads}
 use Rattle.sheep_node.proofs.OneWorkParts.{Requests, Sessions}
 use Rattle.sheep_node.proofs.RefusedCourses.{course_refused-keeps, request_refused-keeps}
 use Rattle.sheep_node.proofs.SoleParts.{CommandsAre, IsFreeFor, command_is_free}
@@ -255,8 +255,13 @@ received_on = received_keeps (λ works requests sessions. AreOnDisks requests se
 pub on_disks_at_opening : (me : NodeId) (tries : ℕ) → RequestsAreOnDisks (initial_node me tries)
 on_disks_at_opening me tries = none_on
 
+-- and in the middle of a step
+pub on_disks_in_chain : (input : Input) (node : Node) → May input node → QueuesAreDiskRequests node → CommandsAreAlone node
+    → RequestsAreOnDisks node → (so_far : StepState) → Leads input node (input_received input (at_first node)) so_far → RequestsAreOnDisks so_far.node
+on_disks_in_chain input node may queued sole all so_far leads =
+    (kept_by_chain AreInPlace (λ so_far next change. change_keeps_place may queued sole so_far next change) leads
+    (received_alone input node sole, received_on input node all)).1
+
 pub stay_on_disks : (input : Input) (node : Node) → May input node → QueuesAreDiskRequests node → CommandsAreAlone node → RequestsAreOnDisks node
     → RequestsAreOnDisks (node_step input node).node
-stay_on_disks input node may queued sole all =
-    (kept_by_chain AreInPlace (λ so_far next change. change_keeps_place may queued sole so_far next change) (step_chain input node)
-    (received_alone input node sole, received_on input node all)).1
+stay_on_disks input node may queued sole all = on_disks_in_chain input node may queued sole all (node_step input node) (step_chain input node)

@@ -135,7 +135,7 @@ opened_given req asked so_far all =
 
 -- ---- every change
 
-change_keeps_given : {input : Input} {node : Node} → (so_far next : StepState) → Change input node so_far next → StepHasOneWork so_far
+pub change_keeps_given : {input : Input} {node : Node} → (so_far next : StepState) → Change input node so_far next → StepHasOneWork so_far
     → WereGiven so_far → WereGiven next
 change_keeps_given so_far next (changes.Marks req number work attempt status learns over) good all =
     put_is (HasNumbersBelow so_far.node.sends) so_far.node.gateway.works req (record work { stage = Open (attempt_with_status number status attempt) })
@@ -168,7 +168,7 @@ change_keeps_given so_far next (changes.Arrives session req ask disk arrival on)
 change_keeps_given so_far next (changes.Rejects session req ask cause arrival) good all = all
 change_keeps_given so_far next (changes.Recovers due) good all = all
 
-received_given : (input : Input) (node : Node) → WereGiven (at_first node) → WereGiven (input_received input (at_first node))
+pub received_given : (input : Input) (node : Node) → WereGiven (at_first node) → WereGiven (input_received input (at_first node))
 unfolding entry_read on_request on_recover_tick on_back
 received_given (inputs.Guest req session ask) node all = all
 received_given (inputs.Request request) node all = all
@@ -191,7 +191,7 @@ received_given (inputs.Back entries) node all = none_is (HasNumbersBelow (on_bac
 pub numbers_given_at_opening : (me : NodeId) (tries : ℕ) → NumbersWereGiven (initial_node me tries)
 numbers_given_at_opening me tries = none_is (HasNumbersBelow 0)
 
-abbrev GivenWithOneWork : StepState → Type 0
+abbrev pub GivenWithOneWork : StepState → Type 0
 GivenWithOneWork so_far = StepHasOneWork so_far × WereGiven so_far
 
 pub numbers_stay_given : (input : Input) (node : Node) → May input node → HasOneWorkPerRequest node → NumbersWereGiven node

@@ -33,6 +33,7 @@ pub mod ValidSteps
 pub mod MessageCounts
 pub mod ValidChanges
 pub mod ValidLaws
+pub mod AskedNodes
 pub mod NodeLaws
 pub mod OutsideAskLaws
 mod MayTestLaws
@@ -42,3 +43,6 @@ pub mod ReceivedInputs
 pub mod RefusedEnds
 pub mod GivenNumbers
 pub mod BeginningWorks
+pub mod InSteps
+pub mod TurnSteps
+pub mod CourseSteps

@@ -18,6 +18,7 @@ use Rattle.sheep_node.proofs.WantedChanges.{works_wanted_at_opening, works_stay_
 use Rattle.sheep_node.proofs.DrivenChanges.{on_disks_at_opening, stay_on_disks}
 use Rattle.sheep_node.proofs.TurnChanges.{in_turn_at_opening, stay_in_turn}
 use Rattle.sheep_node.proofs.ReadLogs.{log_at_opening, log_stays}
+use Rattle.sheep_node.proofs.AskedNodes.{read_if_asked_at_opening, read_if_asked_stays}
 use Rattle.sheep_node.proofs.LogLaws.{opening_follows, step_follows}
 use Rattle.sheep_node.proofs.StepResults.{none_due_at_opening, step_not_due}
 
@@ -34,6 +35,7 @@ IsSoundNode-initial me tries = record {
   in_turn = in_turn_at_opening me tries;
   log = log_at_opening me tries;
   by_the_log = opening_follows me tries;
+  read = read_if_asked_at_opening me tries;
   none_due = none_due_at_opening me tries;
   valid_disks = valid_disks_at_opening me tries;
 }
@@ -51,6 +53,7 @@ IsSoundNode-step input node may is = record {
   in_turn = stay_in_turn input node is.in_turn;
   log = log_stays input node may is.log;
   by_the_log = step_follows input node may is.by_the_log;
+  read = read_if_asked_stays input node may is.by_the_log is.read;
   none_due = step_not_due input node;
   valid_disks = valid_disks_stay input node (valid_input input node may.condition is.valid_disks.read) is.valid_disks;
 }

@@ -178,12 +178,12 @@ module _ {input : Input} {node : Node} {first : StepState} {n : ℕ} where
   course_begun_walk so_far session req (DoingWork work) there walk = one_more walk
   course_begun_walk so_far session req (AwaitingDecision entry) there walk = one_more walk
 
-  request_begun_walk : (so_far : StepState) (req : ℕ) (request : Option Request) → tree.get so_far.node.requests req ≡ request → IsReached input node first n so_far
+  pub request_begun_walk : (so_far : StepState) (req : ℕ) (request : Option Request) → tree.get so_far.node.requests req ≡ request → IsReached input node first n so_far
       → IsReached input node first (suc n) (option_map_or (λ (request : Request). course_begun request.session req request.course so_far) request so_far)
   request_begun_walk so_far req None there walk = one_more walk
   request_begun_walk so_far req (Some request) there walk = course_begun_walk so_far request.session req request.course there walk
 
-  next_begun_walk : (session : ℕ) (so_far : StepState) → IsReached input node first n so_far → IsReached input node first (suc n) (next_begun session (next_work (session_in session so_far).inode_queue) so_far)
+  pub next_begun_walk : (session : ℕ) (so_far : StepState) → IsReached input node first n so_far → IsReached input node first (suc n) (next_begun session (next_work (session_in session so_far).inode_queue) so_far)
   next_begun_walk session so_far walk =
       as_begun (next_work (session_in session so_far).inode_queue) (by_current (session_in session so_far).inode_queue.current refl (session_in session so_far).inode_queue.waiting refl)
     where

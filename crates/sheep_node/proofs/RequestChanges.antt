@@ -60,7 +60,7 @@ module _ (P : ℕ → Type 0) where
   unfolding request_ended
   ended_are session req reply so_far all = gone_are so_far.node.requests req all
 
-  received_requests : (input : Input) (node : Node) → In (at_first node) → In (input_received input (at_first node))
+  pub received_requests : (input : Input) (node : Node) → In (at_first node) → In (input_received input (at_first node))
   received_requests =
       received_keeps (λ works requests sessions. AllAre P requests)
       (λ req request got. let none = tree.get-empty {X = Request} nat_cmp req in absurd (cc (none, got)))
@@ -98,7 +98,7 @@ module _ (P : ℕ → Type 0) where
     comes_are so_far session req tried lined (Again work course from next there request) all = all
     comes_are so_far session req tried lined (AgainAlone work from next there none) all = all
 
-    change_keeps_requests : (so_far next : StepState) → Change input node so_far next → In so_far → In next
+    pub change_keeps_requests : (so_far next : StepState) → Change input node so_far next → In so_far → In next
     unfolding request_ended
     change_keeps_requests so_far next (changes.Marks req number work attempt status learns over) all = all
     change_keeps_requests so_far next (changes.Fails session req number work attempt status course ends done why) all = all

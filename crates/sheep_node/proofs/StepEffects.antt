@@ -144,7 +144,7 @@ module _ (first : ℕ) (was_recovered : Bool) (old : Untouched) where
       (sends-numbers so_far.node.gateway.me (record { 0 = so_far.node.peer.epoch }) asked.work asked.ended so_far.node.sends
       (targets_in so_far.node.epochs so_far.node.peer.epoch (oid_of asked.work) (policy_of asked.work))) s
 
-  change_keeps_order : {input : Input} {node : Node} → (so_far next : StepState) → Change input node so_far next → IsInOrder so_far → IsInOrder next
+  pub change_keeps_order : {input : Input} {node : Node} → (so_far next : StepState) → Change input node so_far next → IsInOrder so_far → IsInOrder next
   change_keeps_order so_far next (changes.Marks req number work attempt status learns over) s = s
   change_keeps_order so_far next (changes.Fails session req number work attempt status course ends done why) s = s
   change_keeps_order so_far next (changes.Stops session req number work attempt status course bytes ends over) s = s
@@ -178,7 +178,7 @@ module _ (node : Node) where
   heard : (state : RecoveryState) → BeginsInOrder node.sends (recovery_stepped state (at_first node))
   heard state = record { numbers = refl; counted = omega arith; ascend = tt; recovered_stays = λ was. was; same = refl }
 
-received_in_order : (input : Input) (node : Node) → BeginsInOrder node.sends (input_received input (at_first node))
+pub received_in_order : (input : Input) (node : Node) → BeginsInOrder node.sends (input_received input (at_first node))
 unfolding entry_read on_request on_recover_tick on_back
 received_in_order (inputs.Guest req session ask) node = idle node
 received_in_order (inputs.Request request) node =

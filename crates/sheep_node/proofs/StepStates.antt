@@ -16,7 +16,7 @@ use Rattle.sheep_node.specs.StepState.{StepState, with_session, session_in, repl
 use Rattle.sheep_node.specs.Kept.{is_reply_behind, without_session}
 
 module _ {X : Type 0} (m : tree.FinMap nat_cmp X) (k : ℕ) where
-  insert-remove : (x : X) → tree.insert (tree.remove m k) k x ≡ tree.insert m k x
+  pub insert-remove : (x : X) → tree.insert (tree.remove m k) k x ≡ tree.insert m k x
   insert-remove x =
       tree.same_map nat_cmp_total tree.nat_cmp-IsAntisymmetric (tree.insert (tree.remove m k) k x) (tree.insert m k x) (λ q.
       tree.get-insert nat_cmp_total (tree.remove m k) k x q

@@ -25,3 +25,4 @@ pub mod CheckWrites
 pub mod Kept
 pub mod GivenNumbers
 pub mod MayBegin
+pub mod InStep

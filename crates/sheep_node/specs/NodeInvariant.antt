@@ -2,7 +2,7 @@
 use Rattle.std.specs.Prelude.{◌≡◌, false}
 use Rattle.sheep_node.specs.State.{Node}
 use Rattle.sheep_node.specs.Step.{is_due}
-use Rattle.sheep_node.specs.StepFacts.{IsByTheLog, HasReadLog}
+use Rattle.sheep_node.specs.StepFacts.{IsByTheLog, HasReadLog, HasReadIfAsked}
 use Rattle.sheep_node.specs.OneWork.{HasOneWorkPerRequest}
 use Rattle.sheep_node.specs.GivenNumbers.{NumbersWereGiven}
 use Rattle.sheep_node.specs.OwnEntries.{HasOnlyOwnEntries}
@@ -14,7 +14,7 @@ use Rattle.sheep_node.specs.DrivenDisks.{RequestsAreOnDisks}
 -- its requests have one work each at most, which is what they wait for, with numbers that it gave, the entries that it puts are its own,
 -- its sessions' queues are their reads and writes, no more than there may be at once, and any other request is alone in its session, its
 -- reads and writes are on the disks that are open, and one that began is apart from the earlier ones, what it has read is a log, it is in
--- the epoch of that, no `Recovered` is due, and what it has of disks is valid
+-- the epoch of that, where a request is it has read something, no `Recovered` is due, and what it has of disks is valid
 pub record IsSoundNode (node : Node) : Type 0 where
   pub one_work : HasOneWorkPerRequest node
   pub given : NumbersWereGiven node
@@ -27,5 +27,6 @@ pub record IsSoundNode (node : Node) : Type 0 where
   pub in_turn : RequestsAreInTurn node
   pub log : HasReadLog node
   pub by_the_log : IsByTheLog node
+  pub read : HasReadIfAsked node
   pub none_due : is_due node ≡ false
   pub valid_disks : HasValidDisks node

@@ -1,5 +1,5 @@
 -- What a step leaves and gives, in few words.
-use Rattle.std.specs.Prelude.{◌≡◌, ℕ, ◌≤◌, Bool, true, false, List, [], ◌∷◌, ◌++◌, slice_get, Option, Some, None}
+use Rattle.std.specs.Prelude.{◌≡◌, ◌≢◌, ℕ, ◌≤◌, Bool, true, false, List, [], ◌∷◌, ◌++◌, slice_get, Option, Some, None}
 use Rattle.object_id.specs.declared.entry.Entry.{Entry}
 use Rattle.epoch_log.specs.Appending.{IsLog}
 use Rattle.epoch_log.specs.Epochs.{epoch_of, settled_of}
@@ -10,6 +10,8 @@ use Rattle.peer_service.specs.Serve.{reply_to}
 use Rattle.sheep_node.specs.declared.input.Input.{Input}
 use Rattle.sheep_node.specs.declared.input.Input.TheVariants as inputs
 use Rattle.sheep_node.specs.declared.outputs.Outputs.{Outputs}
+use Rattle.std.specs.FinMap as tree
+use Rattle.sheep_node.specs.declared.course.Request.{Request}
 use Rattle.sheep_node.specs.State.{Node}
 use Rattle.sheep_node.specs.LogReading.{epochs_up_to}
 
@@ -97,3 +99,7 @@ IsLogSoFar (first ∷ later) = IsLog (first ∷ later)
 -- what a node has read is a log
 abbrev pub HasReadLog : Node → Type 0
 HasReadLog node = IsLogSoFar node.peer.entries
+
+-- where a request is, the node has read something
+abbrev pub HasReadIfAsked : Node → Type 0
+HasReadIfAsked node = (req : ℕ) (request : Request) → tree.get node.requests req ≡ Some request → node.peer.entries ≢ []

@@ -2,7 +2,7 @@ ghost use Rattle.std.specs.Prelude.{◌≡◌, None};
 ghost use Rattle.peer_proto.specs.declared.guest.GuestRsp.TheVariants.{Refused};
 ghost use Rattle.vdi_ops.specs.Steps.{on_refusal};
 ghost use Rattle.sheep_node.specs.AwaitedEntry.{waits_for_entry};
-ghost use Rattle.sheep_node.specs.Kept.{end_on_refusal};
+ghost use Rattle.sheep_node.specs.Kept.{waits_for_turn, ask_in_waiting, end_on_refusal};
 
 use disk_check::CheckOp;
 use guest_driver::Driver;
@@ -35,6 +35,26 @@ pub struct Request {
 }
 
 impl Course {
+    /// Whether the request waits for its turn.
+    pub fn waits_for_turn(&self) -> bool
+        ensures { result ≡ waits_for_turn self.now }
+    {
+        match self {
+            Course::Waiting(_) => true,
+            _ => false,
+        }
+    }
+
+    /// What a request asks for that waits for its turn.
+    pub fn into_ask(self) -> Option<DiskAsk>
+        ensures { result ≡ ask_in_waiting self }
+    {
+        match self {
+            Course::Waiting(ask) => Some(ask),
+            _ => None,
+        }
+    }
+
     /// Whether the request waits for the decision on exactly this entry.
     pub fn waits_for(&self, entry: &Entry) -> bool
         ensures { result ≡ waits_for_entry entry.now self.now }

@@ -26,6 +26,7 @@
 mod ask;
 mod asks;
 mod course;
+mod courses;
 mod event;
 mod input;
 mod laws;
@@ -41,6 +42,7 @@ mod state;
 mod step_state;
 #[cfg(test)]
 mod tests;
+mod waiting;
 
 pub use ask::Ask;
 pub use course::{Course, Request};

@@ -2,6 +2,7 @@
 
 ghost use Rattle.std.specs.Prelude.{◌≡◌, ◌-◌, ◌^◌, nat_le, None, Some, IfOk, IsTrue, OnOk};
 ghost use Rattle.object_id.specs.declared.limits.TheConstants.{NODES_MAX};
+ghost use Rattle.peer_proto.specs.Work.{IsWork};
 ghost use Rattle.gateway.specs.State.{MaySend, MayStart};
 ghost use Rattle.std.specs.Option.{option_map_or};
 ghost use Rattle.std.specs.FinMap as tree;
@@ -137,6 +138,7 @@ impl StepState {
 
     /// A work waits in its session's line.
     fn wait_in_line(&mut self, number: u32, req: u32, work: ObjWork) -> Result<(), NoMemory>
+        requires { IsWork work }
         ensures { OnOk result (self.new
             ≡ with_inode_queue number (queue_with_waiting (session_in number self.old).inode_queue req work) self.old) }
     {

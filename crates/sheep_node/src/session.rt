@@ -1,11 +1,15 @@
 ghost use Rattle.std.specs.Prelude.{◌≡◌};
 ghost use Rattle.gateway_queue.specs.Queue.{queue_without};
 ghost use Rattle.sheep_node.specs.State.{new_session};
+ghost use Rattle.vdi_ops.specs.Op.{disk_change_at};
 ghost use Rattle.sheep_node.specs.StepState.{session_without};
+ghost use Rattle.sheep_node.specs.Courses.{disk_after};
+ghost use Rattle.sheep_node.specs.MayBegin.{OpensDisk};
 
 use gateway_queue::Queue;
 use guest_driver::{Disk, InodeQueue};
 use std::alloc::Global;
+use vdi_ops::VdiOp;
 
 /// A session: the disk that it has open, its reads and writes without reply with their objects, or its one other request without reply,
 /// which is alone in it, and the works on its disk's inode.
@@ -27,6 +31,21 @@ impl Session {
             queue: Queue::new(alloc),
             command: None,
             inode_queue: InodeQueue::new(alloc),
+        }
+    }
+
+    /// The session has open what a command that has its reply left of it. Takes no memory.
+    pub fn open_by(&mut self, op: VdiOp)
+        requires { OpensDisk (disk_change_at op.stage) }
+        ensures { self.new ≡ record self.old { disk = disk_after (disk_change_at op.stage) self.old.disk } }
+    {
+        if op.closes() {
+            self.disk = None;
+            return;
+        }
+        let snapshot = op.opens_snapshot();
+        if let Some(inode) = op.into_inode() {
+            self.disk = Some(Disk::new(inode, snapshot));
         }
     }
 

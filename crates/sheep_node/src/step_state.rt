@@ -5,7 +5,7 @@ ghost use Rattle.std.specs.List.{position};
 ghost use Rattle.std.specs.FinMap as tree;
 ghost use Rattle.sheep_node.specs.StepState.{at_first, with_sends, replies_in_order, with_guest_reply, with_outbox_entry, with_optional_entry, with_disk};
 ghost use Rattle.sheep_node.specs.StepState.{with_course, with_sole_request, without_course, without_request, request_ended, session_in, with_session};
-ghost use Rattle.sheep_node.specs.Kept.{is_reply_behind, without_session};
+ghost use Rattle.sheep_node.specs.Kept.{is_reply_behind, without_session, step_without};
 
 use crate::course::{Course, Request};
 use crate::outputs::Outputs;
@@ -145,6 +145,14 @@ impl StepState {
         let mut session = self.take_session(number);
         session.disk = disk;
         self.put_session(number, session)
+    }
+
+    /// A request, if it is there, is taken out, to go on and be put back.
+    pub fn take_request(&mut self, req: u32) -> Option<Request>
+        ensures request { result ≡ tree.get self.old.node.requests req }
+        ensures others { self.new ≡ step_without req self.old }
+    {
+        self.node.requests.remove(req)
     }
 
     /// A request of a session is there.
