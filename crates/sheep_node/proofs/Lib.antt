@@ -46,3 +46,6 @@ pub mod BeginningWorks
 pub mod InSteps
 pub mod TurnSteps
 pub mod CourseSteps
+mod EntryTestLemmas
+mod KeptLogs
+mod LogsRead

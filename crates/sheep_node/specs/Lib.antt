@@ -26,3 +26,5 @@ pub mod Kept
 pub mod GivenNumbers
 pub mod MayBegin
 pub mod InStep
+pub mod KeptLog
+pub mod EntryTests

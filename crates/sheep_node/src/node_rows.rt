@@ -7,6 +7,8 @@ ghost use Rattle.peer_service.specs.State.{object_policy};
 ghost use Rattle.recovery.specs.Shown.{is_asked_row};
 ghost use Rattle.vnode_table.specs.Targets.{targets_in};
 
+use disk_lock::Locks;
+use epoch_log::Tally;
 use object_id::{Epoch, NoMemory, NodeId, Oid, Policy, TARGETS_MAX};
 use object_store::{Key, ObjStore, OidList, RowCopy};
 use peer_service::PeerState;
@@ -14,11 +16,15 @@ use recovery::Rows;
 use std::marker::Model;
 use vnode_table::Placement;
 
-/// A peer over any store, with the epochs that its node entered.
+/// A peer over any store, with the epochs that its node entered, and what is kept of the entries that it has read.
 #[derive(Drop)]
 pub(crate) struct NodeRows<O: ObjStore> {
     pub peer: PeerState<O>,
     pub place: Placement,
+    /// The entries read, counted; none before the first.
+    pub tally: Option<Tally>,
+    /// Who holds which disk, by the entries read.
+    pub locks: Locks,
 }
 
 impl<O: ObjStore> Model for NodeRows<O> {
@@ -27,6 +33,9 @@ impl<O: ObjStore> Model for NodeRows<O> {
     ghost use Rattle.std.specs.FinMap as tree;
     ghost use Rattle.std.specs.Ordering.{nat_cmp};
     ghost use Rattle.object_store.specs.Store.{SeenRow};
+    ghost use Rattle.vdi_directory.specs.DirectoryState.{AreLocks};
+    ghost use Rattle.peer_service.specs.State.{effects_of};
+    ghost use Rattle.sheep_node.specs.KeptLog.{IsTallySoFar};
     ghost use Rattle.sheep_node.specs.RecoveryView.{PlacedPeer};
 
     ghost Value = { PlacedPeer };
@@ -34,6 +43,8 @@ impl<O: ObjStore> Model for NodeRows<O> {
     ghost coded = { Prim.hlevel (codes, tree.code {X = List SeenRow} {R = nat_cmp} coded_ℕ (Prim.hlevel codes)) };
 
     ghost view = { λ rows. record { peer = rows.peer; epochs = rows.place } };
+
+    ghost invariant = { λ rows. IsTallySoFar rows.peer.entries rows.tally × AreLocks (effects_of rows.peer) rows.locks };
 }
 
 /// Whether a row ends at this level or later.

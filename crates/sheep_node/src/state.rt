@@ -1,11 +1,12 @@
-ghost use Rattle.std.specs.Prelude.{◌≡◌};
+ghost use Rattle.std.specs.Prelude.{◌≡◌, []};
+ghost use Rattle.std.specs.FinMap as tree;
+ghost use Rattle.peer_service.specs.State.{initial_peer};
 ghost use Rattle.sheep_node.specs.State.{initial_node};
 
 use crate::node_rows::NodeRows;
 use crate::requests::Requests;
 use crate::sessions::Sessions;
 use disk_lock::Locks;
-use epoch_log::Tally;
 use gateway::Gateway;
 use object_id::{Entry, Epoch, NodeId};
 use object_store::PlainStore;
@@ -24,12 +25,8 @@ pub type NodeStore = PlainStore;
 pub(crate) struct NodeState {
     pub alloc: Global,
     pub me: NodeId,
-    /// Its peer, and the epochs that it entered.
+    /// Its peer, the epochs that it entered, and what is kept of the entries that it has read.
     pub rows: NodeRows<NodeStore>,
-    /// The entries read, counted; none before the first.
-    pub tally: Option<Tally>,
-    /// Who holds which disk, by the entries read.
-    pub locks: Locks,
     pub gateway: Gateway,
     pub recovery: Recovery,
     /// Whether `Recovered` of the recovery was put.
@@ -79,21 +76,30 @@ impl Model for NodeState {
     } };
 }
 
+impl NodeRows<NodeStore> {
+    /// Those of a node that has read nothing. Takes no memory.
+    pub fn new(alloc: Global) -> NodeRows<NodeStore>
+        ensures { result ≡ record { peer = initial_peer tree.empty 1; epochs = [] } }
+    {
+        let store = PlainStore::new(alloc);
+        NodeRows {
+            peer: PeerState::new(alloc, store, Epoch(1)),
+            place: Placement::new(alloc),
+            tally: None,
+            locks: Locks::new(alloc),
+        }
+    }
+}
+
 impl NodeState {
     /// A node that has read nothing.
     pub fn new(alloc: Global, me: NodeId, tries: u32) -> NodeState
         ensures { result ≡ initial_node me tries }
     {
-        let store = PlainStore::new(alloc);
         NodeState {
             alloc,
             me,
-            rows: NodeRows {
-                peer: PeerState::new(alloc, store, Epoch(1)),
-                place: Placement::new(alloc),
-            },
-            tally: None,
-            locks: Locks::new(alloc),
+            rows: NodeRows::new(alloc),
             gateway: Gateway::new(alloc, me, tries),
             recovery: Recovery::new(alloc, me),
             recovered: true,
