@@ -15,9 +15,9 @@
 //! (`specs/SessionQueues.antt`), no more than there may be at once. A step is of so few changes that it sends 1,000 messages at most.
 //!
 //! Of the code stands what a node keeps (`state.rt`, with `requests.rt`, `sessions.rt` and, for its recovery, `node_rows.rt`), what a
-//! client may ask (`asks.rt`), what of when it may step is told by the log (`may.rt`, with `entry_tests.rt` for a log without tally), the
-//! small steps of reading the log (`log_reading.rt`), and the elementary changes of a step (`step_state.rt`): each call is exactly the
-//! definition of its name, or out of memory. The step itself is still to come.
+//! client may ask (`asks.rt`), the parts of the test whether a node may step (`may.rt`, with `entry_tests.rt` for a log without tally),
+//! the small steps of reading the log (`log_reading.rt`), and the elementary changes of a step (`step_state.rt`): each call is exactly
+//! the definition of its name, or out of memory. The step itself is still to come.
 //!
 //! The laws of `laws.rt` say what a step keeps, and what holds of every step: its sends are numbered upwards, so no two of a node are
 //! numbered alike; what it has read comes from the log alone, and its epochs and their members are those of what it has

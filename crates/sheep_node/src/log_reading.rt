@@ -9,14 +9,16 @@ ghost use Rattle.vnode_table.specs.Epochs.{is_entered};
 ghost use Rattle.peer_service.specs.LogReading.{read_entry, decision_on};
 ghost use Rattle.sheep_node.specs.May.{MayBeFirst, MayRead};
 ghost use Rattle.sheep_node.specs.KeptLog.{IsTallySoFar};
-ghost use Rattle.sheep_node.specs.StepFacts.{IsLogSoFar};
-ghost use Rattle.sheep_node.specs.LogReading.{entered_in, epochs_up_to, with_settled};
+ghost use Rattle.sheep_node.specs.StepFacts.{IsLogSoFar, HasReadLog};
+ghost use Rattle.sheep_node.specs.LogReading.{entered_in, epochs_up_to, with_peer, with_settled};
 
 use crate::node_rows::NodeRows;
+use crate::state::NodeState;
 use epoch_log::Tally;
 use object_id::{Entry, Epoch, Member, NoMemory, NodeId};
 use object_store::ObjStore;
 use std::alloc::Global;
+use std::mem;
 use vdi_directory::Decision;
 use vnode_table::Placement;
 
@@ -145,3 +147,17 @@ impl<O: ObjStore> NodeRows<O> {
     }
 }
 
+impl NodeState {
+    /// The peer reads the next entry, and the entry is counted. The rows are taken out and put back: without memory none are left.
+    fn read_next(&mut self, entry: &Entry) -> Result<Decision, NoMemory>
+        requires log { HasReadLog self.old }
+        requires may { MayRead self.old.peer.entries entry.now }
+        ensures decision { IfOk result (λ decision. decision ≡ decision_on entry.now self.old.peer) }
+        ensures node { OnOk result (self.new ≡ with_peer (read_entry entry.now self.old.peer) self.old) }
+    {
+        let rows = mem::replace(&mut self.rows, NodeRows::new(self.alloc));
+        let (rows, decision) = rows.with_entry(self.alloc, entry)?;
+        self.rows = rows;
+        Ok(decision)
+    }
+}

@@ -14,8 +14,7 @@ new-requires c = subst (OpenUpTo 1) (sym c.new-store.ensures) (OpenUpTo-empty 1)
 
 pub invariant_of-result : goal.invariant_of-result
 invariant_of-result c =
-    let none : c.new.result.entries ≡ [] = ap (λ (peer : Peer). peer.entries) c.new.ensures in
-    (
+    let none : c.new.result.entries ≡ [] = ap (λ (peer : Peer). peer.entries) c.new.ensures in (
       none,
       subst (λ held. AreLocks (log_effects c.new.result.entries) held) (sym c.new-3.ensures)
           (subst (λ (entries : List Entry). AreLocks (log_effects entries) tree.empty) (sym none) nothing_held),
