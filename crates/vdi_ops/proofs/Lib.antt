@@ -2,6 +2,7 @@ pub mod StepLemmas
 mod TableLemmas
 mod WorkLemmas
 mod IdLemmas
+mod UsedIds
 mod MovedSteps
 mod TagLemmas
 mod CourseLemmas

@@ -1,14 +1,16 @@
 -- What is taken from an inode that is read, and what is written back.
-use Rattle.std.proofs.Common.{◌≡◌, ◌⊎◌, inl, inr, ℕ, ◌+◌, ◌-◌, ◌*◌, ◌/◌, ◌^◌, ◌<◌, ◌≤◌, ◌==◌, Bool, true, false, List, [], ◌∷◌, ◌++◌, length, take, drop, map, All, cond, refl, ap, sym, ◌∙◌, arith, append_assoc}
+use Rattle.std.proofs.Common.{◌≡◌, ◌⊎◌, inl, inr, ℕ, ◌+◌, ◌-◌, ◌*◌, ◌/◌, ◌^◌, ◌<◌, ◌≤◌, ◌==◌, Bool, true, false, List, [], ◌∷◌, ◌++◌, length, take, drop, map, All, cond, refl, ap, sym, subst, ◌∙◌, arith, append_assoc}
 use Rattle.std.specs.List.{list_any}
 use Rattle.std.specs.Int.{w32}
-use Rattle.std.proofs.lemmas.Bool.{cond-true}
+use Rattle.std.proofs.lemmas.Bool.{cond-true, eqb-true}
 use Rattle.std.proofs.lemmas.List.{length-append, length-map, length-replicate, drop-append-le, drop_all, drop-drop}
-use Rattle.std.proofs.lemmas.List.Elements.{All-nil, All-cons}
+use Rattle.std.proofs.lemmas.List.Elements.{All-nil, All-cons, All-weaker}
+use Rattle.std.proofs.lemmas.List.Folds.{Any-from_list_any}
 use Rattle.std.proofs.lemmas.Nat.{pow_pos}
 use Rattle.std.proofs.Math.Nat.{div-lt_iff_lt-mul}
 use Rattle.std.proofs.Math.Seq.{take-append_seam}
 use Rattle.object_id.specs.declared.entry.VdiSpec.{VdiSpec}
+use Rattle.object_id.specs.Oid.{IsVid}
 use Rattle.object_id.specs.Spec.{IsSpec, objects_of}
 use Rattle.object_id.specs.Policy.{policy_byte, strips_of}
 use Rattle.object_id.specs.Fields.{u8_bytes, u32_bytes, u64_bytes, numbers_bytes, numbers_at, zeros, Stands}
@@ -38,6 +40,22 @@ kept_all ids (entry ∷ entries) =
 pub table_counts : (ids : List ℕ) (spec : VdiSpec) (bytes : List ℕ)
     → All (λ entry. (entry ≡ 0) ⊎ (list_any (λ id. id == entry) ids ≡ true)) (table_in ids spec bytes)
 table_counts ids spec bytes = kept_all ids (numbers_at w32 (objects_of spec) INODE_HEADER_BYTES bytes)
+
+-- where the ids that count are ids, each entry is 0 or an id
+
+counting_id : (ids : List ℕ) (entry : ℕ) → All IsVid ids → list_any (λ id. id == entry) ids ≡ true → IsVid entry
+counting_id ids entry all there =
+    let found = Any-from_list_any (λ id. id == entry) ids there in
+    subst IsVid (found.3 ∙ eqb-true found.1 entry found.4) (all found.0 found.1 found.2)
+
+counting_entry : (ids : List ℕ) (entry : ℕ) → All IsVid ids → (entry ≡ 0) ⊎ (list_any (λ id. id == entry) ids ≡ true) → IsEntry entry
+counting_entry ids entry all (inl hole) = omega (arith, hole)
+counting_entry ids entry all (inr there) = (counting_id ids entry all there).1
+
+pub table_entries : (ids : List ℕ) (spec : VdiSpec) (bytes : List ℕ) → All IsVid ids → All IsEntry (table_in ids spec bytes)
+table_entries ids spec bytes all =
+    All-weaker (λ entry. (entry ≡ 0) ⊎ (list_any (λ id. id == entry) ids ≡ true)) IsEntry
+    (λ entry counts. counting_entry ids entry all counts) (table_in ids spec bytes) (table_counts ids spec bytes)
 
 pub kept_stays : (ids : List ℕ) (entry : ℕ) → list_any (λ id. id == entry) ids ≡ true → kept_entry ids entry ≡ entry
 kept_stays ids entry there = cond-true (list_any (λ id. id == entry) ids) entry 0 there

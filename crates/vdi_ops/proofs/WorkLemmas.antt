@@ -1,5 +1,5 @@
 -- What a command begins is a work that a gateway takes.
-use Rattle.std.proofs.Common.{◌≡◌, ◌⊎◌, inl, inr, ℕ, ◌+◌, ◌≤◌, ◌==◌, ◌≢◌, true, false, List, [], length, drop, Option, Some, None, IfSome, option_map, if◌then◌else◌, sym, ap, subst, arith}
+use Rattle.std.proofs.Common.{◌≡◌, ◌⊎◌, inl, inr, ℕ, ◌+◌, ◌≤◌, ◌==◌, ◌≢◌, true, false, List, [], length, drop, All, Option, Some, None, IfSome, option_map, if◌then◌else◌, sym, ap, subst, arith}
 use Rattle.std.proofs.lemmas.List.{length-append, length-drop, length-replicate}
 use Rattle.std.proofs.lemmas.List.Elements.{All-nil}
 use Rattle.std.proofs.lemmas.Option.{same_Some}
@@ -24,8 +24,8 @@ use Rattle.vdi_ops.specs.Tables.{table_in, holes, inode_by}
 use Rattle.vdi_ops.specs.InodeWorks.{written_bytes, read_inode, create_inode, written_back, write_back, write_tag, CommandBeginsWork}
 use Rattle.vdi_ops.specs.Op.{Task, Opening, WritingBack, Tagging, Copying, Making, OpStage, Asked, Working, Publishing, Answered, Op, bytes_of_task, op_stage_bytes, op_bytes_wanted}
 use Rattle.vdi_ops.specs.Steps.{tag_step, copy_step, step_after_grant, task_done, done_at, op_on_done}
-use Rattle.vdi_ops.specs.Kept.{IsInodeHeader, IsWholeInode, IsSoundTask, IsSoundOpStage, EntryHasTag, FitsOrigin, FitsEntry}
-use Rattle.vdi_ops.proofs.TableLemmas.{header_length, blank_fills, objects_most, room, table_length}
+use Rattle.vdi_ops.specs.Kept.{IsInodeHeader, IsWholeInode, HasTableOfIds, IsSoundTask, IsSoundOpStage, EntryHasTag, FitsOrigin, FitsEntry}
+use Rattle.vdi_ops.proofs.TableLemmas.{header_length, blank_fills, objects_most, room, table_length, table_entries}
 
 -- ---- an inode is kept as whole copies, so its works may begin and end anywhere
 
@@ -112,13 +112,18 @@ by_table : (header : Header) (vid : ℕ) (ids bytes : List ℕ) → IsVid vid �
 by_table header vid ids bytes id is =
     inode_by-whole header vid (table_in ids header.spec bytes) id is (table_length ids header.spec bytes)
 
+-- a session may have one open with a table that was read, where the entries that count are ids
+pub opened_by_table : (header : Header) (vid : ℕ) (ids bytes : List ℕ) → IsVid vid → All IsVid ids
+    → HasTableOfIds (inode_by header vid (table_in ids header.spec bytes))
+opened_by_table header vid ids bytes id all = record { vid = id; entries = table_entries ids header.spec bytes all }
+
 -- ---- after a grant
 
 tag_step-work : (op : Op) (vid : Vid) (tag : List ℕ) (header : Header) (disk : Option Content) → IsInodeHeader header
     → IfSome disk (λ inode. FitsOrigin header inode (SnapshotOf tag)) → IsName tag
     → IfSome (option_map (tag_step op vid tag header) disk) (λ step. CommandBeginsWork step.act)
 tag_step-work op vid tag header None is fits name = tt
-tag_step-work op vid tag header (Some inode) is fits name = write_tag-work inode tag fits.0 (subst IsSpec fits.1 is.spec) name
+tag_step-work op vid tag header (Some inode) is fits name = write_tag-work inode tag fits.0.vid (subst IsSpec fits.1 is.spec) name
 
 copy_step-work : (op : Op) (vid : Vid) (chain : List ℕ) (header : Header) (parent : Option Vid) → IsInodeHeader header
     → IfSome parent (λ parent. IsVid parent.0)
@@ -156,7 +161,7 @@ task_work op vid bytes (Opening false ids header) sound all =
     let whole = by_table header vid.0 ids bytes sound.0 sound.1 in
     write_back-work (inode_by header vid.0 (table_in ids header.spec bytes)) bytes whole.vid whole.name whole.tag whole.spec (sym all)
 task_work op vid bytes (WritingBack inode) sound all = tt
-task_work op vid bytes (Tagging old inode) sound all = create_inode-work inode sound
+task_work op vid bytes (Tagging old inode) sound all = create_inode-work inode sound.0
 task_work op vid bytes (Copying ids header) sound all =
     create_inode-work (inode_by header vid.0 (table_in ids header.spec bytes)) (by_table header vid.0 ids bytes sound.0 sound.1)
 task_work op vid bytes (Making entry opened) sound all = tt

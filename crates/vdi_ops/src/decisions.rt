@@ -1,5 +1,5 @@
 //! What comes after the entry that a command waits for was decided.
-ghost use Rattle.std.specs.Prelude.{◌≡◌, ℕ, List, false, Some, IfOk, IfSome, IfErr, IsOk, IsTrue, is_some};
+ghost use Rattle.std.specs.Prelude.{◌≡◌, ◌↔◌, ℕ, List, false, All, Some, IfOk, IfSome, IfErr, IsOk, IsTrue, is_some};
 ghost use Rattle.std.specs.Option.{option_copied, option_map_or, option_and_then};
 ghost use Rattle.peer_proto.specs.declared.guest.GuestRsp.TheVariants.{Done};
 ghost use Rattle.vdi_ops.specs.declared.act.OpAct.TheVariants.{Reply};
@@ -10,25 +10,41 @@ ghost use Rattle.vdi_directory.specs.Effects.{header_of};
 ghost use Rattle.vdi_ops.specs.Steps.{change_without_grant, step_after_grant, step_after_decision, decided_at};
 ghost use Rattle.vdi_ops.specs.InodeWorks.{CommandBeginsWork};
 ghost use Rattle.vdi_ops.specs.Stage.{op_change, op_stage, bare_op, step_to};
-ghost use Rattle.vdi_ops.specs.Kept.{EntryHasTag, IsSoundOpStage, FitsEntry, FitsOpStage, vid_granted, first_takes_memory};
-ghost use Rattle.vdi_ops.specs.Kept.{decision_takes_memory};
+ghost use Rattle.inode.specs.Layout.{IsEntry};
+ghost use Rattle.vdi_ops.specs.Kept.{HasTableOfIds, EntryHasTag, OpensTableOfIds, IsSoundOpStage, FitsEntry, FitsOpStage, vid_granted};
+ghost use Rattle.vdi_ops.specs.Kept.{first_takes_memory, decision_takes_memory};
 
 use crate::granted::{reply, step_after_grant};
 use crate::stage::{Change, Next, Stage};
 use inode::Inode;
-use object_id::{Entry, NoMemory, NodeId, Origin};
+use object_id::{Entry, NoMemory, NodeId, Origin, VID_MAX};
 use peer_proto::GuestRsp;
 use std::alloc::Global;
 use vdi_directory::{Decision, Directory, Header};
 
 /// What a command leaves open that is granted nothing.
 fn change_without_grant(entry: &Entry) -> Change
-    ensures { op_change result ≡ change_without_grant entry.now }
+    ensures change { op_change result ≡ change_without_grant entry.now }
+    ensures sound { OpensTableOfIds (op_change result) }
 {
     match entry {
         Entry::Unlock { .. } => Change::Closes,
         _ => Change::Stays,
     }
+}
+
+/// Whether each entry of a table is 0 or an id. Costs a look at each.
+fn are_entries(table: &[u32]) -> bool
+    ensures { IsTrue result ↔ All IsEntry table.now }
+{
+    table.iter().all(|entry| *entry <= VID_MAX)
+}
+
+/// Whether a session may have this inode open.
+fn has_table_of_ids(inode: &Inode) -> bool
+    ensures { IsTrue result ↔ HasTableOfIds inode.now }
+{
+    inode.vid().is_valid() && are_entries(inode.entries())
 }
 
 /// Whether the open disk is one that the id which was granted on an entry can follow, and the entry is one that is granted.
@@ -44,7 +60,7 @@ fn has_step_after_grant(entry: &Entry, header: &Header, disk: Option<&Inode>) ->
         Entry::Reserve { origin, .. } => match origin {
             Origin::Fresh { .. } => true,
             Origin::SnapshotOf { .. } => match disk {
-                Some(disk) => disk.vid().is_valid() && header.spec == disk.spec(),
+                Some(disk) => has_table_of_ids(disk) && header.spec == disk.spec(),
                 None => false,
             },
             Origin::CloneOf { .. } => header.parent.is_some(),
@@ -115,8 +131,10 @@ fn step_after_decision(
 
 /// The last entry was decided.
 fn after_last(opened: Option<Inode>) -> Next
+    requires { IfSome opened HasTableOfIds }
     ensures stage { op_stage result.stage ≡ Answered (option_map_or (Opens false) opened Stays) }
     ensures act { result.act ≡ Reply Done }
+    ensures sound { IsSoundOpStage (op_stage result.stage) }
 {
     match opened {
         Some(inode) => reply(

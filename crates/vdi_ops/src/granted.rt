@@ -1,5 +1,5 @@
 //! What comes after a command's first entry was granted.
-ghost use Rattle.std.specs.Prelude.{◌≡◌, [], ◌∷◌, false, Some, None, IfOk, IfSome, IsOk, IsTrue, is_some};
+ghost use Rattle.std.specs.Prelude.{◌≡◌, [], ◌∷◌, false, All, Some, None, IfOk, IfSome, IsOk, IsTrue, is_some};
 ghost use Rattle.std.specs.Option.{option_copied};
 ghost use Rattle.object_id.specs.Oid.{IsVid};
 ghost use Rattle.object_id.specs.Spec.{IsName};
@@ -13,7 +13,8 @@ ghost use Rattle.vdi_ops.specs.InodeWorks.{read_inode, create_inode, write_tag, 
 ghost use Rattle.vdi_ops.specs.Op.{Opening, Tagging, Copying, Making, Working};
 ghost use Rattle.vdi_ops.specs.Steps.{step_after_grant};
 ghost use Rattle.vdi_ops.specs.Stage.{op_stage, bare_op, step_to, id_numbers};
-ghost use Rattle.vdi_ops.specs.Kept.{IsInodeHeader, EntryHasTag, IsSoundOpStage, FitsOrigin, FitsEntry, grant_takes_memory};
+ghost use Rattle.vdi_ops.specs.Kept.{IsInodeHeader, HasTableOfIds, EntryHasTag, IsSoundOpStage, FitsOrigin, FitsEntry};
+ghost use Rattle.vdi_ops.specs.Kept.{grant_takes_memory};
 
 use crate::act::OpAct;
 use crate::inode_works::{
@@ -69,7 +70,7 @@ fn tag_disk(
 ) -> Result<Next, NoMemory>
     requires vid { IsVid vid.0 }
     requires header { IsInodeHeader header.now }
-    requires disk { IsVid disk.now.vid × (header.now.spec ≡ disk.now.spec) }
+    requires disk { HasTableOfIds disk.now × (header.now.spec ≡ disk.now.spec) }
     requires tag { IsName tag.now }
     ensures stage { IfOk result (λ next. op_stage next.stage
         ≡ Working vid (Tagging (record { 0 = disk.now.vid }) (inode_by header.now vid.0 disk.now.table))) }
@@ -88,7 +89,8 @@ fn tag_disk(
 
 /// The ids above one.
 fn chain_above(directory: &Directory, vid: Vid) -> Result<Items<Vid>, NoMemory>
-    ensures { IfOk result (λ chain. id_numbers chain ≡ chain_of (log_effects directory.now) vid.0) }
+    ensures value { IfOk result (λ chain. id_numbers chain ≡ chain_of (log_effects directory.now) vid.0) }
+    ensures ids { IfOk result (λ chain. All IsVid (id_numbers chain)) }
 {
     Ok(Items::from_vec(directory.chain(vid)?))
 }
@@ -130,6 +132,7 @@ fn read_disk(
     ensures stage { IfOk result (λ next. op_stage next.stage
         ≡ Working vid (Opening snapshot (vid.0 ∷ chain_of (log_effects directory.now) vid.0) header.now)) }
     ensures act { IfOk result (λ next. next.act ≡ Work (read_inode vid.0 header.now.spec)) }
+    ensures sound { IfOk result (λ next. IsSoundOpStage (op_stage next.stage)) }
     ensures work { IfOk result (λ next. CommandBeginsWork next.act) }
 {
     let chain = chain_above(directory, vid)?;

@@ -1,4 +1,4 @@
-ghost use Rattle.std.specs.Prelude.{◌≡◌, ◌↔◌, length, false, Some, None, IfOk, IsOk, IsTrue, OnErr, is_some};
+ghost use Rattle.std.specs.Prelude.{◌≡◌, ◌↔◌, length, false, Some, None, IfOk, IfSome, IsOk, IsTrue, OnErr, is_some};
 ghost use Rattle.std.specs.Option.{option_copied, option_and_then};
 ghost use Rattle.peer_proto.specs.declared.guest.VdiAsk.TheVariants.{Close};
 ghost use Rattle.vdi_directory.specs.Decisions.{log_effects};
@@ -7,8 +7,8 @@ ghost use Rattle.vdi_ops.specs.Entries.{first_entry};
 ghost use Rattle.vdi_ops.specs.InodeWorks.{CommandBeginsWork};
 ghost use Rattle.vdi_ops.specs.Op.{disk_change_at, entry_wanted, op_bytes_wanted};
 ghost use Rattle.vdi_ops.specs.Steps.{begin_command, on_decision, op_on_done, on_refusal};
-ghost use Rattle.vdi_ops.specs.Kept.{HasFirstEntry, FitsOpStage, vid_granted, decision_takes_memory, stage_takes_memory};
-ghost use Rattle.vdi_ops.specs.Kept.{inode_opened, opens_snapshot, closes};
+ghost use Rattle.vdi_ops.specs.Kept.{HasFirstEntry, HasTableOfIds, FitsOpStage, vid_granted, decision_takes_memory};
+ghost use Rattle.vdi_ops.specs.Kept.{stage_takes_memory, inode_opened, opens_snapshot, closes};
 
 use crate::act::OpAct;
 use crate::decisions::{after_decision, has_step_after_decision};
@@ -87,7 +87,8 @@ impl VdiOp {
     }
 
     /// Whether the command can go on by this decision, exactly where `on_decision` may be called: it waits for one, what was granted is
-    /// known, and the open disk of a snapshot is there. Costs the logarithm of the known ids, and takes no memory.
+    /// known, and the open disk of a snapshot is there, with the spec that was granted, an id, and in each entry of its table 0 or an id.
+    /// Costs the logarithm of the known ids, and for a snapshot a look at each entry of the open disk's table. Takes no memory.
     #[tactic(auto, unfolding(crate::specs::Steps::on_decision))]
     pub fn has_step(&self, decision: &Decision, directory: &Directory, disk: Option<&Inode>) -> bool
         ensures step { IsTrue result
@@ -232,7 +233,9 @@ impl VdiOp {
 
     /// The inode that the session has open from then on; `None` exactly where the command opened none. Takes no memory.
     pub fn into_inode(self) -> Option<Inode>
-        ensures { result ≡ inode_opened (disk_change_at self.stage) }
+        ensures value { result ≡ inode_opened (disk_change_at self.stage) }
+        // A session may have it open: its id is one, and each entry of its table is 0 or an id.
+        ensures ids { IfSome result HasTableOfIds }
     {
         match self.stage {
             Stage::Answered(Change::Opens { inode, .. }) => Some(inode),

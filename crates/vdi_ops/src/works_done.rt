@@ -1,5 +1,5 @@
 //! What comes after the work that a command waits for was done.
-ghost use Rattle.std.specs.Prelude.{◌≡◌, ℕ, List, ◌∷◌, false, length, Some, IfOk, IfErr, IsOk};
+ghost use Rattle.std.specs.Prelude.{◌≡◌, ℕ, List, ◌∷◌, false, length, All, Some, IfOk, IfErr, IsOk};
 ghost use Rattle.object_id.specs.Oid.{IsVid};
 ghost use Rattle.object_id.specs.declared.node.NodeId.{NodeId as TheNode};
 ghost use Rattle.vdi_ops.specs.Op.{Opening, Tagging, Copying, bytes_of_task, op_stage_bytes};
@@ -7,7 +7,7 @@ ghost use Rattle.vdi_ops.specs.InodeWorks.{written_bytes};
 ghost use Rattle.vdi_ops.specs.Tables.{table_in, inode_by};
 ghost use Rattle.vdi_ops.specs.Steps.{task_done, done_at};
 ghost use Rattle.vdi_ops.specs.Stage.{op_task, op_stage, bare_op, step_to, id_numbers};
-ghost use Rattle.vdi_ops.specs.Kept.{IsInodeHeader, IsSoundTask, IsSoundOpStage, task_takes_memory, stage_takes_memory};
+ghost use Rattle.vdi_ops.specs.Kept.{IsInodeHeader, HasTableOfIds, IsSoundTask, IsSoundOpStage, task_takes_memory, stage_takes_memory};
 
 use crate::act::OpAct;
 use crate::granted::reply;
@@ -28,9 +28,11 @@ fn inode_opened(
     header: &Header,
     bytes: &[u8],
 ) -> Result<Inode, NoMemory>
-    requires { IsInodeHeader header.now }
-    ensures { IfOk result (λ inode. inode
+    requires header { IsInodeHeader header.now }
+    requires ids { All IsVid (vid.0 ∷ id_numbers chain.now) }
+    ensures value { IfOk result (λ inode. inode
         ≡ inode_by header.now vid.0 (table_in (vid.0 ∷ id_numbers chain.now) header.now.spec bytes.now)) }
+    ensures ids { IfOk result HasTableOfIds }
 {
     let mut ids = numbers(alloc, chain)?;
     ids.push(vid.0)?;
@@ -48,6 +50,7 @@ fn after_opening(
 ) -> Result<Next, NoMemory>
     requires vid { IsVid vid.0 }
     requires header { IsInodeHeader header.now }
+    requires ids { All IsVid (vid.0 ∷ id_numbers chain.now) }
     requires whole { length bytes.now ≡ written_bytes header.now.spec }
     ensures ok { (by : TheNode) → IfOk result (λ next. step_to (bare_op by) next
         ≡ task_done (bare_op by) vid bytes.now (Opening snapshot (vid.0 ∷ id_numbers chain.now) header.now)) }
@@ -97,7 +100,7 @@ fn after_copying(
 
 /// The open disk has its tag: the inode that takes its place is created. Without memory this gives the inode back.
 fn after_tagging(alloc: Global, by: NodeId, vid: Vid, old: Vid, inode: Inode) -> Result<Next, Inode>
-    requires { IsVid inode.vid }
+    requires { HasTableOfIds inode }
     ensures ok { (bytes : List ℕ) → IfOk result (λ next. step_to (bare_op by) next
         ≡ task_done (bare_op by) vid bytes (Tagging old inode)) }
     ensures sound { IfOk result (λ next. IsSoundOpStage (op_stage next.stage)) }
