@@ -49,3 +49,5 @@ pub mod CourseSteps
 mod EntryTestLemmas
 mod KeptLogs
 mod LogsRead
+pub mod KnownSpecs
+pub mod RecoverySteps

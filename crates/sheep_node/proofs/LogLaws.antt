@@ -43,7 +43,7 @@ epochs_same entries entry (suc most) some begun =
     (members_in-append entries (entry ∷ []) (suc most) some begun)
     ∙ ap (λ epochs. entered_in entries (suc most) ∷ epochs) (epochs_same entries entry most some below)
 
-epoch_more : (entries : List Entry) (entry : Entry) → begins_epoch entry ≡ true → epoch_of (entries ++ entry ∷ []) ≡ suc (epoch_of entries)
+pub epoch_more : (entries : List Entry) (entry : Entry) → begins_epoch entry ≡ true → epoch_of (entries ++ entry ∷ []) ≡ suc (epoch_of entries)
 epoch_more entries entry e =
     let one : length (filter begins_epoch (entry ∷ [])) ≡ 1 = ap (λ b. length (cond b (entry ∷ []) [])) e in
     let all : epoch_of (entries ++ entry ∷ []) ≡ epoch_of entries + length (filter begins_epoch (entry ∷ [])) = epoch_of-append entries (entry ∷ []) in
@@ -90,13 +90,13 @@ epochs_kept entries entry some e =
 -- an entry is read
 
 -- epoch and members, once an entry was read
-record Entering (entries : List Entry) (epoch : ℕ) (epochs : List EpochMembers) (read : List Entry) (settled before : ℕ) : Type 0 where
-  epoch_so : epoch ≡ epoch_of entries
-  epochs_so : epochs ≡ epochs_of entries
-  read_so : read ≡ entries
-  settled_so : settled ≡ before
+pub record Entering (entries : List Entry) (epoch : ℕ) (epochs : List EpochMembers) (read : List Entry) (settled before : ℕ) : Type 0 where
+  pub epoch_so : epoch ≡ epoch_of entries
+  pub epochs_so : epochs ≡ epochs_of entries
+  pub read_so : read ≡ entries
+  pub settled_so : settled ≡ before
 
-abbrev Enters : List Entry → ℕ → Peer → List EpochMembers → Type 0
+abbrev pub Enters : List Entry → ℕ → Peer → List EpochMembers → Type 0
 Enters entries before peer epochs = Entering entries peer.epoch epochs peer.entries peer.settled before
 
 epoch_enters : (targets : ℕ → ℕ → Policy → List NodeId) (entry : Entry) (node : Node) → 1 ≤ length node.peer.entries → begins_epoch entry ≡ true → IsByTheLog node
@@ -173,7 +173,7 @@ other_enters entry node false later may e h = record {
   settled_so = refl;
 }
 
-entered_enters : (targets : ℕ → ℕ → Policy → List NodeId) (entry : Entry) (node : Node) (b : Bool) → begins_epoch entry ≡ b → MayRead node.peer.entries entry → IsByTheLog node
+pub entered_enters : (targets : ℕ → ℕ → Policy → List NodeId) (entry : Entry) (node : Node) (b : Bool) → begins_epoch entry ≡ b → MayRead node.peer.entries entry → IsByTheLog node
     → Enters (node.peer.entries ++ entry ∷ []) node.peer.settled
     (cond b (peers.peer_in_next_epoch node.me targets (read_entry entry node.peer)) (read_entry entry node.peer))
     (cond b (entered_in (node.peer.entries ++ entry ∷ []) (epoch_of (node.peer.entries ++ entry ∷ [])) ∷ node.epochs)
@@ -208,7 +208,7 @@ settled_follows entries settled peer epochs false e is_so grows h =
       epochs_so = h.epochs_so ∙ ap epochs_of (sym h.read_so);
     }
 
-reads_follow : (entry : Entry) (node : Node) → MayRead node.peer.entries entry → IsByTheLog node → IsByTheLog (entry_read entry node)
+pub reads_follow : (entry : Entry) (node : Node) → MayRead node.peer.entries entry → IsByTheLog node → IsByTheLog (entry_read entry node)
 unfolding entry_read read_entry without_objects
 reads_follow entry node may h =
     let all : List Entry = node.peer.entries ++ entry ∷ [] in
@@ -222,7 +222,7 @@ reads_follow entry node may h =
 
 -- coming back
 
-back_follows : (entries : List Entry) (node : Node) → 1 < epoch_of entries → IsByTheLog (on_back entries node)
+pub back_follows : (entries : List Entry) (node : Node) → 1 < epoch_of entries → IsByTheLog (on_back entries node)
 unfolding on_back come_back closed_at_end peer_settled_to without_objects
 back_follows entries node above =
     record { epoch_so = refl; settled_so = refl; epochs_so = sym (epochs_there entries (has_value entries above)) }

@@ -48,12 +48,12 @@ known_spec peer oid spec reservable known = by_header (header_at peer oid) refl 
         let same : header.spec ≡ spec = cc (known) in
         subst IsSpec same (header-valid peer.entries reservable (vid_of oid) header is).spec
 
-object_aligned : (policy : Policy) (kind : Kind) (spec : VdiSpec) → IsSpec spec → IsAligned policy kind (object_size spec kind)
+pub object_aligned : (policy : Policy) (kind : Kind) (spec : VdiSpec) → IsSpec spec → IsAligned policy kind (object_size spec kind)
 object_aligned policy Block spec is = aligned policy Block (2 ^ spec.shift) (object_whole spec is)
 object_aligned (Copies copies) Inode spec is = tt
 object_aligned (Coded d p) Inode spec is = tt
 
-size_most : (kind : Kind) (spec : VdiSpec) → IsSpec spec → object_size spec kind ≤ 2 ^ 24
+pub size_most : (kind : Kind) (spec : VdiSpec) → IsSpec spec → object_size spec kind ≤ 2 ^ 24
 size_most Block spec is = object_most spec is
 size_most Inode spec is = omega arith
 

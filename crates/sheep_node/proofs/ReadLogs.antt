@@ -33,7 +33,7 @@ all_log before [] log may = subst IsLogSoFar (sym (append-nil before)) log
 all_log before (entry ∷ later) log may =
     subst IsLogSoFar (append_assoc before (entry ∷ []) later) (all_log (before ++ entry ∷ []) later (read_log before entry log may.0) may.1)
 
-log_after : (input : Input) (node : Node) → Meets input node → HasReadLog node → IsLogSoFar (read_after input node.peer.entries)
+pub log_after : (input : Input) (node : Node) → Meets input node → HasReadLog node → IsLogSoFar (read_after input node.peer.entries)
 log_after (inputs.Guest req session ask) node meets log = log
 log_after (inputs.Request request) node meets log = log
 log_after (inputs.Reply rsp) node meets log = log

@@ -10,11 +10,13 @@ use Rattle.sheep_node.specs.ValidDisks.{HasValidDisks}
 use Rattle.sheep_node.specs.SessionQueues.{QueuesAreDiskRequests, QueuesAreShort, CommandsAreAlone, RequestsAreInTurn}
 use Rattle.sheep_node.specs.WantedWorks.{WorksAreWanted}
 use Rattle.sheep_node.specs.DrivenDisks.{RequestsAreOnDisks}
+use Rattle.sheep_node.specs.RecoveryRange.{RecoveryMayStep}
 
 -- its requests have one work each at most, which is what they wait for, with numbers that it gave, the entries that it puts are its own,
 -- its sessions' queues are their reads and writes, no more than there may be at once, and any other request is alone in its session, its
 -- reads and writes are on the disks that are open, and one that began is apart from the earlier ones, what it has read is a log, it is in
--- the epoch of that, where a request is it has read something, no `Recovered` is due, and what it has of disks is valid
+-- the epoch of that, where a request is it has read something, no `Recovered` is due, what it has of disks is valid, and its recovery may
+-- make each step
 pub record IsSoundNode (node : Node) : Type 0 where
   pub one_work : HasOneWorkPerRequest node
   pub given : NumbersWereGiven node
@@ -30,3 +32,4 @@ pub record IsSoundNode (node : Node) : Type 0 where
   pub read : HasReadIfAsked node
   pub none_due : is_due node ≡ false
   pub valid_disks : HasValidDisks node
+  pub recovery : RecoveryMayStep node

@@ -11,11 +11,13 @@ ghost use Rattle.object_id.specs.declared.entry.Origin.TheVariants.{Fresh};
 ghost use Rattle.object_id.specs.declared.entry.VdiSpec.{VdiSpec};
 ghost use Rattle.peer_proto.specs.declared.ask.PeerReq.{PeerReq};
 ghost use Rattle.peer_proto.specs.declared.guest.VdiAsk.TheVariants.{Create, Check};
+ghost use Rattle.peer_proto.specs.declared.say.PeerRsp.{PeerRsp};
 ghost use Rattle.peer_proto.specs.declared.say.PeerSay.TheVariants.{Refused};
 ghost use Rattle.peer_proto.specs.declared.say.Refusal.TheVariants.{OldEpoch, NewEpoch};
 ghost use Rattle.peer_proto.specs.declared.work.ObjWork.{ObjWork};
-ghost use Rattle.gateway.specs.State.{is_touched};
+ghost use Rattle.gateway.specs.State.{gateway_awaits, is_touched};
 ghost use Rattle.gateway.specs.Outcomes.{AreNumberedFrom};
+ghost use Rattle.recovery.specs.Fits.{fits_recovery};
 ghost use Rattle.guest_driver.specs.declared.disk.Disk.{Disk};
 ghost use Rattle.inode.specs.Layout.{Content};
 ghost use Rattle.vdi_ops.specs.Op.{Op, Task, Working, Stays, Opens, Closes, entry_wanted};
@@ -26,7 +28,8 @@ ghost use Rattle.sheep_node.specs.declared.input.Input.TheVariants as inputs;
 ghost use Rattle.sheep_node.specs.declared.course.Course.TheVariants.{Commanding, Checking, DoingWork, AwaitingDecision};
 ghost use Rattle.sheep_node.specs.State.{Node, initial_node};
 ghost use Rattle.sheep_node.specs.StepState.{StepState, at_first, session_in, with_sole_request, request_ended};
-ghost use Rattle.sheep_node.specs.RecoveryRange.{RecoversInRange};
+ghost use Rattle.sheep_node.specs.RecoveryView.{recovery_state_of};
+ghost use Rattle.sheep_node.specs.RecoveryRange.{RecoveryMayStep, RecoveryMayBegin, RecoversInRange};
 ghost use Rattle.sheep_node.specs.NodeInvariant.{IsSoundNode};
 ghost use Rattle.sheep_node.specs.OneWork.{HasOneWorkPerRequest};
 ghost use Rattle.sheep_node.specs.GivenNumbers.{NumbersWereGiven};
@@ -41,7 +44,9 @@ ghost use Rattle.sheep_node.specs.Courses.{disk_after, check_stepped, decision_r
 ghost use Rattle.sheep_node.specs.May.{May, IsGuestAsk, MayRead, MayComeBack};
 ghost use Rattle.sheep_node.specs.MayTests.{is_guest_ask, may, may_read_entry, may_come_back_with};
 ghost use Rattle.sheep_node.specs.Step.{is_due, recovered_put, node_step};
-ghost use Rattle.sheep_node.specs.StepFacts.{read_after, may_begin_recovery, only_reply, said_on, put_on, Ascend, IsByTheLog};
+ghost use Rattle.sheep_node.specs.StepFacts.{read_after, may_begin_recovery, only_reply, said_on, put_on, Ascend, IsByTheLog, HasReadLog};
+ghost use Rattle.sheep_node.specs.ValidDisks.{HasValidDisks};
+ghost use Rattle.sheep_node.specs.LogReading.{begins_recovery, node_with_entry, come_back_with};
 ghost use Rattle.sheep_node.specs.Guests.{request_refusal, on_guest};
 ghost use Rattle.sheep_node.specs.OutsideAsks.{IsObjectAsk};
 ghost use Rattle.sheep_node.specs.CheckWrites.{CheckWrite, write_of_course};
@@ -214,7 +219,8 @@ pub fn a_create_begins_with_its_reservation()
 /// A node opens as one, and each step that it may take leaves it one: its requests have one work each at most, which is what they wait
 /// for, with numbers that it gave, its entries are its own, its queues are its reads and writes, no more than there may be at once, and any
 /// other request is alone in its session, its reads and writes are on the disks that are open, and one that began is apart from the earlier
-/// ones, what it has read is a log, it is in the epoch of that, no `Recovered` is due, and what it has of disks is valid.
+/// ones, what it has read is a log, it is in the epoch of that, no `Recovered` is due, what it has of disks is valid, and its recovery may
+/// make each step.
 pub fn a_node_stays_one()
     ensures opens { (me : NodeId) (tries : ℕ) → IsSoundNode (initial_node me tries) }
     ensures stays { (input : Input) (node : Node) → May input node → IsSoundNode node → IsSoundNode (node_step input node).node }
@@ -291,6 +297,20 @@ pub fn a_disk_request_is_on_its_disk()
 pub fn a_begun_request_is_apart_from_earlier_ones()
     ensures opens { (me : NodeId) (tries : ℕ) → RequestsAreInTurn (initial_node me tries) }
     ensures stays { (input : Input) (node : Node) → RequestsAreInTurn node → RequestsAreInTurn (node_step input node).node }
+{}
+
+/// A node's recovery is in the node's name, and may make each step that the node tells it to: so a node opens, and so it stays at each step.
+/// It may begin where an entry or coming back begins it, and a reply that isn't the gateway's fits what it asked.
+pub fn a_recovery_may_step()
+    ensures opens { (me : NodeId) (tries : ℕ) → RecoveryMayStep (initial_node me tries) }
+    ensures stays { (input : Input) (node : Node) → May input node → HasReadLog node → IsByTheLog node → HasValidDisks node
+        → RecoveryMayStep node → RecoveryMayStep (node_step input node).node }
+    ensures entry { (entry : Entry) (node : Node) → May (inputs.LogEntry entry) node → IsSoundNode node
+        → begins_recovery entry node ≡ true → RecoveryMayBegin (node_with_entry entry node) }
+    ensures back { (entries : List Entry) (node : Node) → May (inputs.Back entries) node → IsSoundNode node
+        → RecoveryMayBegin (come_back_with entries node) }
+    ensures reply { (rsp : PeerRsp) (node : Node) → May (inputs.Reply rsp) node → gateway_awaits rsp.number node.gateway ≡ false
+        → fits_recovery rsp (recovery_state_of node) ≡ true }
 {}
 
 /// A node's requests are those that it had, and the guest's request that it steps on.

@@ -13,6 +13,8 @@
 //! opening on (`proofs/StepChain.antt`: `kept_by_chain`): each request has one work at most (`specs/OneWork.antt`), the
 //! entries that it puts are its own (`specs/OwnEntries.antt`), and a session's queue is its reads and writes
 //! (`specs/SessionQueues.antt`), no more than there may be at once. A step is of so few changes that it sends 1,000 messages at most.
+//! The changes leave a node's peer and its recovery as the input made them: so its recovery may make each step
+//! (`specs/RecoveryRange.antt`) is kept by the input alone.
 //!
 //! Of the code stands what a node keeps (`state.rt`, with `requests.rt`, `sessions.rt` and, for its recovery, `node_rows.rt`), what a
 //! client may ask (`asks.rt`), the parts of the test whether a node may step (`may.rt`, with `entry_tests.rt` for a log without tally),
@@ -59,8 +61,8 @@ pub use laws::{
     a_clients_work_may_be_done, a_command_is_alone, a_create_begins_with_its_reservation,
     a_decision_is_on_the_entry_wanted, a_disk_request_is_on_its_disk,
     a_node_is_where_its_entries_have_it, a_node_puts_its_own_entries, a_node_stays_one,
-    a_queue_has_the_disk_requests, a_queue_is_short, a_refused_work_gives_its_id_back,
-    a_request_has_one_work, a_step_is_a_chain_of_changes, a_touched_work_is_not_refused,
+    a_queue_has_the_disk_requests, a_queue_is_short, a_recovery_may_step,
+    a_refused_work_gives_its_id_back, a_request_has_one_work, a_step_is_a_chain_of_changes, a_touched_work_is_not_refused,
     a_work_is_what_its_request_waits_for, conditions_are_tests, numbers_of_attempts_were_given,
     only_the_log_is_read, other_epochs_are_refused, outputs_are_as_the_input,
     recovered_is_put_once, requests_come_from_inputs, sends_are_numbered,
