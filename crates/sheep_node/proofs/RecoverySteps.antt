@@ -1,11 +1,10 @@
 -- A node's recovery is in the node's name and may make each step: at the node's opening, and after each step of the node.
-use Rattle.std.proofs.Common.{◌≡◌, ℕ, suc, ◌+◌, ◌-◌, ◌^◌, ◌<◌, ◌≤◌, ◌||◌, ◌==◌, Bool, true, false, cond, List, [], ◌∷◌, ◌++◌, length, filter, map, All, Option, Some, None, is_some, refl, sym, ap, subst, ◌∙◌, arith, ⊎_elim}
-use Rattle.std.specs.Prelude.{IsTrue}
+use Rattle.std.proofs.Common.{◌≡◌, ℕ, suc, ◌+◌, ◌-◌, ◌^◌, ◌<◌, ◌≤◌, ◌||◌, Bool, true, false, cond, List, [], ◌∷◌, ◌++◌, length, filter, map, All, Option, Some, None, is_some, refl, sym, ap, subst, ◌∙◌, arith, ⊎_elim}
 use Rattle.std.specs.Option.{IfSome}
 use Rattle.std.specs.FinMap as tree
 use Rattle.std.specs.List.Sorted.{IsStrictlyIncreasing}
 use Rattle.std.proofs.lemmas.Bool.{leb-true, and_parts, or_cases}
-use Rattle.std.proofs.lemmas.List.Elements.{All-nil, All-head, All-tail, All-cons, All-map, All-push}
+use Rattle.std.proofs.lemmas.List.Elements.{All-nil, All-head, All-tail, All-cons, All-push}
 use Rattle.proof_tools.proofs.Booleans.{cond_either}
 use Rattle.object_id.specs.declared.limits.TheConstants.{TARGETS_MAX}
 use Rattle.object_id.specs.Node.{IsNode}
@@ -30,19 +29,18 @@ use Rattle.peer_proto.specs.declared.say.PeerSay.{PeerSay}
 use Rattle.peer_service.specs.State.{Peer, length_of_rows}
 use Rattle.peer_service.specs.Epochs.{peer_settled_to}
 use Rattle.peer_service.specs.LogReading.{without_objects, read_entry}
-use Rattle.peer_service.specs.Serve.{peer_step}
 use Rattle.peer_service.specs.Back.{closed_at_end, come_back}
 use Rattle.gateway.specs.State as gateways
 use Rattle.gateway.specs.State.{Work, asker, fits_asker}
 use Rattle.recovery.specs.declared.search.RowAnswer.{RowAnswer}
 use Rattle.recovery.specs.Shown.{NodeView, shown_with_pending}
-use Rattle.recovery.specs.State.{Message, Search, Recovery, RecoveryState, initial_recovery, is_listed, MayBegin, MayTick}
+use Rattle.recovery.specs.State.{Message, Search, Recovery, RecoveryState, initial_recovery, is_listed}
 use Rattle.recovery.specs.Fits.{fits_recovery}
-use Rattle.recovery.specs.Frame.{Frame, frame}
+use Rattle.recovery.specs.Frame.{Frame}
 use Rattle.recovery.specs.Step.{IsFittingRow, AnswersFit, IsPartSize, MayStep}
 use Rattle.recovery.specs.Steps as recovery_steps
 use Rattle.recovery.specs.Steps.{to_recover, at_start, recovery_from_epoch, message_end}
-use Rattle.recovery.specs.Tick.{tick_messages, with_messages, state_after_tick}
+use Rattle.recovery.specs.Tick.{state_after_tick}
 use Rattle.recovery.proofs.StepLemmas.{frame_of_tick, frame_of_end}
 use Rattle.recovery.proofs.MayLemmas.{may_after_tick, may_after_reply, may_after_loss, may_after_begin}
 use Rattle.sheep_node.specs.declared.input.Input.{Input}
@@ -53,7 +51,7 @@ use Rattle.sheep_node.specs.RecoveryView.{shown_peer, shown_node, recovery_state
 use Rattle.sheep_node.specs.RecoveryRange.{RecoveryMayStep, RecoveryMayBegin}
 use Rattle.sheep_node.specs.StepState.{StepState, at_first}
 use Rattle.sheep_node.specs.LogReading.{epoch_members, is_epoch_member, peer_with_entry, epochs_with_entry, node_with_entry, recovery_in_epoch, begins_recovery, recovery_with_entry, entry_read, come_back_with, on_back}
-use Rattle.sheep_node.specs.May.{has_numbers, fits_node, MayRead, MayComeBack, Meets, May}
+use Rattle.sheep_node.specs.May.{fits_node, MayRead, MayComeBack, May}
 use Rattle.sheep_node.specs.Step.{on_request, recovery_stepped, on_put, on_recover_tick, node_step}
 use Rattle.sheep_node.specs.StepFacts.{epochs_of, FollowsLog, IsByTheLog, IsLogSoFar, HasReadLog}
 use Rattle.sheep_node.specs.ValidDisks.{IsValidInput, HasValidDisks}
