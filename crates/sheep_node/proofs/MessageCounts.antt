@@ -26,12 +26,13 @@ use Rattle.gf256.specs.Part.{is_in_strips}
 use Rattle.gateway.specs.Work.{place_in_turn, read_from, targets_asked}
 use Rattle.gateway.specs.Attempt.{message_for}
 use Rattle.gateway.specs.State.{Work}
-use Rattle.recovery.specs.Range.{IsInRange}
 use Rattle.recovery.specs.State.{Message, Search, Recovery, RecoveryState, is_listed}
+use Rattle.recovery.specs.Step.{MayStep}
 use Rattle.recovery.specs.Tick.{request_message, messages_to, asked_of, lists_asked, level_asked, level_messages, next_search, tick_messages, tick_sends}
 use Rattle.recovery.proofs.FoundLemmas.{wanted-most}
 use Rattle.recovery.proofs.TickLemmas.{kept_few}
 use Rattle.sheep_node.specs.State.{Node}
+use Rattle.sheep_node.specs.RecoveryView.{recovery_state_of}
 use Rattle.sheep_node.specs.Changes.{attempt_in}
 use Rattle.sheep_node.specs.ValidDisks.{WorkHasPolicy}
 
@@ -84,18 +85,20 @@ sent_to_few : (recovery : Recovery) (first wanted : ℕ) (ask : PeerAsk) (nodes 
 sent_to_few recovery first wanted ask nodes =
     length-map (enumerate_from first nodes) (request_message recovery wanted ask) ∙ length-enumerate_from first nodes
 
-module _ (first : ℕ) (state : RecoveryState) (range : IsInRange state) where
+module _ (first : ℕ) (node : Node) (may : MayStep (recovery_state_of node)) where
+  abbrev state : RecoveryState
+  state = recovery_state_of node
+
   level_few : (sought : Search) → length (level_messages first state sought) ≤ 64
-  level_few sought = by_policy (state.shown.is_dead sought.oid) (state.shown.policy_of sought.oid) (range.policies sought.oid)
+  level_few sought = by_policy (state.shown.is_dead sought.oid) (state.shown.policy_of sought.oid) (may.policies sought.oid)
     where
       asked : (policy : Policy) → IsPolicy policy → length (level_asked first state sought policy) ≤ 64
       asked policy is =
           let targets = state.shown.targets sought.level sought.oid policy in
           let sent = sent_to_few state.recovery first (wanted_of policy (kind_of sought.oid)) (asks.RecoverRead sought.oid (record { 0 = sought.level })) (asked_of state policy sought) in
           let fewer = kept_few (λ node. has_node node state.recovery.members && not (is_same_node state.recovery.me node)) targets in
-          let wanted = range.targets sought.level sought.oid policy in
-          let most : wanted_of policy (kind_of sought.oid) ≤ 31 = wanted-most policy (kind_of sought.oid) is in
-          omega (arith, sent, fewer, wanted, most)
+          let most = targets_few node.epochs sought.level sought.oid policy is in
+          omega (arith, sent, fewer, most)
 
       by_policy : (dead : Bool) (policy : Option Policy) → IfSome policy IsPolicy
           → length (option_map_or (level_asked first state sought) (cond dead None policy) []) ≤ 64
@@ -116,5 +119,5 @@ module _ (first : ℕ) (state : RecoveryState) (range : IsInRange state) where
       by_list true (Some sought) = level_few sought
       by_list false sought =
           let sent = sent_to_few state.recovery first 0 asks.List state.recovery.lists.waiting in
-          let waiting = range.waiting in
+          let waiting = may.waiting in
           omega (arith, sent, waiting)

@@ -8,7 +8,7 @@ use Rattle.sheep_node.specs.State.{Node, initial_node}
 use Rattle.sheep_node.specs.Step.{node_step}
 use Rattle.sheep_node.specs.May.{May}
 use Rattle.sheep_node.specs.LogReading.{begins_recovery, node_with_entry, come_back_with}
-use Rattle.sheep_node.specs.RecoveryRange.{RecoversInRange, RecoveryMayBegin}
+use Rattle.sheep_node.specs.RecoveryRange.{RecoveryMayBegin}
 use Rattle.sheep_node.specs.NodeInvariant.{IsSoundNode}
 use Rattle.sheep_node.proofs.NumberChanges.{one_work_at_opening, one_work_stays}
 use Rattle.sheep_node.proofs.GivenNumbers.{numbers_given_at_opening, numbers_stay_given}
@@ -64,10 +64,9 @@ IsSoundNode-step input node may is = record {
   recovery = recovery_may_step_stays input node may is.log is.by_the_log is.valid_disks is.recovery;
 }
 
-pub sends_at_most_1000 : (input : Input) (node : Node) → May input node → IsSoundNode node → RecoversInRange node
-    → length (node_step input node).outputs.sends ≤ 1000
-sends_at_most_1000 input node may is range =
-    sends_few input node (valid_input input node may.condition is.valid_disks.read) is.valid_disks may is.short_queues range
+pub sends_at_most_1000 : (input : Input) (node : Node) → May input node → IsSoundNode node → length (node_step input node).outputs.sends ≤ 1000
+sends_at_most_1000 input node may is =
+    sends_few input node (valid_input input node may.condition is.valid_disks.read) is.valid_disks may is.short_queues is.recovery
 
 -- where its recovery begins
 pub begins_at_entry : (entry : Entry) (node : Node) → May (inputs.LogEntry entry) node → IsSoundNode node → begins_recovery entry node ≡ true

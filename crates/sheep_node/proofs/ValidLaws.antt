@@ -22,7 +22,7 @@ use Rattle.sheep_node.specs.declared.input.Input.TheVariants as inputs
 use Rattle.sheep_node.specs.declared.course.Request.{Request}
 use Rattle.sheep_node.specs.State.{Node, initial_node}
 use Rattle.sheep_node.specs.RecoveryView.{recovery_state_of}
-use Rattle.sheep_node.specs.RecoveryRange.{RecoversInRange}
+use Rattle.sheep_node.specs.RecoveryRange.{RecoveryMayStep}
 use Rattle.sheep_node.specs.StepState.{StepState, at_first}
 use Rattle.sheep_node.specs.LogReading.{entry_read, on_back}
 use Rattle.sheep_node.specs.Step.{on_request, recovery_stepped, on_put, on_recover_tick, node_step}
@@ -144,25 +144,25 @@ received_valid inputs.RetryTick node all = all
 received_valid (inputs.Back entries) node all = (none_have, All-nil IsReservable)
 
 -- only a tick sends by itself
-received_sends : (input : Input) (node : Node) → RecoversInRange node → length (input_received input (at_first node)).outputs.sends ≤ 64
+received_sends : (input : Input) (node : Node) → RecoveryMayStep node → length (input_received input (at_first node)).outputs.sends ≤ 64
 unfolding entry_read on_request on_recover_tick on_back
-received_sends (inputs.Guest req session ask) node range = omega arith
-received_sends (inputs.Request request) node range = omega arith
-received_sends (inputs.Reply rsp) node range =
+received_sends (inputs.Guest req session ask) node is = omega arith
+received_sends (inputs.Request request) node is = omega arith
+received_sends (inputs.Reply rsp) node is =
     cond_either (λ (start : StepState). length start.outputs.sends ≤ 64) (gateways.gateway_awaits rsp.number node.gateway) (at_first node)
     (recovery_stepped (recovery_steps.recovery_on_reply rsp (recovery_state_of node)) (at_first node)) (omega arith) (omega arith)
-received_sends (inputs.Lost number) node range =
+received_sends (inputs.Lost number) node is =
     cond_either (λ (start : StepState). length start.outputs.sends ≤ 64) (gateways.gateway_awaits number node.gateway) (at_first node)
     (recovery_stepped (recovery_steps.recovery_on_loss number (recovery_state_of node)) (at_first node)) (omega arith) (omega arith)
-received_sends (inputs.LogEntry entry) node range = omega arith
-received_sends inputs.Put node range = by_outbox node.outbox
+received_sends (inputs.LogEntry entry) node is = omega arith
+received_sends inputs.Put node is = by_outbox node.outbox
   where
     by_outbox : (outbox : List Entry) → length (on_put outbox (at_first node)).outputs.sends ≤ 64
     by_outbox [] = omega arith
     by_outbox (entry ∷ later) = omega arith
-received_sends inputs.RecoverTick node range = tick_few node.sends (recovery_state_of node) range.range
-received_sends inputs.RetryTick node range = omega arith
-received_sends (inputs.Back entries) node range = omega arith
+received_sends inputs.RecoverTick node is = tick_few node.sends node is.may
+received_sends inputs.RetryTick node is = omega arith
+received_sends (inputs.Back entries) node is = omega arith
 
 -- ---- a step
 
@@ -188,9 +188,9 @@ module _ (input : Input) (node : Node) (valid : IsValidInput input) (sound : Has
       let now = step_valid (length (input_received input (at_first node)).outputs.sends) (omega arith) in
       record { read = subst (All IsReservable) (sym (step_reads input node)) reservable; to_put = now.1.to_put; kept = now.0 }
 
-  pub sends_few : May input node → QueuesAreShort node → RecoversInRange node → length (node_step input node).outputs.sends ≤ 1000
-  sends_few may short range =
-      let few = (step_valid 64 (received_sends input node range)).1.few in
+  pub sends_few : May input node → QueuesAreShort node → RecoveryMayStep node → length (node_step input node).outputs.sends ≤ 1000
+  sends_few may short recovers =
+      let few = (step_valid 64 (received_sends input node recovers)).1.few in
       let changes : changes_in (step_chain input node) ≤ 19 = changes_in-step_chain input node (queues_stay_short_along input node may short) in
       omega (arith, few, changes)
 

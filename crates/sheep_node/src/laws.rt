@@ -29,7 +29,7 @@ ghost use Rattle.sheep_node.specs.declared.course.Course.TheVariants.{Commanding
 ghost use Rattle.sheep_node.specs.State.{Node, initial_node};
 ghost use Rattle.sheep_node.specs.StepState.{StepState, at_first, session_in, with_sole_request, request_ended};
 ghost use Rattle.sheep_node.specs.RecoveryView.{recovery_state_of};
-ghost use Rattle.sheep_node.specs.RecoveryRange.{RecoveryMayStep, RecoveryMayBegin, RecoversInRange};
+ghost use Rattle.sheep_node.specs.RecoveryRange.{RecoveryMayStep, RecoveryMayBegin};
 ghost use Rattle.sheep_node.specs.NodeInvariant.{IsSoundNode};
 ghost use Rattle.sheep_node.specs.OneWork.{HasOneWorkPerRequest};
 ghost use Rattle.sheep_node.specs.GivenNumbers.{NumbersWereGiven};
@@ -72,8 +72,7 @@ pub fn sends_are_numbered()
 /// A step sends 1,000 messages at most: one to each member, at most 64, at a tick; else no more than 18 attempts begin in it, each with 31
 /// messages at most.
 pub fn a_step_sends_at_most_1000()
-    ensures { (input : Input) (node : Node) → May input node → IsSoundNode node → RecoversInRange node
-        → length (node_step input node).outputs.sends ≤ 1000 }
+    ensures { (input : Input) (node : Node) → May input node → IsSoundNode node → length (node_step input node).outputs.sends ≤ 1000 }
 {}
 
 /// Only an entry of the log, and coming back, change what a node has read; and it stays itself.
