@@ -1,29 +1,14 @@
 -- A node that reads an entry waits for what it waited for, and knows the lengths of rows that it knew.
-use Rattle.std.proofs.Common.{◌≡◌, inl, ℕ, ◌+◌, ◌==◌, Bool, true, false, ◌||◌, cond, List, [], ◌∷◌, ◌++◌, map, Contains, Option, Some, None, is_some, refl, sym, ap, subst, ◌∙◌, ⊎_elim}
+use Rattle.std.proofs.Common.{◌≡◌, inl, ℕ, ◌+◌, true, ◌||◌, List, [], ◌++◌, map, Contains, Option, Some, None, is_some, refl, ap, subst, ◌∙◌, ⊎_elim}
 use native.Mathlib.Omega.{arith}
-use Rattle.std.specs.Option.{option_map}
-use Rattle.std.proofs.lemmas.Bool.{eqb-true, or_cases, or_left, or_right}
-use Rattle.std.proofs.lemmas.Option.{same_Some}
-use Rattle.proof_tools.proofs.Booleans.{cond_either}
+use Rattle.std.proofs.lemmas.Bool.{or_cases, or_left, or_right}
 use Rattle.proof_tools.proofs.Lists.{Contains-nil}
 use Rattle.object_id.specs.declared.entry.Entry.{Entry}
-use Rattle.object_id.specs.declared.entry.VdiSpec.{VdiSpec}
-use Rattle.object_id.specs.Oid.{vid_of, kind_of}
 use Rattle.object_store.specs.declared.row.RowCopy.{RowCopy}
-use Rattle.vdi_directory.specs.declared.header.Header.{Header}
-use Rattle.vdi_directory.specs.declared.effect.Effect.{Effect}
-use Rattle.vdi_directory.specs.declared.effect.Grant.{Grant}
-use Rattle.vdi_directory.specs.declared.effect.Effect.TheVariants as effects
-use Rattle.vdi_directory.specs.Effects.{is_used, header_after, header_of}
-use Rattle.vdi_directory.specs.Decisions.{outcome, log_effects}
-use Rattle.vdi_directory.proofs.StateLemmas.{log_effects-push, header_of-push}
-use Rattle.vdi_directory.proofs.DecisionLaws.{grant_outcome-unused}
-use Rattle.vdi_directory.proofs.LineLemmas.{line-log_effects}
 use Rattle.peer_proto.specs.declared.ask.PeerAsk.{PeerAsk}
 use Rattle.peer_proto.specs.declared.ask.PeerAsk.TheVariants as asks
 use Rattle.peer_proto.specs.declared.say.PeerSay.{PeerSay}
 use Rattle.peer_proto.specs.declared.say.PeerSay.TheVariants as says
-use Rattle.peer_service.specs.State.{Peer, length_of_rows, row_size}
 use Rattle.gateway.specs.State as gateways
 use Rattle.gateway.specs.State.{Gateway}
 use Rattle.recovery.specs.Shown.{NodeView, is_asked_row}
@@ -37,68 +22,11 @@ use Rattle.sheep_node.specs.LogReading as nodes
 use Rattle.sheep_node.specs.LogReading.{asker_of, decision_told, on_log_entry}
 use Rattle.sheep_node.proofs.MessageNumbers.{unanswered_reading}
 use Rattle.sheep_node.proofs.PeerLog.{entries_reading}
+use Rattle.sheep_node.proofs.KnownSpecs.{size_stays}
 use Rattle.sheep_world.specs.WireMatch.{asked_by_gateway}
 use Rattle.sheep_node.proofs.MessageNumbers.{Sends}
 use Rattle.sheep_world.proofs.WireAfterSends.{Asking}
 use Rattle.sheep_world.proofs.AskedByTick.{Any}
-
--- ---- the length of an object's rows stays known
-
--- a header that is known stays, but for its tag
-abbrev HasSpecOf : Header → Option Header → Type 0
-HasSpecOf header None = ⊥
-HasSpecOf header (Some now) = now.spec ≡ header.spec
-
-header_stays : (entries : List Entry) (entry : Entry) (vid : ℕ) (header : Header) → header_of (log_effects entries) vid ≡ Some header
-    → HasSpecOf header (header_of (log_effects (entries ++ entry ∷ [])) vid)
-header_stays entries entry vid header is =
-    let before = log_effects entries in
-    let effect = (outcome before entry).effect in
-    subst (HasSpecOf header)
-    (sym (ap (λ (effects : List Effect). header_of effects vid) (log_effects-push entries entry)
-    ∙ header_of-push before effect vid
-    ∙ ap (λ (o : Option Header). header_after vid o effect) is))
-    (by_effect effect refl)
-  where
-    by_id : (grant : Grant) → (outcome (log_effects entries) entry).effect ≡ effects.Reserved grant → (b : Bool) → (grant.reservation.vid.0 == vid) ≡ b
-        → HasSpecOf header (cond b (Some grant.header) (Some header))
-    by_id grant what true same =
-        let new : is_used (log_effects entries) grant.reservation.vid.0 ≡ false = (grant_outcome-unused entries entry grant what).1 in
-        let used : is_used (log_effects entries) vid ≡ true = (line-log_effects entries).known vid ∙ ap is_some is in
-        let unused : is_used (log_effects entries) vid ≡ false
-        = ap (is_used (log_effects entries)) (sym (eqb-true grant.reservation.vid.0 vid same)) ∙ new in
-        absurd (cc (used, unused))
-    by_id grant what false other = refl
-
-    by_effect : (effect : Effect) → (outcome (log_effects entries) entry).effect ≡ effect → HasSpecOf header (header_after vid (Some header) effect)
-    by_effect effects.Nothing what = refl
-    by_effect (effects.Reserved grant) what = by_id grant what (grant.reservation.vid.0 == vid) refl
-    by_effect (effects.Published id name) what = refl
-    by_effect (effects.Snapped snap) what =
-        cond_either (HasSpecOf header) (snap.old.0 == vid) (Some (record header { tag = snap.tag })) (Some header) refl refl
-    by_effect (effects.Deleted id name) what = refl
-    by_effect (effects.Held id holder) what = refl
-    by_effect (effects.Freed id) what = refl
-    by_effect (effects.Withdrawn id) what = refl
-    by_effect (effects.Left node) what = refl
-
-size_stays : (one other : Peer) (entry : Entry) (oid size : ℕ) → other.entries ≡ one.entries ++ entry ∷ [] → length_of_rows one oid ≡ Some size
-    → length_of_rows other oid ≡ Some size
-size_stays one other entry oid size more is = by_header (header_of (log_effects one.entries) (vid_of oid)) refl is
-  where
-    now_by : (header : Header) (now : Option Header) → HasSpecOf header now → row_size (kind_of oid) header.spec ≡ size
-        → option_map (row_size (kind_of oid)) (option_map (λ (header : Header). header.spec) now) ≡ Some size
-    now_by header None has so = absurd has
-    now_by header (Some now) has so = ap (λ (spec : VdiSpec). Some (row_size (kind_of oid) spec)) has ∙ ap (λ (n : ℕ). Some n) so
-
-    by_header : (o : Option Header) → header_of (log_effects one.entries) (vid_of oid) ≡ o
-        → option_map (row_size (kind_of oid)) (option_map (λ (header : Header). header.spec) o) ≡ Some size
-        → length_of_rows other oid ≡ Some size
-    by_header None known so = absurd (cc (so))
-    by_header (Some header) known so =
-        ap (λ (entries : List Entry). option_map (row_size (kind_of oid)) (option_map (λ (header : Header). header.spec) (header_of (log_effects entries) (vid_of oid)))) more
-        ∙ now_by header (header_of (log_effects (one.entries ++ entry ∷ [])) (vid_of oid)) (header_stays one.entries entry (vid_of oid) header known)
-        (same_Some (row_size (kind_of oid) header.spec) size so)
 
 -- what was known of the lengths of rows is known still
 abbrev pub Grows : NodeView → NodeView → Type 0
