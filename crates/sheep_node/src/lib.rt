@@ -13,8 +13,8 @@
 //! opening on (`proofs/StepChain.antt`: `kept_by_chain`): each request has one work at most (`specs/OneWork.antt`), the
 //! entries that it puts are its own (`specs/OwnEntries.antt`), and a session's queue is its reads and writes
 //! (`specs/SessionQueues.antt`), no more than there may be at once. A step is of so few changes that it sends 1,000 messages at most.
-//! The changes leave a node's peer and its recovery as the input made them: so its recovery may make each step
-//! (`specs/RecoveryRange.antt`) is kept by the input alone.
+//! The changes leave a node's peer and its recovery alone: that the recovery may make each step (`specs/RecoveryRange.antt`)
+//! follows from what the input makes of them.
 //!
 //! Of the code stands what a node keeps (`state.rt`, with `requests.rt`, `sessions.rt` and, for its recovery, `node_rows.rt`), what a
 //! client may ask (`asks.rt`), the parts of the test whether a node may step (`may.rt`, with `entry_tests.rt` for a log without tally),
