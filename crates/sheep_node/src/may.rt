@@ -1,4 +1,4 @@
-//! When a node may step on an input: the parts of that test.
+//! When a node may step on an input.
 
 ghost use Rattle.std.specs.Prelude.{◌≡◌, ◌↔◌, false, IsTrue};
 ghost use Rattle.std.specs.Option.{option_map_or};
@@ -6,15 +6,17 @@ ghost use Rattle.epoch_log.specs.Members.{is_member};
 ghost use Rattle.vnode_table.specs.Epochs.{members_at};
 ghost use Rattle.sheep_node.specs.State.{session_at};
 ghost use Rattle.sheep_node.specs.StepFacts.{FollowsLog, IsLogSoFar, HasReadLog, IsByTheLog};
-ghost use Rattle.sheep_node.specs.May.{MayRead, has_room_for, queued_at_most};
+ghost use Rattle.sheep_node.specs.May.{MayRead, has_room_for, queued_at_most, has_work_to_retry};
 ghost use Rattle.sheep_node.specs.MayTests.{is_guest_ask, may_take_ask, may_read_entry, may_read_entries, rest_behind};
-ghost use Rattle.sheep_node.specs.MayTests.{may_come_back_with};
+ghost use Rattle.sheep_node.specs.MayTests.{may_come_back_with, meets, may};
 
 use crate::ask::Ask;
 use crate::asks::{is_entry_ask, is_object_ask, is_vdi_ask};
 use crate::entry_tests::{
     begins_with, begun_by, is_member, is_newest_member, may_be_first, may_be_read_from,
 };
+use crate::input::Input;
+use crate::limits::SENDS_MAX;
 use crate::node_rows::NodeRows;
 use crate::session::Session;
 use crate::state::NodeState;
@@ -132,5 +134,42 @@ impl NodeState {
             && 0 < begun
             && self.rows.peer.epoch().0 as usize <= begun
             && is_newest_member(self.me, entries)
+    }
+
+    /// Whether a work of the gateway may be tried again.
+    fn can_retry(&self) -> bool
+        ensures { result ≡ has_work_to_retry self.now }
+    {
+        self.gateway.can_retry(self.rows.peer.epoch())
+    }
+
+    /// Whether an input meets what it must.
+    fn meets(&self, input: &Input) -> bool
+        requires log { HasReadLog self.now }
+        requires by_the_log { IsByTheLog self.now }
+        ensures { result ≡ meets input.now self.now }
+    {
+        match input {
+            Input::Guest { req, session, ask } => self.may_take_ask(*req, *session, ask),
+            Input::Request(request) => self.rows.peer.may_serve(&request.ask),
+            Input::Reply(rsp) => self.gateway.fits(rsp) || self.recovery.fits(rsp, &self.rows),
+            Input::Lost { number } => {
+                self.gateway.waits_for(*number) || self.recovery.waits_for(*number)
+            }
+            Input::LogEntry(entry) => self.may_read(entry),
+            Input::Put => !self.outbox.is_empty(),
+            Input::RecoverTick => self.recovery.can_tick(&self.rows),
+            Input::RetryTick => self.can_retry(),
+            Input::Back { entries } => self.may_come_back_with(entries.as_slice()),
+        }
+    }
+
+    /// Whether the node may step on an input: it has numbers left, and the input meets its condition. Takes no memory.
+    pub fn may(&self, input: &Input) -> bool
+        requires log { HasReadLog self.now }
+        requires by_the_log { IsByTheLog self.now }
+        ensures { result ≡ may input.now self.now }
+    {
+        self.sends <= SENDS_MAX && self.meets(input)
     }
 }
