@@ -1,7 +1,8 @@
 -- What a node keeps of the entries that it has read: when there is a tally, and what the newest epoch of a log is.
-use Rattle.std.proofs.Common.{◌≡◌, ℕ, zero, suc, ◌+◌, ◌<◌, ◌≤◌, ◌==◌, ◌||◌, Bool, true, false, cond, List, [], ◌∷◌, ◌++◌, length, filter, refl, ap, sym, subst, ◌∙◌, arith}
+use Rattle.std.proofs.Common.{◌≡◌, ℕ, zero, suc, ◌+◌, ◌<◌, ◌≤◌, ◌||◌, false, cond, List, [], ◌∷◌, ◌++◌, length, filter, refl, ap, sym, subst, ◌∙◌, arith}
 use Rattle.std.proofs.lemmas.Bool.{eq-eqb, ne_eqb}
-use Rattle.object_id.specs.declared.entry.Member.{Member}
+use Rattle.object_id.specs.declared.node.NodeId.{NodeId}
+use Rattle.object_id.specs.declared.policy.Policy.{Policy}
 use Rattle.object_id.specs.declared.entry.Entry.{Entry}
 use Rattle.object_id.specs.declared.entry.Entry.TheVariants.{Format, Join, Leave, Reweight, Recovered, Reserve, Publish, Clone, Snapshot}
 use Rattle.object_id.specs.declared.entry.Entry.TheVariants.{Delete, Lock, Unlock}
@@ -9,8 +10,9 @@ use Rattle.epoch_log.specs.Epochs.{begins_epoch, epoch_of, members_in}
 use Rattle.epoch_log.specs.Appending.{IsLog, IsReservable, MayAppend}
 use Rattle.vnode_table.specs.Epochs.{EpochMembers, members_at, is_entered}
 use Rattle.peer_service.specs.State.{Peer}
-use Rattle.peer_service.specs.Epochs.{peer_settled_to}
+use Rattle.peer_service.specs.Epochs.{peer_in_next_epoch, peer_settled_to}
 use Rattle.peer_service.specs.LogReading.{without_objects, read_entry}
+use Rattle.peer_service.specs.Back.{closed_at_end, come_back}
 use Rattle.sheep_node.specs.May.{MayRead}
 use Rattle.sheep_node.specs.LogReading.{epochs_up_to}
 use Rattle.sheep_node.specs.StepFacts.{IsLogSoFar, epochs_of, FollowsLog}
@@ -103,3 +105,11 @@ entries_settled settled peer = refl
 pub entries_with_one : (entry : Entry) (peer : Peer) → (read_entry entry peer).entries ≡ peer.entries ++ entry ∷ []
 unfolding read_entry without_objects
 entries_with_one entry peer = refl
+
+pub entries_in_next : (me : NodeId) (targets : ℕ → ℕ → Policy → List NodeId) (peer : Peer) → (peer_in_next_epoch me targets peer).entries ≡ peer.entries
+unfolding peer_in_next_epoch
+entries_in_next me targets peer = refl
+
+pub entries_kept_back : (entries : List Entry) (peer : Peer) → (come_back entries peer).entries ≡ entries
+unfolding come_back closed_at_end peer_settled_to without_objects
+entries_kept_back entries peer = refl

@@ -42,6 +42,7 @@ pub mod StepStates
 pub mod ReceivedInputs
 pub mod RefusedEnds
 pub mod GivenNumbers
+pub mod GoingOn
 pub mod BeginningWorks
 pub mod InSteps
 pub mod TurnSteps
@@ -51,3 +52,8 @@ mod KeptLogs
 mod LogsRead
 pub mod KnownSpecs
 pub mod RecoverySteps
+pub mod RecoveredNodes
+mod NewestEpochs
+mod EntryParts
+pub mod ToldRequests
+pub mod GuestSteps

@@ -120,7 +120,7 @@ later_one [] entry may some = absurd (omega arith)
 later_one (first ∷ later) entry may some = may.later
 
 -- the first entry is the format, which begins no later epoch
-first_one : (entry : Entry) → MayRead [] entry → (is_format entry ≡ true) × (begins_epoch entry ≡ false)
+pub first_one : (entry : Entry) → MayRead [] entry → (is_format entry ≡ true) × (begins_epoch entry ≡ false)
 first_one (Format members) may = (refl, refl)
 first_one (Join node zone vnodes) may = absurd may
 first_one (Leave node) may = absurd may
@@ -138,7 +138,7 @@ begins_later : (entries : List Entry) (entry : Entry) → MayRead entries entry 
 begins_later [] entry may e = let first = first_one entry may in absurd (cc (e, first.1))
 begins_later (first ∷ later) entry may e = omega arith
 
-none_before : (entries : List Entry) (entry : Entry) → MayRead entries entry → is_format entry ≡ true → entries ≡ []
+pub none_before : (entries : List Entry) (entry : Entry) → MayRead entries entry → is_format entry ≡ true → entries ≡ []
 none_before [] entry may e = refl
 none_before (first ∷ later) entry may e = absurd (cc (e, may.later))
 

@@ -1,5 +1,5 @@
 -- The entries of a whole log, read one after the other; the epochs of a log, entered one after the other.
-use Rattle.std.proofs.Common.{◌≡◌, ℕ, zero, suc, ◌+◌, ◌<◌, ◌≤◌, false, List, [], ◌∷◌, ◌++◌, length, take, drop, get_or, map, refl, ap, sym, subst, ◌∙◌, arith}
+use Rattle.std.proofs.Common.{◌≡◌, ℕ, zero, suc, ◌+◌, ◌<◌, ◌≤◌, List, [], ◌∷◌, length, take, drop, get_or, refl, sym, subst, arith}
 use Rattle.std.proofs.lemmas.List.{take-append-drop, length-take-le, length-map, get_or-map, drop_more}
 use Rattle.std.proofs.lemmas.List.Kept.{AllPairs-from_increasing}
 use Rattle.object_id.specs.declared.entry.Member.{Member}

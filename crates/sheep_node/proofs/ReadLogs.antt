@@ -13,7 +13,7 @@ use Rattle.sheep_node.specs.StepFacts.{read_after, IsLogSoFar, HasReadLog}
 use Rattle.sheep_node.specs.May.{MayRead, MayReadAll, Meets, May}
 use Rattle.sheep_node.proofs.StepResults.{step_reads}
 
-read_log : (before : List Entry) (entry : Entry) → IsLogSoFar before → MayRead before entry → IsLogSoFar (before ++ entry ∷ [])
+pub read_log : (before : List Entry) (entry : Entry) → IsLogSoFar before → MayRead before entry → IsLogSoFar (before ++ entry ∷ [])
 read_log (first ∷ later) entry log may = IsLog-push (first ∷ later) entry log may
 read_log [] (Format members) log may = (may, tt)
 read_log [] (Join node zone vnodes) log may = absurd may
@@ -28,7 +28,7 @@ read_log [] (Delete by session name tag) log may = absurd may
 read_log [] (Lock by session name tag) log may = absurd may
 read_log [] (Unlock by session vid) log may = absurd may
 
-all_log : (before later : List Entry) → IsLogSoFar before → MayReadAll before later → IsLogSoFar (before ++ later)
+pub all_log : (before later : List Entry) → IsLogSoFar before → MayReadAll before later → IsLogSoFar (before ++ later)
 all_log before [] log may = subst IsLogSoFar (sym (append-nil before)) log
 all_log before (entry ∷ later) log may =
     subst IsLogSoFar (append_assoc before (entry ∷ []) later) (all_log (before ++ entry ∷ []) later (read_log before entry log may.0) may.1)

@@ -17,10 +17,10 @@
 //! follows from what the input makes of them.
 //!
 //! Of the code stands what a node keeps (`state.rt`, with `requests.rt`, `sessions.rt` and, for its recovery, `node_rows.rt`), what a
-//! client may ask (`asks.rt`), the parts of the test whether a node may step (`may.rt`, with `entry_tests.rt` for a log without tally),
-//! the small steps of reading the log (`log_reading.rt`), the elementary changes of a step (`step_state.rt`), how a request's work begins
-//! (`request_works.rt`), what a request that took a step comes to (`courses.rt`), and what waited in a session (`waiting.rt`): each call
-//! is exactly the definition of its name, or out of memory. The step itself is still to come.
+//! client may ask (`asks.rt`), the test whether a node may step (`may.rt`, with `entry_tests.rt` for a log without tally), how a node
+//! reads an entry of the log, and comes back (`log_reading.rt`), the elementary changes of a step (`step_state.rt`), how a request's work
+//! begins (`request_works.rt`), what a request that took a step comes to (`courses.rt`), and what waited in a session (`waiting.rt`):
+//! each call is exactly the definition of its name, or out of memory. The step itself is still to come.
 //!
 //! The laws of `laws.rt` say what a step keeps, and what holds of every step: its sends are numbered upwards, so no two of a node are
 //! numbered alike; what it has read comes from the log alone, and its epochs and their members are those of what it has

@@ -1,9 +1,10 @@
 ghost use Rattle.std.specs.Prelude.{◌≡◌, OnOk, is_some};
 ghost use Rattle.std.specs.Option.{option_copied};
 ghost use Rattle.std.specs.FinMap as tree;
+ghost use Rattle.sheep_node.specs.KeptLog.{asker_among};
 
 use crate::course::Request;
-use object_id::NoMemory;
+use object_id::{Entry, NoMemory};
 use std::alloc::Global;
 use std::collections::BTreeMap;
 use std::marker::Model;
@@ -46,6 +47,18 @@ impl Requests {
         ensures { result ≡ is_some (tree.get self.now req) }
     {
         self.get(req).is_some()
+    }
+
+    /// The request that waits for the decision on exactly this entry. Looks at each request up to that one, and takes no memory.
+    pub fn find_by_entry(&self, entry: &Entry) -> Option<u32>
+        ensures { result ≡ asker_among entry.now self.now }
+    {
+        for (req, request) in self.by_number.iter() {
+            if request.course.waits_for(entry) {
+                return Some(*req);
+            }
+        }
+        None
     }
 
     pub fn put(&mut self, req: u32, request: Request) -> Result<(), NoMemory>
