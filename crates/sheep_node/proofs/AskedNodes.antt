@@ -1,15 +1,14 @@
 -- Where a request is, the node has read something, and so it has entered its epoch.
-use Rattle.std.proofs.Common.{◌≡◌, ◌≢◌, ℕ, zero, suc, ◌+◌, ◌≤◌, ◌==◌, ◌||◌, Bool, true, false, List, [], ◌∷◌, ◌++◌, length, filter, Option, Some, None, refl, ap, sym, subst, ◌∙◌}
+use Rattle.std.proofs.Common.{◌≡◌, ◌≢◌, ℕ, zero, suc, ◌≤◌, ◌||◌, Bool, false, List, [], ◌∷◌, ◌++◌, Some, refl, ap, sym, subst, ◌∙◌}
 use native.Mathlib.Omega.{arith}
 use Rattle.std.specs.Prelude.{IsTrue}
-use Rattle.std.specs.List.{list_any}
 use Rattle.std.specs.Ordering.{nat_cmp}
 use Rattle.std.specs.FinMap as tree
 use Rattle.std.proofs.lemmas.Bool.{eq-eqb}
 use Rattle.object_id.specs.declared.node.NodeId.{NodeId}
 use Rattle.object_id.specs.declared.entry.Entry.{Entry}
 use Rattle.epoch_log.specs.Members as members
-use Rattle.epoch_log.specs.Epochs.{begins_epoch, epoch_of}
+use Rattle.epoch_log.specs.Epochs.{epoch_of}
 use Rattle.vnode_table.specs.Epochs.{EpochMembers, is_entered, members_at}
 use Rattle.sheep_node.specs.declared.input.Input.{Input}
 use Rattle.sheep_node.specs.declared.input.Input.TheVariants as inputs
@@ -35,7 +34,7 @@ pushed [] entry is = absurd (cc (is))
 pushed (first ∷ later) entry is = absurd (cc (is))
 
 -- a member of its epoch has read something
-member_has_read : (node : Node) → IsByTheLog node → IsTrue (is_epoch_member node) → node.peer.entries ≢ []
+pub member_has_read : (node : Node) → IsByTheLog node → IsTrue (is_epoch_member node) → node.peer.entries ≢ []
 member_has_read node log member none =
     let unread : node.epochs ≡ [] = log.epochs_so ∙ ap epochs_of none in
     let nobody : is_epoch_member node ≡ false = ap (λ (epochs : List EpochMembers). members.is_member node.me.0 (members_at epochs node.peer.epoch)) unread in
@@ -100,7 +99,7 @@ newest_entered entries zero most = absurd (omega (arith, most))
 newest_entered entries (suc epoch) most =
     ap (λ (b : Bool). b || is_entered (epochs_up_to entries epoch) (suc epoch)) (eq-eqb (suc epoch) (suc epoch) refl)
 
-log_entered : (entries : List Entry) → entries ≢ [] → IsTrue (is_entered (epochs_of entries) (epoch_of entries))
+pub log_entered : (entries : List Entry) → entries ≢ [] → IsTrue (is_entered (epochs_of entries) (epoch_of entries))
 log_entered [] some = absurd (some refl)
 log_entered (first ∷ later) some = newest_entered (first ∷ later) (epoch_of (first ∷ later)) (omega arith)
 

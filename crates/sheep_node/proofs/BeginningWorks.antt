@@ -1,6 +1,7 @@
 -- A request that may begin a work meets what the gateway asks for, and what comes of it can be gone on with.
 use Rattle.std.proofs.Common.{◌≡◌, ℕ, ◌-◌, ◌<◌, ◌≤◌, ◌^◌, nat_lt, Bool, true, false, ◌&&◌, cond, List, [], ◌∷◌, ◌++◌, All, Contains, map, refl, ap, ◌∙◌}
 use native.Mathlib.Omega.{arith}
+use Rattle.std.specs.Prelude.{IsTrue}
 use Rattle.std.specs.List.{list_all, flat_map}
 use Rattle.std.specs.FinMap as tree
 use Rattle.std.proofs.lemmas.Bool.{lt-ltb}
@@ -15,7 +16,7 @@ use Rattle.peer_proto.specs.declared.work.ObjWork.{ObjWork}
 use Rattle.gateway.specs.declared.message.Message.{Message}
 use Rattle.object_id.specs.declared.cause.Cause.TheVariants.{Halt}
 use Rattle.hash_ring.specs.Placement.{zone_count}
-use Rattle.vnode_table.specs.Epochs.{members_at}
+use Rattle.vnode_table.specs.Epochs.{is_entered, members_at}
 use Rattle.peer_proto.specs.declared.work.ObjWork.TheVariants.{Create, Write, Read, ReadAll}
 use Rattle.gateway.specs.Attempt.{send_of}
 use Rattle.gateway.specs.Work.{zones_for}
@@ -28,7 +29,7 @@ use Rattle.sheep_node.specs.RequestWorks.{start_of, work_begun, work_asked}
 use Rattle.sheep_node.specs.ValidDisks.{WorkHasPolicy}
 use Rattle.sheep_node.proofs.MessageCounts.{attempt_few}
 use Rattle.sheep_node.specs.State.{Node}
-use Rattle.sheep_node.specs.GivenNumbers.{HasNumbersBelow}
+use Rattle.sheep_node.specs.GivenNumbers.{HasNumbersBelow, NumbersWereGiven}
 use Rattle.sheep_node.specs.MayBegin.{MayBeginWork, MayBeFollowed}
 
 all_below : (count : ℕ) (messages : List Message) → All (λ (message : Message). message.number < count) messages → (later : List ℕ)
@@ -51,14 +52,19 @@ entries_below count (entry ∷ entries) all =
     all_below count (open_messages entry.1.stage) (all entry (Contains-first entry entry entries refl)) (flat_map numbers_of entries)
     (entries_below count entries (λ other there. all other (Contains-cons entry entries other there)))
 
-pub may_send_here : (req : ℕ) (work : ObjWork) (node : Node) → MayBeginWork req work node → node.sends ≤ 2 ^ 32 - NODES_MAX
+-- an attempt may be sent in the node's epoch, where that was entered, and there are numbers for its messages
+pub may_send : (node : Node) → IsTrue (is_entered node.epochs node.peer.epoch) → NumbersWereGiven node → node.sends ≤ 2 ^ 32 - NODES_MAX
     → MaySend node.gateway node.epochs node.sends (record { 0 = node.peer.epoch })
-may_send_here req work node may room = record {
-  entered = may.entered;
+may_send node entered given room = record {
+  entered = entered;
   room = room;
   numbers = entries_below node.sends (tree.entries node.gateway.works)
-      (λ entry there. may.given entry.0 entry.1 (get-entry node.gateway.works entry there));
+      (λ entry there. given entry.0 entry.1 (get-entry node.gateway.works entry there));
 }
+
+pub may_send_here : (req : ℕ) (work : ObjWork) (node : Node) → MayBeginWork req work node → node.sends ≤ 2 ^ 32 - NODES_MAX
+    → MaySend node.gateway node.epochs node.sends (record { 0 = node.peer.epoch })
+may_send_here req work node may room = may_send node may.entered may.given room
 
 -- ---- what a start comes to
 

@@ -1,11 +1,11 @@
 -- What the code of a request's step leaves is what the step is to leave: a session or a course that is set twice is set once.
-use Rattle.std.proofs.Common.{◌≡◌, ℕ, cond, Bool, true, false, List, Option, Some, None, Result, Ok, Err, OnOk, unwrap_or, refl, ap, sym, ◌∙◌}
+use Rattle.std.proofs.Common.{◌≡◌, ℕ, cond, Bool, true, false, List, Option, Some, None, unwrap_or, refl, ap, sym, ◌∙◌}
 use Rattle.std.specs.Option.{option_map_or}
 use Rattle.std.specs.Ordering.{nat_cmp}
 use Rattle.std.specs.Cmp.{nat_cmp_total}
 use Rattle.std.specs.BTreeMap.{is_at}
 use Rattle.std.specs.FinMap as tree
-use Rattle.proof_tools.proofs.FiniteMaps.{get-insert_same, insert-insert}
+use Rattle.proof_tools.proofs.FiniteMaps.{get-insert_same, insert-insert, is_at-true}
 use Rattle.peer_proto.specs.declared.guest.GuestRsp.{GuestRsp}
 use Rattle.guest_driver.specs.declared.disk.Disk.{Disk}
 use Rattle.guest_driver.specs.declared.act.DriverAct.{DriverAct}
@@ -16,7 +16,9 @@ use Rattle.vdi_ops.specs.declared.act.OpAct.{OpAct}
 use Rattle.object_id.specs.declared.entry.Entry.{Entry}
 use Rattle.peer_proto.specs.declared.work.ObjWork.{ObjWork}
 use Rattle.vdi_ops.specs.Op.{Op, OpStep, OpStage, Asked, Working, Publishing, Answered, Stays, disk_change_at, IsAwaitedAtOpStage}
-use Rattle.vdi_ops.specs.Steps.{op_on_done}
+use Rattle.vdi_ops.specs.Steps.{on_decision, op_on_done}
+use Rattle.vdi_directory.specs.declared.decision.Decision.{Decision}
+use Rattle.peer_service.specs.State.{effects_of}
 use Rattle.vdi_ops.specs.declared.act.OpAct.TheVariants.{Append, Work, Reply}
 use Rattle.sheep_node.specs.declared.course.Course.{Course}
 use Rattle.sheep_node.specs.declared.course.Course.TheVariants.{Driving, Commanding, Checking}
@@ -24,8 +26,11 @@ use Rattle.sheep_node.specs.declared.course.Request.{Request}
 use Rattle.sheep_node.specs.declared.session.Session.{Session}
 use Rattle.sheep_node.specs.State.{new_session}
 use Rattle.sheep_node.specs.StepState.{StepState, session_in, session_without, with_session, with_disk, with_outbox_entry, with_course, with_sole_request, without_course, with_guest_reply, request_ended}
-use Rattle.sheep_node.specs.RequestWorks.{work_asked}
-use Rattle.sheep_node.specs.Courses.{disk_after, driver_acted, driver_stepped, disk_went_on, command_acted, command_stepped, check_acted, check_stepped, course_went_on}
+use Rattle.sheep_node.specs.Kept.{step_without}
+use Rattle.sheep_node.specs.RequestWorks.{queue_left, work_asked}
+use Rattle.guest_driver.specs.InodeQueue.{queue_after_end}
+use Rattle.sheep_node.proofs.StepStates.{insert-remove}
+use Rattle.sheep_node.specs.Courses.{disk_after, driver_acted, driver_stepped, disk_went_on, inode_open, command_acted, command_stepped, check_acted, check_stepped, course_went_on, course_decided}
 
 module _ {X : Type 0} (m : tree.FinMap nat_cmp X) (k : ℕ) where
   remove-insert : (x : X) → tree.remove (tree.insert m k x) k ≡ tree.remove m k
@@ -38,6 +43,26 @@ module _ {X : Type 0} (m : tree.FinMap nat_cmp X) (k : ℕ) where
       by_tie : (b : Bool) (old mid : Option X) → mid ≡ cond b (Some x) old → cond b None mid ≡ cond b None old
       by_tie true old mid is = refl
       by_tie false old mid is = is
+
+  -- a number at which there is nothing is removed
+  remove-none : tree.get m k ≡ None → tree.remove m k ≡ m
+  remove-none none =
+      tree.same_map nat_cmp_total tree.nat_cmp-IsAntisymmetric (tree.remove m k) m (λ q.
+      tree.get-remove nat_cmp_total m k q ∙ by_tie q (is_at (nat_cmp q) k) refl)
+    where
+      by_tie : (q : ℕ) (b : Bool) → is_at (nat_cmp q) k ≡ b → cond b None (tree.get m q) ≡ tree.get m q
+      by_tie q true tie = sym (ap (tree.get m) (is_at-true q k tie) ∙ none)
+      by_tie q false tie = refl
+
+  -- what is at a number already is put there once more
+  pub insert-there : (x : X) → tree.get m k ≡ Some x → tree.insert m k x ≡ m
+  insert-there x there =
+      tree.same_map nat_cmp_total tree.nat_cmp-IsAntisymmetric (tree.insert m k x) m (λ q.
+      tree.get-insert nat_cmp_total m k x q ∙ by_tie q (is_at (nat_cmp q) k) refl)
+    where
+      by_tie : (q : ℕ) (b : Bool) → is_at (nat_cmp q) k ≡ b → cond b (Some x) (tree.get m q) ≡ tree.get m q
+      by_tie q true tie = sym (ap (tree.get m) (is_at-true q k tie) ∙ there)
+      by_tie q false tie = refl
 
 -- a course that goes was there or not
 course_gone : (number req : ℕ) (course : Course) (so_far : StepState) → without_course req (with_course number req course so_far) ≡ without_course req so_far
@@ -171,3 +196,50 @@ pub came_to_work : (number req : ℕ) (op : Op) (work : ObjWork) (so_far : StepS
 unfolding command_stepped
 came_to_work number req op work so_far awaited =
     ap (work_asked number req work) (left_open number req op so_far (stays_for_work work op.stage awaited))
+
+-- a command goes on by a decision
+pub decided : (number req : ℕ) (decision : Decision) (op later : Op) (act : OpAct) (so_far : StepState)
+    → on_decision (effects_of so_far.node.peer) (inode_open (session_in number so_far).disk) decision op
+    ≡ Some (record { op = later; act = act })
+    → command_stepped number req (record { op = later; act = act }) so_far
+    ≡ course_decided number req decision (Commanding op) (with_course number req (Commanding op) so_far)
+unfolding course_decided command_stepped
+decided number req decision op later act so_far is =
+    let there = with_course number req (Commanding op) so_far in
+    sym (ap (λ (step : Option OpStep). option_map_or (λ (step : OpStep). command_stepped number req step there) step there) is
+    ∙ ap (λ (moved : StepState). command_acted number req act (with_session number (record (session_in number so_far) {
+      disk = disk_after (disk_change_at later.stage) (session_in number so_far).disk;
+      command = Some req;
+    }) moved)) (course_twice number req (Commanding op) (Commanding later) so_far))
+
+-- ---- a request that was taken out
+
+-- a request that wasn't there is gone
+pub taken_of_none : (req : ℕ) (so_far : StepState) → tree.get so_far.node.requests req ≡ None → step_without req so_far ≡ so_far
+taken_of_none req so_far none =
+    ap (λ (requests : tree.FinMap nat_cmp Request). record so_far { node = record so_far.node { requests = requests } })
+    (remove-none so_far.node.requests req none)
+
+-- one that was there is put back as it was
+pub put_back : (number req : ℕ) (course : Course) (so_far : StepState)
+    → tree.get so_far.node.requests req ≡ Some (record { session = number; course = course })
+    → with_course number req course (step_without req so_far) ≡ so_far
+put_back number req course so_far there =
+    let request : Request = record { session = number; course = course } in
+    ap (λ (requests : tree.FinMap nat_cmp Request). record so_far { node = record so_far.node { requests = requests } })
+    (insert-remove so_far.node.requests req request ∙ insert-there so_far.node.requests req request there)
+
+-- also behind the end of its work
+pub put_back_behind : (number req : ℕ) (course : Course) (work : ObjWork) (so_far : StepState)
+    → tree.get so_far.node.requests req ≡ Some (record { session = number; course = course })
+    → with_course number req course (queue_left number work (step_without req so_far)) ≡ queue_left number work so_far
+put_back_behind number req course work so_far there =
+    ap (queue_left number work) (put_back number req course so_far there)
+
+-- a work that leaves the line leaves the disk open
+pub disk_behind : (number : ℕ) (work : ObjWork) (so_far : StepState)
+    → (session_in number (queue_left number work so_far)).disk ≡ (session_in number so_far).disk
+disk_behind number work so_far =
+    ap (λ (session : Option Session). (unwrap_or session new_session).disk)
+    (get-insert_same so_far.node.sessions number
+    (record (session_in number so_far) { inode_queue = queue_after_end (session_in number so_far).inode_queue work }))

@@ -1,8 +1,7 @@
 -- What is known of a node in the middle of a step, and that the step goes on.
-use Rattle.std.proofs.Common.{◌≡◌, ℕ, ◌+◌, ◌≤◌, ◌==◌, Bool, true, false, ◌&&◌, List, [], ◌∷◌, ◌++◌, take, fold, Contains, Option, Some, None, is_none, if◌then◌else◌, refl, ap, sym, subst, ◌∙◌}
+use Rattle.std.proofs.Common.{◌≡◌, ℕ, ◌+◌, true, false, List, [], ◌∷◌, ◌++◌, take, fold, Contains, Option, Some, None, is_none, if◌then◌else◌, refl, ap, sym, subst, ◌∙◌}
 use native.Mathlib.Omega.{arith}
 use Rattle.std.specs.Prelude.{IsTrue, IfSome}
-use Rattle.std.specs.Option.{option_map_or}
 use Rattle.std.specs.FinMap as tree
 use Rattle.std.proofs.lemmas.Grind.{fold-append}
 use Rattle.proof_tools.proofs.Lists.{Contains-first}
@@ -16,11 +15,10 @@ use Rattle.sheep_node.specs.declared.course.Course.TheVariants.{Waiting}
 use Rattle.sheep_node.specs.declared.course.Request.{Request}
 use Rattle.sheep_node.specs.StepState.{StepState, at_first, session_in, with_inode_queue}
 use Rattle.sheep_node.specs.Waiting.{next_begun, begun_if_may, passed_over}
-use Rattle.sheep_node.specs.OneWork.{may_work, may_work_at, may_work_of, waiting_in}
+use Rattle.sheep_node.specs.OneWork.{may_work, may_work_at, may_work_of}
 use Rattle.sheep_node.specs.Courses.{inode_open}
 use Rattle.sheep_node.specs.SessionQueues.{session_among}
 use Rattle.sheep_node.specs.DrivenDisks.{IsCourseOn}
-use Rattle.sheep_node.specs.GivenNumbers.{NumbersWereGiven}
 use Rattle.sheep_node.specs.Changes.{IsSoundStep, input_received}
 use Rattle.sheep_node.specs.MayBegin.{MayComeToWork, MayBeginWork}
 use Rattle.sheep_node.specs.InStep.{IsInStep}

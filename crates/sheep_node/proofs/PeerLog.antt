@@ -1,5 +1,5 @@
 -- What a served request, an entry that is read, and coming back leave of the entries that a node has read.
-use Rattle.std.proofs.Common.{◌≡◌, ℕ, nat_lt, Bool, true, false, List, [], ◌∷◌, ◌++◌, Option, Some, None, Result, Ok, Err, refl, ◌∙◌}
+use Rattle.std.proofs.Common.{◌≡◌, ℕ, nat_lt, Bool, true, false, List, [], ◌∷◌, ◌++◌, Option, Some, None, Result, Ok, Err, refl, ◌∙◌, OnOk, OnErr, ap}
 use Rattle.proof_tools.proofs.Booleans.{cond_either}
 use Rattle.object_id.specs.declared.entry.Entry.{Entry}
 use Rattle.object_store.specs.declared.fault.StoreFault.{StoreFault}
@@ -63,6 +63,13 @@ served_same peer request = by_fence (epoch_refusal peer.epoch request.epoch.0)
     by_fence : (refusal : Option Refusal) → SameLog peer (step_behind_fence refusal request.ask peer).peer
     by_fence None = answered_same request.ask peer
     by_fence (Some refusal) = refl
+
+-- as code: also where that is out of memory
+pub served_entries : {A E : Type 0} (result : Result A E) (old new : Peer) (request : PeerReq) → OnOk result (new ≡ (peer_step old request).peer)
+    → OnErr result (new ≡ old) → new.entries ≡ old.entries
+served_entries (Ok value) old new request served kept =
+    ap (λ (peer : Peer). peer.entries) served ∙ ap (λ (log : Log). log.entries) (served_same old request)
+served_entries (Err error) old new request served kept = ap (λ (peer : Peer). peer.entries) kept
 
 -- ---- an entry is read, and a node comes back
 

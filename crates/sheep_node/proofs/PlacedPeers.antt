@@ -4,7 +4,6 @@ use Rattle.std.proofs.Math.Seq.{take-nil}
 use Rattle.hash_ring.specs.Circle.{hash_of_object}
 use Rattle.hash_ring.specs.Placement.{targets_of}
 use Rattle.object_id.specs.declared.entry.Member.{Member}
-use Rattle.object_id.specs.declared.node.NodeId.{NodeId}
 use Rattle.object_id.specs.declared.policy.Policy.{Policy}
 use Rattle.object_id.specs.Oid.{kind_of}
 use Rattle.object_id.specs.Policy.{wanted_of}

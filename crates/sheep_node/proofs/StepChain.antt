@@ -146,7 +146,7 @@ module _ {input : Input} {node : Node} {first : StepState} {n : ℕ} where
     decided_walk req session op there waits (Some step) next =
         command_stepped_walk so_far session req step so_far (CommandDecided entry op step from read there waits next) walk
 
-    course_walk : (req session : ℕ) (course : Course) → HasRequest session req course so_far → waits_for_entry entry course ≡ true
+    pub course_walk : (req session : ℕ) (course : Course) → HasRequest session req course so_far → waits_for_entry entry course ≡ true
         → IsReached input node first (suc n) (course_decided session req decision course so_far)
     unfolding course_decided
     course_walk req session (Waiting ask) there waits = one_more walk
@@ -210,7 +210,7 @@ still : {input : Input} {node : Node} (first : StepState) → (StepHasOneWork (a
     → IsReached input node first 0 first
 still first keeps = record { leads = Still; good = λ sound. keeps sound.1.driven; count = λ short. omega arith }
 
-begins : (input : Input) (node : Node) → IsReached input node (input_received input (at_first node)) 0 (input_received input (at_first node))
+pub begins : (input : Input) (node : Node) → IsReached input node (input_received input (at_first node)) 0 (input_received input (at_first node))
 begins input node = still (input_received input (at_first node)) (received_one_work input node)
 
 -- which goes no further
@@ -218,7 +218,7 @@ ends : (input : Input) (node : Node) → IsReached input node (input_received in
 ends input node = at_most (omega arith) (begins input node)
 
 pub input_chain : (input : Input) (node : Node) → IsReached input node (input_received input (at_first node)) 18 (on_input input (at_first node))
-unfolding entry_read on_input steps.on_reply steps.on_loss on_log_entry recovery_steps.recovery_on_reply recovery_steps.recovery_on_loss
+unfolding entry_read on_input steps.on_reply steps.on_loss steps.on_retry_tick after_gateway_step on_log_entry recovery_steps.recovery_on_reply recovery_steps.recovery_on_loss
 input_chain (inputs.Guest req session ask) node = at_most (omega arith)
     (guest_walk (at_first node) (begins (inputs.Guest req session ask) node) session req ask refl refl (λ sound. untaken node req sound.0))
 input_chain (inputs.Request request) node = ends (inputs.Request request) node
@@ -229,8 +229,8 @@ input_chain (inputs.Reply rsp) node = by_waits (gateways.gateway_awaits rsp.numb
         18 (cond b (after_gateway_step (gateway_steps.gateway_on_reply node.gateway rsp) (at_first node))
         (recovery_stepped (recovery_steps.message_end rsp.number (Some rsp.say) (recovery_state_of node)) (at_first node)))
     by_waits true waits =
-        answered_walk (at_first node) (still (at_first node) (λ good. good)) rsp.number (status_by rsp.say)
-        (λ sound. fits_settled node rsp (sound.1.recovers rsp.number waits) sound.0) (refl, refl)
+        (answered_walk (at_first node) (still (at_first node) (λ good. good)) rsp.number (status_by rsp.say)
+        (λ sound. fits_settled node rsp (sound.1.recovers rsp.number waits) sound.0) (refl, refl)).0
     by_waits false none = at_most (omega arith)
         (still (recovery_stepped (recovery_steps.message_end rsp.number (Some rsp.say) (recovery_state_of node)) (at_first node)) (λ good. good))
 input_chain (inputs.Lost number) node = by_waits (gateways.gateway_awaits number node.gateway) refl
@@ -240,14 +240,14 @@ input_chain (inputs.Lost number) node = by_waits (gateways.gateway_awaits number
         18 (cond b (after_gateway_step (gateway_steps.gateway_on_loss node.gateway number) (at_first node))
         (recovery_stepped (recovery_steps.message_end number None (recovery_state_of node)) (at_first node)))
     by_waits true waits =
-        answered_walk (at_first node) (still (at_first node) (λ good. good)) number Lost (λ sound. refl) (refl, refl)
+        (answered_walk (at_first node) (still (at_first node) (λ good. good)) number Lost (λ sound. refl) (refl, refl)).0
     by_waits false none = at_most (omega arith)
         (still (recovery_stepped (recovery_steps.message_end number None (recovery_state_of node)) (at_first node)) (λ good. good))
 input_chain (inputs.LogEntry entry) node =
     told_walk entry refl (with_node (entry_read entry node) (at_first node)) refl refl (begins (inputs.LogEntry entry) node) (asker_of entry node) refl
 input_chain inputs.Put node = ends inputs.Put node
 input_chain inputs.RecoverTick node = ends inputs.RecoverTick node
-input_chain inputs.RetryTick node = retry_walk (at_first node) (begins inputs.RetryTick node) refl
+input_chain inputs.RetryTick node = (retry_walk (at_first node) (begins inputs.RetryTick node) refl).0
 input_chain (inputs.Back entries) node = ends (inputs.Back entries) node
 
 -- and so is the step whole

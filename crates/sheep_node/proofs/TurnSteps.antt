@@ -1,13 +1,9 @@
 -- A read or write begins on the disk that its session has open, and a request whose turn hasn't come stays as it is.
-use Rattle.std.proofs.Common.{◌≡◌, ℕ, ◌==◌, ◌&&◌, ◌||◌, not, Bool, true, false, cond, List, [], ◌∷◌, Option, Some, None, Ok, is_some, unwrap_or, if◌then◌else◌, refl, ap, sym, ◌∙◌}
-use Rattle.std.specs.Prelude.{IsTrue}
+use Rattle.std.proofs.Common.{◌≡◌, ℕ, ◌&&◌, ◌||◌, not, Bool, true, false, cond, List, [], ◌∷◌, Option, Some, None, Ok, is_some, unwrap_or, refl, ap, sym, ◌∙◌}
 use Rattle.std.specs.Option.{option_map_or}
 use Rattle.std.specs.Ordering.{nat_cmp}
-use Rattle.std.specs.Cmp.{nat_cmp_total}
-use Rattle.std.specs.BTreeMap.{is_at}
 use Rattle.std.specs.FinMap as tree
 use Rattle.std.proofs.lemmas.Bool.{and_parts}
-use Rattle.proof_tools.proofs.FiniteMaps.{is_at-true}
 use Rattle.peer_proto.specs.declared.guest.DiskAsk.{DiskAsk}
 use Rattle.guest_driver.specs.declared.disk.Disk.{Disk}
 use Rattle.guest_driver.specs.declared.act.DriverAct.{DriverAct}
@@ -26,17 +22,7 @@ use Rattle.sheep_node.specs.Waiting.{course_begun, begun_if_may}
 use Rattle.sheep_node.specs.Kept.{without_session, step_without, waits_for_turn, ask_in_waiting, ask_of_waiting, turn_of}
 use Rattle.guest_driver.specs.InodeQueue.{InodeQueue, queue_after_start}
 use Rattle.sheep_node.proofs.StepStates.{insert-remove, session_changed}
-
-module _ {X : Type 0} (m : tree.FinMap nat_cmp X) (k : ℕ) where
-  -- what is at a number already is put there once more
-  insert-there : (x : X) → tree.get m k ≡ Some x → tree.insert m k x ≡ m
-  insert-there x there =
-      tree.same_map nat_cmp_total tree.nat_cmp-IsAntisymmetric (tree.insert m k x) m (λ q.
-      tree.get-insert nat_cmp_total m k x q ∙ by_tie q (is_at (nat_cmp q) k) refl)
-    where
-      by_tie : (q : ℕ) (b : Bool) → is_at (nat_cmp q) k ≡ b → cond b (Some x) (tree.get m q) ≡ tree.get m q
-      by_tie q true tie = sym (ap (tree.get m) (is_at-true q k tie) ∙ there)
-      by_tie q false tie = refl
+use Rattle.sheep_node.proofs.CourseSteps.{insert-there}
 
 -- a session with a disk is there, and has that disk
 same_disk : (number : ℕ) (disk : Disk) (so_far : StepState) → (session_in number so_far).disk ≡ Some disk → with_disk number (Some disk) so_far ≡ so_far

@@ -12,7 +12,9 @@ use Rattle.sheep_node.specs.declared.course.Request.{Request}
 use Rattle.sheep_node.specs.declared.course.Course.{Course}
 use Rattle.sheep_node.specs.declared.course.Course.TheVariants.{Waiting, Driving, Commanding, Checking, DoingWork, AwaitingDecision}
 use Rattle.gateway_queue.specs.Queue.{may_run}
+use Rattle.vdi_directory.specs.declared.decision.Decision.{Decision}
 use Rattle.sheep_node.specs.StepState.{StepState, session_in}
+use Rattle.sheep_node.specs.LogReading.{decision_told}
 
 -- the session of a number is taken out, to be put back
 abbrev pub without_session : ℕ → StepState → StepState
@@ -69,3 +71,12 @@ turn_of req (Some request) so_far =
     if waits_for_turn request.course
     && (may_run req (session_in request.session so_far).queue && is_some (session_in request.session so_far).disk)
     then Some request.session else None
+
+-- a decision is told to the request of a number, if it was looked up
+abbrev pub told_at : ℕ → Decision → Option Request → StepState → StepState
+told_at req decision request so_far = decision_told decision (option_map (λ (request : Request). (req, request)) request) so_far
+
+-- to the request of this number, if there is a number
+abbrev pub told_if_asked : Option ℕ → Decision → StepState → StepState
+told_if_asked None decision so_far = so_far
+told_if_asked (Some req) decision so_far = told_at req decision (tree.get so_far.node.requests req) so_far

@@ -26,5 +26,7 @@ pub mod Kept
 pub mod GivenNumbers
 pub mod MayBegin
 pub mod InStep
+pub mod MayTake
 pub mod KeptLog
 pub mod EntryTests
+pub mod SpentNode

@@ -1,23 +1,27 @@
 //! How a request goes on, and what its session has open then.
 
-ghost use Rattle.std.specs.Prelude.{◌≡◌, None, Some, OnOk};
-ghost use Rattle.disk_check.specs.Check.{CheckBeginsWork};
+ghost use Rattle.std.specs.Prelude.{◌≡◌, length, None, Some, IfOk, OnOk};
+ghost use Rattle.std.specs.Option.{option_copied};
+ghost use Rattle.disk_check.specs.Check.{IsCheck, check_bytes_wanted, CheckBeginsWork};
 ghost use Rattle.guest_driver.specs.BegunWorks.{BeginsWork};
 ghost use Rattle.vdi_ops.specs.InodeWorks.{CommandBeginsWork};
 ghost use Rattle.std.specs.FinMap as tree;
-ghost use Rattle.vdi_ops.specs.Op.{disk_change_at, IsAwaitedAtOpStage};
+ghost use Rattle.vdi_ops.specs.Op.{op_bytes_wanted, IsAwaitedAtOpStage};
+ghost use Rattle.vdi_ops.specs.Steps.{on_decision};
+ghost use Rattle.peer_service.specs.State.{effects_of};
 ghost use Rattle.vdi_ops.specs.declared.act.OpAct.TheVariants.{Reply};
-ghost use Rattle.sheep_node.specs.Courses.{driver_acted, command_stepped, check_acted, work_reply, decision_reply};
-ghost use Rattle.sheep_node.specs.declared.course.Course.TheVariants.{Driving, Checking};
-ghost use Rattle.sheep_node.specs.MayBegin.{MayComeToWork, OpensDisk};
-ghost use Rattle.sheep_node.specs.StepState.{with_course, with_disk, with_sole_request};
+ghost use Rattle.sheep_node.specs.Courses.{driver_acted, command_stepped, check_acted, course_went_on, course_decided, inode_open, work_reply, decision_reply};
+ghost use Rattle.sheep_node.specs.declared.course.Course.TheVariants.{Driving, Commanding, Checking};
+ghost use Rattle.sheep_node.specs.MayBegin.{MayComeToWork, MayGoOn};
+ghost use Rattle.sheep_node.specs.StepState.{session_in, with_course, with_disk, with_sole_request};
 
 use crate::course::Course;
 use crate::step_state::StepState;
 use disk_check::{CheckAct, CheckOp};
 use guest_driver::{Disk, Driver, DriverAct};
+use inode::Inode;
 use object_id::{Bytes, NoMemory};
-use peer_proto::{GuestRsp, ObjWork};
+use peer_proto::{GuestRsp, ObjWork, WorkDone};
 use vdi_directory::Decision;
 use vdi_ops::{OpAct, VdiOp};
 
@@ -84,8 +88,7 @@ impl StepState {
         op: VdiOp,
         reply: GuestRsp,
     ) -> Result<(), NoMemory>
-        requires idle { tree.get self.old.node.gateway.works req ≡ None }
-        requires opens { OpensDisk (disk_change_at op.stage) }
+        requires { tree.get self.old.node.gateway.works req ≡ None }
         ensures { OnOk result (self.new ≡ command_stepped number req (record { op = op; act = Reply reply }) self.old) }
     {
         let mut session = self.take_session(number);
@@ -106,7 +109,6 @@ impl StepState {
         requires may { MayComeToWork req self.old.node }
         requires work { CommandBeginsWork act }
         requires awaited { IsAwaitedAtOpStage act op.stage }
-        requires opens { OpensDisk (disk_change_at op.stage) }
         ensures { OnOk result (self.new ≡ command_stepped number req (record { op = op; act = act }) self.old) }
     {
         match act {
@@ -148,5 +150,136 @@ impl StepState {
     {
         self.set_sole_request(number, req, Course::Checking(check))?;
         self.check_act(number, req, act)
+    }
+
+    /// A read or write goes on, on the disk that its session has open.
+    fn drive_on(&mut self, number: u32, mut driver: Driver, done: &WorkDone) -> Result<(), NoMemory>
+        requires may { MayComeToWork done.now.req self.old.node }
+        requires goes_on { MayGoOn (inode_open (session_in number self.old).disk) (Driving driver) done.now.bytes }
+        ensures { OnOk result (self.new ≡ course_went_on number done.now.req done.now.bytes (Driving driver)
+            (with_course number done.now.req (Driving driver) self.old)) }
+    {
+        let alloc = self.node.alloc;
+        let mut session = self.take_session(number);
+        let Some(disk) = &mut session.disk else {
+            return Ok(());
+        };
+        let act = driver.on_done(alloc, disk, done)?;
+        self.put_session(number, session)?;
+        self.set_course(number, done.req, Course::Driving(driver))?;
+        self.driver_act(number, done.req, act)
+    }
+
+    /// A command goes on.
+    fn command_on(&mut self, number: u32, mut op: VdiOp, done: &WorkDone) -> Result<(), NoMemory>
+        requires may { MayComeToWork done.now.req self.old.node }
+        requires goes_on { op_bytes_wanted op ≡ Some (length done.now.bytes) }
+        ensures { OnOk result (self.new ≡ course_went_on number done.now.req done.now.bytes (Commanding op)
+            (with_course number done.now.req (Commanding op) self.old)) }
+    {
+        let act = op.on_done(self.node.alloc, done)?;
+        self.step_command(number, done.req, op, act)
+    }
+
+    /// A check goes on.
+    fn check_on(&mut self, number: u32, mut check: CheckOp, done: &WorkDone) -> Result<(), NoMemory>
+        requires may { MayComeToWork done.now.req self.old.node }
+        requires goes_on { IsCheck check → check_bytes_wanted check ≡ Some (length done.now.bytes) }
+        ensures { OnOk result (self.new ≡ course_went_on number done.now.req done.now.bytes (Checking check)
+            (with_course number done.now.req (Checking check) self.old)) }
+    {
+        let act = check.on_done(self.node.alloc, done)?;
+        self.step_check(number, done.req, check, act)
+    }
+
+    /// A request's work is done, and the request, which was taken out, goes on with the bytes that it gave.
+    pub fn go_on(&mut self, number: u32, course: Course, done: WorkDone) -> Result<(), NoMemory>
+        requires may { MayComeToWork done.req self.old.node }
+        requires goes_on { MayGoOn (inode_open (session_in number self.old).disk) course done.bytes }
+        ensures { OnOk result (self.new
+            ≡ course_went_on number done.req done.bytes course (with_course number done.req course self.old)) }
+    {
+        match course {
+            Course::Waiting(ask) => self.set_course(number, done.req, Course::Waiting(ask)),
+            Course::Driving(driver) => self.drive_on(number, driver, &done),
+            Course::Commanding(op) => self.command_on(number, op, &done),
+            Course::Checking(check) => self.check_on(number, check, &done),
+            Course::DoingWork(work) => {
+                self.end_request(number, done.req, work_reply(&work, done.bytes))
+            }
+            Course::AwaitingDecision(entry) => {
+                self.set_course(number, done.req, Course::AwaitingDecision(entry))
+            }
+        }
+    }
+
+    /// The inode of what a session has open.
+    pub fn inode(&self, number: u32) -> Option<&Inode>
+        ensures { option_copied result ≡ inode_open (session_in number self.now).disk }
+    {
+        match self.disk(number) {
+            Some(disk) => Some(disk.inode()),
+            None => None,
+        }
+    }
+
+    /// What a command comes to by the decision on its entry, which the directory has read. A command that waits for an entry always has
+    /// a step; that the disk which its session has open is of the granted snapshot's spec is so in a cluster, where a session holds its disk,
+    /// and where it isn't so the answer is that of want of memory.
+    fn command_act(
+        &self,
+        number: u32,
+        op: &mut VdiOp,
+        decision: &Decision,
+    ) -> Result<OpAct, NoMemory>
+        ensures step { IfOk result (λ act. on_decision (effects_of self.now.node.peer)
+            (inode_open (session_in number self.now).disk) decision.now op.old ≡ Some (record { op = op.new; act = act })) }
+        ensures work { IfOk result CommandBeginsWork }
+    {
+        let directory = self.node.rows.peer.directory();
+        let disk = self.inode(number);
+        if !op.has_step(decision, directory, disk) {
+            return Err(NoMemory);
+        }
+        op.on_decision(self.node.alloc, decision, directory, disk)
+    }
+
+    /// A command goes on by the decision on its entry.
+    fn command_decided(
+        &mut self,
+        number: u32,
+        req: u32,
+        mut op: VdiOp,
+        decision: &Decision,
+    ) -> Result<(), NoMemory>
+        requires { MayComeToWork req self.old.node }
+        ensures { OnOk result (self.new
+            ≡ course_decided number req decision.now (Commanding op) (with_course number req (Commanding op) self.old)) }
+    {
+        let act = self.command_act(number, &mut op, decision)?;
+        self.step_command(number, req, op, act)
+    }
+
+    /// The entry that a request waits for was decided, and the request, which was taken out, goes on.
+    pub fn decide(
+        &mut self,
+        number: u32,
+        req: u32,
+        course: Course,
+        decision: Decision,
+    ) -> Result<(), NoMemory>
+        requires { MayComeToWork req self.old.node }
+        ensures { OnOk result (self.new ≡ course_decided number req decision course (with_course number req course self.old)) }
+    {
+        match course {
+            Course::Waiting(ask) => self.set_course(number, req, Course::Waiting(ask)),
+            Course::Driving(driver) => self.set_course(number, req, Course::Driving(driver)),
+            Course::Commanding(op) => self.command_decided(number, req, op, &decision),
+            Course::Checking(check) => self.set_course(number, req, Course::Checking(check)),
+            Course::DoingWork(work) => self.set_course(number, req, Course::DoingWork(work)),
+            Course::AwaitingDecision(_) => {
+                self.end_request(number, req, decision_reply(decision))
+            }
+        }
     }
 }

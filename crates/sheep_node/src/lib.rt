@@ -16,11 +16,12 @@
 //! The changes leave a node's peer and its recovery alone: that the recovery may make each step (`specs/RecoveryRange.antt`)
 //! follows from what the input makes of them.
 //!
-//! Of the code stands what a node keeps (`state.rt`, with `requests.rt`, `sessions.rt` and, for its recovery, `node_rows.rt`), what a
-//! client may ask (`asks.rt`), the test whether a node may step (`may.rt`, with `entry_tests.rt` for a log without tally), how a node
-//! reads an entry of the log, and comes back (`log_reading.rt`), the elementary changes of a step (`step_state.rt`), how a request's work
-//! begins (`request_works.rt`), what a request that took a step comes to (`courses.rt`), and what waited in a session (`waiting.rt`):
-//! each call is exactly the definition of its name, or out of memory. The step itself is still to come.
+//! The code is `Node` (`node.rt`): whether it may step (`may.rt`, with `entry_tests.rt` for a log without tally), and the step (`step.rt`).
+//! Below that stand what a node keeps (`state.rt`, with `requests.rt`, `sessions.rt` and, for its recovery, `node_rows.rt`), the elementary
+//! changes of a step (`step_state.rt`), a guest's request (`guests.rt`; what a client may ask in `asks.rt`), how a request's work begins
+//! (`request_works.rt`), what a request that took a step comes to (`courses.rt`), what waited in a session (`waiting.rt`), and how a node
+//! reads an entry of the log, and comes back (`log_reading.rt`). Each call is exactly the definition of its name, or out of memory; a node
+//! whose step was out of memory is spent. A node always is sound (`specs/NodeInvariant.antt`), unless it is spent.
 //!
 //! The laws of `laws.rt` say what a step keeps, and what holds of every step: its sends are numbered upwards, so no two of a node are
 //! numbered alike; what it has read comes from the log alone, and its epochs and their members are those of what it has
@@ -33,11 +34,13 @@ mod course;
 mod courses;
 mod entry_tests;
 mod event;
+mod guests;
 mod input;
 mod laws;
 mod limits;
 mod log_reading;
 mod may;
+mod node;
 mod node_rows;
 mod outputs;
 mod replies;
@@ -46,6 +49,7 @@ mod requests;
 mod session;
 mod sessions;
 mod state;
+mod step;
 mod step_state;
 #[cfg(test)]
 mod tests;
@@ -70,6 +74,7 @@ pub use laws::{
     what_is_put_leaves_the_outbox,
 };
 pub use limits::SENDS_MAX;
+pub use node::Node;
 pub use outputs::Outputs;
 pub use replies::ReplyList;
 pub use session::Session;

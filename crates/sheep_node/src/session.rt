@@ -4,7 +4,6 @@ ghost use Rattle.sheep_node.specs.State.{new_session};
 ghost use Rattle.vdi_ops.specs.Op.{disk_change_at};
 ghost use Rattle.sheep_node.specs.StepState.{session_without};
 ghost use Rattle.sheep_node.specs.Courses.{disk_after};
-ghost use Rattle.sheep_node.specs.MayBegin.{OpensDisk};
 
 use gateway_queue::Queue;
 use guest_driver::{Disk, InodeQueue};
@@ -36,7 +35,6 @@ impl Session {
 
     /// The session has open what a command that has its reply left of it. Takes no memory.
     pub fn open_by(&mut self, op: VdiOp)
-        requires { OpensDisk (disk_change_at op.stage) }
         ensures { self.new ≡ record self.old { disk = disk_after (disk_change_at op.stage) self.old.disk } }
     {
         if op.closes() {

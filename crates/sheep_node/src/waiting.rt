@@ -1,8 +1,8 @@
-//! What waited in a session begins in the step that ends its waiting: first a work that waits for the inode, then the session's reads and
-//! writes that wait, in the order in which they came.
+//! What waited begins in the step that ends its waiting: first the request whose work ended goes on, then a work that waits for the inode
+//! begins, then the session's reads and writes that wait.
 
 ghost use Rattle.std.specs.Prelude.{◌≡◌, map, Some, IfOk, IsTrue, OnOk, is_some};
-ghost use Rattle.std.specs.Option.{option_copied, option_map_or};
+ghost use Rattle.std.specs.Option.{option_copied, option_map, option_map_or};
 ghost use Rattle.std.specs.FinMap as tree;
 ghost use Rattle.guest_driver.specs.InodeQueue.{next_work};
 ghost use Rattle.guest_driver.specs.Driver.{begin_driver};
@@ -10,20 +10,27 @@ ghost use Rattle.guest_driver.specs.Pieces.{is_ask};
 ghost use Rattle.gateway_queue.specs.Queue.{may_run};
 ghost use Rattle.gateway_queue.specs.declared.queue.Queued.{Queued as TheQueued};
 ghost use Rattle.guest_driver.specs.declared.disk.Disk.{Disk as TheDisk};
-ghost use Rattle.sheep_node.specs.StepState.{session_in};
+ghost use Rattle.sheep_node.specs.declared.course.Request.{Request as TheRequest};
+ghost use Rattle.sheep_node.specs.StepState.{at_first, session_in, with_course};
+ghost use Rattle.sheep_node.specs.LogReading.{on_log_entry};
+ghost use Rattle.sheep_node.specs.declared.input.Input.TheVariants as inputs;
+ghost use Rattle.sheep_node.specs.May.{May};
+ghost use Rattle.sheep_node.specs.NodeInvariant.{IsSoundNode};
 ghost use Rattle.sheep_node.specs.Courses.{driver_stepped};
 ghost use Rattle.sheep_node.specs.MayBegin.{MayComeToWork};
-ghost use Rattle.sheep_node.specs.InStep.{IsInStep};
-ghost use Rattle.sheep_node.specs.Kept.{step_without, ask_of_waiting, turn_of};
-ghost use Rattle.sheep_node.specs.Waiting.{next_begun, queued_requests, begun_if_may, passed_over, let_begin};
+ghost use Rattle.sheep_node.specs.InStep.{IsInStep, MayFinish, MayFinishIfThere, MayRefuseIfThere, MayGoOnBy, MayBeTold, MayBeToldIfThere, MayBeToldIfAsked};
+ghost use Rattle.sheep_node.specs.Kept.{step_without, ask_of_waiting, turn_of, told_at, told_if_asked};
+ghost use Rattle.sheep_node.specs.Waiting.{next_begun, queued_requests, begun_if_may, passed_over, let_begin, work_done, work_refused, after_act};
 
-use crate::course::Course;
+use crate::course::{Course, Request};
 use crate::step_state::StepState;
+use gateway::Act;
 use gateway_queue::Queued;
 use guest_driver::{Disk, begin_disk};
-use object_id::NoMemory;
-use peer_proto::DiskAsk;
+use object_id::{Cause, Entry, NoMemory};
+use peer_proto::{DiskAsk, ObjWork, WorkDone};
 use std::alloc::Global;
+use vdi_directory::Decision;
 
 impl StepState {
     /// Whether a work that waits for the session's inode may begin.
@@ -79,8 +86,7 @@ impl StepState {
         requires may { MayComeToWork req self.old.node }
         requires ask { IsTrue (is_ask ask) }
         ensures { OnOk result (self.new ≡ option_map_or
-            (λ (disk : TheDisk). driver_stepped number req disk (begin_driver disk ask) self.old)
-            (session_in number self.old).disk self.old) }
+            (λ (disk : TheDisk). driver_stepped number req disk (begin_driver disk ask) self.old) (session_in number self.old).disk self.old) }
     {
         let (driver, act) = match self.disk(number) {
             Some(disk) => begin_disk(self.node.alloc, disk, ask)?,
@@ -134,7 +140,7 @@ impl StepState {
     }
 
     /// A request begins, if it is there and waits for its turn, and its turn has come.
-    fn begin_if_may(&mut self, req: u32) -> Result<(), NoMemory>
+    pub fn begin_if_may(&mut self, req: u32) -> Result<(), NoMemory>
         requires { IsInStep self.old }
         ensures { OnOk result (self.new ≡ begun_if_may self.old req) }
     {
@@ -173,6 +179,123 @@ impl StepState {
         let reqs = self.queued_requests(number)?;
         self.begin_next(number)?;
         self.pass_over(reqs.as_slice())
+    }
+
+    /// A request, which was taken out, goes on with what its work gave, and what waited for the work begins.
+    fn finish_request(
+        &mut self,
+        request: Request,
+        work: &ObjWork,
+        done: WorkDone,
+    ) -> Result<(), NoMemory>
+        requires { MayFinish work.now done.req done.bytes request
+            (with_course request.session done.req request.course self.old) }
+        ensures { OnOk result (self.new ≡ work_done work.now done.req done.bytes (Some request)
+            (with_course request.session done.req request.course self.old)) }
+    {
+        let number = request.session;
+        self.leave_queue(number, work)?;
+        self.go_on(number, request.course, done)?;
+        self.let_begin(number)
+    }
+
+    /// A request goes on with what its work gave, if it is there, and what waited for the work begins.
+    fn finish_work(&mut self, work: ObjWork, done: WorkDone) -> Result<(), NoMemory>
+        requires { MayFinishIfThere work done.req done.bytes (tree.get self.old.node.requests done.req) self.old }
+        ensures { OnOk result (self.new ≡ work_done work done.req done.bytes (tree.get self.old.node.requests done.req) self.old) }
+    {
+        match self.take_request(done.req) {
+            Some(request) => self.finish_request(request, &work, done),
+            None => Ok(()),
+        }
+    }
+
+    /// A request, which was taken out, goes on by the decision on its entry, and what waited for its end begins.
+    fn tell_request(
+        &mut self,
+        req: u32,
+        request: Request,
+        decision: Decision,
+    ) -> Result<(), NoMemory>
+        requires { MayBeTold req decision request (with_course request.session req request.course self.old) }
+        ensures { OnOk result (self.new ≡ told_at req decision (Some request)
+            (with_course request.session req request.course self.old)) }
+    {
+        let number = request.session;
+        self.decide(number, req, request.course, decision)?;
+        self.let_begin(number)
+    }
+
+    /// A request goes on by the decision on its entry, if it is there.
+    fn tell(&mut self, req: u32, decision: Decision) -> Result<(), NoMemory>
+        requires { MayBeToldIfThere req decision (tree.get self.old.node.requests req) self.old }
+        ensures { OnOk result (self.new ≡ told_at req decision (tree.get self.old.node.requests req) self.old) }
+    {
+        match self.take_request(req) {
+            Some(request) => self.tell_request(req, request, decision),
+            None => Ok(()),
+        }
+    }
+
+    /// It does, if somebody asked for the entry.
+    pub fn tell_if_asked(&mut self, asker: Option<u32>, decision: Decision) -> Result<(), NoMemory>
+        requires { MayBeToldIfAsked asker decision self.old }
+        ensures { OnOk result (self.new ≡ told_if_asked asker decision self.old) }
+    {
+        match asker {
+            Some(req) => self.tell(req, decision),
+            None => Ok(()),
+        }
+    }
+
+    /// The next entry of the log is read, and the request that waits for it is told the decision.
+    pub fn on_log_entry(&mut self, entry: &Entry) -> Result<(), NoMemory>
+        requires start { self.old ≡ at_first self.old.node }
+        requires may { May (inputs.LogEntry entry.now) self.old.node }
+        requires sound { IsSoundNode self.old.node }
+        ensures { OnOk result (self.new ≡ on_log_entry entry.now self.old) }
+    {
+        let asker = self.asker(entry);
+        match self.read_entry(entry) {
+            Ok(decision) => self.tell_if_asked(asker, decision),
+            Err(NoMemory) => Err(NoMemory),
+        }
+    }
+
+    /// The session of a request.
+    fn session_of(&self, req: u32) -> Option<u32>
+        ensures { result ≡ option_map (λ (request : TheRequest). request.session) (tree.get self.now.node.requests req) }
+    {
+        match self.node.requests.get(req) {
+            Some(request) => Some(request.session),
+            None => None,
+        }
+    }
+
+    /// A request ends since its work is refused, if it is there, and what waited for the work begins.
+    fn refuse_work(&mut self, work: ObjWork, req: u32, cause: Cause) -> Result<(), NoMemory>
+        requires { MayRefuseIfThere work req cause (tree.get self.old.node.requests req) self.old }
+        ensures { OnOk result (self.new ≡ work_refused work req cause (tree.get self.old.node.requests req) self.old) }
+    {
+        let Some(number) = self.session_of(req) else {
+            return Ok(());
+        };
+        self.leave_queue(number, &work)?;
+        self.refuse_request(req, cause)?;
+        self.let_begin(number)
+    }
+
+    /// What an act of the gateway comes to.
+    pub fn after_act(&mut self, act: Act) -> Result<(), NoMemory>
+        requires { MayGoOnBy act self.old }
+        ensures { OnOk result (self.new ≡ after_act act self.old) }
+    {
+        match act {
+            Act::Send(sends) => self.send(sends.list),
+            Act::Wait => Ok(()),
+            Act::Done { work, done } => self.finish_work(work, done),
+            Act::Refused { work, req, cause } => self.refuse_work(work, req, cause),
+        }
     }
 }
 

@@ -1,4 +1,4 @@
-use Rattle.std.proofs.Common.{◌≡◌, ◌+◌, ◌<◌, ℕ, ap, sym, subst, ◌∙◌, ◌∷◌, List, arith}
+use Rattle.std.proofs.Common.{◌≡◌, ◌+◌, ap, sym, subst, ◌∙◌, ◌∷◌, List, arith}
 use Rattle.object_id.specs.declared.entry.Member.{Member}
 use Rattle.vnode_table.specs.Epochs.{EpochMembers, is_entered}
 use Rattle.epoch_log.specs.Epochs.{epoch_of}

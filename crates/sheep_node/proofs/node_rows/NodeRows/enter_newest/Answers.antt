@@ -1,7 +1,7 @@
 use Rattle.std.proofs.Common.{◌≡◌, ap, sym, subst, ◌∙◌, List, arith}
 use Rattle.object_id.specs.declared.entry.Entry.{Entry}
 use Rattle.epoch_log.specs.Appending.{IsLog}
-use Rattle.epoch_log.specs.Epochs.{epoch_of, members_in}
+use Rattle.epoch_log.specs.Epochs.{epoch_of}
 use Rattle.hash_ring.specs.Placement.{AreWeighted}
 use Rattle.sheep_node.specs.RecoveryView.{PlacedPeer}
 use Rattle.sheep_node.proofs.LogsRead.{weighted}

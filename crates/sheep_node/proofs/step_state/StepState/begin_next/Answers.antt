@@ -1,4 +1,4 @@
-use Rattle.std.proofs.Common.{OnOk, Option, Some, ◌≡◌, ◌∙◌, ap, sym, subst}
+use Rattle.std.proofs.Common.{OnOk, Option, ◌≡◌, ◌∙◌, ap, sym, subst}
 use Rattle.std.specs.Option.{option_map}
 use Rattle.guest_driver.specs.InodeQueue.{Waiting, next_work}
 use Rattle.guest_driver.specs.WaitingWork.{waiting_of}

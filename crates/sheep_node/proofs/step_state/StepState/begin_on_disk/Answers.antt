@@ -1,8 +1,6 @@
 use Rattle.std.proofs.Common.{OnOk, ◌≡◌, ◌∙◌, ap, sym, subst}
 use Rattle.std.specs.Option.{option_copied}
-use Rattle.guest_driver.specs.declared.disk.Disk.{Disk}
-use Rattle.sheep_node.specs.declared.course.Course.TheVariants.{Driving}
-use Rattle.sheep_node.specs.StepState.{StepState, with_course}
+use Rattle.sheep_node.specs.StepState.{StepState}
 use Rattle.sheep_node.specs.Courses.{driver_acted}
 use Rattle.sheep_node.proofs.TurnSteps.{begun_on_disk}
 use Rattle.sheep_node.proofs.step_state.StepState.begin_on_disk.Goals as goal

@@ -1,4 +1,4 @@
-use Rattle.std.proofs.Common.{OnOk, ◌≡◌, ◌∙◌, sym, ap, subst}
+use Rattle.std.proofs.Common.{OnOk, ◌≡◌, ◌∙◌, sym, subst}
 use Rattle.sheep_node.specs.StepState.{StepState}
 use Rattle.sheep_node.specs.Waiting.{passed_over, let_begin}
 use Rattle.sheep_node.specs.InStep.{IsInStep}
