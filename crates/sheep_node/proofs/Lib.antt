@@ -51,6 +51,7 @@ mod EntryTestLemmas
 mod KeptLogs
 mod LogsRead
 pub mod KnownSpecs
+pub mod BegunRecoveries
 pub mod RecoverySteps
 pub mod RecoveredNodes
 mod NewestEpochs

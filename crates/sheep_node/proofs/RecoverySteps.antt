@@ -2,12 +2,10 @@
 use Rattle.std.proofs.Common.{◌≡◌, ℕ, suc, ◌+◌, ◌-◌, ◌^◌, ◌<◌, ◌≤◌, ◌||◌, Bool, true, false, cond, List, [], ◌∷◌, ◌++◌, length, filter, map, All, Option, Some, None, is_some, refl, sym, ap, subst, ◌∙◌, arith, ⊎_elim}
 use Rattle.std.specs.Option.{IfSome}
 use Rattle.std.specs.FinMap as tree
-use Rattle.std.specs.List.Sorted.{IsStrictlyIncreasing}
 use Rattle.std.proofs.lemmas.Bool.{leb-true, and_parts, or_cases}
 use Rattle.std.proofs.lemmas.List.Elements.{All-nil, All-head, All-tail, All-cons, All-push}
 use Rattle.proof_tools.proofs.Booleans.{cond_either}
 use Rattle.object_id.specs.declared.limits.TheConstants.{TARGETS_MAX}
-use Rattle.object_id.specs.Node.{IsNode}
 use Rattle.object_id.specs.Policy.{IsPolicy}
 use Rattle.object_id.specs.declared.entry.Entry.{Entry}
 use Rattle.object_id.specs.declared.entry.Member.{Member}
@@ -15,14 +13,13 @@ use Rattle.object_id.specs.declared.node.NodeId.{NodeId}
 use Rattle.object_id.specs.declared.policy.Policy.{Policy}
 use Rattle.object_store.specs.declared.row.RowCopy.{RowCopy}
 use Rattle.epoch_log.specs.Members as members
-use Rattle.epoch_log.specs.Members.{node_numbers, AreMembers}
+use Rattle.epoch_log.specs.Members.{AreMembers}
 use Rattle.epoch_log.specs.Epochs.{begins_epoch, epoch_of, members_in, settled_of}
 use Rattle.epoch_log.specs.Appending.{IsReservable, IsLog}
 use Rattle.epoch_log.proofs.EpochLemmas.{epoch_of-append, settled_of-begun}
 use Rattle.epoch_log.proofs.MembersLemmas.{IsLog-some, IsLog-members}
 use Rattle.vnode_table.specs.Epochs.{EpochMembers}
 use Rattle.vnode_table.specs.Targets.{targets_in}
-use Rattle.object_list.specs.Gathered.{has_node}
 use Rattle.peer_proto.specs.declared.ask.PeerReq.{PeerReq}
 use Rattle.peer_proto.specs.declared.say.PeerRsp.{PeerRsp}
 use Rattle.peer_proto.specs.declared.say.PeerSay.{PeerSay}
@@ -56,6 +53,7 @@ use Rattle.sheep_node.specs.Step.{on_request, recovery_stepped, on_put, on_recov
 use Rattle.sheep_node.specs.StepFacts.{epochs_of, FollowsLog, IsByTheLog, IsLogSoFar, HasReadLog}
 use Rattle.sheep_node.specs.ValidDisks.{IsValidInput, HasValidDisks}
 use Rattle.sheep_node.specs.Changes.{input_received}
+use Rattle.sheep_node.proofs.BegunRecoveries.{may_begin, begun_shows}
 use Rattle.sheep_node.proofs.PeerLog.{Log, log_of, served_same, entries_reading}
 use Rattle.sheep_node.proofs.KeptLogs.{log_of_some, some_read, newest_members, members_of_newest}
 use Rattle.sheep_node.proofs.KnownSpecs.{size_stays, policy_valid, size_valid}
@@ -230,22 +228,6 @@ module _ (node : Node) (is : RecoveryMayStep node) where
 
 -- ---- a recovery begins
 
--- members as nodes
-module _ (me : NodeId) where
-  node_there : (list : List Member) → members.is_member me.0 list ≡ has_node me (map (λ (member : Member). member.node) list)
-  node_there [] = refl
-  node_there (member ∷ list) = ap (λ (b : Bool). members.is_member_node me.0 member || b) (node_there list)
-
-numbers_of_nodes : (list : List Member) → map (λ (node : NodeId). node.0) (map (λ (member : Member). member.node) list) ≡ node_numbers list
-numbers_of_nodes [] = refl
-numbers_of_nodes (member ∷ list) = ap (λ (numbers : List ℕ). member.node.0 ∷ numbers) (numbers_of_nodes list)
-
-each_node : (list : List Member) → All IsNode (node_numbers list) → All (λ (node : NodeId). IsNode node.0) (map (λ (member : Member). member.node) list)
-each_node [] each = All-nil (λ (node : NodeId). IsNode node.0)
-each_node (member ∷ list) each =
-    All-cons (λ (node : NodeId). IsNode node.0) member.node (map (λ (member : Member). member.node) list)
-    (All-head IsNode member.node.0 (node_numbers list) each) (each_node list (All-tail IsNode member.node.0 (node_numbers list) each))
-
 -- the recovery of the epoch that a node is in by the log that it has read may begin, where the node is a member of it
 begins_in_epoch : (node : Node) (settled : ℕ) → node.recovery.me ≡ node.me → IsLog node.peer.entries
     → FollowsLog node.peer.epoch settled node.epochs node.peer.entries → 1 < node.peer.epoch → is_epoch_member node ≡ true
@@ -253,28 +235,8 @@ begins_in_epoch : (node : Node) (settled : ℕ) → node.recovery.me ≡ node.me
 begins_in_epoch node settled own log follows above member =
     let same : epoch_members node ≡ members_in node.peer.entries (epoch_of node.peer.entries)
     = members_of_newest node.peer.epoch settled node.epochs node.peer.entries follows (IsLog-some node.peer.entries log) in
-    let are : AreMembers (epoch_members node)
-    = subst AreMembers (sym same) (IsLog-members node.peer.entries (epoch_of node.peer.entries) log (omega arith)).0 in
-    record {
-      own_epoch = refl;
-      above_1 = above;
-      ascend = subst IsStrictlyIncreasing (sym (numbers_of_nodes (epoch_members node))) are.ascending;
-      nodes = each_node (epoch_members node) are.nodes;
-      member = ap (λ (me : NodeId). has_node me (map (λ (member : Member). member.node) (epoch_members node))) own
-          ∙ sym (node_there node.me (epoch_members node)) ∙ member;
-    }
-
--- what a recovery sees of its node's epoch and of objects stays as it begins
-begun_shows : (epoch : ℕ) (nodes : List NodeId) (state : RecoveryState)
-    → ((recovery_from_epoch epoch nodes state).recovery.me ≡ state.recovery.me)
-    × ((recovery_from_epoch epoch nodes state).shown.epoch ≡ state.shown.epoch)
-    × ((recovery_from_epoch epoch nodes state).shown.size_of ≡ state.shown.size_of)
-unfolding recovery_from_epoch
-begun_shows epoch nodes state =
-    let begun : RecoveryState = at_start epoch nodes state in
-    cond_either
-    (λ (now : RecoveryState). (now.recovery.me ≡ state.recovery.me) × (now.shown.epoch ≡ state.shown.epoch) × (now.shown.size_of ≡ state.shown.size_of))
-    (is_listed begun.recovery) (record begun { shown = shown_with_pending (to_recover begun) begun.shown }) begun (refl, refl, refl) (refl, refl, refl)
+    may_begin node own above
+    (subst AreMembers (sym same) (IsLog-members node.peer.entries (epoch_of node.peer.entries) log (omega arith)).0) member
 
 -- what a node that is where its entries have it has of the log
 abbrev log_at : List Entry → Log
@@ -340,9 +302,9 @@ module _ (entry : Entry) (node : Node) (may : MayRead node.peer.entries entry) (
   after_entry reservable true begins =
       let shows = begun_shows entered.peer.epoch entered_nodes (recovery_state_of entered) in (
         may_after_begin entered.peer.epoch entered_nodes (recovery_state_of entered) (recovery_begins_at_entry begins) (entered_may reservable),
-        shows.0 ∙ is.own,
-        shows.1,
-        shows.2,
+        shows.me ∙ is.own,
+        shows.epoch,
+        shows.size_of,
       )
   after_entry reservable false none = (entered_may reservable, is.own, refl, refl)
 
@@ -385,10 +347,10 @@ back_steps entries node may reservable log =
     let first : StepsBy back.recovery (log_at entries)
     = first_steps node.me (log_at entries) (omega (arith, above)) (settled_of-begun entries).0 reservable in
     let shows = begun_shows back.peer.epoch nodes (recovery_state_of back) in
-    let epoch_so : (recovery_in_epoch back).shown.epoch ≡ epoch_of entries = shows.1 in (
-      shows.0,
+    let epoch_so : (recovery_in_epoch back).shown.epoch ≡ epoch_of entries = shows.epoch in (
+      shows.me,
       goes_on (recovery_in_epoch back) (view_of_log (log_at entries)) (omega (arith, epoch_so))
-          (λ oid size known. ap (λ (size_of : ℕ → Option ℕ). size_of oid) (sym shows.2) ∙ known)
+          (λ oid size known. ap (λ (size_of : ℕ → Option ℕ). size_of oid) (sym shows.size_of) ∙ known)
           (read_view (peer_of_log (log_at entries)) [] (settled_of-begun entries).0 reservable)
           (may_after_begin back.peer.epoch nodes (recovery_state_of back) (recovery_begins_back entries node may log)
           (from_log back.recovery back.peer back.epochs first)),

@@ -10,7 +10,8 @@ ghost use Rattle.vdi_ops.specs.Op.{op_bytes_wanted, IsAwaitedAtOpStage};
 ghost use Rattle.vdi_ops.specs.Steps.{on_decision};
 ghost use Rattle.peer_service.specs.State.{effects_of};
 ghost use Rattle.vdi_ops.specs.declared.act.OpAct.TheVariants.{Reply};
-ghost use Rattle.sheep_node.specs.Courses.{driver_acted, command_stepped, check_acted, course_went_on, course_decided, inode_open, work_reply, decision_reply};
+ghost use Rattle.sheep_node.specs.Courses.{driver_acted, command_stepped, check_acted, course_went_on, course_decided, inode_open};
+ghost use Rattle.sheep_node.specs.Courses.{work_reply, decision_reply};
 ghost use Rattle.sheep_node.specs.declared.course.Course.TheVariants.{Driving, Commanding, Checking};
 ghost use Rattle.sheep_node.specs.MayBegin.{MayComeToWork, MayGoOn};
 ghost use Rattle.sheep_node.specs.StepState.{session_in, with_course, with_disk, with_sole_request};
@@ -223,9 +224,9 @@ impl StepState {
         }
     }
 
-    /// What a command comes to by the decision on its entry, which the directory has read. A command that waits for an entry always has
-    /// a step; that the disk which its session has open is of the granted snapshot's spec is so in a cluster, where a session holds its disk,
-    /// and where it isn't so the answer is that of want of memory.
+    /// What a command comes to by the decision on its entry, which the directory has read. In a cluster a command that waits for an entry
+    /// always has such a step: a session holds the disk that it has open, so a snapshot that it is granted has that disk's spec. A log that
+    /// grants another one ends the node as want of memory does.
     fn command_act(
         &self,
         number: u32,

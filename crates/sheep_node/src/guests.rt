@@ -19,7 +19,8 @@ ghost use Rattle.sheep_node.specs.InStep.{IsInStep};
 ghost use Rattle.sheep_node.specs.May.{May};
 ghost use Rattle.sheep_node.specs.MayTake.{MayQueue, MayCommand, MayTake};
 ghost use Rattle.sheep_node.specs.NodeInvariant.{IsSoundNode};
-ghost use Rattle.sheep_node.specs.Guests.{is_open_disk_deleted, request_refusal, with_queued_request, command_taken, request_taken, on_guest};
+ghost use Rattle.sheep_node.specs.Guests.{is_open_disk_deleted, request_refusal, with_queued_request};
+ghost use Rattle.sheep_node.specs.Guests.{command_taken, request_taken, on_guest};
 
 use crate::ask::Ask;
 use crate::course::Course;

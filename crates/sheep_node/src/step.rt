@@ -19,7 +19,8 @@ ghost use Rattle.sheep_node.specs.KeptLog.{asker_among};
 ghost use Rattle.sheep_node.specs.May.{May};
 ghost use Rattle.sheep_node.specs.NodeInvariant.{IsSoundNode};
 ghost use Rattle.sheep_node.specs.Waiting.{after_gateway_step};
-ghost use Rattle.sheep_node.specs.Step.{on_request, on_reply, on_loss, on_put, on_recover_tick, on_retry_tick, on_input, is_due, recovered_put, node_step};
+ghost use Rattle.sheep_node.specs.Step.{on_request, on_reply, on_loss, on_put, on_recover_tick, on_retry_tick, on_input};
+ghost use Rattle.sheep_node.specs.Step.{is_due, recovered_put, node_step};
 
 use crate::input::Input;
 use crate::node_rows::NodeRows;

@@ -18,9 +18,11 @@ ghost use Rattle.sheep_node.specs.May.{May};
 ghost use Rattle.sheep_node.specs.NodeInvariant.{IsSoundNode};
 ghost use Rattle.sheep_node.specs.Courses.{driver_stepped};
 ghost use Rattle.sheep_node.specs.MayBegin.{MayComeToWork};
-ghost use Rattle.sheep_node.specs.InStep.{IsInStep, MayFinish, MayFinishIfThere, MayRefuseIfThere, MayGoOnBy, MayBeTold, MayBeToldIfThere, MayBeToldIfAsked};
+ghost use Rattle.sheep_node.specs.InStep.{IsInStep, MayFinish, MayFinishIfThere, MayRefuseIfThere, MayGoOnBy};
+ghost use Rattle.sheep_node.specs.InStep.{MayBeTold, MayBeToldIfThere, MayBeToldIfAsked};
 ghost use Rattle.sheep_node.specs.Kept.{step_without, ask_of_waiting, turn_of, told_at, told_if_asked};
-ghost use Rattle.sheep_node.specs.Waiting.{next_begun, queued_requests, begun_if_may, passed_over, let_begin, work_done, work_refused, after_act};
+ghost use Rattle.sheep_node.specs.Waiting.{next_begun, queued_requests, begun_if_may, passed_over, let_begin};
+ghost use Rattle.sheep_node.specs.Waiting.{work_done, work_refused, after_act};
 
 use crate::course::{Course, Request};
 use crate::step_state::StepState;
@@ -86,7 +88,8 @@ impl StepState {
         requires may { MayComeToWork req self.old.node }
         requires ask { IsTrue (is_ask ask) }
         ensures { OnOk result (self.new ≡ option_map_or
-            (λ (disk : TheDisk). driver_stepped number req disk (begin_driver disk ask) self.old) (session_in number self.old).disk self.old) }
+            (λ (disk : TheDisk). driver_stepped number req disk (begin_driver disk ask) self.old)
+            (session_in number self.old).disk self.old) }
     {
         let (driver, act) = match self.disk(number) {
             Some(disk) => begin_disk(self.node.alloc, disk, ask)?,
