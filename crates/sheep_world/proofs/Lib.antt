@@ -38,6 +38,11 @@ pub mod NextEntries
 pub mod SenderMatch
 pub mod StepsByCause
 pub mod WireAtEvents
+pub mod SpelledPackets
+pub mod ReadIds
+pub mod PeerIds
+pub mod NodesByTheLog
+pub mod RangeBySteps
 pub mod RangeAtEvents
 pub mod TogetherInRuns
 pub mod EnabledParts

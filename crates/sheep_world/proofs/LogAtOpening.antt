@@ -133,7 +133,7 @@ module _ (statements : List Statement) (script : IsScript statements) where
   pub weight_at_first : IsWeight (vnodes_of statements)
   weight_at_first = vnodes_within [] statements script
 
-  opens_log : LogHolds (initial_world statements)
+  pub opens_log : LogHolds (initial_world statements)
   unfolding initial_world
   opens_log =
       let count = nodes_of statements in

@@ -63,7 +63,7 @@ next_after [] [] entry is = absurd (cc (is))
 next_after [] (first ∷ later) entry is = (later, ap (λ (e : Entry). e ∷ later) (same_Some first entry is))
 next_after (first ∷ read) rest entry is = next_after read rest entry is
 
-read_one : (read log : List Entry) (entry : Entry) → slice_get log (length read) ≡ Some entry → IsFront read log → IsFront (read ++ entry ∷ []) log
+pub read_one : (read log : List Entry) (entry : Entry) → slice_get log (length read) ≡ Some entry → IsFront read log → IsFront (read ++ entry ∷ []) log
 read_one read log entry next front =
     let (later, is) = next_after read front.rest entry (ap (λ (log : List Entry). slice_get log (length read)) (sym front.is) ∙ next) in
     record { rest = later; is = front.is ∙ ap (λ (rest : List Entry). read ++ rest) is ∙ sym (append_assoc read (entry ∷ []) later) }

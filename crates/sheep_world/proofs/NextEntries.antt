@@ -15,7 +15,7 @@ use Rattle.sheep_world.proofs.LogFrontLaws.{next_after, all_read}
 use Rattle.sheep_world.proofs.ValidNodes.{first_may}
 use Rattle.sheep_world.proofs.LogAtOpening.{log-holds}
 
-next_may : (read later : List Entry) (entry : Entry) → IsLog (read ++ entry ∷ later) → MayRead read entry
+pub next_may : (read later : List Entry) (entry : Entry) → IsLog (read ++ entry ∷ later) → MayRead read entry
 next_may [] later entry log = first_may entry later log
 next_may (first ∷ read) later entry log = (IsLog-prefix (first ∷ read) (entry ∷ later) (omega arith) log).1.0
 

@@ -78,7 +78,7 @@ none_changed change =
     (subst (λ (es : List (ℕ × List SeenRow)). All IsOid (map (λ (e : ℕ × List SeenRow). e.0) es)) (sym none) (All-nil IsOid))
 
 -- a node that has read the log's first entry is in range
-read_range : (me : NodeId) (tries : ℕ) (members : List Member) → me.0 < 64 → RecoversInRange (entry_read (Format members) (nodes.initial_node me tries))
+pub read_range : (me : NodeId) (tries : ℕ) (members : List Member) → me.0 < 64 → RecoversInRange (entry_read (Format members) (nodes.initial_node me tries))
 unfolding entry_read read_entry without_objects log_effects header_of targets_in
 read_range me tries members below =
     let node = nodes.initial_node me tries in

@@ -22,6 +22,7 @@ use Rattle.sheep_node.specs.OneWork.{HasOneWorkPerRequest}
 use Rattle.sheep_world.specs.Began.{Began, IsInvariant}
 use Rattle.sheep_world.specs.EventKinds.{log_after_return}
 use Rattle.sheep_world.specs.HostChanges.{HostsKeep}
+use Rattle.sheep_world.specs.LogHolds.{MayGrow}
 use Rattle.sheep_world.specs.HoldsTogether.{MessagesAreInRange, HoldsTogether}
 use Rattle.sheep_world.proofs.BegunRequestLaws.{were_begun}
 use Rattle.sheep_world.proofs.BegunWorlds.{goes_on, by_induction}
@@ -31,6 +32,7 @@ use Rattle.sheep_world.proofs.WireAtOpening.{opening-wired}
 use Rattle.sheep_world.proofs.ScriptControls.{controls-fit}
 use Rattle.sheep_world.proofs.StepsByCause.{sound_step}
 use Rattle.sheep_world.proofs.WireAtEvents.{is_ready, wired_after}
+use Rattle.sheep_world.proofs.RangeAtEvents.{recoveries_in_range}
 
 -- a node whose works go with its requests
 abbrev Drives : World → ℕ → Host → Type 0
@@ -66,13 +68,15 @@ together_kept statements event world made is holds requests = (
   each_kept statements (HoldsTogether statements) Drives (driven_kept statements) event world made is holds holds.driven,
 )
 
-module _ (statements : List Statement) (script : IsScript statements) (messages : (world : World) → Began statements world → MessagesAreInRange world) where
+module _ (statements : List Statement) (script : IsScript statements) (grows : (world : World) → Began statements world → MayGrow world)
+    (messages : (world : World) → Began statements world → MessagesAreInRange world) where
   holds_before : (world : World) → Began statements world → GoTogether world → HoldsTogether statements world
   holds_before world began together = record {
     wired = together.0;
     driven = together.1;
     begun = were_begun statements world began;
     fit = controls-fit statements world script began;
+    recoveries = recoveries_in_range statements script grows world began;
     messages = messages world began;
   }
 

@@ -52,13 +52,13 @@ appended_reservable before [] are = All-nil IsReservable
 appended_reservable before (entry ∷ later) are =
     All-cons IsReservable entry later are.0.reservable (appended_reservable (before ++ entry ∷ []) later are.1)
 
-log_reservable : (log : List Entry) → IsLog log → All IsReservable log
+pub log_reservable : (log : List Entry) → IsLog log → All IsReservable log
 log_reservable [] log = absurd log
 log_reservable (first ∷ later) log =
     All-cons IsReservable first later (read_reservable [] first (first_may first later log))
     (appended_reservable (first ∷ []) later (IsLog-prefix (first ∷ []) later (omega arith) log).1)
 
-got_is : {X : Type 0} (P : X → Type 0) (xs : List X) (place : ℕ) (x : X) → All P xs → slice_get xs place ≡ Some x → P x
+pub got_is : {X : Type 0} (P : X → Type 0) (xs : List X) (place : ℕ) (x : X) → All P xs → slice_get xs place ≡ Some x → P x
 got_is P xs place x all is = subst P (get_or_from_slice_get xs place x x is) (All-get_or P xs place x (slice_get_within xs place x is) all)
 
 -- ---- what a script asks

@@ -249,7 +249,7 @@ module _ (statements : List Statement) (world : World) (before : HoldsTogether s
     matches = matches_at n (Some host) there;
     driven = before.driven n host there;
     begun = before.begun;
-    range = before.messages.recoveries n host there;
+    range = before.recoveries n host there;
   }
 
 module _ (statements : List Statement) (event : Event) (world : World) (made : EventOutcome) (before : HoldsTogether statements world) where

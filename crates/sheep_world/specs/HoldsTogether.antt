@@ -31,16 +31,17 @@ pub record RepliesFit (world : World) : Type 0 where
       → host_at name.sender.0 world ≡ Some sender → is_host_up sender ≡ true
       → IsTrue (fits_node (reply_to host.node.peer request) sender.node)
 
--- what was sent last, and what is replied next, is in range, and so are the recoveries
+-- what was sent last, and what is replied next, is in range
 pub record MessagesAreInRange (world : World) : Type 0 where
   pub sent : IsSentInRange world
   pub replies : RepliesFit world
-  pub recoveries : RecoveriesAreInRange world
 
--- nodes and wire go together, and so do works and requests; the requests were begun, the controls to come fit, and messages are in range
+-- nodes and wire go together, and so do works and requests; the requests were begun, the controls to come fit, recoveries are in range, and
+-- so are messages
 pub record HoldsTogether (statements : List Statement) (world : World) : Type 0 where
   pub wired : WireMatchesNodes world
   pub driven : NodesHaveOneWorkPerRequest world
   pub begun : RequestsWereBegun statements world
   pub fit : ControlsFit statements world
+  pub recoveries : RecoveriesAreInRange world
   pub messages : MessagesAreInRange world

@@ -17,6 +17,7 @@ pub mod RunsWithAsks
 pub mod Incarnations
 pub mod WireMatch
 pub mod Ranges
+pub mod SpelledWire
 pub mod OneWork
 pub mod BegunRequests
 pub mod Meets

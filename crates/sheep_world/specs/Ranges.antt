@@ -1,9 +1,7 @@
 -- What holds of each node's recovery in every world of a run, by which all that it asks can be read.
-use Rattle.std.specs.Prelude.{◌≡◌, ℕ, Bool, true, false, Some}
+use Rattle.std.specs.Prelude.{◌≡◌, ℕ, Some}
 use Rattle.std.specs.Ordering.{nat_cmp}
 use Rattle.std.specs.FinMap as tree
-use Rattle.sheep_node.specs.declared.event.Event.{Event}
-use Rattle.sheep_node.specs.declared.event.Event.TheVariants as events
 use Rattle.sheep_node.specs.RecoveryRange.{RecoversInRange}
 use Rattle.sheep_world.specs.World.{Host, World}
 
@@ -14,10 +12,3 @@ AllRecoverInRange hosts = (number : ℕ) (host : Host) → tree.get hosts number
 -- in a world
 abbrev pub RecoveriesAreInRange : World → Type 0
 RecoveriesAreInRange world = AllRecoverInRange world.hosts
-
--- whether an event may tell a recovery what it doesn't know
-abbrev pub tells_recovery : Event → Bool
-tells_recovery (events.Deliver node number) = true
-tells_recovery (events.LogNext node) = true
-tells_recovery (events.Back node) = true
-tells_recovery _ = false

@@ -19,6 +19,7 @@ ghost use Rattle.sheep_node.specs.declared.event.Event.TheVariants as events;
 ghost use Rattle.sheep_node.specs.declared.ask.Ask.{Ask};
 ghost use Rattle.sheep_node.specs.declared.input.Input.TheVariants as inputs;
 ghost use Rattle.sheep_node.specs.May.{MayRead, May};
+ghost use Rattle.sheep_node.specs.StepFacts.{IsByTheLog};
 ghost use Rattle.sheep_node.specs.ValidDisks.{HasValidDisks};
 ghost use Rattle.sheep_world.specs.declared.name.MessageName.{MessageName};
 ghost use Rattle.sheep_world.specs.World.{Host, World, host_at, is_host_up, message_at};
@@ -41,7 +42,8 @@ ghost use Rattle.sheep_world.specs.LogHolds.{MayGrow, LogHolds};
 ghost use Rattle.sheep_world.specs.Run.{Moment, run_from, run};
 ghost use Rattle.sheep_world.specs.Enabled.{is_enabled, enabled_events, enabled_parts, enabled_count, enabled_at};
 ghost use Rattle.sheep_world.specs.WireMatch.{WireMatchesNodes};
-ghost use Rattle.sheep_world.specs.Ranges.{RecoveriesAreInRange, tells_recovery};
+ghost use Rattle.sheep_world.specs.Ranges.{RecoveriesAreInRange};
+ghost use Rattle.sheep_world.specs.SpelledWire.{PacketsAreSpelled};
 ghost use Rattle.sheep_world.specs.BegunRequests.{RequestsWereBegun};
 ghost use Rattle.sheep_world.specs.OneWork.{NodesHaveOneWorkPerRequest, IsSentInRange, IsNewRequest};
 ghost use Rattle.sheep_world.specs.RunsWithAsks.{Happens, Asks, next_move, run_with_asks, BeganWithAsks};
@@ -118,8 +120,8 @@ pub fn a_history_only_grows()
 
 /// The nodes and the wire stay together: what is in the wire can be read, and it has exactly what up nodes wait for. And open works go
 /// with the requests that may have them, at most one of each; a number that a node waits for is of one work, or else of recoveries. So
-/// it is when a script opens, so it stays at each event, and so it is in each world of a run, as long as what is sent and replied is in
-/// range.
+/// it is when a script opens, so it stays at each event, and so it is in each world of a run, as long as there is room for an epoch, and
+/// what is sent and replied is in range.
 pub fn nodes_and_wire_stay_together()
     ensures opening { (statements : List Statement)
         → WireMatchesNodes (initial_world statements) × NodesHaveOneWorkPerRequest (initial_world statements) }
@@ -127,17 +129,21 @@ pub fn nodes_and_wire_stay_together()
         → step statements event world ≡ Some made → HoldsTogether statements world → IsSentInRange made.world
         → WireMatchesNodes made.world × NodesHaveOneWorkPerRequest made.world }
     ensures began { (statements : List Statement) → IsScript statements
+        → ((world : World) → Began statements world → MayGrow world)
         → ((world : World) → Began statements world → MessagesAreInRange world)
         → (world : World) → Began statements world → HoldsTogether statements world }
 {}
 
-/// What the recoveries know of is in range when a script opens, and stays so at the events that tell them nothing new, if the controls
-/// to come fit.
+/// What the recoveries know of is in range when a script opens, and in each world of a run, as long as there is room for an epoch.
 pub fn recoveries_stay_in_range()
     ensures opening { (statements : List Statement) → IsScript statements → RecoveriesAreInRange (initial_world statements) }
-    ensures kept { (statements : List Statement) (event : Event) (world : World) (made : EventOutcome)
-        → step statements event world ≡ Some made → tells_recovery event ≡ false
-        → ControlsFit statements world → RecoveriesAreInRange world → RecoveriesAreInRange made.world }
+    ensures began { (statements : List Statement) → IsScript statements → ((world : World) → Began statements world → MayGrow world)
+        → (world : World) → Began statements world → RecoveriesAreInRange world }
+{}
+
+/// In each world of a run what is in the wire is the spelling of a request or a reply.
+pub fn what_is_in_the_wire_was_spelled()
+    ensures { (statements : List Statement) (world : World) → Began statements world → PacketsAreSpelled world }
 {}
 
 /// An event is of one of nine kinds: a node steps, for one of eight causes; a message is lost and no node is told; bytes come that are
@@ -166,7 +172,8 @@ pub fn the_controls_to_come_fit()
 {}
 
 /// As long as there is room for an epoch, the log of each world is a log, whose members are the nodes that are there; what nodes have of
-/// disks is valid, so that what they put may stand in the log; and a node may read the entry that is its next.
+/// disks is valid, so that what they put may stand in the log; a node may read the entry that is its next, and is in the epoch of those
+/// that it has read.
 pub fn the_log_holds()
     ensures log { (statements : List Statement) → IsScript statements → ((world : World) → Began statements world → MayGrow world)
         → (world : World) → Began statements world → LogHolds world }
@@ -177,6 +184,10 @@ pub fn the_log_holds()
         → ((world : World) → Began statements world → MayGrow world)
         → (world : World) → Began statements world → (node : ℕ) (host : Host) (entry : Entry) → host_at node world ≡ Some host
         → slice_get world.log (length host.node.peer.entries) ≡ Some entry → MayRead host.node.peer.entries entry }
+    ensures epochs { (statements : List Statement) → IsScript statements
+        → ((world : World) → Began statements world → MayGrow world)
+        → (world : World) → Began statements world → (node : ℕ) (host : Host) → host_at node world ≡ Some host
+        → IsByTheLog host.node }
 {}
 
 /// A node that is up steps only on what it may, where it has room for a guest's request, may serve a peer's and may read an entry. So a

@@ -12,10 +12,11 @@
 //! The laws of `laws.rt` say what these mean. An event is made exactly if it may happen, and is of one of nine kinds
 //! (`specs/EventKinds.antt`), of which the step of a node has eight causes (`specs/NodeCauses.antt`); so a proof goes by
 //! kinds, and what holds of each node follows from its five changes (`specs/HostChanges.antt`). In each world that a run
-//! reaches the requests of nodes were begun, what nodes have read is a front of the log (`specs/LogFronts.antt`), and the
-//! controls to come fit (`specs/ControlsToCome.antt`). As long as messages are in range, nodes and wire go together there
-//! (`specs/WireMatch.antt`, `specs/HoldsTogether.antt`), and works go with their requests (`specs/OneWork.antt`); and as
-//! long as the outboxes have what may be put, the log is a log of the nodes that are there (`specs/LogHolds.antt`).
+//! reaches the requests of nodes were begun, what nodes have read is a front of the log (`specs/LogFronts.antt`), the
+//! controls to come fit (`specs/ControlsToCome.antt`), and what is in the wire was spelled (`specs/SpelledWire.antt`). As
+//! long as there is room for an epoch, the log is a log of the nodes that are there (`specs/LogHolds.antt`), and what
+//! recoveries know of is in range (`specs/Ranges.antt`); and as long as messages are in range too, nodes and wire go
+//! together (`specs/WireMatch.antt`, `specs/HoldsTogether.antt`), and works go with their requests (`specs/OneWork.antt`).
 #![tactic(auto)]
 
 mod fault;
@@ -31,6 +32,7 @@ pub use laws::{
     members_make_no_disk, nodes_and_wire_stay_together, nodes_have_read_fronts_of_the_log,
     nodes_step_on_what_they_may, recoveries_stay_in_range, requests_have_inputs,
     requests_were_begun, the_controls_to_come_fit, the_enabled_list_has_what_may_happen,
-    the_enabled_list_is_in_parts, the_log_holds, what_may_happen_is_made,
+    the_enabled_list_is_in_parts, the_log_holds, what_is_in_the_wire_was_spelled,
+    what_may_happen_is_made,
 };
 pub use name::MessageName;
