@@ -14,6 +14,7 @@ use Rattle.peer_proto.specs.Say.{say_in}
 use Rattle.sheep_node.specs.declared.input.Input.TheVariants as inputs
 use Rattle.sheep_node.specs.State as nodes
 use Rattle.sheep_node.specs.RecoveryRange.{RecoversInRange}
+use Rattle.sheep_node.specs.May.{may_tick}
 use Rattle.sheep_node.specs.Step.{node_step}
 use Rattle.sheep_world.specs.World.{Request, Reply, Host, World, is_host_up}
 use Rattle.sheep_world.specs.Opening.{format_entry}
@@ -35,6 +36,7 @@ use Rattle.sheep_world.proofs.ValidNodes.{log_reservable, got_is}
 use Rattle.sheep_world.proofs.LogAtOpening.{log-holds, nodes-valid}
 use Rattle.sheep_world.proofs.NextEntries.{reads-may}
 use Rattle.sheep_world.proofs.NodesByTheLog.{by_the_log, returns_on_may}
+use Rattle.sheep_world.proofs.AttemptRange.{CanBeSpelled, tick_in_range}
 use Rattle.sheep_world.proofs.RangeBySteps.{request_range, reply_range, log_entry_range, return_range}
 
 some_more : (entries : List Entry) (entry : Entry) → 1 ≤ length (entries ++ entry ∷ [])
@@ -101,3 +103,9 @@ module _ (statements : List Statement) (script : IsScript statements) (grows : (
   recoveries_in_range world began n host there =
       let log = log-holds statements script grows world began in
       each_where statements (Began statements) IsInRangeWhere (λ world began. began) range_kept world began n host there log (log.well n host there).below
+
+  -- so what the tick of an up node's recovery sends can be spelled
+  pub ticks_in_range : (world : World) → Began statements world → (n : ℕ) (host : Host) → tree.get world.hosts n ≡ Some host → is_host_up host ≡ true
+      → may_tick host.node ≡ true → All CanBeSpelled (node_step inputs.RecoverTick host.node).outputs.sends
+  ticks_in_range world began n host there up may =
+      tick_in_range host.node may (numbers_left host up) (recoveries_in_range world began n host there)

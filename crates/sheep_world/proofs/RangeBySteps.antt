@@ -67,7 +67,7 @@ own_range : (state : RecoveryState) → IsInRange state → IsOwnInRange state.r
 own_range state range =
     record { me = range.me; epoch = range.epoch; waiting = range.waiting; named = range.named; search = range.search }
 
-few_targets : (epochs : List EpochMembers) (level oid : ℕ) (policy : Policy) → length (targets_in epochs level oid policy) ≤ wanted_of policy (kind_of oid)
+pub few_targets : (epochs : List EpochMembers) (level oid : ℕ) (policy : Policy) → length (targets_in epochs level oid policy) ≤ wanted_of policy (kind_of oid)
 unfolding targets_in
 few_targets epochs level oid policy =
     subst (λ (n : ℕ). n ≤ wanted_of policy (kind_of oid))

@@ -1,5 +1,6 @@
 -- In each world of a run nodes and wire go together, and works go with their requests.
-use Rattle.std.proofs.Common.{◌≡◌, ℕ, List, Some}
+use Rattle.std.proofs.Common.{◌≡◌, ◌≢◌, ℕ, true, List, Option, Some, None, ap, subst, ◌∙◌}
+use Rattle.std.specs.FinMap as tree
 use Rattle.cluster_script.specs.declared.statement.Statement.{Statement}
 use Rattle.cluster_script.specs.Language.{IsScript}
 use Rattle.cluster_script.specs.Settings.{tries_of}
@@ -11,16 +12,16 @@ use Rattle.sheep_node.specs.State.{Node}
 use Rattle.sheep_node.specs.Step.{node_step}
 use Rattle.sheep_node.specs.Changes.{IsSoundStep}
 use Rattle.sheep_node.proofs.NumberChanges.{one_work_after, both_after_step, one_work_at_opening}
-use Rattle.sheep_world.specs.NodeCauses.{input_of_cause}
-use Rattle.sheep_world.specs.World.{Host, World}
+use Rattle.sheep_world.specs.NodeCauses.{NodeCause, GuestAsks, RequestComes, ReplyComes, LossIsTold, EntryIsRead, EntryIsPut, RecoveryTicks, WorkIsRetried, input_of_cause, IsCause}
+use Rattle.sheep_world.specs.World.{Host, World, is_host_up}
 use Rattle.sheep_world.specs.Opening as worlds
 use Rattle.sheep_world.specs.Opening.{format_entry}
 use Rattle.sheep_world.specs.Step.{EventOutcome, step}
 use Rattle.sheep_world.specs.WireMatch.{WireMatchesNodes}
-use Rattle.sheep_world.specs.OneWork.{IsSentInRange, NodesHaveOneWorkPerRequest}
+use Rattle.sheep_world.specs.OneWork.{IsSentInRange, NodesHaveOneWorkPerRequest, WorksAskInRange}
 use Rattle.sheep_node.specs.OneWork.{HasOneWorkPerRequest}
 use Rattle.sheep_world.specs.Began.{Began, IsInvariant}
-use Rattle.sheep_world.specs.EventKinds.{log_after_return}
+use Rattle.sheep_world.specs.EventKinds.{outcome_of_step, log_after_return, EventKind, NodeStep, UntoldLoss, UnreadDelivery, NodeLoss, NodeLeave, NodeReweight, NodeJoin, NodeReturn, PhaseEnd}
 use Rattle.sheep_world.specs.HostChanges.{HostsKeep}
 use Rattle.sheep_world.specs.LogHolds.{MayGrow}
 use Rattle.sheep_world.specs.HoldsTogether.{MessagesAreInRange, HoldsTogether}
@@ -32,7 +33,7 @@ use Rattle.sheep_world.proofs.WireAtOpening.{opening-wired}
 use Rattle.sheep_world.proofs.ScriptControls.{controls-fit}
 use Rattle.sheep_world.proofs.StepsByCause.{sound_step}
 use Rattle.sheep_world.proofs.WireAtEvents.{is_ready, wired_after}
-use Rattle.sheep_world.proofs.RangeAtEvents.{recoveries_in_range}
+use Rattle.sheep_world.proofs.RangeAtEvents.{recoveries_in_range, ticks_in_range}
 
 -- a node whose works go with its requests
 abbrev Drives : World → ℕ → Host → Type 0
@@ -80,11 +81,52 @@ module _ (statements : List Statement) (script : IsScript statements) (grows : (
     messages = messages world began;
   }
 
+  -- what an event makes a node send can be spelled: where a recovery ticks that is proved
+  module _ (event : Event) (world : World) (made : EventOutcome) (began : Began statements world) (asks : WorksAskInRange made.world) where
+    no_tick : (input : Option Input) → input ≡ made.world.input → input ≢ Some inputs.RecoverTick → IsSentInRange made.world
+    no_tick input is other = asks (λ (same : made.world.input ≡ Some inputs.RecoverTick). other (is ∙ same))
+
+    by_cause : (n : ℕ) (host : Host) (cause : NodeCause) → tree.get world.hosts n ≡ Some host → is_host_up host ≡ true
+        → IsCause statements world n host cause → outcome_of_step statements n host cause world ≡ made → IsSentInRange made.world
+    by_cause n host (GuestAsks session req ask) there up caused is =
+        no_tick (Some (inputs.Guest req session.number ask)) (ap (λ (m : EventOutcome). m.world.input) is) (λ same. absurd (cc (same)))
+    by_cause n host (RequestComes name to request) there up caused is =
+        no_tick (Some (inputs.Request request)) (ap (λ (m : EventOutcome). m.world.input) is) (λ same. absurd (cc (same)))
+    by_cause n host (ReplyComes name from rsp) there up caused is =
+        no_tick (Some (inputs.Reply rsp)) (ap (λ (m : EventOutcome). m.world.input) is) (λ same. absurd (cc (same)))
+    by_cause n host (LossIsTold name packet) there up caused is =
+        no_tick (Some (inputs.Lost name.number)) (ap (λ (m : EventOutcome). m.world.input) is) (λ same. absurd (cc (same)))
+    by_cause n host (EntryIsRead entry) there up caused is =
+        no_tick (Some (inputs.LogEntry entry)) (ap (λ (m : EventOutcome). m.world.input) is) (λ same. absurd (cc (same)))
+    by_cause n host (EntryIsPut entry) there up caused is =
+        no_tick (Some inputs.Put) (ap (λ (m : EventOutcome). m.world.input) is) (λ same. absurd (cc (same)))
+    by_cause n host RecoveryTicks there up may is =
+        subst (λ (m : EventOutcome). IsSentInRange m.world) is (ticks_in_range statements script grows world began n host there up may)
+    by_cause n host WorkIsRetried there up caused is =
+        no_tick (Some inputs.RetryTick) (ap (λ (m : EventOutcome). m.world.input) is) (λ same. absurd (cc (same)))
+
+    at_rest_sent : None ≡ made.world.input → IsSentInRange made.world
+    at_rest_sent is = no_tick None is (λ same. absurd (cc (same)))
+
+    sent_after : EventKind statements event world made → IsSentInRange made.world
+    sent_after (NodeStep h) = by_cause h.n h.host h.cause h.there h.up h.caused h.made_so
+    sent_after (UntoldLoss h) = at_rest_sent (ap (λ (m : EventOutcome). m.world.input) h.made_so)
+    sent_after (UnreadDelivery h) = at_rest_sent (ap (λ (m : EventOutcome). m.world.input) h.made_so)
+    sent_after (NodeLoss h) = at_rest_sent (ap (λ (m : EventOutcome). m.world.input) h.made_so)
+    sent_after (NodeLeave h) = at_rest_sent (ap (λ (m : EventOutcome). m.world.input) h.made_so)
+    sent_after (NodeReweight h) = at_rest_sent (ap (λ (m : EventOutcome). m.world.input) h.made_so)
+    sent_after (NodeJoin h) = at_rest_sent (ap (λ (m : EventOutcome). m.world.input) h.made_so)
+    sent_after (NodeReturn h) =
+        no_tick (Some (inputs.Back (log_after_return statements h.n world))) (ap (λ (m : EventOutcome). m.world.input) h.made_so)
+        (λ same. absurd (cc (same)))
+    sent_after (PhaseEnd h) = at_rest_sent (ap (λ (m : EventOutcome). m.world.input) h.made_so)
+
   together_invariant : IsInvariant statements GoTogether
   together_invariant = record {
     opens = opening-together statements;
     keeps = λ event world made began is together. together_kept
-        statements event world made is (holds_before world began together) (messages made.world (goes_on statements event world made began is)).sent;
+        statements event world made is (holds_before world began together) (sent_after event world made began
+        (messages made.world (goes_on statements event world made began is)).sent (happens statements event world made is));
   }
 
   pub holds_together : (world : World) → Began statements world → HoldsTogether statements world

@@ -9,7 +9,7 @@ use Rattle.peer_service.specs.Serve.{reply_to}
 use Rattle.sheep_node.specs.May.{fits_node}
 use Rattle.sheep_world.specs.declared.name.MessageName.{MessageName}
 use Rattle.sheep_world.specs.World.{Request, Host, World, host_at, is_host_up, message_at}
-use Rattle.sheep_world.specs.OneWork.{IsSentInRange, NodesHaveOneWorkPerRequest}
+use Rattle.sheep_world.specs.OneWork.{NodesHaveOneWorkPerRequest, WorksAskInRange}
 use Rattle.sheep_world.specs.Ranges.{RecoveriesAreInRange}
 use Rattle.sheep_world.specs.WireMatch.{WireMatchesNodes}
 use Rattle.sheep_world.specs.BegunRequests.{RequestsWereBegun}
@@ -31,9 +31,9 @@ pub record RepliesFit (world : World) : Type 0 where
       → host_at name.sender.0 world ≡ Some sender → is_host_up sender ≡ true
       → IsTrue (fits_node (reply_to host.node.peer request) sender.node)
 
--- what was sent last, and what is replied next, is in range
+-- what was sent last for works, and what is replied next, is in range
 pub record MessagesAreInRange (world : World) : Type 0 where
-  pub sent : IsSentInRange world
+  pub sent : WorksAskInRange world
   pub replies : RepliesFit world
 
 -- nodes and wire go together, and so do works and requests; the requests were begun, the controls to come fit, recoveries are in range, and

@@ -1,13 +1,18 @@
 //! Laws of the definitions, for the proofs of the layers above: each is the contract of a function that does nothing.
 ghost use Rattle.std.specs.Prelude.{◌≡◌, ◌≢◌, ◌+◌, ◌/◌, map, flat_map, cond, ◌<◌, ℕ, true, false, List, [], ◌∷◌, ◌++◌, Contains, length};
 ghost use Rattle.std.specs.Prelude.{slice_get, Some, None, Ok, is_some, Bool, Option};
+ghost use Rattle.std.specs.Prelude.{All, ◌^◌, ◌≤◌};
+ghost use Rattle.object_id.specs.Node.{IsNode};
 ghost use Rattle.object_id.specs.declared.node.NodeId.{NodeId};
 ghost use Rattle.object_id.specs.declared.entry.Entry.{Entry};
 ghost use Rattle.object_id.specs.declared.entry.Entry.TheVariants as entries;
 ghost use Rattle.cluster_script.specs.declared.statement.Statement.{Statement};
 ghost use Rattle.cluster_script.specs.NumberedRequests.{request_at};
 ghost use Rattle.cluster_script.specs.Language.{IsScript};
+ghost use Rattle.peer_proto.specs.declared.ask.PeerReq.{PeerReq};
 ghost use Rattle.peer_proto.specs.declared.say.PeerRsp.{PeerRsp};
+ghost use Rattle.peer_proto.specs.Ask.{IsPeerReq};
+ghost use Rattle.peer_proto.specs.Header.{IsEpoch};
 ghost use Rattle.peer_proto.specs.Say.{say_in};
 ghost use Rattle.disk_history.specs.declared.event.HistEvent.{HistEvent};
 ghost use Rattle.disk_history.specs.declared.event.HistEvent.TheVariants.{WriterLost, WriteStart, Read};
@@ -18,7 +23,12 @@ ghost use Rattle.sheep_node.specs.declared.event.Event.{Event};
 ghost use Rattle.sheep_node.specs.declared.event.Event.TheVariants as events;
 ghost use Rattle.sheep_node.specs.declared.ask.Ask.{Ask};
 ghost use Rattle.sheep_node.specs.declared.input.Input.TheVariants as inputs;
-ghost use Rattle.sheep_node.specs.May.{MayRead, May};
+ghost use Rattle.sheep_node.specs.May.{MayRead, May, may_tick};
+ghost use Rattle.sheep_node.specs.State.{Node};
+ghost use Rattle.sheep_node.specs.Step.{node_step};
+ghost use Rattle.sheep_node.specs.Changes.{attempt_in};
+ghost use Rattle.gateway.specs.Attempt.{send_of};
+ghost use Rattle.gateway.specs.State.{Work};
 ghost use Rattle.sheep_node.specs.StepFacts.{IsByTheLog};
 ghost use Rattle.sheep_node.specs.ValidDisks.{HasValidDisks};
 ghost use Rattle.sheep_world.specs.declared.name.MessageName.{MessageName};
@@ -44,6 +54,7 @@ ghost use Rattle.sheep_world.specs.Enabled.{is_enabled, enabled_events, enabled_
 ghost use Rattle.sheep_world.specs.WireMatch.{WireMatchesNodes};
 ghost use Rattle.sheep_world.specs.Ranges.{RecoveriesAreInRange};
 ghost use Rattle.sheep_world.specs.SpelledWire.{PacketsAreSpelled};
+ghost use Rattle.sheep_world.specs.WorkRange.{IsWorkInRange};
 ghost use Rattle.sheep_world.specs.BegunRequests.{RequestsWereBegun};
 ghost use Rattle.sheep_world.specs.OneWork.{NodesHaveOneWorkPerRequest, IsSentInRange, IsNewRequest};
 ghost use Rattle.sheep_world.specs.RunsWithAsks.{Happens, Asks, next_move, run_with_asks, BeganWithAsks};
@@ -139,6 +150,19 @@ pub fn recoveries_stay_in_range()
     ensures opening { (statements : List Statement) → IsScript statements → RecoveriesAreInRange (initial_world statements) }
     ensures began { (statements : List Statement) → IsScript statements → ((world : World) → Began statements world → MayGrow world)
         → (world : World) → Began statements world → RecoveriesAreInRange world }
+{}
+
+/// What the tick of a recovery sends can be spelled in each world of a run, as long as there is room for an epoch. And so can what an
+/// attempt sends, in any node that knows its number and has numbers left for it, where the work is in range.
+pub fn what_is_asked_can_be_spelled()
+    ensures tick { (statements : List Statement) → IsScript statements → ((world : World) → Began statements world → MayGrow world)
+        → (world : World) → Began statements world → (node : ℕ) (host : Host) → host_at node world ≡ Some host → is_host_up host ≡ true
+        → may_tick host.node ≡ true
+        → All (λ (send : NodeId × PeerReq). IsPeerReq send.1) (node_step inputs.RecoverTick host.node).outputs.sends }
+    ensures attempt { (asked : Work) (node : Node) → IsNode node.gateway.me.0 → IsEpoch (record { 0 = node.peer.epoch })
+        → IsWorkInRange asked.work → node.sends + 31 ≤ 2 ^ 32
+        → All (λ (send : NodeId × PeerReq). IsPeerReq send.1)
+        (map (send_of node.gateway.me (record { 0 = node.peer.epoch }) asked.work) (attempt_in asked node).messages) }
 {}
 
 /// In each world of a run what is in the wire is the spelling of a request or a reply.

@@ -32,7 +32,7 @@ pub use laws::{
     members_make_no_disk, nodes_and_wire_stay_together, nodes_have_read_fronts_of_the_log,
     nodes_step_on_what_they_may, recoveries_stay_in_range, requests_have_inputs,
     requests_were_begun, the_controls_to_come_fit, the_enabled_list_has_what_may_happen,
-    the_enabled_list_is_in_parts, the_log_holds, what_is_in_the_wire_was_spelled,
-    what_may_happen_is_made,
+    the_enabled_list_is_in_parts, the_log_holds, what_is_asked_can_be_spelled,
+    what_is_in_the_wire_was_spelled, what_may_happen_is_made,
 };
 pub use name::MessageName;
