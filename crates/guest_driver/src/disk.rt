@@ -1,8 +1,7 @@
 ghost use Rattle.std.specs.Prelude.{◌≡◌, ◌<◌, All, IfOk, slice_set};
 ghost use Rattle.object_id.specs.Oid.{IsVid};
 ghost use Rattle.object_id.specs.Spec.{objects_of};
-ghost use Rattle.inode.specs.Layout.{IsEntry};
-ghost use Rattle.guest_driver.specs.DiskContent.{HasIds};
+ghost use Rattle.inode.specs.Layout.{IsEntry, HasIds};
 
 use inode::Inode;
 use object_id::NoMemory;
@@ -18,7 +17,8 @@ pub struct Disk {
 }
 
 impl Model for Disk {
-    ghost use Rattle.guest_driver.specs.DiskContent.{DiskContent, HasIds};
+    ghost use Rattle.inode.specs.Layout.{HasIds};
+    ghost use Rattle.guest_driver.specs.DiskContent.{DiskContent};
 
     ghost Value = { DiskContent };
 

@@ -70,6 +70,11 @@ IsFieldText text = (length text < TEXT_BYTES) × All (λ byte. byte ≢ 0) text
 abbrev pub IsEntry : ℕ → Type 0
 IsEntry entry = entry ≤ VID_MAX
 
+-- an inode that a session may have open: its id is one, and each entry of its table is 0 or an id
+pub record HasIds (content : Content) : Type 0 where
+  pub vid : IsVid content.vid
+  pub entries : All IsEntry content.table
+
 -- what an inode of the format may say
 pub record IsContent (content : Content) : Type 0 where
   pub name : IsFieldText content.name

@@ -16,7 +16,7 @@ use Rattle.object_id.specs.declared.policy.Policy.TheVariants.{Copies, Coded}
 use Rattle.object_id.specs.Oid.{IsVid, bits, kind_of, inode_number}
 use Rattle.object_id.specs.Spec.{IsName, IsSpec, objects_of}
 use Rattle.inode.specs.declared.layout.TheConstants.{INODE_BYTES, INODE_HEADER_BYTES, TEXT_BYTES}
-use Rattle.inode.specs.Layout.{Content, header_bytes, inode_bytes, unread_zeros, IsFieldText}
+use Rattle.inode.specs.Layout.{Content, header_bytes, inode_bytes, unread_zeros, IsFieldText, HasIds}
 use Rattle.inode.proofs.LengthLemmas.{length-written}
 use Rattle.peer_proto.specs.Work.{AreAligned, IsWork}
 use Rattle.vdi_directory.specs.declared.header.Header.{Header}
@@ -24,7 +24,7 @@ use Rattle.vdi_ops.specs.Tables.{table_in, holes, inode_by}
 use Rattle.vdi_ops.specs.InodeWorks.{written_bytes, read_inode, create_inode, written_back, write_back, write_tag, CommandBeginsWork}
 use Rattle.vdi_ops.specs.Op.{Task, Opening, WritingBack, Tagging, Copying, Making, OpStage, Asked, Working, Publishing, Answered, Op, bytes_of_task, op_stage_bytes, op_bytes_wanted}
 use Rattle.vdi_ops.specs.Steps.{tag_step, copy_step, step_after_grant, task_done, done_at, op_on_done}
-use Rattle.vdi_ops.specs.Kept.{IsInodeHeader, IsWholeInode, HasTableOfIds, IsSoundTask, IsSoundOpStage, EntryHasTag, FitsOrigin, FitsEntry}
+use Rattle.vdi_ops.specs.Kept.{IsInodeHeader, IsWholeInode, IsSoundTask, IsSoundOpStage, EntryHasTag, FitsOrigin, FitsEntry}
 use Rattle.vdi_ops.proofs.TableLemmas.{header_length, blank_fills, objects_most, room, table_length, table_entries}
 
 -- ---- an inode is kept as whole copies, so its works may begin and end anywhere
@@ -114,7 +114,7 @@ by_table header vid ids bytes id is =
 
 -- a session may have one open with a table that was read, where the entries that count are ids
 pub opened_by_table : (header : Header) (vid : ℕ) (ids bytes : List ℕ) → IsVid vid → All IsVid ids
-    → HasTableOfIds (inode_by header vid (table_in ids header.spec bytes))
+    → HasIds (inode_by header vid (table_in ids header.spec bytes))
 opened_by_table header vid ids bytes id all = record { vid = id; entries = table_entries ids header.spec bytes all }
 
 -- ---- after a grant

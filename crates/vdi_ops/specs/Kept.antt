@@ -7,7 +7,7 @@ use Rattle.object_id.specs.declared.entry.Origin.{Origin}
 use Rattle.object_id.specs.declared.entry.Origin.TheVariants.{Fresh, SnapshotOf, CloneOf}
 use Rattle.object_id.specs.declared.entry.Entry.{Entry}
 use Rattle.object_id.specs.declared.entry.Entry.TheVariants as entries
-use Rattle.inode.specs.Layout.{Content, IsFieldText, IsEntry}
+use Rattle.inode.specs.Layout.{Content, IsFieldText, HasIds}
 use Rattle.peer_proto.specs.declared.guest.VdiAsk.{VdiAsk}
 use Rattle.peer_proto.specs.declared.guest.VdiAsk.TheVariants.{Create, Attach, Close, Snapshot, Clone, Delete, Check}
 use Rattle.vdi_directory.specs.declared.header.Header.{Header}
@@ -30,11 +30,6 @@ pub record IsWholeInode (inode : Content) : Type 0 where
   pub spec : IsSpec inode.spec
   pub count : length inode.table ≡ objects_of inode.spec
 
--- an inode that a session may have open: its id is one, and each entry of its table is 0 or an id
-pub record HasTableOfIds (inode : Content) : Type 0 where
-  pub vid : IsVid inode.vid
-  pub entries : All IsEntry inode.table
-
 -- the tag that a disk is to have as a snapshot is one
 abbrev pub OriginHasTag : Origin → Type 0
 OriginHasTag (Fresh spec) = Unit {0}
@@ -49,23 +44,23 @@ EntryHasTag _ = Unit {0}
 -- can be created; what the session then has open has a table of ids, as the entries that count in an opened inode are ids
 abbrev pub IsSoundTask : Vid → Task → Type 0
 IsSoundTask vid (Opening snapshot ids header) = IsVid vid.0 × IsInodeHeader header × All IsVid ids
-IsSoundTask vid (WritingBack inode) = HasTableOfIds inode
-IsSoundTask vid (Tagging old inode) = IsWholeInode inode × HasTableOfIds inode
+IsSoundTask vid (WritingBack inode) = HasIds inode
+IsSoundTask vid (Tagging old inode) = IsWholeInode inode × HasIds inode
 IsSoundTask vid (Copying ids header) = IsVid vid.0 × IsInodeHeader header
-IsSoundTask vid (Making entry opened) = IfSome opened HasTableOfIds
+IsSoundTask vid (Making entry opened) = IfSome opened HasIds
 
 -- what a change opens has a table of ids
-abbrev pub OpensTableOfIds : DiskChange → Type 0
-OpensTableOfIds Stays = Unit {0}
-OpensTableOfIds (Opens snapshot inode) = HasTableOfIds inode
-OpensTableOfIds Closes = Unit {0}
+abbrev pub OpensInodeWithIds : DiskChange → Type 0
+OpensInodeWithIds Stays = Unit {0}
+OpensInodeWithIds (Opens snapshot inode) = HasIds inode
+OpensInodeWithIds Closes = Unit {0}
 
 -- what a command waits for leads to works that a gateway takes, and to an open inode with a table of ids, if to any
 abbrev pub IsSoundOpStage : OpStage → Type 0
 IsSoundOpStage (Asked entry) = EntryHasTag entry
 IsSoundOpStage (Working vid task) = IsSoundTask vid task
-IsSoundOpStage (Publishing entry opened) = IfSome opened HasTableOfIds
-IsSoundOpStage (Answered change) = OpensTableOfIds change
+IsSoundOpStage (Publishing entry opened) = IfSome opened HasIds
+IsSoundOpStage (Answered change) = OpensInodeWithIds change
 
 -- a command has a first entry: it isn't a check, if it is about the open disk there is one, and a snapshot's tag is such as there may be
 abbrev pub HasFirstEntry : Option Content → VdiAsk → Type 0
@@ -85,7 +80,7 @@ gives_back _ = false
 -- the open disk, if this reservation is for a snapshot, is one that the granted header can follow
 abbrev pub FitsOrigin : Header → Content → Origin → Type 0
 FitsOrigin header inode (Fresh spec) = Unit {0}
-FitsOrigin header inode (SnapshotOf tag) = HasTableOfIds inode × (header.spec ≡ inode.spec)
+FitsOrigin header inode (SnapshotOf tag) = HasIds inode × (header.spec ≡ inode.spec)
 FitsOrigin header inode (CloneOf base tag) = Unit {0}
 
 abbrev pub FitsEntry : Header → Content → Entry → Type 0

@@ -10,8 +10,8 @@ ghost use Rattle.vdi_directory.specs.Effects.{header_of};
 ghost use Rattle.vdi_ops.specs.Steps.{change_without_grant, step_after_grant, step_after_decision, decided_at};
 ghost use Rattle.vdi_ops.specs.InodeWorks.{CommandBeginsWork};
 ghost use Rattle.vdi_ops.specs.Stage.{op_change, op_stage, bare_op, step_to};
-ghost use Rattle.inode.specs.Layout.{IsEntry};
-ghost use Rattle.vdi_ops.specs.Kept.{HasTableOfIds, EntryHasTag, OpensTableOfIds, IsSoundOpStage, FitsEntry, FitsOpStage, vid_granted};
+ghost use Rattle.inode.specs.Layout.{IsEntry, HasIds};
+ghost use Rattle.vdi_ops.specs.Kept.{EntryHasTag, OpensInodeWithIds, IsSoundOpStage, FitsEntry, FitsOpStage, vid_granted};
 ghost use Rattle.vdi_ops.specs.Kept.{first_takes_memory, decision_takes_memory};
 
 use crate::granted::{reply, step_after_grant};
@@ -25,7 +25,7 @@ use vdi_directory::{Decision, Directory, Header};
 /// What a command leaves open that is granted nothing.
 fn change_without_grant(entry: &Entry) -> Change
     ensures change { op_change result ≡ change_without_grant entry.now }
-    ensures sound { OpensTableOfIds (op_change result) }
+    ensures sound { OpensInodeWithIds (op_change result) }
 {
     match entry {
         Entry::Unlock { .. } => Change::Closes,
@@ -42,7 +42,7 @@ fn are_entries(table: &[u32]) -> bool
 
 /// Whether a session may have this inode open.
 fn has_table_of_ids(inode: &Inode) -> bool
-    ensures { IsTrue result ↔ HasTableOfIds inode.now }
+    ensures { IsTrue result ↔ HasIds inode.now }
 {
     inode.vid().is_valid() && are_entries(inode.entries())
 }
@@ -131,7 +131,7 @@ fn step_after_decision(
 
 /// The last entry was decided.
 fn after_last(opened: Option<Inode>) -> Next
-    requires { IfSome opened HasTableOfIds }
+    requires { IfSome opened HasIds }
     ensures stage { op_stage result.stage ≡ Answered (option_map_or (Opens false) opened Stays) }
     ensures act { result.act ≡ Reply Done }
     ensures sound { IsSoundOpStage (op_stage result.stage) }

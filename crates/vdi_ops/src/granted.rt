@@ -13,7 +13,8 @@ ghost use Rattle.vdi_ops.specs.InodeWorks.{read_inode, create_inode, write_tag, 
 ghost use Rattle.vdi_ops.specs.Op.{Opening, Tagging, Copying, Making, Working};
 ghost use Rattle.vdi_ops.specs.Steps.{step_after_grant};
 ghost use Rattle.vdi_ops.specs.Stage.{op_stage, bare_op, step_to, id_numbers};
-ghost use Rattle.vdi_ops.specs.Kept.{IsInodeHeader, HasTableOfIds, EntryHasTag, IsSoundOpStage, FitsOrigin, FitsEntry};
+ghost use Rattle.inode.specs.Layout.{HasIds};
+ghost use Rattle.vdi_ops.specs.Kept.{IsInodeHeader, EntryHasTag, IsSoundOpStage, FitsOrigin, FitsEntry};
 ghost use Rattle.vdi_ops.specs.Kept.{grant_takes_memory};
 
 use crate::act::OpAct;
@@ -70,7 +71,7 @@ fn tag_disk(
 ) -> Result<Next, NoMemory>
     requires vid { IsVid vid.0 }
     requires header { IsInodeHeader header.now }
-    requires disk { HasTableOfIds disk.now × (header.now.spec ≡ disk.now.spec) }
+    requires disk { HasIds disk.now × (header.now.spec ≡ disk.now.spec) }
     requires tag { IsName tag.now }
     ensures stage { IfOk result (λ next. op_stage next.stage
         ≡ Working vid (Tagging (record { 0 = disk.now.vid }) (inode_by header.now vid.0 disk.now.table))) }

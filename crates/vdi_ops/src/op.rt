@@ -7,7 +7,8 @@ ghost use Rattle.vdi_ops.specs.Entries.{first_entry};
 ghost use Rattle.vdi_ops.specs.InodeWorks.{CommandBeginsWork};
 ghost use Rattle.vdi_ops.specs.Op.{disk_change_at, entry_wanted, op_bytes_wanted};
 ghost use Rattle.vdi_ops.specs.Steps.{begin_command, on_decision, op_on_done, on_refusal};
-ghost use Rattle.vdi_ops.specs.Kept.{HasFirstEntry, HasTableOfIds, FitsOpStage, vid_granted, decision_takes_memory};
+ghost use Rattle.inode.specs.Layout.{HasIds};
+ghost use Rattle.vdi_ops.specs.Kept.{HasFirstEntry, FitsOpStage, vid_granted, decision_takes_memory};
 ghost use Rattle.vdi_ops.specs.Kept.{stage_takes_memory, inode_opened, opens_snapshot, closes};
 
 use crate::act::OpAct;
@@ -235,7 +236,7 @@ impl VdiOp {
     pub fn into_inode(self) -> Option<Inode>
         ensures value { result ≡ inode_opened (disk_change_at self.stage) }
         // A session may have it open: its id is one, and each entry of its table is 0 or an id.
-        ensures ids { IfSome result HasTableOfIds }
+        ensures ids { IfSome result HasIds }
     {
         match self.stage {
             Stage::Answered(Change::Opens { inode, .. }) => Some(inode),

@@ -7,7 +7,8 @@ ghost use Rattle.vdi_ops.specs.InodeWorks.{written_bytes};
 ghost use Rattle.vdi_ops.specs.Tables.{table_in, inode_by};
 ghost use Rattle.vdi_ops.specs.Steps.{task_done, done_at};
 ghost use Rattle.vdi_ops.specs.Stage.{op_task, op_stage, bare_op, step_to, id_numbers};
-ghost use Rattle.vdi_ops.specs.Kept.{IsInodeHeader, HasTableOfIds, IsSoundTask, IsSoundOpStage, task_takes_memory, stage_takes_memory};
+ghost use Rattle.inode.specs.Layout.{HasIds};
+ghost use Rattle.vdi_ops.specs.Kept.{IsInodeHeader, IsSoundTask, IsSoundOpStage, task_takes_memory, stage_takes_memory};
 
 use crate::act::OpAct;
 use crate::granted::reply;
@@ -32,7 +33,7 @@ fn inode_opened(
     requires ids { All IsVid (vid.0 ∷ id_numbers chain.now) }
     ensures value { IfOk result (λ inode. inode
         ≡ inode_by header.now vid.0 (table_in (vid.0 ∷ id_numbers chain.now) header.now.spec bytes.now)) }
-    ensures ids { IfOk result HasTableOfIds }
+    ensures ids { IfOk result HasIds }
 {
     let mut ids = numbers(alloc, chain)?;
     ids.push(vid.0)?;
@@ -100,7 +101,7 @@ fn after_copying(
 
 /// The open disk has its tag: the inode that takes its place is created. Without memory this gives the inode back.
 fn after_tagging(alloc: Global, by: NodeId, vid: Vid, old: Vid, inode: Inode) -> Result<Next, Inode>
-    requires { HasTableOfIds inode }
+    requires { HasIds inode }
     ensures ok { (bytes : List ℕ) → IfOk result (λ next. step_to (bare_op by) next
         ≡ task_done (bare_op by) vid bytes (Tagging old inode)) }
     ensures sound { IfOk result (λ next. IsSoundOpStage (op_stage next.stage)) }

@@ -1,8 +1,8 @@
 use Rattle.std.proofs.Common.{◌≡◌, All, length, ◌∙◌, sym, ap, subst}
 use Rattle.object_id.specs.Spec.{IsSpec, objects_of}
-use Rattle.inode.specs.Layout.{Content, IsEntry}
+use Rattle.inode.specs.Layout.{Content, IsEntry, HasIds}
 use Rattle.peer_proto.specs.Work.{IsWork}
-use Rattle.vdi_ops.specs.Kept.{IsWholeInode, HasTableOfIds}
+use Rattle.vdi_ops.specs.Kept.{IsWholeInode}
 use Rattle.vdi_ops.proofs.WorkLemmas.{inode_by-whole, write_tag-work}
 use Rattle.vdi_ops.proofs.granted.tag_disk.Goals as goal
 
@@ -11,7 +11,7 @@ returns-clause-sound c =
     let count : length c.entries.result.now ≡ objects_of c.args.header.now.spec =
     c.entries.ensures.count ∙ ap objects_of (sym c.requires.disk.1) in
     let entries : All IsEntry c.entries.result.now = subst (All IsEntry) (sym c.entries.ensures.value) c.requires.disk.0.entries in
-    subst (λ (inode : Content). IsWholeInode inode × HasTableOfIds inode) (sym c.in_ok-inode.ensures) (
+    subst (λ (inode : Content). IsWholeInode inode × HasIds inode) (sym c.in_ok-inode.ensures) (
       inode_by-whole c.args.header.now c.args.vid.0 c.entries.result.now c.requires.vid c.requires.header count,
       record { vid = c.requires.vid; entries = entries },
     )
