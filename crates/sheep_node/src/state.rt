@@ -9,7 +9,7 @@ use crate::sessions::Sessions;
 use disk_lock::Locks;
 use gateway::Gateway;
 use object_id::{Entry, Epoch, NodeId};
-use object_store::PlainStore;
+use page_store::PageStore;
 use peer_service::PeerState;
 use recovery::Recovery;
 use std::alloc::Global;
@@ -17,8 +17,8 @@ use std::collections::VecDeque;
 use std::marker::Model;
 use vnode_table::Placement;
 
-/// The store in which a node keeps its rows.
-pub type NodeStore = PlainStore;
+/// The store in which a node keeps its rows: the pages that were written.
+pub type NodeStore = PageStore;
 
 /// What a node is as long as it isn't spent. Contracts see the record `Node` of `specs/State.antt`.
 #[derive(Drop)]
@@ -81,7 +81,7 @@ impl NodeRows<NodeStore> {
     pub fn new(alloc: Global) -> NodeRows<NodeStore>
         ensures { result ≡ record { peer = initial_peer tree.empty 1; epochs = [] } }
     {
-        let store = PlainStore::new(alloc);
+        let store = NodeStore::new(alloc);
         NodeRows {
             peer: PeerState::new(alloc, store, Epoch(1)),
             place: Placement::new(alloc),
