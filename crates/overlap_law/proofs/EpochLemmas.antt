@@ -24,8 +24,10 @@ use Rattle.sheep_node.specs.StepState.{StepState}
 use Rattle.sheep_node.specs.StepFacts.{only_reply}
 use Rattle.sheep_node.specs.Step.{is_due, node_step}
 use Rattle.sheep_node.proofs.StepLaws.{older_step, newer_step}
-use Rattle.sheep_world.specs.declared.name.MessageName.{MessageName}
-use Rattle.sheep_world.specs.World.{Packet, Request, Host, World, node_at, message_at}
+use Rattle.message_wire.specs.declared.name.MessageName.{MessageName}
+use Rattle.message_wire.specs.declared.packet.Packet.{Packet}
+use Rattle.message_wire.specs.declared.packet.Packet.TheVariants.{Request}
+use Rattle.sheep_world.specs.World.{Host, World, node_at, message_at}
 use Rattle.sheep_world.specs.NodeSteps.{world_after_step, node_stepped, at_rest}
 use Rattle.sheep_world.specs.Conditions.{may_deliver}
 use Rattle.sheep_world.specs.Messages.{request_got, request_delivered, delivered_as, message_delivered}

@@ -16,9 +16,10 @@ use Rattle.gateway.specs.State.{WorkStage, Open, Ended, WaitsForMembers, Work, a
 use Rattle.sheep_node.specs.declared.course.Request.{Request}
 use Rattle.sheep_node.specs.declared.event.Event.{Event}
 use Rattle.sheep_node.specs.declared.event.Event.TheVariants.{Guest, Deliver, LoseRequest, LoseReply, LogNext, RetryTick}
-use Rattle.sheep_world.specs.declared.name.MessageName.{MessageName}
-use Rattle.sheep_world.specs.World as worlds
-use Rattle.sheep_world.specs.World.{Packet, Host, World, host_at, message_at}
+use Rattle.message_wire.specs.declared.name.MessageName.{MessageName}
+use Rattle.message_wire.specs.declared.packet.Packet.TheVariants as packets
+use Rattle.message_wire.specs.declared.packet.Packet.{Packet}
+use Rattle.sheep_world.specs.World.{Host, World, host_at, message_at}
 use Rattle.sheep_world.specs.Step.{EventOutcome, step}
 use Rattle.overlap_law.specs.Attempts.{MessageFate, Flying, Doomed, AttemptRecord, has_message, fates_with, attempt_with_fate, attempts_with_fate, fate_of_say, beginning, is_first, beginning_with, attempt_begun_with, numbers_given, attempts_begun_by}
 use Rattle.overlap_law.specs.BegunAttempts.{attempts_begun_in, attempts_begun, attempts_after_delivery, attempts_after}
@@ -108,9 +109,9 @@ for-have (Some session) old new = attempts_begun-have session.node old new
 attempts_after_delivery-have : (packet : Option Packet) (name : MessageName) (old new : World) (attempts : List AttemptRecord) → HaveFates attempts
     → HaveFates (attempts_after_delivery packet name old new attempts)
 attempts_after_delivery-have None name old new attempts have = have
-attempts_after_delivery-have (Some (worlds.Request to bytes)) name old new attempts have =
+attempts_after_delivery-have (Some (packets.Request to bytes)) name old new attempts have =
     attempts_with_fate-have (option_map_or (λ (rsp : PeerRsp). fate_of_say rsp.say) new.outputs.say Flying) name.sender name.number attempts have
-attempts_after_delivery-have (Some (worlds.Reply from bytes)) name old new attempts have =
+attempts_after_delivery-have (Some (packets.Reply from bytes)) name old new attempts have =
     both-have attempts (attempts_begun name.sender.0 old new) have (attempts_begun-have name.sender.0 old new)
 
 event-has : (script : List Statement) (event : Event) (old new : World) (attempts : List AttemptRecord) → HaveFates attempts

@@ -12,8 +12,9 @@ use Rattle.epoch_log.specs.Epochs.{epoch_of, members_in, has_recovered, missing_
 use Rattle.epoch_log.proofs.GreatestLemmas.{greatest-passes}
 use Rattle.peer_proto.specs.declared.ask.PeerReq.{PeerReq}
 use Rattle.peer_proto.specs.Ask.{ask_in}
-use Rattle.sheep_world.specs.declared.name.MessageName.{MessageName}
-use Rattle.sheep_world.specs.World.{Request}
+use Rattle.message_wire.specs.declared.name.MessageName.{MessageName}
+use Rattle.message_wire.specs.Message.{message_name}
+use Rattle.message_wire.specs.declared.packet.Packet.TheVariants.{Request}
 use Rattle.overlap_law.specs.Attempts.{AttemptRecord, object_of, attempts_on}
 use Rattle.overlap_law.specs.Words.{is_made, base_of}
 use Rattle.overlap_law.specs.Reached.{Hosts, is_putting_in}
@@ -22,7 +23,7 @@ use Rattle.overlap_law.specs.Facts.{CompleteLists, EachGood}
 use Rattle.overlap_law.specs.Headline.{IsLegalWhereAvailable}
 use Rattle.overlap_law.specs.Each.{EachHost}
 use Rattle.overlap_law.specs.Grants.{leave_of}
-use Rattle.overlap_law.specs.Packets.{Wire, message_name}
+use Rattle.overlap_law.specs.Packets.{Wire}
 use Rattle.overlap_law.specs.Flight.{TheGoneAreFenced}
 use Rattle.overlap_law.specs.NodeEpochs.{TheSettledHaveRecovered}
 use Rattle.overlap_law.specs.Rows.{IsMadeBy}

@@ -7,8 +7,10 @@ use Rattle.peer_proto.specs.declared.say.PeerRsp.{PeerRsp}
 use Rattle.sheep_node.specs.declared.event.Event.{Event}
 use Rattle.sheep_node.specs.declared.event.Event.TheVariants.{Guest, Deliver, LoseRequest, LoseReply, LogNext, Put, RecoverTick, RetryTick}
 use Rattle.sheep_node.specs.declared.event.Event.TheVariants.{Lost, Leave, Join, Reweight, Back, Phase}
-use Rattle.sheep_world.specs.declared.name.MessageName.{MessageName}
-use Rattle.sheep_world.specs.World.{Packet, Request, Reply, Host, World, host_at, message_at}
+use Rattle.message_wire.specs.declared.name.MessageName.{MessageName}
+use Rattle.message_wire.specs.declared.packet.Packet.{Packet}
+use Rattle.message_wire.specs.declared.packet.Packet.TheVariants.{Request, Reply}
+use Rattle.sheep_world.specs.World.{Host, World, host_at, message_at}
 use Rattle.overlap_law.specs.Attempts.{AttemptRecord, Flying, Doomed, fate_of_say, attempts_with_fate, attempts_begun_by}
 
 -- the attempts that the step of a node between two worlds began

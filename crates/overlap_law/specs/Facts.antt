@@ -16,8 +16,11 @@ use Rattle.peer_proto.specs.declared.ask.PeerReq.{PeerReq}
 use Rattle.peer_proto.specs.Ask.{ask_in}
 use Rattle.peer_proto.specs.Work.{policy_of}
 use Rattle.recovery.specs.State.{Recovery, is_listed}
-use Rattle.sheep_world.specs.declared.name.MessageName.{MessageName}
-use Rattle.sheep_world.specs.World.{name_cmp, Packet, Request, World}
+use Rattle.message_wire.specs.declared.name.MessageName.{MessageName}
+use Rattle.message_wire.specs.declared.packet.Packet.{Packet}
+use Rattle.message_wire.specs.declared.packet.Packet.TheVariants.{Request}
+use Rattle.message_wire.specs.Message.{name_cmp}
+use Rattle.sheep_world.specs.World.{World}
 use Rattle.overlap_law.specs.Attempts.{MessageFate, Flying, Served, Doomed, AttemptRecord, object_of, attempts_on}
 use Rattle.overlap_law.specs.Words.{Hosts, is_made, covers_unit, row_bytes_at, last_of, base_of}
 use Rattle.overlap_law.specs.Holders.{targets_by, creates, is_object_among, IsGood}

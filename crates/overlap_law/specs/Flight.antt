@@ -12,16 +12,17 @@ use Rattle.peer_proto.specs.declared.say.PeerRsp.{PeerRsp}
 use Rattle.peer_proto.specs.declared.say.Refusal.{Refusal}
 use Rattle.peer_proto.specs.declared.say.Refusal.TheVariants as refusals
 use Rattle.recovery.specs.State.{Message, Search, search_on}
+use Rattle.message_wire.specs.Message.{message_name}
 use Rattle.sheep_node.specs.State.{Node}
 use Rattle.sheep_node.specs.RecoveryView.{recovery_state_of}
 use Rattle.sheep_node.specs.May.{node_awaits}
-use Rattle.sheep_world.specs.declared.name.MessageName.{MessageName}
-use Rattle.sheep_world.specs.World.{Packet}
+use Rattle.message_wire.specs.declared.name.MessageName.{MessageName}
+use Rattle.message_wire.specs.declared.packet.Packet.{Packet}
 use Rattle.sheep_world.specs.WireMatch.{NumbersAreGiven, PacketsAreReadable, HostsKnowTheirNumbers, AllAwaitedIsInFlight}
 use Rattle.overlap_law.specs.Attempts.{Served, AttemptRecord}
 use Rattle.overlap_law.specs.Words.{Hosts}
 use Rattle.overlap_law.specs.Each.{EachHost, EachUp, EachAble, EachAttempt, has_reached}
-use Rattle.overlap_law.specs.Packets.{Wire, message_name, message_name_at, IsAsking, IsAnswering, IsAwaitedReply, is_request_in_flight}
+use Rattle.overlap_law.specs.Packets.{Wire, message_name_at, IsAsking, IsAnswering, IsAwaitedReply, is_request_in_flight}
 use Rattle.overlap_law.specs.Grants.{leave_of}
 
 -- numbers in the wire were given by their senders

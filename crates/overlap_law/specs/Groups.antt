@@ -4,7 +4,7 @@ use Rattle.object_id.specs.declared.entry.Entry.{Entry}
 use Rattle.disk_history.specs.Ledger.{Ledger}
 use Rattle.vdi_directory.specs.declared.effect.Effect.{Effect}
 use Rattle.vdi_directory.specs.Decisions.{log_effects}
-use Rattle.sheep_world.specs.declared.name.MessageName.{MessageName}
+use Rattle.message_wire.specs.declared.name.MessageName.{MessageName}
 use Rattle.overlap_law.specs.Attempts.{AttemptRecord}
 use Rattle.overlap_law.specs.Words.{Hosts}
 use Rattle.overlap_law.specs.Past.{FinishedList}

@@ -16,8 +16,9 @@ use Rattle.cluster_script.specs.Language.{IsScript}
 use Rattle.sheep_node.specs.declared.event.Event.{Event}
 use Rattle.sheep_node.specs.declared.event.Event.TheVariants.{Deliver}
 use Rattle.sheep_node.specs.State.{Node}
-use Rattle.sheep_world.specs.declared.name.MessageName.{MessageName}
-use Rattle.sheep_world.specs.World.{Request, World, node_at, message_at}
+use Rattle.message_wire.specs.declared.name.MessageName.{MessageName}
+use Rattle.message_wire.specs.declared.packet.Packet.TheVariants.{Request}
+use Rattle.sheep_world.specs.World.{World, node_at, message_at}
 use Rattle.sheep_world.specs.Step.{EventOutcome, step}
 use Rattle.overlap_law.specs.Attempts.{AttemptRecord, has_message}
 use Rattle.overlap_law.specs.Words.{is_mute}

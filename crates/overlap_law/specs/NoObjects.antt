@@ -21,6 +21,7 @@ use Rattle.gateway.specs.State.{Open, Work}
 use Rattle.guest_driver.specs.declared.disk.Disk.{Disk}
 use Rattle.cluster_script.specs.declared.statement.Statement.{Statement}
 use Rattle.cluster_script.specs.Language.{IsScript}
+use Rattle.message_wire.specs.Message.{message_name}
 use Rattle.sheep_node.specs.declared.event.Event.{Event}
 use Rattle.sheep_node.specs.declared.course.Course.{Course}
 use Rattle.sheep_node.specs.declared.course.Request.{Request}
@@ -33,7 +34,7 @@ use Rattle.sheep_world.specs.Step.{EventOutcome, step}
 use Rattle.overlap_law.specs.Words.{Hosts}
 use Rattle.overlap_law.specs.Each.{EachUp}
 use Rattle.overlap_law.specs.Holders.{is_available_disk}
-use Rattle.overlap_law.specs.Packets.{Wire, message_name, IsAnswering}
+use Rattle.overlap_law.specs.Packets.{Wire, IsAnswering}
 use Rattle.overlap_law.specs.Past.{MomentWithPast, run_with_past}
 
 -- the disk that a request is on: a read or write is on the one that its session had open when it began, a command on the one

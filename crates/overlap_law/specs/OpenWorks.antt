@@ -12,7 +12,7 @@ use Rattle.gateway.specs.Work.{is_making}
 use Rattle.gateway.specs.Attempt as gateways
 use Rattle.gateway.specs.State.{Open, Work, is_touched}
 use Rattle.sheep_node.specs.State.{Node}
-use Rattle.sheep_world.specs.declared.name.MessageName.{MessageName}
+use Rattle.message_wire.specs.declared.name.MessageName.{MessageName}
 use Rattle.overlap_law.specs.Headline.{has_lost}
 use Rattle.overlap_law.specs.Attempts.{MessageFate, Flying, Served, Doomed, AttemptRecord, object_of}
 use Rattle.overlap_law.specs.Words.{Hosts, is_mute}

@@ -11,18 +11,16 @@ use Rattle.peer_proto.specs.Say.{say_in}
 use Rattle.peer_proto.specs.Work.{policy_of}
 use Rattle.gateway.specs.Work.{ask_for}
 use Rattle.sheep_node.specs.State.{Node}
-use Rattle.sheep_world.specs.declared.name.MessageName.{MessageName}
-use Rattle.sheep_world.specs.World.{Packet, Request, Reply, name_cmp}
+use Rattle.message_wire.specs.declared.name.MessageName.{MessageName}
+use Rattle.message_wire.specs.declared.packet.Packet.{Packet}
+use Rattle.message_wire.specs.declared.packet.Packet.TheVariants.{Request, Reply}
+use Rattle.message_wire.specs.Message.{name_cmp}
 use Rattle.sheep_world.specs.WireMatch.{asked_by}
 use Rattle.overlap_law.specs.Attempts.{AttemptRecord, object_of}
 
 -- the messages in the wire, by name
 abbrev pub Wire : Type 0
 Wire = tree.FinMap name_cmp Packet
-
--- the name of a node's message of a number
-abbrev pub message_name : ℕ → ℕ → MessageName
-message_name n number = record { sender = record { 0 = n }; number = number }
 
 -- a request is in the wire, on its way to a node
 pub record IsAsking (wire : Wire) (name : MessageName) (to : NodeId) (request : PeerReq) : Type 0 where

@@ -12,7 +12,7 @@ use Rattle.recovery.specs.State.{Recovery, is_listed}
 use Rattle.sheep_node.specs.declared.event.Event.{Event}
 use Rattle.sheep_node.specs.declared.event.Event.TheVariants.{Guest, Deliver, LoseRequest, LoseReply, LogNext, Put, RecoverTick, RetryTick}
 use Rattle.sheep_node.specs.declared.event.Event.TheVariants.{Lost, Leave, Join, Reweight, Back, Phase}
-use Rattle.sheep_world.specs.declared.name.MessageName.{MessageName}
+use Rattle.message_wire.specs.declared.name.MessageName.{MessageName}
 use Rattle.sheep_world.specs.World.{Host, World, host_at}
 use Rattle.sheep_world.specs.Incarnations.{EndedIncarnation, counts_for}
 use Rattle.overlap_law.specs.Attempts.{AttemptRecord}

@@ -12,9 +12,10 @@ use Rattle.peer_service.specs.Serve.{row_or_none}
 use Rattle.recovery.specs.Level.{is_of_search}
 use Rattle.recovery.specs.declared.search.RowAnswer.{RowAnswer}
 use Rattle.recovery.specs.State.{Message, Search, Recovery, all_unanswered, search_on}
+use Rattle.message_wire.specs.Message.{message_name}
 use Rattle.sheep_node.specs.State.{Node}
 use Rattle.sheep_node.specs.RecoveryView.{recovery_state_of}
-use Rattle.overlap_law.specs.Packets.{Wire, message_name, IsAnswering}
+use Rattle.overlap_law.specs.Packets.{Wire, IsAnswering}
 
 -- a node's list of its objects is on its way to a recovery of a node, which asked for it in this epoch
 pub record IsListUnderWay (wire : Wire) (n : ℕ) (recovery : Recovery) (from : NodeId) (epoch : ℕ) (oids : List ℕ) : Type 0 where

@@ -16,12 +16,15 @@ use Rattle.sheep_node.specs.State.{Node}
 use Rattle.sheep_node.specs.May as nodes
 use Rattle.sheep_node.specs.declared.event.Event.{Event}
 use Rattle.sheep_node.specs.declared.event.Event.TheVariants as events
-use Rattle.sheep_world.specs.declared.name.MessageName.{MessageName}
-use Rattle.sheep_world.specs.World.{Packet, Request, Reply, Host, World, host_at, is_host_up, is_up_with, is_lost, is_newest_member, message_at, is_up, receiver_of, next_control}
+use Rattle.message_wire.specs.declared.name.MessageName.{MessageName}
+use Rattle.message_wire.specs.declared.packet.Packet.{Packet}
+use Rattle.message_wire.specs.declared.packet.Packet.TheVariants.{Request, Reply}
+use Rattle.message_wire.specs.Message.{receiver_of}
+use Rattle.sheep_world.specs.World.{Host, World, host_at, is_host_up, is_up_with, is_lost, is_newest_member, message_at, is_up, next_control}
 use Rattle.sheep_world.specs.Conditions.{may_ask, may_guest, may_deliver, may_go, is_request_packet, may_lose_request, may_lose_reply, fails, joins, reweights, is_next_control, has_end_in_wire}
 use Rattle.sheep_world.specs.Step.{EventOutcome, step}
 use Rattle.sheep_world.specs.Enabled.{is_enabled, guest_events, loss_of, message_events, node_events, control_event, looked_at, enabled_events}
-use Rattle.sheep_world.proofs.NameTools.{same_name}
+use Rattle.message_wire.proofs.NameOrder.{same_name}
 
 made_if : (b : Bool) (made : EventOutcome) → is_some (cond b (Some made) None) ≡ b
 made_if true made = refl

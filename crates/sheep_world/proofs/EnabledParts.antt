@@ -9,9 +9,11 @@ use Rattle.std.proofs.lemmas.List.Concat.{length-flat_map}
 use Rattle.std.proofs.lemmas.List.Elements.{filter-append}
 use Rattle.cluster_script.specs.declared.statement.Statement.{Statement}
 use Rattle.sheep_node.specs.declared.event.Event.{Event}
-use Rattle.sheep_world.specs.declared.name.MessageName.{MessageName}
-use Rattle.sheep_world.specs.World.{Packet, World, next_control}
-use Rattle.sheep_world.specs.Enabled.{is_enabled, guest_events, message_events, node_events, control_event, looked_at, enabled_events, with_first_message, messages_by_sender, looked_at_parts, enabled_parts, enabled_count, event_in_parts, enabled_at}
+use Rattle.message_wire.specs.declared.name.MessageName.{MessageName}
+use Rattle.message_wire.specs.declared.packet.Packet.{Packet}
+use Rattle.message_wire.specs.Message.{with_first_message, messages_by_sender}
+use Rattle.sheep_world.specs.World.{World, next_control}
+use Rattle.sheep_world.specs.Enabled.{is_enabled, guest_events, message_events, node_events, control_event, looked_at, enabled_events, looked_at_parts, enabled_parts, enabled_count, event_in_parts, enabled_at}
 
 -- lists after one another
 abbrev pub joined : {X : Type 0} → List (List X) → List X

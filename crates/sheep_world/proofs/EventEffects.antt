@@ -17,11 +17,13 @@ use Rattle.object_id.specs.declared.oid.Kind.TheVariants.{Block}
 use Rattle.gf256.specs.Part.{is_in_strips}
 use Rattle.proof_tools.proofs.Lists.{Contains-nil, Contains-head, Contains-cons, Contains-cons_cases, filter-contains}
 use Rattle.sheep_node.specs.declared.event.Event.TheVariants as events
-use Rattle.sheep_world.specs.declared.name.MessageName.{MessageName}
-use Rattle.sheep_world.specs.World.{Packet, Host, World, host_at, message_at}
+use Rattle.message_wire.specs.declared.name.MessageName.{MessageName}
+use Rattle.message_wire.specs.declared.packet.Packet.{Packet}
+use Rattle.message_wire.specs.Message.{is_reply_to, without_replies}
+use Rattle.sheep_world.specs.World.{Host, World, host_at, message_at}
 use Rattle.sheep_world.specs.Opening.{controls_at, losses_at}
 use Rattle.sheep_world.specs.Conditions.{may_lose_node, may_end_phase}
-use Rattle.sheep_world.specs.MembershipChanges.{lost_host, control_taken, host_changed, is_reply_to, without_replies, node_lost, phase_ended}
+use Rattle.sheep_world.specs.MembershipChanges.{lost_host, control_taken, host_changed, node_lost, phase_ended}
 use Rattle.sheep_world.specs.HistoryAdditions.{begun_block, block_in, writes_begin, is_write, is_of_incarnation, disk_of, is_lost_write, writers_lost, IsLostWrite, is_writing_request}
 use Rattle.sheep_world.specs.NodeSteps.{at_rest}
 use Rattle.sheep_world.specs.Step.{EventOutcome, only, loss_made, step}

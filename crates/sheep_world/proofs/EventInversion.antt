@@ -24,7 +24,7 @@ use Rattle.sheep_node.specs.State.{Node}
 use Rattle.sheep_node.specs.May as node_tests
 use Rattle.sheep_node.specs.LogReading.{is_epoch_member}
 use Rattle.sheep_node.specs.Step.{node_step}
-use Rattle.sheep_world.specs.declared.name.MessageName.{MessageName}
+use Rattle.message_wire.specs.declared.name.MessageName.{MessageName}
 use Rattle.sheep_world.specs.World as worlds
 use Rattle.sheep_world.specs.World.{Host, World, host_at, node_at, is_host_up, is_up, is_lost, progress_at, next_control}
 use Rattle.sheep_world.specs.Conditions.{serves, has_gateway, next_request, may_begin_request, may_ask, may_guest, may_deliver, may_lose_request, may_lose_reply, may_log_next, may_put, may_recover, may_retry, fails, joins, reweights, is_next_control, may_lose_node, may_leave, may_join, may_reweight, has_end_in_wire, may_come_back, may_end_phase}
@@ -32,7 +32,8 @@ use Rattle.sheep_world.specs.Asking.{ask_of_statement, input_by, input_of}
 use Rattle.sheep_world.specs.NodeSteps.{world_after_step, node_stepped, at_rest}
 use Rattle.sheep_world.specs.Effects.{request_started, next_input, guest_effect, next_entry, log_next_effect, put_done, put_effect, recover_tick_effect, retry_tick_effect}
 use Rattle.sheep_world.specs.Messages.{message_delivered, message_lost}
-use Rattle.sheep_world.specs.MembershipChanges.{lost_host, control_taken, host_changed, without_replies, node_lost, node_left, node_joined, weight_in, node_reweighted, revived_host, log_handed, came_back, phase_ended}
+use Rattle.message_wire.specs.Message.{without_replies}
+use Rattle.sheep_world.specs.MembershipChanges.{lost_host, control_taken, host_changed, node_lost, node_left, node_joined, weight_in, node_reweighted, revived_host, log_handed, came_back, phase_ended}
 use Rattle.sheep_world.specs.Granted.{put_adds}
 use Rattle.sheep_world.specs.HistoryAdditions.{request_grown, replies_grown, writers_lost}
 use Rattle.sheep_world.specs.Step.{EventOutcome, step, only, with_replies, guest_made, put_made, loss_made, delivery_made}

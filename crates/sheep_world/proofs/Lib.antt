@@ -1,4 +1,3 @@
-pub mod NameTools
 pub mod EnabledLaws
 pub mod RunLaws
 pub mod LostReplies

@@ -8,11 +8,12 @@ use Rattle.object_id.specs.declared.node.NodeId.{NodeId}
 use Rattle.gateway.specs.State.{Work}
 use Rattle.sheep_node.specs.State as nodes
 use Rattle.sheep_node.specs.State.{Node}
-use Rattle.sheep_world.specs.declared.name.MessageName.{MessageName}
-use Rattle.sheep_world.specs.World.{name_cmp, Packet, Request, Reply}
-use Rattle.sheep_world.specs.MembershipChanges.{is_reply_to, without_replies}
+use Rattle.message_wire.specs.declared.name.MessageName.{MessageName}
+use Rattle.message_wire.specs.declared.packet.Packet.{Packet}
+use Rattle.message_wire.specs.declared.packet.Packet.TheVariants.{Request, Reply}
+use Rattle.message_wire.specs.Message.{name_cmp, is_reply_to, without_replies}
 use Rattle.sheep_world.specs.WireMatch.{asked_by, unanswered_in}
-use Rattle.sheep_world.proofs.NameTools.{same_name}
+use Rattle.message_wire.proofs.NameOrder.{same_name}
 
 -- what a map has at a key that stays
 pub retained : {X : Type 0} (m : tree.FinMap name_cmp X) (stays : MessageName → Bool) (q : MessageName)

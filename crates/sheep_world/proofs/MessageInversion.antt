@@ -13,8 +13,11 @@ use Rattle.sheep_node.specs.declared.event.Event.TheVariants as events
 use Rattle.sheep_node.specs.declared.input.Input.{Input}
 use Rattle.sheep_node.specs.declared.input.Input.TheVariants as inputs
 use Rattle.sheep_node.specs.Step.{node_step}
-use Rattle.sheep_world.specs.declared.name.MessageName.{MessageName}
-use Rattle.sheep_world.specs.World.{Packet, Request, Reply, Host, World, host_at, is_host_up, is_up, message_at, receiver_of}
+use Rattle.message_wire.specs.declared.name.MessageName.{MessageName}
+use Rattle.message_wire.specs.declared.packet.Packet.{Packet}
+use Rattle.message_wire.specs.declared.packet.Packet.TheVariants.{Request, Reply}
+use Rattle.message_wire.specs.Message.{receiver_of}
+use Rattle.sheep_world.specs.World.{Host, World, host_at, is_host_up, is_up, message_at}
 use Rattle.sheep_world.specs.Conditions.{may_deliver, may_go, is_request_packet, may_lose_request, may_lose_reply}
 use Rattle.sheep_world.specs.NodeSteps.{world_after_step, node_stepped, at_rest}
 use Rattle.sheep_world.specs.Messages.{without_message, wire_with_reply, losses_after_loss, reply_sent, request_got, request_delivered, reply_got, reply_delivered, delivered_as, message_delivered, loss_used, loss_told, message_lost}

@@ -18,7 +18,8 @@ use Rattle.recovery.specs.State as recoveries
 use Rattle.sheep_node.specs.State.{Node}
 use Rattle.sheep_node.specs.May as nodes
 use Rattle.sheep_node.specs.May.{has_numbers, fits_node, May}
-use Rattle.sheep_world.specs.World.{Reply, Host, is_host_up}
+use Rattle.message_wire.specs.declared.packet.Packet.TheVariants.{Reply}
+use Rattle.sheep_world.specs.World.{Host, is_host_up}
 use Rattle.sheep_world.specs.WireMatch.{unanswered_in, asked_by_gateway, asked_by_recovery, asked_by, IsInFlight}
 use Rattle.sheep_world.proofs.RecoveryMessages.{same_said}
 use Rattle.sheep_world.proofs.SenderMatch.{Packets, MatchesHost}

@@ -16,7 +16,8 @@ use Rattle.sheep_node.specs.State as nodes
 use Rattle.sheep_node.specs.RecoveryRange.{RecoversInRange}
 use Rattle.sheep_node.specs.May.{may_tick}
 use Rattle.sheep_node.specs.Step.{node_step}
-use Rattle.sheep_world.specs.World.{Request, Reply, Host, World, is_host_up}
+use Rattle.message_wire.specs.declared.packet.Packet.TheVariants.{Request, Reply}
+use Rattle.sheep_world.specs.World.{Host, World, is_host_up}
 use Rattle.sheep_world.specs.Opening.{format_entry}
 use Rattle.sheep_world.specs.Ranges.{RecoveriesAreInRange}
 use Rattle.sheep_world.specs.NodeCauses.{NodeCause, GuestAsks, RequestComes, ReplyComes, LossIsTold, EntryIsRead, EntryIsPut, RecoveryTicks, WorkIsRetried, input_of_cause, IsCause}

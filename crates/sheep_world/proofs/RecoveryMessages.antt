@@ -30,11 +30,12 @@ use Rattle.sheep_node.specs.State.{Node}
 use Rattle.sheep_node.specs.RecoveryView.{recovery_state_of}
 use Rattle.sheep_node.specs.StepState.{at_first}
 use Rattle.sheep_node.specs.Step.{recovery_stepped}
-use Rattle.sheep_world.specs.declared.name.MessageName.{MessageName}
+use Rattle.message_wire.specs.declared.name.MessageName.{MessageName}
 use Rattle.peer_proto.specs.declared.fault.PeerFault.{PeerFault}
-use Rattle.sheep_world.specs.World.{name_cmp, Packet}
+use Rattle.message_wire.specs.declared.packet.Packet.{Packet}
+use Rattle.message_wire.specs.Message.{name_cmp}
 use Rattle.sheep_world.specs.WireMatch.{unanswered_in, asked_by_gateway, asked_by_recovery}
-use Rattle.sheep_world.proofs.NameTools.{name_cmp_total}
+use Rattle.message_wire.proofs.NameOrder.{name_cmp_total}
 use Rattle.sheep_node.proofs.MessageNumbers.{Sends}
 use Rattle.sheep_world.proofs.WireAfterSends.{Wire, name_apart, name_itself}
 use Rattle.sheep_world.proofs.AskedByTick.{AsksFrom}

@@ -18,11 +18,13 @@ use Rattle.sheep_node.specs.RecoveryView.{recovery_state_of}
 use Rattle.sheep_node.specs.StepState.{StepState, at_first, with_node}
 use Rattle.sheep_node.specs.LogReading.{come_back_with, epoch_members, on_back}
 use Rattle.sheep_node.specs.Step.{on_input, is_due, with_recovered, recovered_put, node_step}
-use Rattle.sheep_world.specs.declared.name.MessageName.{MessageName}
-use Rattle.sheep_world.specs.World.{Packet, World, asked_node, has_end}
+use Rattle.message_wire.specs.declared.name.MessageName.{MessageName}
+use Rattle.message_wire.specs.declared.packet.Packet.{Packet}
+use Rattle.message_wire.specs.Message.{asked_node, has_end}
+use Rattle.sheep_world.specs.World.{World}
 use Rattle.sheep_world.specs.Conditions.{has_end_in_wire}
 use Rattle.sheep_world.specs.WireMatch.{asked_by, asked_by_gateway}
-use Rattle.sheep_world.proofs.NameTools.{same_name}
+use Rattle.message_wire.proofs.NameOrder.{same_name}
 use Rattle.sheep_world.proofs.LostReplies.{asked_by-opening}
 
 -- no message in the wire is a request of a node that is no end there, or the reply to one

@@ -13,7 +13,9 @@ use Rattle.peer_proto.specs.declared.say.PeerRsp.{PeerRsp}
 use Rattle.peer_proto.specs.Say.{say_in, say_bytes}
 use Rattle.sheep_node.specs.State.{Node}
 use Rattle.sheep_node.specs.May.{node_awaits, fits_node}
-use Rattle.sheep_world.specs.World.{Packet, Request, Reply, Host, is_host_up}
+use Rattle.message_wire.specs.declared.packet.Packet.{Packet}
+use Rattle.message_wire.specs.declared.packet.Packet.TheVariants.{Request, Reply}
+use Rattle.sheep_world.specs.World.{Host, is_host_up}
 use Rattle.sheep_world.specs.WireMatch.{asked_by, own_name, IsReadablePacket, IsNumberGiven, IsInFlight, WireMatchesHosts}
 use Rattle.sheep_world.specs.NodeCauses.{host_with_node}
 use Rattle.sheep_node.proofs.MessageNumbers.{Sends, numbers_within}

@@ -20,7 +20,9 @@ use Rattle.sheep_node.specs.May as may
 use Rattle.sheep_node.specs.StepState.{at_first, with_node}
 use Rattle.sheep_node.specs.LogReading.{is_epoch_member, decision_told, entry_read, on_log_entry}
 use Rattle.sheep_node.specs.Step.{on_input, recovered_put, node_step}
-use Rattle.sheep_world.specs.World.{Packet, Host, SessionProgress, World, name_cmp, host_at, is_host_up, no_progress, progress_at}
+use Rattle.message_wire.specs.declared.packet.Packet.{Packet}
+use Rattle.message_wire.specs.Message.{name_cmp}
+use Rattle.sheep_world.specs.World.{Host, SessionProgress, World, host_at, is_host_up, no_progress, progress_at}
 use Rattle.sheep_world.specs.Opening as worlds
 use Rattle.sheep_world.specs.Opening.{format_entry, initial_member_node, initial_host, before_phases, with_phase}
 use Rattle.sheep_world.specs.Conditions.{serves, may_begin_request}

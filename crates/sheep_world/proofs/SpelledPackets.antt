@@ -13,8 +13,11 @@ use Rattle.sheep_node.specs.State.{Node}
 use Rattle.sheep_node.specs.declared.input.Input.TheVariants as inputs
 use Rattle.sheep_node.specs.Step.{node_step}
 use Rattle.sheep_node.proofs.MessageNumbers.{Sends}
-use Rattle.sheep_world.specs.declared.name.MessageName.{MessageName}
-use Rattle.sheep_world.specs.World.{name_cmp, Packet, Reply, Host, World}
+use Rattle.message_wire.specs.declared.name.MessageName.{MessageName}
+use Rattle.message_wire.specs.Message.{name_cmp}
+use Rattle.message_wire.specs.declared.packet.Packet.{Packet}
+use Rattle.message_wire.specs.declared.packet.Packet.TheVariants.{Reply}
+use Rattle.sheep_world.specs.World.{Host, World}
 use Rattle.sheep_world.specs.Opening.{initial_world}
 use Rattle.sheep_world.specs.Messages.{wire_with_reply}
 use Rattle.sheep_world.specs.NodeSteps.{wire_with_request}
@@ -27,7 +30,7 @@ use Rattle.sheep_world.specs.SpelledWire.{IsSpelledPacket, PacketsAreSpelled}
 use Rattle.sheep_world.proofs.WireAfterSends.{Wire, IsSent, got_sent}
 use Rattle.sheep_world.proofs.RecoveryMessages.{without_got}
 use Rattle.sheep_world.proofs.LostReplies.{got_before}
-use Rattle.sheep_world.proofs.NameTools.{name_cmp_total}
+use Rattle.message_wire.proofs.NameOrder.{name_cmp_total}
 use Rattle.sheep_world.proofs.EventInversion.{happens}
 use Rattle.sheep_world.proofs.BegunWorlds.{by_induction}
 

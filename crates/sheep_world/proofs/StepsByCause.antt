@@ -6,7 +6,7 @@ use Rattle.std.proofs.lemmas.Bool.{and_parts, ne_eqb}
 use Rattle.object_id.specs.declared.entry.Entry.{Entry}
 use Rattle.cluster_script.specs.Sessions.{ScriptSession}
 use Rattle.sheep_node.specs.declared.ask.Ask.{Ask}
-use Rattle.sheep_world.specs.declared.name.MessageName.{MessageName}
+use Rattle.message_wire.specs.declared.name.MessageName.{MessageName}
 use Rattle.object_id.specs.declared.node.NodeId.{NodeId}
 use Rattle.peer_proto.specs.declared.say.PeerRsp.{PeerRsp}
 use Rattle.cluster_script.specs.declared.statement.Statement.{Statement}
@@ -45,7 +45,7 @@ use Rattle.gateway.specs.Attempt.{status_by}
 use Rattle.gateway.specs.declared.message.Status.TheVariants.{Lost}
 use Rattle.recovery.specs.Steps as recovery_steps
 use Rattle.sheep_node.specs.LogReading as reading
-use Rattle.sheep_world.specs.World.{Reply}
+use Rattle.message_wire.specs.declared.packet.Packet.TheVariants.{Reply}
 
 -- a request is served: the node waits for the same, and has the same works
 module _ (request : PeerReq) (node : Node) where

@@ -17,11 +17,13 @@ use Rattle.sheep_node.specs.State.{Node}
 use Rattle.sheep_node.specs.Step.{node_step}
 use Rattle.sheep_node.proofs.MessageNumbers.{Sends, first_number, later_numbers, numbers_within}
 use Rattle.sheep_node.specs.May.{node_awaits, fits_node}
-use Rattle.sheep_world.specs.declared.name.MessageName.{MessageName}
-use Rattle.sheep_world.specs.World.{name_cmp, Packet, Request}
+use Rattle.message_wire.specs.declared.name.MessageName.{MessageName}
+use Rattle.message_wire.specs.declared.packet.Packet.{Packet}
+use Rattle.message_wire.specs.declared.packet.Packet.TheVariants.{Request}
+use Rattle.message_wire.specs.Message.{name_cmp}
 use Rattle.sheep_world.specs.NodeSteps.{request_name, wire_with_request}
 use Rattle.sheep_world.specs.WireMatch.{asked_by}
-use Rattle.sheep_world.proofs.NameTools.{name_cmp_total, same_name}
+use Rattle.message_wire.proofs.NameOrder.{name_cmp_total, same_name}
 
 abbrev pub Wire : Type 0
 Wire = tree.FinMap name_cmp Packet

@@ -25,8 +25,10 @@ use Rattle.sheep_node.specs.AwaitedEntry.{waits_for_entry}
 use Rattle.peer_service.specs.LogReading.{decision_on}
 use Rattle.sheep_node.specs.Step.{on_input, is_due, with_recovered, recovered_put, node_step}
 use Rattle.sheep_node.proofs.StepResults.{step_me}
-use Rattle.sheep_world.specs.declared.name.MessageName.{MessageName}
-use Rattle.sheep_world.specs.World.{name_cmp, Packet, Host}
+use Rattle.message_wire.specs.declared.name.MessageName.{MessageName}
+use Rattle.message_wire.specs.declared.packet.Packet.{Packet}
+use Rattle.message_wire.specs.Message.{name_cmp}
+use Rattle.sheep_world.specs.World.{Host}
 use Rattle.sheep_world.specs.Opening as worlds
 use Rattle.sheep_world.specs.Opening.{format_entry, initial_member_node, initial_host, initial_member_host, before_phases, with_phase}
 use Rattle.sheep_world.specs.WireMatch.{asked_by, asked_by_gateway, asked_by_recovery, own_name, IsInFlight, AllAwaitedIsInFlight, WireMatchesNodes}

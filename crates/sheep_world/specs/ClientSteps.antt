@@ -6,7 +6,7 @@ use Rattle.sheep_node.specs.declared.ask.Ask.{Ask}
 use Rattle.sheep_node.specs.declared.event.Event.{Event}
 use Rattle.sheep_node.specs.declared.event.Event.TheVariants as events
 use Rattle.sheep_node.specs.declared.input.Input.TheVariants as inputs
-use Rattle.sheep_world.specs.declared.name.MessageName.{MessageName}
+use Rattle.message_wire.specs.declared.name.MessageName.{MessageName}
 use Rattle.sheep_world.specs.World.{World, message_at, are_ends_up}
 use Rattle.sheep_world.specs.NodeSteps.{node_stepped, at_rest}
 use Rattle.sheep_world.specs.ClientAsks.{next_ask_number, answer_of}

@@ -12,9 +12,12 @@ use Rattle.object_id.specs.declared.limits.TheConstants.{REQUESTS_AT_ONCE}
 use Rattle.sheep_node.specs.State.{Node}
 use Rattle.sheep_node.specs.May as nodes
 use Rattle.sheep_node.specs.LogReading as reading
-use Rattle.sheep_world.specs.declared.name.MessageName.{MessageName}
-use Rattle.sheep_world.specs.World.{Packet, Request, Reply, Host, StartedRequest, SessionProgress, World, host_at, is_host_up, is_up}
-use Rattle.sheep_world.specs.World.{is_up_with, is_lost, is_newest_member, message_at, receiver_of, has_lost_end, has_end, progress_at}
+use Rattle.message_wire.specs.declared.name.MessageName.{MessageName}
+use Rattle.message_wire.specs.declared.packet.Packet.{Packet}
+use Rattle.message_wire.specs.declared.packet.Packet.TheVariants.{Request, Reply}
+use Rattle.message_wire.specs.Message.{receiver_of, has_end}
+use Rattle.sheep_world.specs.World.{Host, StartedRequest, SessionProgress, World, host_at, is_host_up, is_up}
+use Rattle.sheep_world.specs.World.{is_up_with, is_lost, is_newest_member, message_at, has_lost_end, progress_at}
 use Rattle.sheep_world.specs.World.{next_control}
 
 -- whether a host's node is up in the incarnation that a session belongs to, and a member by what it has read

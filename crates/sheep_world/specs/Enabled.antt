@@ -1,5 +1,5 @@
 -- The events that may happen in a world, in the order in which a schedule draws them.
-use Rattle.std.specs.Prelude.{ℕ, ◌-◌, ◌==◌, nat_lt, Bool, List, [], ◌∷◌, ◌++◌, length, map, flat_map, filter, sum_by, Option, None}
+use Rattle.std.specs.Prelude.{ℕ, ◌-◌, nat_lt, Bool, List, [], ◌∷◌, ◌++◌, length, map, flat_map, filter, sum_by, Option, None}
 use Rattle.std.specs.Prelude.{slice_get, if◌then◌else◌}
 use Rattle.std.specs.Option.{option_map_or}
 use Rattle.std.specs.FinMap as tree
@@ -8,8 +8,11 @@ use Rattle.cluster_script.specs.declared.statement.Statement.TheVariants as line
 use Rattle.cluster_script.specs.Sessions.{ScriptSession, sessions_of}
 use Rattle.sheep_node.specs.declared.event.Event.{Event}
 use Rattle.sheep_node.specs.declared.event.Event.TheVariants as events
-use Rattle.sheep_world.specs.declared.name.MessageName.{MessageName}
-use Rattle.sheep_world.specs.World.{Packet, Request, Reply, World, next_control}
+use Rattle.message_wire.specs.declared.name.MessageName.{MessageName}
+use Rattle.message_wire.specs.declared.packet.Packet.{Packet}
+use Rattle.message_wire.specs.declared.packet.Packet.TheVariants.{Request, Reply}
+use Rattle.message_wire.specs.Message.{messages_by_sender}
+use Rattle.sheep_world.specs.World.{World, next_control}
 use Rattle.sheep_world.specs.Conditions.{may_guest, may_deliver, may_lose_request, may_lose_reply, may_log_next, may_put, may_recover}
 use Rattle.sheep_world.specs.Conditions.{may_retry, may_lose_node, may_leave, may_join, may_reweight, may_come_back, may_end_phase}
 
@@ -69,18 +72,6 @@ unfoldable pub enabled_events : List Statement → World → List Event
 enabled_events statements world = filter (is_enabled statements world) (looked_at statements world)
 
 -- ---- the list in parts, so that an event of it is counted and found without the others
-
--- a message before those that are by sender
-abbrev pub with_first_message : MessageName × Packet → List (List (MessageName × Packet)) → List (List (MessageName × Packet))
-with_first_message found [] = (found ∷ []) ∷ []
-with_first_message found ([] ∷ later) = (found ∷ []) ∷ later
-with_first_message found ((next ∷ same) ∷ later) =
-    if found.0.sender.0 == next.0.sender.0 then (found ∷ next ∷ same) ∷ later else (found ∷ []) ∷ (next ∷ same) ∷ later
-
--- messages by sender: those of one sender next to each other are a part
-abbrev pub messages_by_sender : List (MessageName × Packet) → List (List (MessageName × Packet))
-messages_by_sender [] = []
-messages_by_sender (found ∷ later) = with_first_message found (messages_by_sender later)
 
 -- the events that are looked at, in parts: of the sessions, of each sender's messages, of each node, of the next control
 abbrev pub looked_at_parts : List Statement → World → List (List Event)

@@ -14,14 +14,17 @@ use Rattle.sheep_node.specs.declared.event.Event.TheVariants as events
 use Rattle.sheep_node.specs.declared.input.Input.TheVariants as inputs
 use Rattle.sheep_node.specs.State as nodes
 use Rattle.sheep_node.specs.Step.{node_step}
-use Rattle.sheep_world.specs.declared.name.MessageName.{MessageName}
-use Rattle.sheep_world.specs.World.{Packet, Request, Reply, Host, World, host_at, is_host_up, is_up, is_newest_member, message_at}
+use Rattle.message_wire.specs.declared.name.MessageName.{MessageName}
+use Rattle.message_wire.specs.declared.packet.Packet.{Packet}
+use Rattle.message_wire.specs.declared.packet.Packet.TheVariants.{Request, Reply}
+use Rattle.message_wire.specs.Message.{without_replies}
+use Rattle.sheep_world.specs.World.{Host, World, host_at, is_host_up, is_up, is_newest_member, message_at}
 use Rattle.sheep_world.specs.World.{next_control}
 use Rattle.sheep_world.specs.Conditions.{may_go, has_end_in_wire, may_end_phase}
 use Rattle.sheep_world.specs.Opening.{initial_host, with_phase}
 use Rattle.sheep_world.specs.Messages.{losses_after_loss}
 use Rattle.sheep_world.specs.NodeSteps.{wire_with_request, progress_after_reply, at_rest, ask_after_replies}
-use Rattle.sheep_world.specs.MembershipChanges.{lost_host, without_replies, join_of, last_weight, revived_host}
+use Rattle.sheep_world.specs.MembershipChanges.{lost_host, join_of, last_weight, revived_host}
 use Rattle.sheep_world.specs.HistoryAdditions.{writers_lost}
 use Rattle.sheep_world.specs.Enabled.{loss_of}
 use Rattle.sheep_world.specs.Step.{EventOutcome, only}

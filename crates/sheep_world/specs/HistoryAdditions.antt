@@ -22,7 +22,7 @@ use Rattle.sheep_world.specs.Effects.{open_disk_at}
 use Rattle.sheep_node.specs.declared.input.Input.{Input}
 use Rattle.sheep_node.specs.State.{Node}
 use Rattle.sheep_node.specs.CheckWrites.{CheckWrite, check_write_on, has_check_written}
-use Rattle.sheep_world.specs.declared.name.MessageName.{MessageName}
+use Rattle.message_wire.specs.declared.name.MessageName.{MessageName}
 use Rattle.cluster_script.specs.Statements.{is_check}
 
 -- a block's part of bytes, by its place among them

@@ -7,8 +7,9 @@ use Rattle.peer_proto.specs.Ask.{ask_in}
 use Rattle.peer_proto.specs.Say.{say_bytes, say_in}
 use Rattle.peer_service.specs.Serve.{reply_to}
 use Rattle.sheep_node.specs.May.{fits_node}
-use Rattle.sheep_world.specs.declared.name.MessageName.{MessageName}
-use Rattle.sheep_world.specs.World.{Request, Host, World, host_at, is_host_up, message_at}
+use Rattle.message_wire.specs.declared.name.MessageName.{MessageName}
+use Rattle.message_wire.specs.declared.packet.Packet.TheVariants.{Request}
+use Rattle.sheep_world.specs.World.{Host, World, host_at, is_host_up, message_at}
 use Rattle.sheep_world.specs.OneWork.{NodesHaveOneWorkPerRequest, WorksAskInRange}
 use Rattle.sheep_world.specs.Ranges.{RecoveriesAreInRange}
 use Rattle.sheep_world.specs.WireMatch.{WireMatchesNodes}

@@ -1,5 +1,5 @@
 -- What becomes of the members, the incarnations and the phases: the events that a script's controls make, Leave, and Phase.
-use Rattle.std.specs.Prelude.{ℕ, ◌+◌, ◌==◌, Bool, true, false, not, List, [], ◌∷◌, drop, fold, Option, Some, None, if◌then◌else◌}
+use Rattle.std.specs.Prelude.{ℕ, ◌+◌, ◌==◌, true, false, List, [], ◌∷◌, drop, fold, Option, Some, None, if◌then◌else◌}
 use Rattle.std.specs.List.{find}
 use Rattle.std.specs.Option.{option_map_or}
 use Rattle.std.specs.FinMap as tree
@@ -12,8 +12,8 @@ use Rattle.cluster_script.specs.declared.statement.Statement.TheVariants as line
 use Rattle.cluster_script.specs.Settings.{vnodes_of, tries_of, zone_of}
 use Rattle.sheep_node.specs.declared.input.Input.TheVariants as inputs
 use Rattle.sheep_node.specs.State as nodes
-use Rattle.sheep_world.specs.declared.name.MessageName.{MessageName}
-use Rattle.sheep_world.specs.World.{name_cmp, Packet, Request, Reply, Host, World, host_at, next_control}
+use Rattle.message_wire.specs.Message.{without_replies}
+use Rattle.sheep_world.specs.World.{Host, World, host_at, next_control}
 use Rattle.sheep_world.specs.Opening.{initial_host, with_phase}
 use Rattle.sheep_world.specs.NodeSteps.{node_stepped, at_rest}
 use Rattle.sheep_world.specs.Effects.{with_entries}
@@ -30,16 +30,6 @@ host_changed change node (Some host) world = record world { hosts = tree.insert 
 -- a node is lost
 abbrev pub lost_host : Host → Host
 lost_host host = record host { is_lost = true }
-
--- whether a message is a reply on its way back to a node
-abbrev pub is_reply_to : ℕ → MessageName → Option Packet → Bool
-is_reply_to node name None = false
-is_reply_to node name (Some (Request to bytes)) = false
-is_reply_to node name (Some (Reply from bytes)) = name.sender.0 == node
-
--- the wire without the replies to a node
-abbrev pub without_replies : ℕ → tree.FinMap name_cmp Packet → tree.FinMap name_cmp Packet
-without_replies node wire = tree.retain_keys wire (λ name. not (is_reply_to node name (tree.get wire name)))
 
 -- Lost: the node is lost, and the replies to it go
 unfoldable pub node_lost : ℕ → World → World

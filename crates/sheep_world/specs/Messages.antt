@@ -9,8 +9,11 @@ use Rattle.peer_proto.specs.declared.fault.PeerFault.{PeerFault}
 use Rattle.peer_proto.specs.Ask.{ask_in}
 use Rattle.peer_proto.specs.Say.{say_bytes, say_in}
 use Rattle.sheep_node.specs.declared.input.Input.TheVariants as inputs
-use Rattle.sheep_world.specs.declared.name.MessageName.{MessageName}
-use Rattle.sheep_world.specs.World.{name_cmp, Packet, Request, Reply, World, is_up, message_at, are_ends_up}
+use Rattle.message_wire.specs.declared.name.MessageName.{MessageName}
+use Rattle.message_wire.specs.declared.packet.Packet.{Packet}
+use Rattle.message_wire.specs.declared.packet.Packet.TheVariants.{Request, Reply}
+use Rattle.message_wire.specs.Message.{name_cmp}
+use Rattle.sheep_world.specs.World.{World, is_up, message_at, are_ends_up}
 use Rattle.sheep_world.specs.NodeSteps.{node_stepped, at_rest}
 
 -- a message isn't in the wire

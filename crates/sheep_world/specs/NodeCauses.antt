@@ -23,8 +23,11 @@ use Rattle.sheep_node.specs.State.{Node}
 use Rattle.sheep_node.specs.May.{may_tick, has_work_to_retry}
 use Rattle.sheep_node.specs.LogReading.{is_epoch_member}
 use Rattle.sheep_node.specs.Step.{node_step}
-use Rattle.sheep_world.specs.declared.name.MessageName.{MessageName}
-use Rattle.sheep_world.specs.World.{name_cmp, Packet, Request, Reply, Host, SessionProgress, World, is_host_up, message_at, progress_at}
+use Rattle.message_wire.specs.declared.name.MessageName.{MessageName}
+use Rattle.message_wire.specs.declared.packet.Packet.{Packet}
+use Rattle.message_wire.specs.declared.packet.Packet.TheVariants.{Request, Reply}
+use Rattle.message_wire.specs.Message.{name_cmp}
+use Rattle.sheep_world.specs.World.{Host, SessionProgress, World, is_host_up, message_at, progress_at}
 use Rattle.sheep_world.specs.World.{ClientAsk}
 use Rattle.sheep_world.specs.Conditions.{next_request, may_begin_request, may_go}
 use Rattle.sheep_world.specs.Asking.{ask_of_statement}

@@ -11,8 +11,11 @@ use Rattle.peer_proto.specs.Ask.{ask_bytes}
 use Rattle.sheep_node.specs.declared.input.Input.{Input}
 use Rattle.sheep_node.specs.StepState.{StepState}
 use Rattle.sheep_node.specs.Step.{node_step}
-use Rattle.sheep_world.specs.declared.name.MessageName.{MessageName}
-use Rattle.sheep_world.specs.World.{name_cmp, Packet, Request, Host, StartedRequest, SessionProgress, World, host_at, no_progress}
+use Rattle.message_wire.specs.declared.name.MessageName.{MessageName}
+use Rattle.message_wire.specs.declared.packet.Packet.{Packet}
+use Rattle.message_wire.specs.declared.packet.Packet.TheVariants.{Request}
+use Rattle.message_wire.specs.Message.{name_cmp}
+use Rattle.sheep_world.specs.World.{Host, StartedRequest, SessionProgress, World, host_at, no_progress}
 use Rattle.sheep_world.specs.World.{ClientAsk}
 use Rattle.sheep_world.specs.Opening.{no_outputs}
 use Rattle.sheep_world.specs.Asking.{session_asking}

@@ -4,8 +4,10 @@ use Rattle.peer_proto.specs.declared.ask.PeerReq.{PeerReq}
 use Rattle.peer_proto.specs.declared.say.PeerRsp.{PeerRsp}
 use Rattle.peer_proto.specs.Ask.{ask_bytes}
 use Rattle.peer_proto.specs.Say.{say_bytes}
-use Rattle.sheep_world.specs.declared.name.MessageName.{MessageName}
-use Rattle.sheep_world.specs.World.{Packet, Request, Reply, World, message_at}
+use Rattle.message_wire.specs.declared.name.MessageName.{MessageName}
+use Rattle.message_wire.specs.declared.packet.Packet.{Packet}
+use Rattle.message_wire.specs.declared.packet.Packet.TheVariants.{Request, Reply}
+use Rattle.sheep_world.specs.World.{World, message_at}
 
 -- the bytes of a packet spell a request, or a reply
 abbrev pub IsSpelledPacket : Packet → Type 0

@@ -12,7 +12,7 @@ use Rattle.sheep_world.specs.Messages.{message_delivered, message_lost}
 use Rattle.sheep_world.specs.MembershipChanges.{node_lost, node_left, node_joined, node_reweighted, came_back, phase_ended}
 use Rattle.sheep_world.specs.HistoryAdditions.{writes_grown, replies_grown, loss_grown, delivery_grown}
 use Rattle.sheep_world.specs.Granted.{put_adds}
-use Rattle.sheep_world.specs.declared.name.MessageName.{MessageName}
+use Rattle.message_wire.specs.declared.name.MessageName.{MessageName}
 
 -- what an event makes: the world after it, and what it adds to the history
 pub record EventOutcome : Type 0 where

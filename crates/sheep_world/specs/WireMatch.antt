@@ -14,8 +14,11 @@ use Rattle.gateway.specs.State.{Work, WorkStage, Open, Ended, WaitsForMembers}
 use Rattle.recovery.specs.State as recoveries
 use Rattle.sheep_node.specs.State.{Node}
 use Rattle.sheep_node.specs.May.{node_awaits, fits_node}
-use Rattle.sheep_world.specs.declared.name.MessageName.{MessageName}
-use Rattle.sheep_world.specs.World.{name_cmp, Packet, Request, Reply, Host, World, is_host_up}
+use Rattle.message_wire.specs.declared.name.MessageName.{MessageName}
+use Rattle.message_wire.specs.declared.packet.Packet.{Packet}
+use Rattle.message_wire.specs.declared.packet.Packet.TheVariants.{Request, Reply}
+use Rattle.message_wire.specs.Message.{name_cmp}
+use Rattle.sheep_world.specs.World.{Host, World, is_host_up}
 use Rattle.sheep_world.specs.NodeSteps.{request_name}
 
 -- the requests of an attempt that aren't answered, each with the node that it goes to

@@ -1,7 +1,6 @@
 -- The cluster as a whole: what it is, and how its parts are found.
-use Rattle.std.specs.Prelude.{ℕ, ◌==◌, Bool, false, not, ◌&&◌, List, [], ◌∷◌, Option, unwrap_or, slice_get}
-use Rattle.std.specs.Ordering.{ordering_then, nat_cmp}
-use Rattle.std.specs.declared.cmp.Ordering.{Ordering}
+use Rattle.std.specs.Prelude.{ℕ, Bool, false, not, ◌&&◌, List, [], Option, unwrap_or, slice_get}
+use Rattle.std.specs.Ordering.{nat_cmp}
 use Rattle.std.specs.List.{list_any, list_all}
 use Rattle.std.specs.Option.{option_map, option_map_or}
 use Rattle.std.specs.FinMap as tree
@@ -14,17 +13,10 @@ use Rattle.sheep_node.specs.declared.input.Input.{Input}
 use Rattle.sheep_node.specs.declared.outputs.Outputs.{Outputs}
 use Rattle.sheep_node.specs.State.{Node}
 use Rattle.sheep_node.specs.May.{has_numbers}
-use Rattle.sheep_world.specs.declared.name.MessageName.{MessageName}
+use Rattle.message_wire.specs.declared.name.MessageName.{MessageName}
+use Rattle.message_wire.specs.declared.packet.Packet.{Packet}
+use Rattle.message_wire.specs.Message.{name_cmp, packet_ends}
 use Rattle.peer_proto.specs.declared.guest.GuestRsp.{GuestRsp}
-
--- names in their order: by sender, then by number
-abbrev pub name_cmp : MessageName → MessageName → Ordering
-name_cmp one other = ordering_then (nat_cmp one.sender.0 other.sender.0) (nat_cmp one.number other.number)
-
--- a message in the wire, as its bytes: a request on its way to a node, or that node's reply on its way back
-pub data Packet : Type 0 where
-  Request : NodeId → List ℕ → Packet
-  Reply : NodeId → List ℕ → Packet
 
 -- a node of the cluster: the node, whether it is lost, and which of its incarnations it is in, from 1 on
 pub record Host : Type 0 where
@@ -102,20 +94,6 @@ is_newest_member node world = members.is_member node (members_in world.log (newe
 abbrev pub message_at : MessageName → World → Option Packet
 message_at name world = tree.get world.wire name
 
--- the node that a request goes to, and that a reply comes from
-abbrev pub asked_node : Packet → NodeId
-asked_node (Request to bytes) = to
-asked_node (Reply from bytes) = from
-
--- the ends of a message: the sender of the request, and the node that it asks
-abbrev pub packet_ends : MessageName → Packet → List NodeId
-packet_ends name packet = name.sender ∷ asked_node packet ∷ []
-
--- who gets a message
-abbrev pub receiver_of : MessageName → Packet → NodeId
-receiver_of name (Request to bytes) = to
-receiver_of name (Reply from bytes) = name.sender
-
 -- whether an end of a message is lost
 abbrev pub has_lost_end : MessageName → Packet → World → Bool
 has_lost_end name packet world = list_any (λ (node : NodeId). is_lost node.0 world) (packet_ends name packet)
@@ -123,10 +101,6 @@ has_lost_end name packet world = list_any (λ (node : NodeId). is_lost node.0 wo
 -- whether both ends of a message are up
 abbrev pub are_ends_up : MessageName → Packet → World → Bool
 are_ends_up name packet world = list_all (λ (node : NodeId). is_up node.0 world) (packet_ends name packet)
-
--- whether a node is an end of a message
-abbrev pub has_end : ℕ → MessageName → Packet → Bool
-has_end node name packet = list_any (λ (other : NodeId). other.0 == node) (packet_ends name packet)
 
 -- a session that has asked nothing
 abbrev pub no_progress : SessionProgress

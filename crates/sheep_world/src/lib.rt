@@ -1,8 +1,8 @@
 //! The cluster as a whole: nodes, log, wire, sessions and the phases of a script, and each event that may happen.
 //!
-//! The crate stands on `sheep_node`, `cluster_script` and `disk_history`. Here stand the names of messages and the faults
-//! of applying an event as types, and as definitions all that may happen to a cluster: what a world is
-//! (`specs/World.antt`) and which one a script opens with (`specs/Opening.antt`); when each event may happen
+//! The crate stands on `sheep_node`, `message_wire`, `cluster_script` and `disk_history`. Here stand the faults of applying
+//! an event as a type, and as definitions all that may happen to a cluster: what a world is (`specs/World.antt`) and which
+//! one a script opens with (`specs/Opening.antt`); when each event may happen
 //! (`specs/Conditions.antt`); what it makes of the world (`specs/NodeSteps.antt`, `specs/Effects.antt`,
 //! `specs/Messages.antt`, `specs/MembershipChanges.antt`) and adds to the history (`specs/HistoryAdditions.antt`,
 //! `specs/Granted.antt`); both together, one clause an event (`specs/Step.antt`); runs (`specs/Run.antt`), the worlds that
@@ -21,7 +21,6 @@
 
 mod fault;
 mod laws;
-mod name;
 
 pub use fault::ApplyFault;
 pub use laws::{
@@ -35,4 +34,3 @@ pub use laws::{
     the_enabled_list_is_in_parts, the_log_holds, what_is_asked_can_be_spelled,
     what_is_in_the_wire_was_spelled, what_may_happen_is_made,
 };
-pub use name::MessageName;

@@ -1,0 +1,6 @@
+mod EntryLemmas
+pub mod NameOrder
+mod WholeWire
+mod WireChanges
+mod WireReading
+mod SenderEdits

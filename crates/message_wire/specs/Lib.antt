@@ -1,0 +1,3 @@
+pub mod Message
+pub mod Entries
+pub mod Senders
