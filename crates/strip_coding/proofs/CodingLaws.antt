@@ -16,7 +16,7 @@ use Rattle.gf256.proofs.Interpolation.{lagrange_value}
 use Rattle.gf256.proofs.StripLaws.{length-strip, strip_place, data_strip}
 use Rattle.strip_coding.specs.declared.coding.TheConstants.{IN_ORDER}
 use Rattle.gf256.proofs.Widths.{by_cases, divides}
-use Rattle.strip_coding.proofs.Sums.{part_at}
+use Rattle.strip_coding.proofs.WeightedSums.{part_at}
 
 length-coefficients : (all points : List ℕ) (x : ℕ) → length (coefficients all points x) ≡ length points
 unfolding coefficients

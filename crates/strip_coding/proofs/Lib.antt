@@ -1,6 +1,6 @@
 pub mod RowLaws
 pub mod ChoiceLaws
-pub mod Sums
+pub mod WeightedSums
 pub mod CodingLaws
 pub mod InterpolateLaws
 pub mod ChosenLaws

@@ -9,9 +9,9 @@ ghost use Rattle.gf256.specs.Strip.{strip, strip_bytes, IsBlock, lagrange, block
 ghost use Rattle.strip_coding.specs.Choice.{strip_at, distinct_places, chosen_block, HasStrips};
 
 use crate::choice::{MOST_DATA_STRIPS, choose};
-use crate::combine::combine;
 use crate::interpolate::fill_row;
 use crate::rows::parity_row;
+use crate::sums::{ByteByByte, StripSums};
 use gf256::TooFewStrips;
 use object_id::{BLOCK_BYTES, TARGETS_MAX};
 
@@ -19,7 +19,7 @@ use object_id::{BLOCK_BYTES, TARGETS_MAX};
 const IN_ORDER: [usize; MOST_DATA_STRIPS] = [0, 1, 2, 3, 4, 5, 6, 7, 8, 9, 10, 11, 12, 13, 14, 15];
 
 /// Makes strip `index` of a block of `d` data strips.
-pub fn strip(d: u8, block: &[u8], index: u8, out: &mut [u8])
+pub fn strip<S: StripSums>(d: u8, block: &[u8], index: u8, out: &mut [u8])
     requires width { IsTrue (is_width d) }
     requires block { length block.now ≡ BLOCK_BYTES }
     requires index { index < TARGETS_MAX }
@@ -32,18 +32,23 @@ pub fn strip(d: u8, block: &[u8], index: u8, out: &mut [u8])
     if index < d {
         out.copy_from_slice(&block[index * width..index * width + width]);
     } else {
-        combine(parity_row(d, index), &IN_ORDER[..d], block, out);
+        S::combine(parity_row(d, index), &IN_ORDER[..d], block, out);
     }
 }
 
-/// Makes strip `i` of a block of `d` data strips.
-pub fn encode_block(d: u8, block: &[u8; BLOCK_BYTES as usize], i: u8, out: &mut [u8])
+/// Makes strip `i` of a block of `d` data strips, by any way of making sums.
+pub fn encode_block_by<S: StripSums>(
+    d: u8,
+    block: &[u8; BLOCK_BYTES as usize],
+    i: u8,
+    out: &mut [u8],
+)
     requires width { IsTrue (is_width d) }
     requires index { i < TARGETS_MAX }
     requires room { length out.old ≡ strip_bytes d }
     ensures { out.new ≡ strip d block.now i }
 {
-    strip(d, block, i, out);
+    strip::<S>(d, block, i, out);
 }
 
 /// Where an index stands among the points.
@@ -55,7 +60,7 @@ fn place_of(points: &[u8], index: u8) -> Option<usize>
 
 /// Makes data strip `index` from the strips at some places, whose indexes are the points: copies it where
 /// it is among them, and else sums their multiples.
-fn restore(points: &[u8], places: &[usize], index: u8, strips: &[u8], out: &mut [u8])
+fn restore<S: StripSums>(points: &[u8], places: &[usize], index: u8, strips: &[u8], out: &mut [u8])
     requires differ { ArePoints points.now }
     requires most { length points.now ≤ MOST_DATA_STRIPS }
     requires both { length points.now ≡ length places.now }
@@ -71,12 +76,12 @@ fn restore(points: &[u8], places: &[usize], index: u8, strips: &[u8], out: &mut 
         let mut coefficients = [0; MOST_DATA_STRIPS];
         let row = &mut coefficients[..points.len()];
         fill_row(points, index, row);
-        combine(row, places, strips, out);
+        S::combine(row, places, strips, out);
     }
 }
 
 /// Makes the block of `d` data strips that has the strips at some places, whose indexes are the points.
-pub fn block(d: usize, points: &[u8], places: &[usize], strips: &[u8], out: &mut [u8])
+pub fn block<S: StripSums>(d: usize, points: &[u8], places: &[usize], strips: &[u8], out: &mut [u8])
     requires width { IsTrue (is_width d) }
     requires differ { ArePoints points.now }
     requires points { length points.now ≡ d }
@@ -89,7 +94,7 @@ pub fn block(d: usize, points: &[u8], places: &[usize], strips: &[u8], out: &mut
     let width = BLOCK_BYTES as usize / d;
     for k in 0..d {
         let start = k * width;
-        restore(
+        restore::<S>(
             points,
             places,
             k as u8,
@@ -97,6 +102,47 @@ pub fn block(d: usize, points: &[u8], places: &[usize], strips: &[u8], out: &mut
             &mut out[start..start + width],
         );
     }
+}
+
+/// Decodes the block that has the given strips, one strip for each index in their order, at the first `d`
+/// distinct indexes, by any way of making sums. Refused, with `out` as it was, where there are fewer.
+pub fn decode_block_by<S: StripSums>(
+    d: u8,
+    indexes: &[u8],
+    strips: &[u8],
+    out: &mut [u8; BLOCK_BYTES as usize],
+) -> Result<(), TooFewStrips>
+    requires width { IsTrue (is_width d) }
+    requires indexes { All (λ index. index < TARGETS_MAX) indexes.now }
+    requires strips { length strips.now ≡ length indexes.now * strip_bytes d }
+    ensures few { IsErr result ↔ (length (distinct_places indexes.now) < d) }
+    ensures block { OnOk result (out.new ≡ chosen_block d indexes.now strips.now) }
+    ensures strips { OnOk result (HasStrips d indexes.now strips.now out.new) }
+    // no other block has these strips
+    ensures only { OnOk result ((block : List ℕ) → IsBlock block →
+        HasStrips d indexes.now strips.now block → block ≡ out.new) }
+    ensures unchanged { OnErr result (out.new ≡ out.old) }
+{
+    let count = d as usize;
+    let choice = choose(count, indexes)?;
+    block::<S>(
+        count,
+        &choice.points[..count],
+        &choice.places[..count],
+        strips,
+        out,
+    );
+    Ok(())
+}
+
+/// Makes strip `i` of a block of `d` data strips.
+pub fn encode_block(d: u8, block: &[u8; BLOCK_BYTES as usize], i: u8, out: &mut [u8])
+    requires width { IsTrue (is_width d) }
+    requires index { i < TARGETS_MAX }
+    requires room { length out.old ≡ strip_bytes d }
+    ensures { out.new ≡ strip d block.now i }
+{
+    encode_block_by::<ByteByByte>(d, block, i, out);
 }
 
 /// Decodes the block that has the given strips, one strip for each index in their order, at the first `d`
@@ -118,14 +164,5 @@ pub fn decode_block(
         HasStrips d indexes.now strips.now block → block ≡ out.new) }
     ensures unchanged { OnErr result (out.new ≡ out.old) }
 {
-    let count = d as usize;
-    let choice = choose(count, indexes)?;
-    block(
-        count,
-        &choice.points[..count],
-        &choice.places[..count],
-        strips,
-        out,
-    );
-    Ok(())
+    decode_block_by::<ByteByByte>(d, indexes, strips, out)
 }

@@ -12,15 +12,16 @@
 
 mod choice;
 mod coding;
-mod combine;
 mod interpolate;
 mod laws;
 mod parts;
 mod rows;
+mod sums;
 #[cfg(test)]
 mod tests;
 
-pub use coding::{decode_block, encode_block};
+pub use coding::{decode_block, decode_block_by, encode_block, encode_block_by};
 pub use gf256::TooFewStrips;
 pub use laws::choice_laws;
-pub use parts::{bytes_of_parts, index_among, part, part_size};
+pub use parts::{bytes_of_parts, bytes_of_parts_by, index_among, part, part_by, part_size};
+pub use sums::{ByteByByte, StripSums};

@@ -12,6 +12,7 @@ ghost use Rattle.gf256.specs.Part.{strips_of_blocks, blocks_through, IsAligned, 
 
 use crate::choice::MOST_DATA_STRIPS;
 use crate::coding::{block, strip};
+use crate::sums::{ByteByByte, StripSums};
 use object_id::{BLOCK_BYTES, Kind, NodeId, Policy, TARGETS_MAX};
 
 /// A block's length, as a length of slices.
@@ -62,9 +63,9 @@ pub fn index_among(node: NodeId, targets: &[NodeId], policy: Policy, kind: Kind)
     }
 }
 
-/// Makes the part of some bytes under an index.
+/// Makes the part of some bytes under an index, by any way of making sums.
 #[tactic(auto, unfolding(gf256::specs::Part::part))]
-pub fn part(policy: Policy, kind: Kind, index: u8, bytes: &[u8], out: &mut [u8])
+pub fn part_by<S: StripSums>(policy: Policy, kind: Kind, index: u8, bytes: &[u8], out: &mut [u8])
     requires policy { IsPolicy policy }
     requires index { index < TARGETS_MAX }
     requires whole { IsAligned policy kind (length bytes.now) }
@@ -74,14 +75,14 @@ pub fn part(policy: Policy, kind: Kind, index: u8, bytes: &[u8], out: &mut [u8])
     match policy {
         Policy::Copies(_) => out.copy_from_slice(bytes),
         Policy::Coded { d, .. } => match kind {
-            Kind::Block => strips(d, index, bytes, out),
+            Kind::Block => strips::<S>(d, index, bytes, out),
             Kind::Inode => out.copy_from_slice(bytes),
         },
     }
 }
 
 /// Makes the strip of an index of each block.
-fn strips(d: u8, index: u8, bytes: &[u8], out: &mut [u8])
+fn strips<S: StripSums>(d: u8, index: u8, bytes: &[u8], out: &mut [u8])
     requires width { IsTrue (is_width d) }
     requires index { index < TARGETS_MAX }
     requires whole { length bytes.now % BLOCK_BYTES ≡ 0 }
@@ -90,7 +91,7 @@ fn strips(d: u8, index: u8, bytes: &[u8], out: &mut [u8])
 {
     let width = BLOCK / d as usize;
     for k in 0..bytes.len() / BLOCK {
-        strip(
+        strip::<S>(
             d,
             &bytes[k * BLOCK..k * BLOCK + BLOCK],
             index,
@@ -100,8 +101,14 @@ fn strips(d: u8, index: u8, bytes: &[u8], out: &mut [u8])
 }
 
 /// Makes the bytes whose parts are given, as many as a read needs: one part for each of the indexes, in their order, and all
-/// of one length.
-pub fn bytes_of_parts(policy: Policy, kind: Kind, indexes: &[u8], parts: &[u8], out: &mut [u8])
+/// of one length. By any way of making sums.
+pub fn bytes_of_parts_by<S: StripSums>(
+    policy: Policy,
+    kind: Kind,
+    indexes: &[u8],
+    parts: &[u8],
+    out: &mut [u8],
+)
     requires policy { IsPolicy policy }
     requires indexes { ArePoints indexes.now }
     requires enough { length indexes.now ≡ need_of policy kind }
@@ -113,7 +120,7 @@ pub fn bytes_of_parts(policy: Policy, kind: Kind, indexes: &[u8], parts: &[u8], 
     match policy {
         Policy::Copies(_) => out.copy_from_slice(parts),
         Policy::Coded { d, .. } => match kind {
-            Kind::Block => blocks(d, indexes, parts, out),
+            Kind::Block => blocks::<S>(d, indexes, parts, out),
             Kind::Inode => out.copy_from_slice(parts),
         },
     }
@@ -134,7 +141,7 @@ fn places_of(d: usize, strips: usize, k: usize) -> [usize; MOST_DATA_STRIPS]
 }
 
 /// Makes each block through its strips, one of each part.
-fn blocks(d: u8, indexes: &[u8], parts: &[u8], out: &mut [u8])
+fn blocks<S: StripSums>(d: u8, indexes: &[u8], parts: &[u8], out: &mut [u8])
     requires width { IsTrue (is_width d) }
     requires indexes { ArePoints indexes.now }
     requires enough { length indexes.now ≡ d }
@@ -146,7 +153,7 @@ fn blocks(d: u8, indexes: &[u8], parts: &[u8], out: &mut [u8])
     let blocks = out.len() / BLOCK;
     for k in 0..blocks {
         let places = places_of(count, blocks, k);
-        block(
+        block::<S>(
             count,
             indexes,
             &places[..count],
@@ -154,6 +161,31 @@ fn blocks(d: u8, indexes: &[u8], parts: &[u8], out: &mut [u8])
             &mut out[k * BLOCK..k * BLOCK + BLOCK],
         );
     }
+}
+
+/// Makes the part of some bytes under an index.
+pub fn part(policy: Policy, kind: Kind, index: u8, bytes: &[u8], out: &mut [u8])
+    requires policy { IsPolicy policy }
+    requires index { index < TARGETS_MAX }
+    requires whole { IsAligned policy kind (length bytes.now) }
+    requires room { length out.old ≡ part_size policy kind (length bytes.now) }
+    ensures { out.new ≡ part policy kind index bytes.now }
+{
+    part_by::<ByteByByte>(policy, kind, index, bytes, out);
+}
+
+/// Makes the bytes whose parts are given, as many as a read needs: one part for each of the indexes, in their order, and all
+/// of one length.
+pub fn bytes_of_parts(policy: Policy, kind: Kind, indexes: &[u8], parts: &[u8], out: &mut [u8])
+    requires policy { IsPolicy policy }
+    requires indexes { ArePoints indexes.now }
+    requires enough { length indexes.now ≡ need_of policy kind }
+    requires whole { IsAligned policy kind (length out.old) }
+    requires parts { length parts.now ≡ need_of policy kind * part_size policy kind (length out.old) }
+    ensures { out.new ≡ bytes_of_parts policy kind indexes.now
+        (parts_in (part_size policy kind (length out.old)) (need_of policy kind) parts.now) }
+{
+    bytes_of_parts_by::<ByteByByte>(policy, kind, indexes, parts, out);
 }
 
 #[cfg(test)]

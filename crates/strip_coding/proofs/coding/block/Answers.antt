@@ -7,7 +7,7 @@ use Rattle.strip_coding.proofs.DecodeLaws.{value_at, part_fits, mid_width, next_
 use Rattle.strip_coding.proofs.coding.block.Goals as goal
 
 pub restore-requires-clause-within : goal.restore-requires-clause-within
-restore-requires-clause-within c =
+restore-requires-clause-within g c =
     let w : ℕ = 512 / c.args.d in
     let from : ℕ = c.loop-k.k * w in
     let fits : from + w ≤ 512 = part_fits c.args.d c.loop-k.k c.requires.width c.loop-k-test.true in
@@ -16,11 +16,11 @@ restore-requires-clause-within c =
     subst (λ long. All (λ place. (place + 1) * long ≤ length c.args.strips.now) c.args.places.now) (sym wide) c.requires.within
 
 pub loop-k-init : goal.loop-k-init
-loop-k-init c =
+loop-k-init g c =
     record { whole = c.requires.room; each = λ at l. absurd (omega (arith, zero-mul (512 / c.args.d))) }
 
 pub loop-k-preserved : goal.loop-k-preserved
-loop-k-preserved c =
+loop-k-preserved g c =
     let w : ℕ = 512 / c.args.d in
     let from : ℕ = c.loop-k.k * w in
     let points : List ℕ = c.args.points.now in
@@ -40,7 +40,7 @@ loop-k-preserved c =
     }
 
 pub returns : goal.returns
-returns c =
+returns g c =
     let end : c.args.d ≡ c.loop-k.k = omega arith in
     written c.args.d c.args.points.now c.args.places.now c.args.strips.now c.loop-k.out c.requires.width c.loop-k.invariant.whole
     (λ at l. c.loop-k.invariant.each at (subst (λ k. at < k * (512 / c.args.d)) end l))

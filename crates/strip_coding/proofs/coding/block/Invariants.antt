@@ -4,7 +4,7 @@ use Rattle.strip_coding.proofs.coding.block.Given as goal
 
 -- the data strips so far
 abbrev pub invariant-loop-k : goal.invariant-loop-k
-invariant-loop-k l = record {
+invariant-loop-k g l = record {
   whole : length l.out ≡ 512;
   each : (at : ℕ) → at < l.k * l.width
       → get_or l.out at 0 ≡ value_at l.width l.points l.places l.strips at;

@@ -7,7 +7,7 @@ use Rattle.strip_coding.proofs.CodingLaws.{at_hand, summed}
 use Rattle.strip_coding.proofs.coding.restore.Goals as goal
 
 pub returns-in-Some : goal.returns-in-Some
-returns-in-Some c =
+returns-in-Some g c =
     λ k h.
     ap (λ out. get_or out k 0) c.copy_from_slice.ensures.after
     ∙ at_hand c.args.points.now c.args.places.now c.args.strips.now c.args.index c.in-Some.m (length c.args.out.now) k
@@ -17,7 +17,7 @@ returns-in-Some c =
     (sym c.place_of.ensures ∙ c.in-Some.is) h
 
 pub returns-in_default : goal.returns-in_default
-returns-in_default c =
+returns-in_default g c =
     λ k h.
     c.combine.ensures k h
     ∙ summed c.args.points.now c.fill_row.new.row c.args.index
@@ -25,5 +25,5 @@ returns-in_default c =
     c.fill_row.ensures
 
 pub fill_row-requires-clause-apart : goal.fill_row-requires-clause-apart
-fill_row-requires-clause-apart c =
+fill_row-requires-clause-apart g c =
     apart_from c.args.points.now c.args.index (sym c.place_of.ensures ∙ c.in_default.is)

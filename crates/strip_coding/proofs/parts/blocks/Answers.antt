@@ -13,10 +13,10 @@ use Rattle.strip_coding.proofs.parts.blocks.Goals as goal
 
 pub loop-k-init : goal.loop-k-init
 unfolding blocks_through
-loop-k-init c = record { room = refl; so_far = refl }
+loop-k-init g c = record { room = refl; so_far = refl }
 
 pub block-requires-clause-within : goal.block-requires-clause-within
-block-requires-clause-within c =
+block-requires-clause-within g c =
     let w : ℕ = 512 / c.args.d in
     let n : ℕ = length c.args.out.now in
     let whole : length c.args.parts.now ≡ c.args.d * (n / 512 * w) =
@@ -25,7 +25,7 @@ block-requires-clause-within c =
     (places_within c.args.d (n / 512) c.loop-k.k w (length c.args.parts.now) c.loop-k-test.true whole)
 
 pub loop-k-preserved : goal.loop-k-preserved
-loop-k-preserved c =
+loop-k-preserved g c =
     let d : ℕ = c.args.d in
     let w : ℕ = 512 / d in
     let n : ℕ = length c.args.out.now in

@@ -13,10 +13,10 @@ use Rattle.strip_coding.proofs.parts.strips.Goals as goal
 
 pub loop-k-init : goal.loop-k-init
 unfolding strips_of_blocks
-loop-k-init c = record { room = refl; so_far = ap (λ n. take n c.args.out.now) (zero-mul (512 / c.args.d)) }
+loop-k-init g c = record { room = refl; so_far = ap (λ n. take n c.args.out.now) (zero-mul (512 / c.args.d)) }
 
 pub loop-k-preserved : goal.loop-k-preserved
-loop-k-preserved c =
+loop-k-preserved g c =
     let w : ℕ = 512 / c.args.d in
     let from : ℕ = c.loop-k.k * w in
     let blocks : ℕ = length c.args.bytes.now / 512 in

@@ -1,6 +1,6 @@
 use Rattle.std.proofs.Common.{◌≡◌, ℕ, ◌<◌, ◌≤◌, get_or}
 use Rattle.gf256.specs.Field.{plus, times}
-use Rattle.strip_coding.proofs.combine.add_multiple.Given as goal
+use Rattle.strip_coding.proofs.sums.add_multiple.Given as goal
 
 -- up to k the multiple is added, from there on the sum is as it was
 abbrev pub invariant-loop-k : goal.invariant-loop-k

@@ -1,7 +1,7 @@
 -- The sum begins with zeros, and each turn adds one strip's multiple.
 use Rattle.std.proofs.Common.{◌∙◌, refl, sym, length, []}
-use Rattle.strip_coding.proofs.Sums.{weighted_sum-nil, add_strip}
-use Rattle.strip_coding.proofs.combine.combine.Goals as goal
+use Rattle.strip_coding.proofs.WeightedSums.{weighted_sum-nil, add_strip}
+use Rattle.strip_coding.proofs.sums.ByteByByteStripSums.combine.Goals as goal
 
 pub loop-m-init : goal.loop-m-init
 loop-m-init c = λ k h. c.fill.ensures.clones k 0 h refl ∙ sym (weighted_sum-nil [])

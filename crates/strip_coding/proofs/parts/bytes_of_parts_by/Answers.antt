@@ -6,17 +6,17 @@ use Rattle.object_id.specs.declared.oid.Kind.TheVariants.{Block}
 use Rattle.object_id.specs.Policy.{IsPolicy, need_of}
 use Rattle.gf256.specs.Part.{IsAligned, part_size, parts_in, bytes_of_parts, is_in_strips}
 use Rattle.strip_coding.proofs.BlockByBlock.{one_part, coded_parts}
-use Rattle.strip_coding.proofs.parts.bytes_of_parts.Goals as goal
+use Rattle.strip_coding.proofs.parts.bytes_of_parts_by.Goals as goal
 
 pub returns-in-Copies : goal.returns-in-Copies
-returns-in-Copies c =
+returns-in-Copies g c =
     c.copy_from_slice.ensures.after
     ∙ sym
     (one_part c.args.policy c.args.kind c.args.indexes.now c.args.parts.now (length c.args.out.now)
     (ap (λ policy. is_in_strips policy c.args.kind) c.in-Copies.is) c.requires.parts)
 
 pub returns-in-Block : goal.returns-in-Block
-returns-in-Block c =
+returns-in-Block g c =
     let d : ℕ = c.in-Coded.d in
     let long : ℕ = length c.args.out.now in
     let indexes : List ℕ = c.args.indexes.now in
@@ -34,7 +34,7 @@ returns-in-Block c =
     c.in-Coded.is c.in-Block.is)
 
 pub returns-in-Inode : goal.returns-in-Inode
-returns-in-Inode c =
+returns-in-Inode g c =
     c.copy_from_slice-in-Inode.ensures.after
     ∙ sym
     (one_part c.args.policy c.args.kind c.args.indexes.now c.args.parts.now (length c.args.out.now)
