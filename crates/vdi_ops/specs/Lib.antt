@@ -3,6 +3,7 @@ pub mod Tables
 pub mod InodeWorks
 pub mod TaskWorks
 pub mod Op
+pub mod Subject
 pub mod Steps
 pub mod Course
 pub mod Stage

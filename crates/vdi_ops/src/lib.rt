@@ -9,7 +9,8 @@
 //! The crate stands on `peer_proto`, `inode` and `vdi_directory`. Its definitions say all that a command does: its first entry,
 //! and when it is refused on the spot (`specs/Entries.antt`); what it takes from an inode that it reads (`specs/Tables.antt`); its
 //! works on inodes (`specs/InodeWorks.antt`); what it waits for (`specs/Op.antt`); and each of its steps (`specs/Steps.antt`).
-//! How the code keeps what it waits for is in `specs/Stage.antt`, and what always holds of it in `specs/Kept.antt`.
+//! How the code keeps what it waits for is in `specs/Stage.antt`, and what always holds of it in `specs/Kept.antt`; the number by
+//! which it is found who waits for an entry is in `specs/Subject.antt`.
 //! The laws of `laws.rt` say what these mean: how each command goes from its first entry to its reply; of an inode
 //! that is read the table alone is taken, and of that the disk's own entries and its parents'; what is written back has
 //! the directory's header and the table as it was read; a command waits for what it did last;
@@ -27,6 +28,7 @@ mod limits;
 mod op;
 mod refusal;
 mod stage;
+mod subject;
 mod table;
 #[cfg(test)]
 mod tests;
@@ -47,3 +49,4 @@ pub use limits::CHECKED_BYTES_MAX;
 pub use op::{VdiOp, begin_vdi};
 pub use peer_proto::{GuestRsp, VdiAsk};
 pub use refusal::command_refusal;
+pub use subject::subject_number;

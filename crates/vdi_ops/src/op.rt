@@ -6,6 +6,7 @@ ghost use Rattle.vdi_directory.specs.Effects.{header_of};
 ghost use Rattle.vdi_ops.specs.Entries.{first_entry};
 ghost use Rattle.vdi_ops.specs.InodeWorks.{CommandBeginsWork};
 ghost use Rattle.vdi_ops.specs.Op.{disk_change_at, entry_wanted, op_bytes_wanted};
+ghost use Rattle.vdi_ops.specs.Subject.{number_wanted};
 ghost use Rattle.vdi_ops.specs.Steps.{begin_command, on_decision, op_on_done, on_refusal};
 ghost use Rattle.inode.specs.Layout.{HasIds};
 ghost use Rattle.vdi_ops.specs.Kept.{HasFirstEntry, FitsOpStage, vid_granted, decision_takes_memory};
@@ -17,6 +18,7 @@ use crate::end::OpEnd;
 use crate::first::{copy_entry, first_entry};
 use crate::inode_works::written_bytes;
 use crate::stage::{Change, Stage, Task};
+use crate::subject::subject_number;
 use crate::works_done::after_work;
 use inode::Inode;
 use object_id::{Cause, Entry, NoMemory, NodeId};
@@ -84,6 +86,18 @@ impl VdiOp {
             Stage::Working(_, _) => false,
             Stage::Publishing(wanted, _) => wanted.entry().same(entry),
             Stage::Answered(_) => false,
+        }
+    }
+
+    /// The number that the entry is about whose decision the command waits for; `None` if it waits for none. Takes no memory.
+    pub fn number_wanted(&self) -> Option<u32>
+        ensures { result ≡ number_wanted self.now }
+    {
+        match &self.stage {
+            Stage::Asked(wanted) => Some(subject_number(wanted)),
+            Stage::Working(_, _) => None,
+            Stage::Publishing(wanted, _) => Some(subject_number(&wanted.entry())),
+            Stage::Answered(_) => None,
         }
     }
 
