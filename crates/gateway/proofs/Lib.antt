@@ -3,9 +3,9 @@ mod StepLemmas
 mod AskersKept
 mod WorkLemmas
 mod AskerLemmas
-mod AskingLemmas
+pub mod AskingLemmas
 mod KeptMaps
-mod MessageLemmas
+pub mod MessageLemmas
 pub mod AnswerLaws
 pub mod SendLaws
 pub mod TryLaws

@@ -6,5 +6,5 @@ mod ReadLemmas
 mod ExtentLemmas
 pub mod NextLemmas
 pub mod BeginLemmas
-mod WorkLemmas
+pub mod WorkLemmas
 mod WorkedRequests

@@ -1,6 +1,6 @@
 pub mod StepLemmas
 mod TableLemmas
-mod WorkLemmas
+pub mod WorkLemmas
 mod IdLemmas
 mod UsedIds
 mod MovedSteps
