@@ -1,0 +1,3 @@
+mod ProductLaws
+mod LaneLemmas
+mod SumLemmas
