@@ -9,7 +9,7 @@ ghost use Rattle.disk_check.specs.Value.{all_bytes, pieces_in, value_of, is_othe
 
 use object_id::{Bytes, DATA_STRIPS_MAX, Kind, NoMemory, Policy, TARGETS_MAX, VdiSpec};
 use std::alloc::Global;
-use strip_coding::{bytes_of_parts, part, part_size};
+use strip_lanes::{bytes_of_parts, part, part_size};
 
 /// The indexes of the data strips.
 const DATA_INDEXES: [u8; DATA_STRIPS_MAX as usize] = [

@@ -5,7 +5,7 @@
 //! the disk's id and spec, what was found so far, and what it waits for. It keeps the indexes of the own objects and nothing
 //! else of the inode.
 //!
-//! The crate stands on `peer_proto`, `inode` and `strip_coding`. Its definitions say which objects are the disk's own
+//! The crate stands on `peer_proto`, `inode` and `strip_lanes`. Its definitions say which objects are the disk's own
 //! (`specs/Table.antt`), what the pieces of an object tell (`specs/Value.antt`), each of the steps that the calls make
 //! (`specs/Check.antt`), and the whole course of a check (`specs/Course.antt`). The laws of `laws.rt` say what these mean: each
 //! own object is read and written once, by ascending index; the answer counts the own and the inherited ones, and names those

@@ -16,7 +16,7 @@ use object_id::{Bytes, Epoch, Kind, NoMemory, NodeId, Policy};
 use object_store::Key;
 use peer_proto::{ObjWork, PeerAsk, PeerReq, SendList};
 use std::alloc::Global;
-use strip_coding::{part, part_size};
+use strip_lanes::{part, part_size};
 
 /// Whether a work makes something: a create or a write.
 pub(crate) fn is_making(work: &ObjWork) -> bool

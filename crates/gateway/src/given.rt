@@ -14,7 +14,7 @@ use crate::message::Message;
 use object_id::{Bytes, Kind, NoMemory, Policy};
 use peer_proto::ObjWork;
 use std::alloc::Global;
-use strip_coding::bytes_of_parts;
+use strip_lanes::bytes_of_parts;
 
 /// The first parts that came, one behind the other, and their indexes.
 #[derive(Drop)]

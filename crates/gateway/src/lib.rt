@@ -1,7 +1,7 @@
 //! How a gateway does a work on one object: by attempts, each a message to every target of the object, or for a whole
 //! read to one of them, until one attempt is done or the request is refused.
 //!
-//! The crate stands on `peer_proto`, `vnode_table` and `strip_coding`. A [`Gateway`] is seen as a record of its works, by request, and the
+//! The crate stands on `peer_proto`, `vnode_table` and `strip_lanes`. A [`Gateway`] is seen as a record of its works, by request, and the
 //! touched requests. It keeps of which request each unanswered message is, so that no reply looks through all works. All that it does is
 //! given by definitions: what a work asks of whom (`specs/Work.antt`), when an attempt is over and what it
 //! gives (`specs/Attempt.antt`), what a gateway is (`specs/State.antt`), and each of its steps (`specs/Step.antt`).

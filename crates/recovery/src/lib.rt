@@ -1,7 +1,7 @@
 //! The recovery of a node: in each epoch that it enters, it makes what rows it is to keep there and hasn't, by the rows
 //! that the members keep of earlier epochs.
 //!
-//! The crate stands on `peer_proto`, `object_list`, `strip_coding`, `object_store` and `object_id`, and for definitions on
+//! The crate stands on `peer_proto`, `object_list`, `strip_lanes`, `object_store` and `object_id`, and for definitions on
 //! `gf256`. What a recovery needs of its node is the trait [`Rows`]. A [`Recovery`] is seen as a record; its messages are of one tick,
 //! and are kept by their numbers, so that no reply looks through all of them. All that it does is given by definitions: what
 //! it sees of the node (`specs/Shown.antt`), what it is (`specs/State.antt`), which replies fit what it asked

@@ -8,7 +8,7 @@ use crate::rows::Rows;
 use object_id::{Epoch, NoMemory, NodeId, Oid, TARGETS_MAX};
 use object_list::Lists;
 use object_store::{Key, OidList};
-use strip_coding::index_among;
+use strip_lanes::index_among;
 
 /// Whether the node has to recover an object in an epoch. Costs a look-up of the object's targets, of its policy and of its open row.
 fn is_to_recover<R: Rows>(me: NodeId, epoch: Epoch, rows: &R, oid: Oid) -> bool
