@@ -6,6 +6,8 @@
 //! [`decode_block`] gives the one block that has given strips at d different indexes. The part of an object
 //! under an index has the index's strip of each block, or all bytes of what is kept in whole copies: [`part`]
 //! makes it, and [`bytes_of_parts`] makes the bytes of as many parts as a read needs.
+//! A strip that isn't at hand is a sum of multiples of those that are. [`StripSums`] says what a way of making such sums owes;
+//! [`ByteByByte`] is the plain one, by which these calls go. A call whose name ends in `_by` takes the way as a type.
 //! The crate stands on `gf256`, where strips and parts are defined, and on `object_id` for policies. It takes no
 //! memory.
 #![tactic(auto)]
