@@ -1,6 +1,8 @@
 pub mod Numbers
 pub mod StepLaws
 pub mod AwaitedEntryLaws
+pub mod RequestMarks
+pub mod MarkedAskers
 pub mod StartLaws
 pub mod AwaitedWorks
 pub mod OneWorkParts

@@ -2,6 +2,7 @@ pub mod State
 pub mod RecoveryView
 pub mod StepState
 pub mod AwaitedEntry
+pub mod AwaitedNumbers
 pub mod RequestWorks
 pub mod Courses
 pub mod Waiting

@@ -2,13 +2,14 @@ ghost use Rattle.std.specs.Prelude.{◌≡◌, None};
 ghost use Rattle.peer_proto.specs.declared.guest.GuestRsp.TheVariants.{Refused};
 ghost use Rattle.vdi_ops.specs.Steps.{on_refusal};
 ghost use Rattle.sheep_node.specs.AwaitedEntry.{waits_for_entry};
+ghost use Rattle.sheep_node.specs.AwaitedNumbers.{awaited_number};
 ghost use Rattle.sheep_node.specs.Kept.{waits_for_turn, ask_in_waiting, end_on_refusal};
 
 use disk_check::CheckOp;
 use guest_driver::Driver;
 use object_id::{Cause, Entry};
 use peer_proto::{DiskAsk, GuestRsp, ObjWork};
-use vdi_ops::{OpEnd, VdiOp};
+use vdi_ops::{OpEnd, VdiOp, subject_number};
 
 /// Where a request is that has no reply.
 #[derive(Debug, Drop)]
@@ -66,6 +67,20 @@ impl Course {
             Course::Checking(_) => false,
             Course::DoingWork(_) => false,
             Course::AwaitingDecision(wanted) => wanted.same(entry),
+        }
+    }
+
+    /// The number that the entry is about which the request waits for; `None` if it waits for none.
+    pub fn awaited_number(&self) -> Option<u32>
+        ensures { result ≡ awaited_number self.now }
+    {
+        match self {
+            Course::Waiting(_) => None,
+            Course::Driving(_) => None,
+            Course::Commanding(op) => op.number_wanted(),
+            Course::Checking(_) => None,
+            Course::DoingWork(_) => None,
+            Course::AwaitingDecision(entry) => Some(subject_number(entry)),
         }
     }
 

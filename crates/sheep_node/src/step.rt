@@ -187,7 +187,7 @@ impl StepState {
         }
     }
 
-    /// The request that waits for an entry. Looks at the node's requests up to that one.
+    /// The request that waits for an entry. Costs what [`crate::requests::Requests::find_by_entry`] does.
     pub fn asker(&self, entry: &Entry) -> Option<u32>
         ensures { result ≡ asker_among entry.now self.now.node.requests }
     {
