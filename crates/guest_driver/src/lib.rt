@@ -27,8 +27,6 @@ mod piece;
 mod progress;
 mod reads;
 mod refusals;
-#[cfg(test)]
-mod tests;
 mod waiting_work;
 mod works;
 mod writes;

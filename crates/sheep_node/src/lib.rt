@@ -51,8 +51,6 @@ mod sessions;
 mod state;
 mod step;
 mod step_state;
-#[cfg(test)]
-mod tests;
 mod waiting;
 
 pub use ask::Ask;

@@ -30,12 +30,6 @@ mod refusal;
 mod stage;
 mod subject;
 mod table;
-#[cfg(test)]
-mod tests;
-#[cfg(test)]
-mod trial;
-#[cfg(test)]
-mod worked;
 mod works_done;
 
 pub use act::OpAct;

@@ -1,7 +1,6 @@
 //! Worked commands: what each does, one act after the other, on the disks `a`, whose id is 0x01ec8c, and `b`, 0x01f1a5. They have
 //! three objects of 4,096 bytes, so 4,676 bytes of their inodes are ever written.
 
-use super::*;
 use crate::trial::{
     A, SPEC, bytes, clone_b, close_a, course, create_a, decided, is_inode, make_snapshot, open_a,
     take_snapshot,
@@ -9,9 +8,10 @@ use crate::trial::{
 use disk_lock::Locks;
 use inode::Inode;
 use object_id::{Cause, Entry, NodeId, Origin, Policy, Vid};
-use peer_proto::ObjWork;
+use peer_proto::{GuestRsp, ObjWork, VdiAsk};
 use std::test::Fail;
 use vdi_directory::{Directory, nobody_holds_at_first};
+use vdi_ops::{OpAct, begin_vdi, command_refusal};
 
 #[test]
 fn creates_a_disk(rt: HostRuntime) -> Result<(), Fail> {

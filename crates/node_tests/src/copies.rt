@@ -1,18 +1,14 @@
-//! Each call with ample memory: a body that never finds any would meet the contracts too.
+//! Each copy with ample memory: a body that never finds any would meet the contracts too.
 
-ghost use Rattle.std.specs.Prelude.{◌≡◌, false, IfOk, OnOk};
-
-use super::*;
 use epoch_log::EntryList;
-use object_id::{
-    Bytes, Cause, Entry, Epoch, Member, MemberList, NoMemory, NodeId, Oid, Policy, VdiSpec, Vid,
-};
+use object_id::{Bytes, Cause, Entry, Epoch, NodeId, Oid, Policy, VdiSpec, Vid};
 use object_store::Key;
 use peer_proto::{
-    DiskAsk, GuestRsp, PeerAsk, PeerReq, PeerRsp, PeerSay, Refusal, SendList, VdiAsk,
+    DiskAsk, GuestRsp, ObjWork, PeerAsk, PeerReq, PeerRsp, PeerSay, Refusal, SendList, VdiAsk,
 };
-use std::alloc::Global;
+use sheep_node::{Ask, Input, Outputs, ReplyList};
 use std::test::Fail;
+use vdi_ops::{OpAct, OpEnd};
 
 fn a_read(number: u32) -> PeerReq {
     PeerReq {
@@ -162,54 +158,71 @@ fn copies_outputs(rt: HostRuntime) -> Result<(), Fail> {
     Ok(())
 }
 
-/// A step of a node, if it may take that.
-fn stepped(node: &mut Node, input: Input) -> Result<Outputs, NoMemory>
-    requires { node.old.spent ≡ false }
-    ensures { OnOk result (node.new.spent ≡ false) }
-{
-    if !node.may(&input) {
-        return Err(NoMemory);
-    }
-    node.step(input)
-}
-
-/// The entry that opens a log with one member.
-fn opening(alloc: Global) -> Result<Entry, NoMemory> {
-    let mut members = MemberList::new(alloc);
-    members.push(Member {
-        node: NodeId(3),
-        zone: 0,
-        vnodes: 128,
-    })?;
-    Ok(Entry::Format { members })
-}
-
-/// A node that is alone in its cluster, and has read so.
-fn alone(alloc: Global) -> Result<Node, NoMemory>
-    ensures { IfOk result (λ node. node.spent ≡ false) }
-{
-    let mut node = Node::new(alloc, NodeId(3), 3);
-    drop(stepped(&mut node, Input::LogEntry(opening(alloc)?))?);
-    Ok(node)
-}
-
-fn an_attach(alloc: Global) -> Result<Input, NoMemory> {
-    let name = Bytes::from_slice(alloc, b"vm")?;
-    Ok(Input::Guest {
-        req: 1,
-        session: 2,
-        ask: Ask::Vdi(VdiAsk::Attach { name, tag: None }),
-    })
+#[test]
+fn copies_acts_of_commands(rt: HostRuntime) -> Result<(), Fail> {
+    let alloc = rt.alloc();
+    let append = OpAct::Append(Entry::Lock {
+        by: NodeId(3),
+        session: 7,
+        name: Bytes::from_slice(alloc, b"vm")?,
+        tag: None,
+    });
+    assert!(rt;
+        matches!(&append.copy(alloc)?, OpAct::Append(Entry::Lock { session: 7, name, tag: None, .. }) if name.as_slice() == b"vm".as_slice())
+    );
+    let work = OpAct::Work(ObjWork::Read {
+        oid: Oid::inode(Vid(9)),
+        policy: Policy::Copies(3),
+        offset: 0,
+        length: 4_668,
+    });
+    assert!(rt;
+        matches!(
+            &work.copy(alloc)?,
+            OpAct::Work(ObjWork::Read {
+                offset: 0,
+                length: 4_668,
+                ..
+            })
+        )
+    );
+    let reply = OpAct::Reply(GuestRsp::Refused(Cause::NoTag));
+    assert!(rt;
+        matches!(
+            &reply.copy(alloc)?,
+            OpAct::Reply(GuestRsp::Refused(Cause::NoTag))
+        )
+    );
+    Ok(())
 }
 
 #[test]
-fn a_node_puts_the_entry_of_a_command(rt: HostRuntime) -> Result<(), Fail> {
+fn copies_ends_of_commands(rt: HostRuntime) -> Result<(), Fail> {
     let alloc = rt.alloc();
-    let mut node = alone(alloc)?;
-    assert_eq!(rt; node.read_len(), 1);
-    let begun = stepped(&mut node, an_attach(alloc)?)?;
-    assert!(rt; begun.replies.is_empty());
-    let put = stepped(&mut node, Input::Put)?;
-    assert!(rt; matches!(&put.put, Some(Entry::Lock { session: 2, .. })));
+    let end = OpEnd {
+        unlock: Some(Entry::Unlock {
+            by: NodeId(3),
+            session: 7,
+            vid: Vid(9),
+        }),
+        reply: GuestRsp::Refused(Cause::Link { node: NodeId(1) }),
+    };
+    let copy = end.copy(alloc)?;
+    assert!(rt;
+        matches!(
+            &copy.unlock,
+            Some(Entry::Unlock {
+                session: 7,
+                vid: Vid(9),
+                ..
+            })
+        )
+    );
+    assert!(rt;
+        matches!(
+            &copy.reply,
+            GuestRsp::Refused(Cause::Link { node: NodeId(1) })
+        )
+    );
     Ok(())
 }

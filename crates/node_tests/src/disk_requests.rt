@@ -6,10 +6,12 @@ ghost use Rattle.object_id.specs.declared.limits.TheConstants.{VID_MAX};
 ghost use Rattle.peer_proto.specs.Work.{IsWork};
 ghost use Rattle.guest_driver.specs.OnDisk.{IsDriverOn};
 
-use super::*;
+use guest_driver::{
+    Disk, Driver, DriverAct, InodeQueue, WaitingWork, begin_disk, disk_refusal, is_ask,
+};
 use inode::Inode;
 use object_id::{Bytes, Cause, NoMemory, Oid, Policy, VdiSpec, Vid};
-use peer_proto::{ObjWork, WorkDone};
+use peer_proto::{DiskAsk, GuestRsp, ObjWork, WorkDone};
 use std::alloc::Global;
 use std::test::Fail;
 

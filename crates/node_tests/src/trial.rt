@@ -7,13 +7,13 @@ ghost use Rattle.vdi_directory.specs.Decisions.{log_effects};
 ghost use Rattle.vdi_directory.specs.DirectoryState.{AreLocks};
 ghost use Rattle.vdi_ops.specs.Kept.{HasFirstEntry};
 
-use super::*;
 use disk_lock::Locks;
 use inode::Inode;
 use object_id::{Bytes, Cause, Entry, NoMemory, NodeId, Origin, Policy, VdiSpec, Vid, is_name};
-use peer_proto::{ObjWork, WorkDone};
+use peer_proto::{ObjWork, VdiAsk, WorkDone};
 use std::alloc::Global;
 use vdi_directory::Directory;
+use vdi_ops::{OpAct, VdiOp, begin_vdi};
 
 pub(crate) const SPEC: VdiSpec = VdiSpec {
     size: 12_288,

@@ -1,0 +1,186 @@
+//! The words of an entry of the log, read and written.
+
+use crate::fault::Fault;
+use crate::words::{Words, write_bytes};
+use object_id::{Bytes, Entry, Member, MemberList, Origin, Policy};
+use std::alloc::AllocError;
+use std::fmt::Write;
+
+fn members(words: &mut Words) -> Result<MemberList, Fault> {
+    let count: u32 = words.number()?;
+    let mut members = MemberList::new(words.alloc);
+    for _ in 0..count {
+        members.push(Member {
+            node: words.node()?,
+            zone: words.number()?,
+            vnodes: words.number()?,
+        })?;
+    }
+    Ok(members)
+}
+
+fn origin(words: &mut Words) -> Result<Origin, Fault> {
+    match words.word()? {
+        "fresh" => Ok(Origin::Fresh {
+            spec: words.spec()?,
+        }),
+        "snapshot" => Ok(Origin::SnapshotOf {
+            tag: words.bytes()?,
+        }),
+        "clone" => Ok(Origin::CloneOf {
+            base: words.bytes()?,
+            tag: words.bytes()?,
+        }),
+        _ => Err(Fault::Word),
+    }
+}
+
+/// The entry that the next words spell.
+pub(crate) fn read_entry(words: &mut Words) -> Result<Entry, Fault> {
+    match words.word()? {
+        "format" => Ok(Entry::Format {
+            members: members(words)?,
+        }),
+        "join" => Ok(Entry::Join {
+            node: words.node()?,
+            zone: words.number()?,
+            vnodes: words.number()?,
+        }),
+        "leave" => Ok(Entry::Leave {
+            node: words.node()?,
+        }),
+        "reweight" => Ok(Entry::Reweight {
+            node: words.node()?,
+            vnodes: words.number()?,
+        }),
+        "recovered" => Ok(Entry::Recovered {
+            node: words.node()?,
+            epoch: words.epoch()?,
+        }),
+        kind => disk_entry(kind, words),
+    }
+}
+
+fn disk_entry(kind: &str, words: &mut Words) -> Result<Entry, Fault> {
+    let by = words.node()?;
+    match kind {
+        "publish" => Ok(Entry::Publish {
+            by,
+            vid: words.vid()?,
+        }),
+        "clone" => Ok(Entry::Clone {
+            by,
+            vid: words.vid()?,
+        }),
+        "snapshot" => Ok(Entry::Snapshot {
+            by,
+            old: words.vid()?,
+            vid: words.vid()?,
+        }),
+        "reserve" => Ok(Entry::Reserve {
+            by,
+            session: words.number()?,
+            name: words.bytes()?,
+            origin: origin(words)?,
+        }),
+        "delete" => Ok(Entry::Delete {
+            by,
+            session: words.number()?,
+            name: words.bytes()?,
+            tag: words.tag()?,
+        }),
+        "lock" => Ok(Entry::Lock {
+            by,
+            session: words.number()?,
+            name: words.bytes()?,
+            tag: words.tag()?,
+        }),
+        "unlock" => Ok(Entry::Unlock {
+            by,
+            session: words.number()?,
+            vid: words.vid()?,
+        }),
+        _ => Err(Fault::Word),
+    }
+}
+
+/// Writes an entry as `read_entry` reads it.
+pub(crate) fn write_entry(out: &mut String, entry: &Entry) -> Result<(), AllocError> {
+    match entry {
+        Entry::Format { members } => {
+            write!(out, "format {}", members.len())?;
+            for member in members.as_slice() {
+                write!(out, " {} {} {}", member.node.0, member.zone, member.vnodes)?;
+            }
+            Ok(())
+        }
+        Entry::Join { node, zone, vnodes } => write!(out, "join {} {zone} {vnodes}", node.0),
+        Entry::Leave { node } => write!(out, "leave {}", node.0),
+        Entry::Reweight { node, vnodes } => write!(out, "reweight {} {vnodes}", node.0),
+        Entry::Recovered { node, epoch } => write!(out, "recovered {} {}", node.0, epoch.0),
+        Entry::Publish { by, vid } => write!(out, "publish {} {}", by.0, vid.0),
+        Entry::Clone { by, vid } => write!(out, "clone {} {}", by.0, vid.0),
+        Entry::Snapshot { by, old, vid } => write!(out, "snapshot {} {} {}", by.0, old.0, vid.0),
+        Entry::Reserve {
+            by,
+            session,
+            name,
+            origin,
+        } => {
+            write!(out, "reserve {} {session} ", by.0)?;
+            write_bytes(out, name.as_slice())?;
+            write_origin(out, origin)
+        }
+        Entry::Delete {
+            by,
+            session,
+            name,
+            tag,
+        } => {
+            write!(out, "delete {} {session} ", by.0)?;
+            write_named(out, name, tag)
+        }
+        Entry::Lock {
+            by,
+            session,
+            name,
+            tag,
+        } => {
+            write!(out, "lock {} {session} ", by.0)?;
+            write_named(out, name, tag)
+        }
+        Entry::Unlock { by, session, vid } => write!(out, "unlock {} {session} {}", by.0, vid.0),
+    }
+}
+
+fn write_named(out: &mut String, name: &Bytes, tag: &Option<Bytes>) -> Result<(), AllocError> {
+    write_bytes(out, name.as_slice())?;
+    out.push(' ')?;
+    match tag {
+        Some(tag) => write_bytes(out, tag.as_slice()),
+        None => out.push('.'),
+    }
+}
+
+fn write_origin(out: &mut String, origin: &Origin) -> Result<(), AllocError> {
+    match origin {
+        Origin::Fresh { spec } => {
+            write!(out, " fresh {} ", spec.size)?;
+            match spec.policy {
+                Policy::Copies(copies) => write!(out, "{copies}")?,
+                Policy::Coded { d, p } => write!(out, "{d}:{p}")?,
+            }
+            write!(out, " {}", spec.shift)
+        }
+        Origin::SnapshotOf { tag } => {
+            out.push_str(" snapshot ")?;
+            write_bytes(out, tag.as_slice())
+        }
+        Origin::CloneOf { base, tag } => {
+            out.push_str(" clone ")?;
+            write_bytes(out, base.as_slice())?;
+            out.push(' ')?;
+            write_bytes(out, tag.as_slice())
+        }
+    }
+}
