@@ -1,4 +1,4 @@
-mod TableLemmas
+pub mod TableLemmas
 mod ValueLemmas
 pub mod WorkLemmas
 mod CourseLemmas

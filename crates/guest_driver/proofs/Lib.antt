@@ -3,7 +3,7 @@ mod PieceLemmas
 mod LineLemmas
 mod WriteLemmas
 mod ReadLemmas
-mod ExtentLemmas
+pub mod ExtentLemmas
 pub mod NextLemmas
 pub mod BeginLemmas
 pub mod WorkLemmas

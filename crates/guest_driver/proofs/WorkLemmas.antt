@@ -57,7 +57,7 @@ object-whole spec is =
     let blocks : 2 ^ spec.shift ≡ 512 * 2 ^ (spec.shift - 9) = ap (λ n. 2 ^ n) split ∙ pow-add 2 9 (spec.shift - 9) in
     omega (arith, blocks)
 
-object-most : (spec : VdiSpec) → IsSpec spec → 2 ^ spec.shift ≤ OBJECT_BYTES_MAX
+pub object-most : (spec : VdiSpec) → IsSpec spec → 2 ^ spec.shift ≤ OBJECT_BYTES_MAX
 object-most spec is = pow-le-pow_right (omega arith) is.shift.1
 
 pub length-piece_bytes : (payload : List ℕ) (piece : Piece) → piece.place + piece.size ≤ length payload

@@ -1,5 +1,5 @@
 pub mod StepLemmas
-mod TableLemmas
+pub mod TableLemmas
 pub mod WorkLemmas
 mod IdLemmas
 mod UsedIds

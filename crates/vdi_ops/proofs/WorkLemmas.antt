@@ -38,7 +38,7 @@ whole_copies : (policy : Policy) (offset long : ℕ) → AreAligned policy Inode
 whole_copies (Copies copies) offset long = (tt, tt)
 whole_copies (Coded d p) offset long = (tt, tt)
 
-inode_aligned : (policy : Policy) (vid offset long : ℕ) → IsVid vid → AreAligned policy (kind_of (inode_number vid)) offset long
+pub inode_aligned : (policy : Policy) (vid offset long : ℕ) → IsVid vid → AreAligned policy (kind_of (inode_number vid)) offset long
 inode_aligned policy vid offset long is =
     subst (λ (kind : Kind). AreAligned policy kind offset long) (sym (inode_kind vid is)) (whole_copies policy offset long)
 
@@ -82,10 +82,10 @@ write_tag-work inode tag id is name =
 
 -- ---- the inodes that a command makes, by a header that the directory has
 
-field_text : (text : List ℕ) → IsName text → IsFieldText text
+pub field_text : (text : List ℕ) → IsName text → IsFieldText text
 field_text text is = (omega (arith, is.1), is.2)
 
-field_tag : (tag : List ℕ) → (tag ≡ []) ⊎ IsName tag → IsFieldText tag
+pub field_tag : (tag : List ℕ) → (tag ≡ []) ⊎ IsName tag → IsFieldText tag
 field_tag tag is = elim is [
   | inl none ↦ subst IsFieldText (sym none) (omega arith, All-nil (λ (byte : ℕ). byte ≢ 0))
   | inr name ↦ field_text tag name
@@ -154,7 +154,7 @@ granted-work op vid chain disk (Snapshot by old made) header id is base fits tag
 
 -- ---- after a work
 
-task_work : (op : Op) (vid : Vid) (bytes : List ℕ) (task : Task) → IsSoundTask vid task → bytes_of_task task ≡ length bytes
+pub task_work : (op : Op) (vid : Vid) (bytes : List ℕ) (task : Task) → IsSoundTask vid task → bytes_of_task task ≡ length bytes
     → CommandBeginsWork (task_done op vid bytes task).act
 task_work op vid bytes (Opening true ids header) sound all = tt
 task_work op vid bytes (Opening false ids header) sound all =
