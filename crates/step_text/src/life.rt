@@ -1,3 +1,9 @@
+//! The lives of nodes, line by line.
+
+ghost use Rattle.std.specs.Prelude.{◌≡◌, false, OnOk, OnErr};
+ghost use Rattle.sheep_node.specs.State.{initial_node};
+ghost use Rattle.step_text.specs.Lives.{HasStepped, HasGoneOn, HasFailed};
+
 use crate::fault::Fault;
 use crate::input_words::read_input;
 use crate::output_words::outputs_line;
@@ -14,16 +20,22 @@ pub struct Life {
 }
 
 impl Life {
-    /// No node has opened yet.
-    pub fn new(alloc: Global) -> Life {
+    /// No node has opened yet: there is node 0, with one attempt for each work.
+    pub fn new(alloc: Global) -> Life
+        ensures { result.node ≡ record { spent = false; node = initial_node (record { 0 = 0 }) 1 } }
+    {
         Life {
             alloc,
             node: Node::new(alloc, NodeId(0), 1),
         }
     }
 
-    /// What a line of the list gives: nothing where a node opens, and otherwise the outputs of the node's step.
-    pub fn step(&mut self, line: &str) -> Result<String, Fault> {
+    /// What a line of the list gives: nothing if a node opens, and otherwise the outputs of the node's step. A line that is refused
+    /// leaves the node as it is.
+    pub fn step(&mut self, line: &str) -> Result<String, Fault>
+        ensures ok { OnOk result (HasGoneOn self.old.node self.new.node) }
+        ensures err { OnErr result (HasFailed self.old.node self.new.node) }
+    {
         let mut words = Words::new(self.alloc, line);
         match words.word()? {
             "new" => {
@@ -39,7 +51,10 @@ impl Life {
     }
 }
 
-fn outputs_of(alloc: Global, node: &mut Node, input: Input) -> Result<String, Fault> {
+fn outputs_of(alloc: Global, node: &mut Node, input: Input) -> Result<String, Fault>
+    ensures ok { OnOk result (HasStepped node.old node.new) }
+    ensures err { OnErr result (HasFailed node.old node.new) }
+{
     if node.spent() {
         return Err(Fault::Spent);
     }
