@@ -120,3 +120,23 @@ entered_in_step input node may log all so_far leads req request got =
     subst (λ (now : Untouched). IsTrue (is_entered now.epochs now.peer.epoch)) (last.same ∙ sym here.same)
     (subst (λ (epoch : ℕ). IsTrue (is_entered end.epochs epoch)) (sym follows.epoch_so)
     (subst (λ (epochs : List EpochMembers). IsTrue (is_entered epochs (epoch_of end.peer.entries))) (sym follows.epochs_so) read))
+
+-- and so has an epoch begun
+epoch_begun : (entries : List Entry) → entries ≢ [] → 1 ≤ epoch_of entries
+epoch_begun [] some = absurd (some refl)
+epoch_begun (first ∷ later) some = omega arith
+
+pub epoch_begun_in_step : (input : Input) (node : Node) → May input node → IsByTheLog node → HasReadIfAsked node → (so_far : StepState)
+    → Leads input node (input_received input (at_first node)) so_far → (req : ℕ) (request : Request)
+    → tree.get so_far.node.requests req ≡ Some request → 1 ≤ so_far.node.peer.epoch
+epoch_begun_in_step input node may log all so_far leads req request got =
+    let first = input_received input (at_first node) in
+    let here = kept_by_chain (IsInOrder node.sends first.node.recovered (untouched_in first))
+    (change_keeps_order node.sends first.node.recovered (untouched_in first)) leads (received_in_order input node) in
+    let last = step_in_order input node in
+    let follows = step_follows input node may log in
+    let end = (node_step input node).node in
+    let some = read_in_step input node may log all so_far leads req request got in
+    subst (λ (now : Untouched). 1 ≤ now.peer.epoch) (last.same ∙ sym here.same)
+    (subst (λ (epoch : ℕ). 1 ≤ epoch) (sym follows.epoch_so)
+    (epoch_begun end.peer.entries (λ none. some (sym (step_reads input node) ∙ none))))

@@ -20,6 +20,7 @@ use Rattle.peer_proto.specs.declared.work.ObjWork.{ObjWork}
 use Rattle.gateway.specs.declared.act.Act.{Act}
 use Rattle.gateway.specs.declared.act.Act.TheVariants as acts
 use Rattle.gateway.specs.declared.message.Status.{Status}
+use Rattle.gateway.specs.Messages.{IsPieceFor}
 use Rattle.gateway.specs.Work.{zones_for}
 use Rattle.gateway.specs.Attempt.{Attempt, is_unanswered, is_awaited_message, messages_with_status, is_over, is_done, bytes_given, send_of}
 use Rattle.gateway.specs.State.{WorkStage, Open, Ended, WaitsForMembers, Work, Gateway, is_touched, asker, open_messages, is_awaited_in, may_try, next_try}
@@ -219,10 +220,11 @@ module _ {input : Input} {node : Node} {first : StepState} {n : ℕ} where
         stray_failure_walk (Some cause) = stray_refused_walk cause
 
     module _ (number : ℕ) (status : Status) (settled : IsSoundStep input node → is_unanswered status ≡ false) (told : IsTold input number status) (req : ℕ) (work : Work)
-        (there : tree.get so_far.node.gateway.works req ≡ Some work) (awaited : is_awaited_in number work ≡ true) where
+        (there : tree.get so_far.node.gateway.works req ≡ Some work) (awaited : is_awaited_in number work ≡ true)
+        (piece : IsSoundStep input node → IsPieceFor work.work status) where
       module _ (attempt : Attempt) (open_so : work.stage ≡ Open attempt) where
         learns : LearnsStatus input node so_far req number work attempt status
-        learns = record { there = there; open_so = open_so; awaited = awaited; settled = settled; told = told }
+        learns = record { there = there; open_so = open_so; awaited = awaited; settled = settled; piece = piece; told = told }
 
         module _ (over : is_over (messages_with_status number status attempt.messages) ≡ true) (request : Request)
             (got : tree.get so_far.node.requests req ≡ Some request) where
@@ -295,16 +297,18 @@ module _ {input : Input} {node : Node} {first : StepState} {n : ℕ} where
           let none : is_awaited_in number work ≡ false = ap (λ (stage : WorkStage). list_any (is_awaited_message number) (open_messages stage)) is in
           absurd (cc (awaited, none))
 
-    pub answered_walk : (number : ℕ) (status : Status) → (IsSoundStep input node → is_unanswered status ≡ false) → IsTold input number status
+    pub answered_walk : (number : ℕ) (status : Status) → (IsSoundStep input node → is_unanswered status ≡ false)
+        → (IsSoundStep input node → (found : ℕ × Work) → asker number so_far.node.gateway ≡ Some found → IsPieceFor found.1.work status)
+        → IsTold input number status
         → Settled (message_ended so_far.node.gateway number status)
     unfolding message_ended
-    answered_walk number status settled told = by_asker (asker number so_far.node.gateway) refl
+    answered_walk number status settled piece told = by_asker (asker number so_far.node.gateway) refl
       where
         by_asker : (found : Option (ℕ × Work)) → asker number so_far.node.gateway ≡ found → Settled (status_step_by so_far.node.gateway number status found)
         by_asker None is = (at_most (omega arith) walk, tt)
         by_asker (Some found) is =
             let (there, awaited) = found_got number so_far.node.gateway.works found is in
-            known_walk number status settled told found.0 found.1 there awaited found.1.stage refl
+            known_walk number status settled told found.0 found.1 there awaited (λ sound. piece sound found is) found.1.stage refl
 
     -- ---- a work is tried again
 

@@ -27,7 +27,7 @@ use Rattle.sheep_node.specs.RecoveryView.{recovery_state_of}
 use Rattle.sheep_node.specs.StepState.{StepState, at_first, request_ended}
 use Rattle.sheep_node.specs.LogReading.{entry_read, on_back}
 use Rattle.sheep_node.specs.Step.{on_request, recovery_stepped, on_put, on_recover_tick, node_step}
-use Rattle.sheep_node.specs.ValidDisks.{EachIs}
+use Rattle.sheep_node.specs.Validity.{EachIs}
 use Rattle.sheep_node.specs.GivenNumbers.{HasNumbersBelow, NumbersWereGiven}
 use Rattle.sheep_node.specs.Changes as changes
 use Rattle.sheep_node.specs.Changes.{IsSoundStep, without_ended_work, Outcome, ToWork, ToEntry, ToReply, RequestSteps, DiskBegins, DiskGoesOn, CommandBegins, CommandGoesOn, CommandDecided, CheckBegins, CheckGoesOn, ObjectBegins, ObjectIsDone, EntryBegins, EntryDecided, WorkIsNext, AtOnce, InTurn, Again, AgainAlone, attempt_in, input_received, Change}
@@ -37,7 +37,7 @@ use Rattle.sheep_node.proofs.AwaitedWorks.{Works}
 use Rattle.sheep_node.proofs.RefusedCourses.{course_refused-keeps, request_refused-keeps}
 use Rattle.sheep_node.proofs.OneWorkChanges.{StepHasOneWork, never_alone, change_keeps_one_work, received_one_work}
 use Rattle.sheep_node.proofs.NumberChanges.{meets_numbers}
-use Rattle.sheep_node.proofs.ValidChanges.{put_is, gone_is, none_is}
+use Rattle.sheep_node.proofs.ValidityChanges.{put_is, gone_is, none_is}
 use Rattle.sheep_node.proofs.StepChain.{kept_by_chain, step_chain}
 
 abbrev pub WereGiven : StepState → Type 0

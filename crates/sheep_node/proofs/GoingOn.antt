@@ -56,7 +56,8 @@ use Rattle.sheep_node.specs.SessionQueues.{session_among}
 use Rattle.sheep_node.specs.DrivenDisks.{IsCourseOn}
 use Rattle.sheep_node.specs.WantedWorks.{IsWorkOfWrite, IsWorkOfDriver, IsWorkOfCheck, IsWorkWanted, IsWantedAt}
 use Rattle.sheep_node.specs.GivenNumbers.{HasNumbersBelow, NumbersWereGiven}
-use Rattle.sheep_node.specs.ValidDisks.{EachIs}
+use Rattle.sheep_node.specs.SoundWorks.{IsSoundCheck}
+use Rattle.sheep_node.specs.Validity.{EachIs}
 use Rattle.sheep_node.specs.RecoveryView.{recovery_state_of}
 use Rattle.sheep_node.specs.Step.{recovery_stepped}
 use Rattle.sheep_node.specs.Changes.{input_received, attempt_in, has_too_few_zones, zones_of_members}
@@ -69,8 +70,8 @@ use Rattle.sheep_node.proofs.MessageCounts.{attempt_few, tick_few}
 use Rattle.sheep_node.proofs.BeginningWorks.{may_send}
 use Rattle.sheep_node.proofs.OneWorkChanges.{never_alone}
 use Rattle.sheep_node.proofs.ReachedSteps.{IsReached}
-use Rattle.sheep_node.proofs.StepChain.{begins, fits_settled}
-use Rattle.sheep_node.proofs.ValidChanges.{gone_is}
+use Rattle.sheep_node.proofs.StepChain.{begins, fits_settled, fits_piece, lost_piece}
+use Rattle.sheep_node.proofs.ValidityChanges.{gone_is}
 use Rattle.sheep_node.proofs.EndedWorks.{EndsWith, IsTriedWith, ActGoesOn, answered_walk, retry_walk}
 use Rattle.sheep_node.proofs.InSteps.{entered_here}
 
@@ -91,7 +92,7 @@ bytes_for_driver inode (Reads told piece rest) work is = ap Some (sym (ap bytes_
 bytes_for_driver inode (Writes payload stage piece rest) work is = ap Some (sym (bytes_for_write inode payload piece work stage is))
 bytes_for_driver inode drivers.Answered work is = absurd is
 
-bytes_for_check : (check : Check) (stage : CheckStage) (work : ObjWork) → IsWorkOfCheck check stage work → check.stage ≡ stage → IsCheck check
+pub bytes_for_check : (check : Check) (stage : CheckStage) (work : ObjWork) → IsWorkOfCheck check stage work → check.stage ≡ stage → IsSoundCheck check
     → bytes_at check.spec stage ≡ Some (bytes_of_work work)
 bytes_for_check check (Comparing index later) work is at sound =
     let few : index < OBJECTS_MAX
@@ -118,7 +119,7 @@ bytes_for_command (Publishing entry opened) work is = absurd (cc (is))
 bytes_for_command (Answered change) work is = absurd (cc (is.1))
 
 -- a course goes on with the bytes of the work that it waits for
-may_go_on : (disk : Option Disk) (course : Course) (work : ObjWork) (bytes : List ℕ) → IsWorkWanted (inode_open disk) course work
+pub may_go_on : (disk : Option Disk) (course : Course) (work : ObjWork) (bytes : List ℕ) → IsWorkWanted (inode_open disk) course work
     → IsCourseOn (inode_open disk) course → length bytes ≡ bytes_of_work work → MayGoOn (inode_open disk) course bytes
 may_go_on disk (Waiting ask) work bytes wanted on given = tt
 may_go_on None (Driving driver) work bytes wanted on given = absurd wanted
@@ -126,7 +127,8 @@ may_go_on (Some disk) (Driving driver) work bytes wanted on given =
     (bytes_for_driver disk.inode driver work wanted ∙ ap Some (sym given), on)
 may_go_on disk (Commanding op) work bytes wanted on given = bytes_for_command op.stage work wanted ∙ ap Some (sym given)
 may_go_on disk (Checking check) work bytes wanted on given =
-    λ sound. bytes_for_check check check.stage work wanted refl sound ∙ ap Some (sym given)
+    λ is.
+    bytes_for_check check check.stage work wanted refl (record { vid = is.vid; spec = is.spec; within = is.within }) ∙ ap Some (sym given)
 may_go_on disk (DoingWork asked) work bytes wanted on given = tt
 may_go_on disk (AwaitingDecision entry) work bytes wanted on given = tt
 
@@ -259,7 +261,8 @@ reply_goes_on rsp node may sound waits act gateway is bytes =
     = ap (λ (b : Bool). cond b (at_first node) (recovery_stepped (recovery_on_reply rsp (recovery_state_of node)) (at_first node))) waits in
     step_goes_on (inputs.Reply rsp) node may sound starts (gateway_on_reply node.gateway rsp) act gateway is
     (answered_walk (at_first node) (start (inputs.Reply rsp) node may sound starts) rsp.number (status_by rsp.say)
-    (λ step. fits_settled node rsp (step.1.recovers rsp.number waits) step.0) (refl, refl)).1 bytes
+    (λ step. fits_settled node rsp (step.1.recovers rsp.number waits) step.0)
+    (λ step. fits_piece node rsp (step.1.recovers rsp.number waits) step.0) (refl, refl)).1 bytes
 
 pub loss_goes_on : (number : ℕ) (node : Node) → May (inputs.Lost number) node → IsSoundNode node
     → gateway_awaits number node.gateway ≡ true → (act : Act) (gateway : Gateway)
@@ -269,7 +272,8 @@ loss_goes_on number node may sound waits act gateway is bytes =
     let starts : input_received (inputs.Lost number) (at_first node) ≡ at_first node
     = ap (λ (b : Bool). cond b (at_first node) (recovery_stepped (recovery_on_loss number (recovery_state_of node)) (at_first node))) waits in
     step_goes_on (inputs.Lost number) node may sound starts (gateway_on_loss node.gateway number) act gateway is
-    (answered_walk (at_first node) (start (inputs.Lost number) node may sound starts) number Lost (λ step. refl) (refl, refl)).1 bytes
+    (answered_walk (at_first node) (start (inputs.Lost number) node may sound starts) number Lost (λ step. refl)
+    (λ step found is. lost_piece found.1.work) (refl, refl)).1 bytes
 
 -- a work that is tried again isn't done at once
 module _ (node : Node) where

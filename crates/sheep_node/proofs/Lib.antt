@@ -31,6 +31,7 @@ pub mod StepResults
 pub mod LogLaws
 pub mod ReadLogs
 mod RefusalLaws
+pub mod ValidityChanges
 pub mod ValidSteps
 pub mod MessageCounts
 pub mod ValidChanges
@@ -60,3 +61,12 @@ mod NewestEpochs
 mod EntryParts
 pub mod ToldRequests
 pub mod GuestSteps
+pub mod SoundSteps
+pub mod SoundCommands
+pub mod KnownChains
+pub mod SoundChanges
+pub mod SoundLaws
+pub mod AttemptRange
+pub mod SpelledSends
+mod LineParts
+mod LineChanges

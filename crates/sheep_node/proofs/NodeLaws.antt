@@ -7,6 +7,7 @@ use Rattle.sheep_node.specs.declared.input.Input.TheVariants as inputs
 use Rattle.sheep_node.specs.State.{Node, initial_node}
 use Rattle.sheep_node.specs.Step.{node_step}
 use Rattle.sheep_node.specs.May.{May}
+use Rattle.sheep_node.specs.OutsideAsks.{InputNamesObjects}
 use Rattle.sheep_node.specs.LogReading.{begins_recovery, node_with_entry, come_back_with}
 use Rattle.sheep_node.specs.RecoveryRange.{RecoveryMayBegin}
 use Rattle.sheep_node.specs.NodeInvariant.{IsSoundNode}
@@ -14,6 +15,9 @@ use Rattle.sheep_node.proofs.NumberChanges.{one_work_at_opening, one_work_stays}
 use Rattle.sheep_node.proofs.GivenNumbers.{numbers_given_at_opening, numbers_stay_given}
 use Rattle.sheep_node.proofs.OwnEntryChanges.{own_entries_at_opening, own_entries_stay, asks_for_own}
 use Rattle.sheep_node.proofs.ValidLaws.{valid_disks_at_opening, valid_disks_stay, sends_few, valid_input}
+use Rattle.sheep_node.proofs.SoundChanges.{sound_works_at_opening}
+use Rattle.sheep_node.proofs.SoundLaws.{sound_works_stay}
+use Rattle.sheep_node.proofs.LineChanges.{lines_open_at_opening, lines_stay_open}
 use Rattle.sheep_node.proofs.QueueChanges.{none_queued, queues_stay}
 use Rattle.sheep_node.proofs.QueueLengths.{queues_short_at_opening, queues_stay_short}
 use Rattle.sheep_node.proofs.SoleCommands.{commands_alone_at_opening, commands_stay_alone}
@@ -42,11 +46,14 @@ IsSoundNode-initial me tries = record {
   read = read_if_asked_at_opening me tries;
   none_due = none_due_at_opening me tries;
   valid_disks = valid_disks_at_opening me tries;
+  sound_works = sound_works_at_opening me tries;
+  lines = lines_open_at_opening me tries;
   recovery = recovery_may_step_at_opening me tries;
 }
 
-pub IsSoundNode-step : (input : Input) (node : Node) → May input node → IsSoundNode node → IsSoundNode (node_step input node).node
-IsSoundNode-step input node may is = record {
+pub IsSoundNode-step : (input : Input) (node : Node) → May input node → InputNamesObjects input → IsSoundNode node
+    → IsSoundNode (node_step input node).node
+IsSoundNode-step input node may named is = record {
   one_work = one_work_stays input node may is.one_work;
   given = numbers_stay_given input node may is.one_work is.given;
   own_entries = own_entries_stay input node (asks_for_own input node may) is.own_entries;
@@ -61,6 +68,8 @@ IsSoundNode-step input node may is = record {
   read = read_if_asked_stays input node may is.by_the_log is.read;
   none_due = step_not_due input node;
   valid_disks = valid_disks_stay input node (valid_input input node may.condition is.valid_disks.read) is.valid_disks;
+  sound_works = sound_works_stay input node may named is;
+  lines = lines_stay_open input node may is.one_work is.lines;
   recovery = recovery_may_step_stays input node may is.log is.by_the_log is.valid_disks is.recovery;
 }
 

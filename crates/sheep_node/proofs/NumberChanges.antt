@@ -36,7 +36,7 @@ use Rattle.sheep_node.specs.Step.{on_request, recovery_stepped, on_put, on_recov
 use Rattle.sheep_node.specs.May.{Meets, May}
 use Rattle.sheep_node.specs.OneWork.{NumbersAreOfOneWork, NumbersAreBelow, HasOneWorkPerRequest}
 use Rattle.sheep_node.specs.Changes as changes
-use Rattle.sheep_node.specs.Changes.{IsSoundStep, LearnsStatus, gateway_with_touch, without_ended_work, Outcome, ToWork, ToEntry, ToReply, RequestSteps, DiskBegins, DiskGoesOn, CommandBegins, CommandGoesOn, CommandDecided, WorkIsNext, AtOnce, InTurn, Again, AgainAlone, attempt_in, input_received, Change, CheckBegins, CheckGoesOn, ObjectBegins, ObjectIsDone, EntryBegins, EntryDecided, MeetsNumbers}
+use Rattle.sheep_node.specs.Changes.{IsSoundStep, LearnsStatus, gateway_with_touch, without_ended_work, Outcome, ToWork, ToEntry, ToReply, RequestSteps, DiskBegins, DiskGoesOn, CommandBegins, CommandGoesOn, CommandDecided, WorkIsNext, AtOnce, InTurn, Again, AgainAlone, attempt_in, input_received, Leads, Change, CheckBegins, CheckGoesOn, ObjectBegins, ObjectIsDone, EntryBegins, EntryDecided, MeetsNumbers}
 use Rattle.sheep_node.proofs.AwaitedWorks.{Works, found_by, found_got, got_found}
 use Rattle.sheep_node.proofs.MessageNumbers.{all_before, fresh_apart, fresh_below, left_before, ticked_within, unanswered_in_epoch, unanswered_reading}
 use Rattle.sheep_node.proofs.RefusedCourses.{course_refused-keeps, request_refused-keeps}
@@ -365,12 +365,16 @@ meets_numbers inputs.RecoverTick node meets = meets
 meets_numbers inputs.RetryTick node meets = tt
 meets_numbers (inputs.Back entries) node meets = tt
 
--- works go with their requests, and numbers with their works, through a sound step
-pub both_after_step : (input : Input) (node : Node) → IsSoundStep input node → HasOneWorkAndNumber (node_step input node)
-both_after_step input node sound =
+-- works go with their requests, and numbers with their works, in the middle of a sound step and behind it
+pub both_in_chain : (input : Input) (node : Node) → IsSoundStep input node → (so_far : StepState)
+    → Leads input node (input_received input (at_first node)) so_far → HasOneWorkAndNumber so_far
+both_in_chain input node sound so_far leads =
     let both = both_at_first node sound.1 in
-    kept_by_chain HasOneWorkAndNumber (λ so_far next change. change_keeps_both so_far next change sound) (step_chain input node)
+    kept_by_chain HasOneWorkAndNumber (λ so_far next change. change_keeps_both so_far next change sound) leads
     (received_one_work input node both.0, received_numbers input node sound.0 both.1)
+
+pub both_after_step : (input : Input) (node : Node) → IsSoundStep input node → HasOneWorkAndNumber (node_step input node)
+both_after_step input node sound = both_in_chain input node sound (node_step input node) (step_chain input node)
 
 -- a driven node that steps on what it may is driven
 pub one_work_stays : (input : Input) (node : Node) → May input node → HasOneWorkPerRequest node → HasOneWorkPerRequest (node_step input node).node

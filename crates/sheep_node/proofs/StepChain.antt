@@ -1,9 +1,9 @@
 -- The step of a node is a chain of changes: on a guest's request, on an entry of the log, and so on every input.
-use Rattle.std.proofs.Common.{◌≡◌, ℕ, suc, ◌+◌, ◌≤◌, arith, not, Bool, true, false, cond, Option, Some, None, is_some, refl, ap, subst, ◌∙◌, ⊎_elim}
+use Rattle.std.proofs.Common.{◌≡◌, ℕ, suc, ◌+◌, ◌≤◌, arith, not, Bool, true, false, cond, Option, Some, None, is_some, length, refl, ap, subst, ◌∙◌, ⊎_elim}
 use Rattle.std.specs.Prelude.{IsTrue}
 use Rattle.std.specs.Ordering.{nat_cmp}
 use Rattle.std.specs.FinMap as tree
-use Rattle.std.proofs.lemmas.Bool.{or_cases}
+use Rattle.std.proofs.lemmas.Bool.{eqb-true, or_cases}
 use Rattle.proof_tools.proofs.Lists.{find-contains}
 use Rattle.proof_tools.proofs.FiniteMaps.{get-entry, get-insert_same}
 use Rattle.object_id.specs.declared.cause.Cause.{Cause}
@@ -14,10 +14,14 @@ use Rattle.peer_proto.specs.declared.guest.VdiAsk.{VdiAsk}
 use Rattle.peer_proto.specs.declared.say.PeerSay.{PeerSay}
 use Rattle.peer_proto.specs.declared.say.PeerSay.TheVariants as says
 use Rattle.peer_proto.specs.declared.say.PeerRsp.{PeerRsp}
+use Rattle.gf256.specs.Part.{part_size}
+use Rattle.object_id.specs.Oid.{kind_of}
 use Rattle.peer_proto.specs.declared.work.ObjWork.{ObjWork}
+use Rattle.peer_proto.specs.declared.work.ObjWork.TheVariants.{Create, Write, Read, ReadAll}
 use Rattle.peer_service.specs.State.{effects_of}
 use Rattle.peer_service.specs.LogReading.{decision_on}
 use Rattle.gateway.specs.declared.message.Status.TheVariants.{Lost}
+use Rattle.gateway.specs.Messages.{IsPieceFor}
 use Rattle.gateway.specs.Attempt.{is_unanswered, status_by}
 use Rattle.gateway.specs.State as gateways
 use Rattle.gateway.specs.State.{Work, asker, fits_work, fits_asker}
@@ -197,6 +201,44 @@ fits_settled node rsp apart fit = ⊎_elim
     by_message None none fit = absurd (cc (fit))
     by_message (Some message) none fit = absurd (cc (none))
 
+-- and of a read's message it gives a piece as long as what was asked for
+piece_by : (work : ObjWork) (say : PeerSay) → fits_work work say ≡ true → IsPieceFor work (status_by say)
+piece_by (Create oid policy size offset bytes) say fit = tt
+piece_by (Write oid policy offset bytes) say fit = tt
+piece_by (Read oid policy offset size) says.Success fit = absurd (cc (fit))
+piece_by (Read oid policy offset size) (says.Piece bytes) fit = eqb-true (length bytes) (part_size policy (kind_of oid) size) fit
+piece_by (Read oid policy offset size) (says.Objects oids) fit = tt
+piece_by (Read oid policy offset size) (says.Row row) fit = tt
+piece_by (Read oid policy offset size) says.NoRow fit = tt
+piece_by (Read oid policy offset size) (says.Refused refusal) fit = tt
+piece_by (ReadAll oid policy size) says.Success fit = absurd (cc (fit))
+piece_by (ReadAll oid policy size) (says.Piece bytes) fit = eqb-true (length bytes) (part_size policy (kind_of oid) size) fit
+piece_by (ReadAll oid policy size) (says.Objects oids) fit = tt
+piece_by (ReadAll oid policy size) (says.Row row) fit = tt
+piece_by (ReadAll oid policy size) says.NoRow fit = tt
+piece_by (ReadAll oid policy size) (says.Refused refusal) fit = tt
+
+pub fits_piece : (node : Node) (rsp : PeerRsp) → recoveries.recovery_awaits rsp.number node.recovery ≡ false → fits_node rsp node ≡ true
+    → (found : ℕ × Work) → asker rsp.number node.gateway ≡ Some found → IsPieceFor found.1.work (status_by rsp.say)
+fits_piece node rsp apart fit found is = ⊎_elim
+    (λ (works : gateways.fits_gateway rsp node.gateway ≡ true).
+    piece_by found.1.work rsp.say (subst (λ (o : Option (ℕ × Work)). fits_asker o rsp.say ≡ true) is works))
+    (λ (recovers : recovery_fits.fits_recovery rsp (recovery_state_of node) ≡ true).
+    by_message (recoveries.message_of rsp.number (recoveries.all_unanswered node.recovery)) apart recovers)
+    (or_cases (gateways.fits_gateway rsp node.gateway) (recovery_fits.fits_recovery rsp (recovery_state_of node)) fit)
+  where
+    by_message : (o : Option recoveries.Message) → is_some o ≡ false → recovery_fits.fits_message (recovery_state_of node).shown o rsp.say ≡ true
+        → IsPieceFor found.1.work (status_by rsp.say)
+    by_message None none fit = absurd (cc (fit))
+    by_message (Some message) none fit = absurd (cc (none))
+
+-- a lost message gives none
+pub lost_piece : (work : ObjWork) → IsPieceFor work Lost
+lost_piece (Create oid policy size offset bytes) = tt
+lost_piece (Write oid policy offset bytes) = tt
+lost_piece (Read oid policy offset size) = tt
+lost_piece (ReadAll oid policy size) = tt
+
 -- a number that isn't taken has nothing
 pub untaken : (node : Node) (req : ℕ) → IsTrue (not (tree.contains_key node.requests req)) → tree.get node.requests req ≡ None
 untaken node req free = by_got (tree.get node.requests req) refl free
@@ -230,7 +272,8 @@ input_chain (inputs.Reply rsp) node = by_waits (gateways.gateway_awaits rsp.numb
         (recovery_stepped (recovery_steps.message_end rsp.number (Some rsp.say) (recovery_state_of node)) (at_first node)))
     by_waits true waits =
         (answered_walk (at_first node) (still (at_first node) (λ good. good)) rsp.number (status_by rsp.say)
-        (λ sound. fits_settled node rsp (sound.1.recovers rsp.number waits) sound.0) (refl, refl)).0
+        (λ sound. fits_settled node rsp (sound.1.recovers rsp.number waits) sound.0)
+        (λ sound. fits_piece node rsp (sound.1.recovers rsp.number waits) sound.0) (refl, refl)).0
     by_waits false none = at_most (omega arith)
         (still (recovery_stepped (recovery_steps.message_end rsp.number (Some rsp.say) (recovery_state_of node)) (at_first node)) (λ good. good))
 input_chain (inputs.Lost number) node = by_waits (gateways.gateway_awaits number node.gateway) refl
@@ -240,7 +283,8 @@ input_chain (inputs.Lost number) node = by_waits (gateways.gateway_awaits number
         18 (cond b (after_gateway_step (gateway_steps.gateway_on_loss node.gateway number) (at_first node))
         (recovery_stepped (recovery_steps.message_end number None (recovery_state_of node)) (at_first node)))
     by_waits true waits =
-        (answered_walk (at_first node) (still (at_first node) (λ good. good)) number Lost (λ sound. refl) (refl, refl)).0
+        (answered_walk (at_first node) (still (at_first node) (λ good. good)) number Lost (λ sound. refl)
+        (λ sound found is. lost_piece found.1.work) (refl, refl)).0
     by_waits false none = at_most (omega arith)
         (still (recovery_stepped (recovery_steps.message_end number None (recovery_state_of node)) (at_first node)) (λ good. good))
 input_chain (inputs.LogEntry entry) node =

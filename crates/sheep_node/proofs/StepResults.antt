@@ -30,7 +30,7 @@ by_waiting : (P : StepState → Type 0) (number : ℕ) (state : recoveries.Recov
 by_waiting P number state node first heard =
     cond_either P (gateways.gateway_awaits number node.gateway) (at_first node) (recovery_stepped state (at_first node)) first heard
 
-me_received : (input : Input) (node : Node) → (input_received input (at_first node)).node.me ≡ node.me
+pub me_received : (input : Input) (node : Node) → (input_received input (at_first node)).node.me ≡ node.me
 unfolding entry_read on_request on_recover_tick on_back
 me_received (inputs.Guest req session ask) node = refl
 me_received (inputs.Request request) node = refl

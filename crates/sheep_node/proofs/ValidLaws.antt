@@ -30,12 +30,14 @@ use Rattle.sheep_node.specs.StepFacts.{read_after}
 use Rattle.sheep_node.specs.May.{IsGuestAsk, MayRead, MayReadAll, Meets, May}
 use Rattle.sheep_node.specs.OutsideAsks.{IsEntryAsk}
 use Rattle.sheep_node.specs.SessionQueues.{QueuesAreShort}
-use Rattle.sheep_node.specs.ValidDisks.{IsValidAsk, IsValidInput, WorkHasPolicy, IsValidCourse, IsValidSession, HaveValidDisks, HasValidDisks}
+use Rattle.sheep_node.specs.Validity.{IsValidSessionBy}
+use Rattle.sheep_node.specs.ValidDisks.{IsValidAsk, IsValidInput, WorkHasPolicy, IsValidCourse, HaveValidDisks, disk_validity, HasValidDisks}
 use Rattle.sheep_node.specs.Changes.{input_received}
 use Rattle.sheep_node.proofs.MessageCounts.{tick_few}
 use Rattle.sheep_node.proofs.OutsideAskLaws.{known_spec}
 use Rattle.sheep_node.proofs.PeerLog.{entries_reading}
-use Rattle.sheep_node.proofs.ValidChanges.{none_is, IsValidSoFar, chain_valid}
+use Rattle.sheep_node.proofs.ValidityChanges.{none_is}
+use Rattle.sheep_node.proofs.ValidChanges.{IsValidSoFar, chain_valid}
 use Rattle.sheep_node.proofs.ValidSteps.{HeadersAreValid}
 use Rattle.sheep_node.proofs.QueueLengths.{queues_stay_short_along}
 use Rattle.sheep_node.proofs.ReachedSteps.{changes_in}
@@ -65,7 +67,7 @@ all_reservable before (entry ∷ later) are may =
     subst (All IsReservable) (append_assoc before (entry ∷ []) later)
     (all_reservable (before ++ entry ∷ []) later (All-push IsReservable before entry are (read_reservable before entry may.0)) may.1)
 
-reservable_after : (input : Input) (read : List Entry) → IsValidInput input → All IsReservable read → All IsReservable (read_after input read)
+pub reservable_after : (input : Input) (read : List Entry) → IsValidInput input → All IsReservable read → All IsReservable (read_after input read)
 reservable_after (inputs.Guest req session ask) read valid are = are
 reservable_after (inputs.Request request) read valid are = are
 reservable_after (inputs.Reply rsp) read valid are = are
@@ -120,10 +122,10 @@ none_have : HaveValidDisks tree.empty tree.empty tree.empty
 none_have = record {
   open_works = none_is (λ (work : Work). WorkHasPolicy work.work);
   courses = none_is (λ (request : Request). IsValidCourse request.course);
-  each_session = none_is IsValidSession;
+  each_session = none_is (IsValidSessionBy disk_validity);
 }
 
-received_valid : (input : Input) (node : Node) → IsValidNode node → IsValidNode (input_received input (at_first node)).node
+pub received_valid : (input : Input) (node : Node) → IsValidNode node → IsValidNode (input_received input (at_first node)).node
 unfolding entry_read on_request on_recover_tick on_back
 received_valid (inputs.Guest req session ask) node all = all
 received_valid (inputs.Request request) node all = all
@@ -144,7 +146,7 @@ received_valid inputs.RetryTick node all = all
 received_valid (inputs.Back entries) node all = (none_have, All-nil IsReservable)
 
 -- only a tick sends by itself
-received_sends : (input : Input) (node : Node) → RecoveryMayStep node → length (input_received input (at_first node)).outputs.sends ≤ 64
+pub received_sends : (input : Input) (node : Node) → RecoveryMayStep node → length (input_received input (at_first node)).outputs.sends ≤ 64
 unfolding entry_read on_request on_recover_tick on_back
 received_sends (inputs.Guest req session ask) node is = omega arith
 received_sends (inputs.Request request) node is = omega arith
@@ -170,8 +172,8 @@ module _ (input : Input) (node : Node) (valid : IsValidInput input) (sound : Has
   reservable : All IsReservable (read_after input node.peer.entries)
   reservable = reservable_after input node.peer.entries valid sound.read
 
-  known : (entry : Entry) → input ≡ inputs.LogEntry entry → HeadersAreValid (effects_of (entry_read entry node).peer)
-  known entry from vid header there =
+  pub headers_are_valid : (entry : Entry) → input ≡ inputs.LogEntry entry → HeadersAreValid (effects_of (entry_read entry node).peer)
+  headers_are_valid entry from vid header there =
       let entries : read_after input node.peer.entries ≡ (entry_read entry node).peer.entries
       = ap (λ (input : Input). read_after input node.peer.entries) from ∙ sym (entries_reading entry node) in
       let is = header-valid (entry_read entry node).peer.entries (subst (All IsReservable) entries reservable) vid header there in
@@ -181,7 +183,7 @@ module _ (input : Input) (node : Node) (valid : IsValidInput input) (sound : Has
       → IsValidSoFar (31 * changes_in (step_chain input node) + most) (node_step input node)
   step_valid most few =
       let received = received_valid input node (sound.kept, sound.to_put) in
-      chain_valid most known valid (step_chain input node) (received.0, record { few = few; to_put = received.1 })
+      chain_valid most headers_are_valid valid (step_chain input node) (received.0, record { few = few; sent = λ k d within. tt; to_put = received.1 })
 
   pub valid_disks_stay : HasValidDisks (node_step input node).node
   valid_disks_stay =

@@ -35,13 +35,12 @@ use Rattle.disk_check.specs.Table.{own_indexes}
 use Rattle.disk_check.specs.Check as checks
 use Rattle.disk_check.specs.Check.{Check, CheckStage, CheckStep, Comparing, WritingBack as Writing, check_on, begun_check, begin_check, check_done_at, check_on_done}
 use Rattle.sheep_node.specs.Changes.{Outcome, ToWork, ToEntry, ToReply, outcome_of_driver, outcome_of_command, outcome_of_check}
-use Rattle.sheep_node.specs.ValidDisks.{WorkHasPolicy, IsValidInode, IsValidHeader, IsValidTask, IsValidChange, IsValidStage}
+use Rattle.sheep_node.specs.ValidDisks.{IsValidInode, IsValidHeader, IsValidTask, IsValidChange, IsValidStage, disk_validity}
+use Rattle.sheep_node.proofs.ValidityChanges.{IsValidOutcomeBy}
 
 -- a work that is come to is by a policy that there may be, and an entry may stand in the log
 abbrev pub IsValidOutcome : Outcome → Type 0
-IsValidOutcome (ToWork work) = WorkHasPolicy work
-IsValidOutcome (ToEntry entry) = IsReservable entry
-IsValidOutcome (ToReply reply) = Unit {0}
+IsValidOutcome = IsValidOutcomeBy disk_validity
 
 -- what is given is so
 pub given : {X : Type 0} (P : X → Type 0) {x y : X} → Some x ≡ Some y → P x → P y

@@ -45,7 +45,7 @@ use Rattle.sheep_node.specs.OneWork.{may_work_at, waiting_in, HasOneWorkPerReque
 use Rattle.sheep_node.specs.SessionQueues.{QueuesAreDiskRequests, CommandsAreAlone}
 use Rattle.sheep_node.specs.WantedWorks.{IsWorkWanted, IsWantedAt, HasWork, HaveWantedWorks, WorksAreWanted}
 use Rattle.sheep_node.specs.Changes as changes
-use Rattle.sheep_node.specs.Changes.{IsSoundStep, IsApart, Outcome, ToWork, ToEntry, ToReply, outcome_of_driver, outcome_of_command, outcome_of_check, without_ended_work, without_denied_work, zones_of_members, attempt_in, RequestSteps, DiskBegins, DiskGoesOn, CommandBegins, CommandGoesOn, CommandDecided, CheckBegins, CheckGoesOn, ObjectBegins, ObjectIsDone, EntryBegins, EntryDecided, WorkIsNext, AtOnce, InTurn, Again, AgainAlone, input_received, Change}
+use Rattle.sheep_node.specs.Changes.{IsSoundStep, IsApart, Outcome, ToWork, ToEntry, ToReply, outcome_of_driver, outcome_of_command, outcome_of_check, without_ended_work, without_denied_work, zones_of_members, attempt_in, RequestSteps, DiskBegins, DiskGoesOn, CommandBegins, CommandGoesOn, CommandDecided, CheckBegins, CheckGoesOn, ObjectBegins, ObjectIsDone, EntryBegins, EntryDecided, WorkIsNext, AtOnce, InTurn, Again, AgainAlone, input_received, Leads, Change}
 use Rattle.sheep_node.proofs.OneWorkParts.{same_waiting}
 use Rattle.sheep_node.proofs.OneWorkChanges.{StepHasOneWork, HasNoWorkIn, steps_free, free_in, awaited_of, change_keeps_one_work, received_one_work}
 use Rattle.sheep_node.proofs.NumberChanges.{meets_numbers}
@@ -317,12 +317,19 @@ received_wanted = received_keeps (λ works requests sessions. HaveWantedWorks wo
 pub works_wanted_at_opening : (me : NodeId) (tries : ℕ) → WorksAreWanted (initial_node me tries)
 works_wanted_at_opening me tries = none_wanted
 
-pub works_stay_wanted : (input : Input) (node : Node) → May input node → HasOneWorkPerRequest node → QueuesAreDiskRequests node
-    → CommandsAreAlone node → WorksAreWanted node → WorksAreWanted (node_step input node).node
-works_stay_wanted input node may driven queued sole wanted =
+-- and in the middle of a step, beside what goes with it
+pub waits_well_in_chain : (input : Input) (node : Node) → May input node → HasOneWorkPerRequest node → QueuesAreDiskRequests node
+    → CommandsAreAlone node → WorksAreWanted node → (so_far : StepState) → Leads input node (input_received input (at_first node)) so_far
+    → WaitsWell so_far
+waits_well_in_chain input node may driven queued sole wanted so_far leads =
     let sound : IsSoundStep input node = (meets_numbers input node may.condition, driven) in
-    (kept_by_chain WaitsWell (λ so_far next change. change_keeps_all may sound queued sole so_far next change) (step_chain input node) (
+    kept_by_chain WaitsWell (λ so_far next change. change_keeps_all may sound queued sole so_far next change) leads (
       received_one_work input node driven.driven,
       received_alone input node sole,
       received_wanted input node wanted,
-    )).2
+    )
+
+pub works_stay_wanted : (input : Input) (node : Node) → May input node → HasOneWorkPerRequest node → QueuesAreDiskRequests node
+    → CommandsAreAlone node → WorksAreWanted node → WorksAreWanted (node_step input node).node
+works_stay_wanted input node may driven queued sole wanted =
+    (waits_well_in_chain input node may driven queued sole wanted (node_step input node) (step_chain input node)).2

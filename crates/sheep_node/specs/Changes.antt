@@ -20,6 +20,7 @@ use Rattle.peer_service.specs.State.{effects_of}
 use Rattle.peer_service.specs.LogReading.{decision_on}
 use Rattle.gateway.specs.declared.message.Status.{Status}
 use Rattle.gateway.specs.declared.message.Status.TheVariants.{Lost}
+use Rattle.gateway.specs.Messages.{IsPieceFor}
 use Rattle.gateway.specs.Work.{zones_for}
 use Rattle.gateway.specs.Attempt.{Attempt, is_unanswered, status_by, messages_with_status, send_of, is_over, is_done, bytes_given}
 use Rattle.gateway.specs.State as gateways
@@ -209,6 +210,7 @@ module _ (input : Input) (node : Node) where
     pub awaited : is_awaited_in number work ≡ true
     pub told : IsTold input number status
     pub settled : IsSoundStep input node → is_unanswered status ≡ false
+    pub piece : IsSoundStep input node → IsPieceFor work.work status
 
   -- with it the attempt is over, of a request that is there
   pub record EndsAttempt (so_far : StepState) (session req number : ℕ) (work : Work) (attempt : Attempt) (status : Status)

@@ -3,7 +3,7 @@ use Rattle.std.specs.Prelude.{ℕ, ◌<◌, All}
 use Rattle.gateway.specs.declared.message.Message.{Message}
 use Rattle.gateway.specs.State.{Work, open_messages}
 use Rattle.sheep_node.specs.State.{Node}
-use Rattle.sheep_node.specs.ValidDisks.{EachIs}
+use Rattle.sheep_node.specs.Validity.{EachIs}
 
 -- the messages of a work's open attempt have numbers below a count
 abbrev pub HasNumbersBelow : ℕ → Work → Type 0

@@ -18,6 +18,10 @@ pub mod OneWork
 pub mod Changes
 pub mod OwnEntries
 pub mod SessionQueues
+pub mod OpenLines
+pub mod Validity
+pub mod WorkRange
+pub mod SoundWorks
 pub mod ValidDisks
 pub mod WantedWorks
 pub mod DrivenDisks

@@ -1,6 +1,6 @@
 -- What a client without a script may ask of a node: one work on one object, or a lock and its end.
 use Rattle.std.specs.Prelude.{◌≡◌, ℕ, ◌+◌, ◌≤◌, length, Some}
-use Rattle.object_id.specs.Oid.{kind_of}
+use Rattle.object_id.specs.Oid.{IsOid, kind_of}
 use Rattle.object_id.specs.declared.node.NodeId.{NodeId}
 use Rattle.object_id.specs.declared.entry.VdiSpec.{VdiSpec}
 use Rattle.object_id.specs.declared.entry.Entry.{Entry}
@@ -9,6 +9,10 @@ use Rattle.peer_proto.specs.Work.{oid_of, policy_of, AreAligned}
 use Rattle.peer_proto.specs.declared.work.ObjWork.{ObjWork}
 use Rattle.peer_proto.specs.declared.work.ObjWork.TheVariants.{Create, Write, Read, ReadAll}
 use Rattle.peer_service.specs.State.{Peer, spec_of, object_size}
+use Rattle.sheep_node.specs.declared.ask.Ask.{Ask}
+use Rattle.sheep_node.specs.declared.ask.Ask.TheVariants as asks
+use Rattle.sheep_node.specs.declared.input.Input.{Input}
+use Rattle.sheep_node.specs.declared.input.Input.TheVariants as inputs
 
 -- where the bytes begin that a work is about
 abbrev pub work_offset : ObjWork → ℕ
@@ -45,3 +49,14 @@ abbrev pub IsEntryAsk : NodeId → Entry → Type 0
 IsEntryAsk me (Lock by session name tag) = (by ≡ me) × (session ≡ 0)
 IsEntryAsk me (Unlock by session vid) = (by ≡ me) × (session ≡ 0)
 IsEntryAsk me _ = ⊥
+
+-- what a client asks for on an object is asked by an id of one
+abbrev pub NamesAnObject : Ask → Type 0
+NamesAnObject (asks.Disk ask) = Unit {0}
+NamesAnObject (asks.Vdi ask) = Unit {0}
+NamesAnObject (asks.Object work) = IsOid (oid_of work)
+NamesAnObject (asks.Entry entry) = Unit {0}
+
+abbrev pub InputNamesObjects : Input → Type 0
+InputNamesObjects (inputs.Guest req session ask) = NamesAnObject ask
+InputNamesObjects _ = Unit {0}

@@ -1,6 +1,6 @@
 -- What a node has of disks is valid: policies and names are such as there may be. So an attempt has no more than 31 messages, and what
 -- the node puts may stand in the log.
-use Rattle.std.specs.Prelude.{◌≡◌, ℕ, All, Some}
+use Rattle.std.specs.Prelude.{All}
 use Rattle.std.specs.Ordering.{nat_cmp}
 use Rattle.std.specs.Option.{IfSome}
 use Rattle.std.specs.FinMap as tree
@@ -12,8 +12,6 @@ use Rattle.peer_proto.specs.Work.{policy_of}
 use Rattle.peer_proto.specs.declared.work.ObjWork.{ObjWork}
 use Rattle.vdi_directory.specs.declared.header.Header.{Header}
 use Rattle.gateway.specs.State.{Work}
-use Rattle.guest_driver.specs.declared.disk.Disk.{Disk}
-use Rattle.guest_driver.specs.InodeQueue as lines
 use Rattle.vdi_ops.specs.Op.{Task, Opening, WritingBack, Tagging, Copying, Making, DiskChange, Stays, Opens, Closes}
 use Rattle.vdi_ops.specs.Op.{OpStage, Asked, Working, Publishing, Answered}
 use Rattle.vdi_ops.specs.Entries.{IsVdiAsk}
@@ -26,6 +24,7 @@ use Rattle.sheep_node.specs.declared.course.Request.{Request}
 use Rattle.sheep_node.specs.declared.session.Session.{Session}
 use Rattle.sheep_node.specs.declared.course.Course.TheVariants.{Waiting, Driving, Commanding, Checking, DoingWork, AwaitingDecision}
 use Rattle.sheep_node.specs.State.{Node}
+use Rattle.sheep_node.specs.Validity.{Validity, AreValidBy}
 
 abbrev pub WorkHasPolicy : ObjWork → Type 0
 WorkHasPolicy work = IsPolicy (policy_of work)
@@ -64,21 +63,19 @@ IsValidCourse (Checking check) = IsPolicy check.spec.policy
 IsValidCourse (DoingWork work) = Unit {0}
 IsValidCourse (AwaitingDecision entry) = Unit {0}
 
--- the disk that a session has open, and the works that wait in its line
-pub record IsValidSession (session : Session) : Type 0 where
-  pub disk : IfSome session.disk (λ (disk : Disk). IsValidInode disk.inode)
-  pub waiting : All (λ (waiting : lines.Waiting). WorkHasPolicy waiting.work) session.inode_queue.waiting
+-- in this sense
+abbrev pub disk_validity : Validity
+disk_validity = record {
+  inode = IsValidInode;
+  asked = WorkHasPolicy;
+  at_gateway = λ (work : Work). WorkHasPolicy work.work;
+  course = IsValidCourse;
+  put = IsReservable;
+}
 
--- each value of a map is so
-abbrev pub EachIs : {V : Type 0} → (V → Type 0) → tree.FinMap nat_cmp V → Type 0
-EachIs {V} P map = (key : ℕ) (value : V) → tree.get map key ≡ Some value → P value
-
--- works, requests and sessions are
-pub record HaveValidDisks (works : tree.FinMap nat_cmp Work) (requests : tree.FinMap nat_cmp Request)
-    (sessions : tree.FinMap nat_cmp Session) : Type 0 where
-  pub open_works : EachIs (λ (work : Work). WorkHasPolicy work.work) works
-  pub courses : EachIs (λ (request : Request). IsValidCourse request.course) requests
-  pub each_session : EachIs IsValidSession sessions
+-- works, requests and sessions are valid
+abbrev pub HaveValidDisks : tree.FinMap nat_cmp Work → tree.FinMap nat_cmp Request → tree.FinMap nat_cmp Session → Type 0
+HaveValidDisks = AreValidBy disk_validity
 
 -- a node's are, and the entries that it has read, and those that it has still to put, reserve only for such disks
 pub record HasValidDisks (node : Node) : Type 0 where

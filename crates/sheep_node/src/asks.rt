@@ -4,9 +4,11 @@ ghost use Rattle.std.specs.Prelude.{◌≡◌, ◌+◌, ◌↔◌, length, Some,
 ghost use Rattle.object_id.specs.declared.policy.Policy.{Policy as ThePolicy};
 ghost use Rattle.object_id.specs.Spec.{IsSpec};
 ghost use Rattle.vdi_ops.specs.Entries.{IsVdiAsk};
-ghost use Rattle.sheep_node.specs.OutsideAsks.{work_offset, work_size, IsObjectAsk, IsEntryAsk};
+ghost use Rattle.sheep_node.specs.OutsideAsks.{work_offset, work_size, IsObjectAsk, IsEntryAsk, InputNamesObjects};
 ghost use Rattle.sheep_node.specs.MayTests.{is_aligned, makes_whole, is_work_by_spec, is_object_ask, is_entry_ask};
 
+use crate::ask::Ask;
+use crate::input::Input;
 use object_id::{BLOCK_BYTES, Entry, Kind, NodeId, Policy, VdiSpec, is_name, is_tag};
 use object_store::ObjStore;
 use peer_proto::{ObjWork, VdiAsk};
@@ -118,5 +120,18 @@ pub(crate) fn is_object_ask<O: ObjStore>(peer: &PeerState<O>, work: &ObjWork) ->
     match peer.directory().spec(work.oid().vid()) {
         Some(spec) => is_work_by_spec(work, spec),
         None => false,
+    }
+}
+
+/// What a client asks for on an object it asks by an id of one: no value of the type is any other. So it holds of each input.
+pub(crate) fn objects_have_ids(input: &Input)
+    ensures { InputNamesObjects input.now }
+{
+    if let Input::Guest {
+        ask: Ask::Object(work),
+        ..
+    } = input
+    {
+        let _oid = work.oid();
     }
 }

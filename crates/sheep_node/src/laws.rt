@@ -1,8 +1,9 @@
 //! Laws of a step, for the proofs of the layers above: each is the contract of a function that does nothing.
 ghost use Rattle.std.specs.Prelude.{◌≡◌, ◌⊎◌, ℕ, Bool, ◌+◌, ◌<◌, ◌≤◌, true, false, List, [], ◌∷◌, ◌++◌, length, Option, Some, None, IsTrue, ◌↔◌};
-ghost use Rattle.std.specs.Prelude.{All};
+ghost use Rattle.std.specs.Prelude.{◌^◌, All};
 ghost use Rattle.std.specs.FinMap.{contains_key};
 ghost use Rattle.object_id.specs.declared.cause.Cause.{Cause};
+ghost use Rattle.object_id.specs.Node.{IsNode};
 ghost use Rattle.object_id.specs.declared.node.NodeId.{NodeId};
 ghost use Rattle.object_id.specs.declared.oid.Vid.{Vid};
 ghost use Rattle.object_id.specs.declared.entry.Entry.{Entry};
@@ -29,7 +30,7 @@ ghost use Rattle.sheep_node.specs.declared.course.Course.TheVariants.{Commanding
 ghost use Rattle.sheep_node.specs.State.{Node, initial_node};
 ghost use Rattle.sheep_node.specs.StepState.{StepState, at_first, session_in, with_sole_request, request_ended};
 ghost use Rattle.sheep_node.specs.RecoveryView.{recovery_state_of};
-ghost use Rattle.sheep_node.specs.RecoveryRange.{RecoveryMayStep, RecoveryMayBegin};
+ghost use Rattle.sheep_node.specs.RecoveryRange.{RecoveryMayStep, RecoveryMayBegin, RecoversInRange};
 ghost use Rattle.sheep_node.specs.NodeInvariant.{IsSoundNode};
 ghost use Rattle.sheep_node.specs.OneWork.{HasOneWorkPerRequest};
 ghost use Rattle.sheep_node.specs.GivenNumbers.{NumbersWereGiven};
@@ -48,10 +49,11 @@ ghost use Rattle.sheep_node.specs.StepFacts.{read_after, may_begin_recovery, onl
 ghost use Rattle.sheep_node.specs.ValidDisks.{HasValidDisks};
 ghost use Rattle.sheep_node.specs.LogReading.{begins_recovery, node_with_entry, come_back_with};
 ghost use Rattle.sheep_node.specs.Guests.{request_refusal, on_guest};
-ghost use Rattle.sheep_node.specs.OutsideAsks.{IsObjectAsk};
+ghost use Rattle.sheep_node.specs.OutsideAsks.{IsObjectAsk, InputNamesObjects};
 ghost use Rattle.sheep_node.specs.CheckWrites.{CheckWrite, write_of_course};
 ghost use Rattle.peer_proto.specs.declared.guest.GuestRsp.TheVariants.{Piece};
 ghost use Rattle.peer_proto.specs.declared.work.ObjWork.TheVariants.{Read};
+ghost use Rattle.peer_proto.specs.Ask.{IsPeerReq};
 ghost use Rattle.peer_proto.specs.Work.{IsWork};
 ghost use Rattle.peer_service.specs.State.{Peer};
 ghost use Rattle.epoch_log.specs.Appending.{IsReservable};
@@ -218,11 +220,21 @@ pub fn a_create_begins_with_its_reservation()
 /// A node opens as one, and each step that it may take leaves it one: its requests have one work each at most, which is what they wait
 /// for, with numbers that it gave, its entries are its own, its queues are its reads and writes, no more than there may be at once, and any
 /// other request is alone in its session, its reads and writes are on the disks that are open, and one that began is apart from the earlier
-/// ones, what it has read is a log, it is in the epoch of that, no `Recovered` is due, what it has of disks is valid, and its recovery may
-/// make each step.
+/// ones, what it has read is a log, it is in the epoch of that, no `Recovered` is due, what it has of disks is valid, what it has at work
+/// is sound, the lines of its sessions go with its works, and its recovery may make each step. A client asks for objects by ids, as all
+/// values of the type do.
 pub fn a_node_stays_one()
     ensures opens { (me : NodeId) (tries : ℕ) → IsSoundNode (initial_node me tries) }
-    ensures stays { (input : Input) (node : Node) → May input node → IsSoundNode node → IsSoundNode (node_step input node).node }
+    ensures stays { (input : Input) (node : Node) → May input node → InputNamesObjects input → IsSoundNode node
+        → IsSoundNode (node_step input node).node }
+{}
+
+/// What a sound node sends as it steps can be spelled, if it has a number that there may be, its recovery is in range, and so is its
+/// epoch behind the step.
+pub fn what_a_step_sends_can_be_spelled()
+    ensures { (input : Input) (node : Node) → May input node → InputNamesObjects input → IsSoundNode node → IsNode node.me.0
+        → (node_step input node).node.peer.epoch < 2 ^ 32 → RecoversInRange node
+        → All (λ (send : NodeId × PeerReq). IsPeerReq send.1) (node_step input node).outputs.sends }
 {}
 
 /// A node's step is a chain of changes, each with one effect, behind what its input changes by itself: on any input, of any node. More

@@ -11,8 +11,10 @@
 //! A step is what its input changes by itself, and then a chain of elementary changes, each with one effect and with what
 //! is known where it happens (`specs/Changes.antt`). So what holds of a node and is kept by each of these holds from its
 //! opening on (`proofs/StepChain.antt`: `kept_by_chain`): each request has one work at most (`specs/OneWork.antt`), the
-//! entries that it puts are its own (`specs/OwnEntries.antt`), and a session's queue is its reads and writes
-//! (`specs/SessionQueues.antt`), no more than there may be at once. A step is of so few changes that it sends 1,000 messages at most.
+//! entries that it puts are its own (`specs/OwnEntries.antt`), a session's queue is its reads and writes
+//! (`specs/SessionQueues.antt`), no more than there may be at once, its line is open as its works are (`specs/OpenLines.antt`), and what
+//! the node has at work is sound (`specs/SoundWorks.antt`, in a sense of valid as `specs/Validity.antt` has it), so all that it sends can
+//! be spelled. A step is of so few changes that it sends 1,000 messages at most.
 //! The changes leave a node's peer and its recovery alone: that the recovery may make each step (`specs/RecoveryRange.antt`)
 //! follows from what the input makes of them.
 //!

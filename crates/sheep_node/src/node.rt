@@ -6,6 +6,7 @@ ghost use Rattle.sheep_node.specs.Step.{node_step};
 ghost use Rattle.sheep_node.specs.May.{May};
 ghost use Rattle.sheep_node.specs.MayTests.{may};
 
+use crate::asks::objects_have_ids;
 use crate::input::Input;
 use crate::outputs::Outputs;
 use crate::state::{NodeState, NodeStore};
@@ -104,6 +105,7 @@ impl Node {
         ensures outputs { IfOk result (λ outputs. outputs ≡ (node_step input self.old.node).outputs) }
         ensures spent { OnErr result (self.new.spent ≡ true) }
     {
+        objects_have_ids(&input);
         match self.step.step(input) {
             Ok(()) => Ok(self.step.take_outputs()),
             Err(NoMemory) => {

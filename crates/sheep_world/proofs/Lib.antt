@@ -42,7 +42,6 @@ pub mod ReadIds
 pub mod PeerIds
 pub mod NodesByTheLog
 pub mod RangeBySteps
-pub mod AttemptRange
 pub mod RangeAtEvents
 pub mod TogetherInRuns
 pub mod EnabledParts

@@ -37,7 +37,7 @@ use Rattle.sheep_world.proofs.ValidNodes.{log_reservable, got_is}
 use Rattle.sheep_world.proofs.LogAtOpening.{log-holds, nodes-valid}
 use Rattle.sheep_world.proofs.NextEntries.{reads-may}
 use Rattle.sheep_world.proofs.NodesByTheLog.{by_the_log, returns_on_may}
-use Rattle.sheep_world.proofs.AttemptRange.{CanBeSpelled, tick_in_range}
+use Rattle.sheep_node.proofs.AttemptRange.{CanBeSpelled, tick_in_range}
 use Rattle.sheep_world.proofs.RangeBySteps.{request_range, reply_range, log_entry_range, return_range}
 
 some_more : (entries : List Entry) (entry : Entry) → 1 ≤ length (entries ++ entry ∷ [])

@@ -18,7 +18,6 @@ pub mod Incarnations
 pub mod WireMatch
 pub mod Ranges
 pub mod SpelledWire
-pub mod WorkRange
 pub mod OneWork
 pub mod BegunRequests
 pub mod Meets

@@ -55,7 +55,7 @@ ghost use Rattle.sheep_world.specs.Enabled.{is_enabled, enabled_events, enabled_
 ghost use Rattle.sheep_world.specs.WireMatch.{WireMatchesNodes};
 ghost use Rattle.sheep_world.specs.Ranges.{RecoveriesAreInRange};
 ghost use Rattle.sheep_world.specs.SpelledWire.{PacketsAreSpelled};
-ghost use Rattle.sheep_world.specs.WorkRange.{IsWorkInRange};
+ghost use Rattle.sheep_node.specs.WorkRange.{IsWorkInRange};
 ghost use Rattle.sheep_world.specs.BegunRequests.{RequestsWereBegun};
 ghost use Rattle.sheep_world.specs.OneWork.{NodesHaveOneWorkPerRequest, IsSentInRange, IsNewRequest};
 ghost use Rattle.sheep_world.specs.RunsWithAsks.{Happens, Asks, next_move, run_with_asks, BeganWithAsks};

@@ -2,8 +2,9 @@
 //! steps, and what it gives is a line too. [`Life`] keeps the node from one line to the next.
 //!
 //! Messages stand as the bytes that `peer_proto` gives them, with repeats counted, and everything else as words: numbers, names in
-//! hex, an entry with its kind and fields in order. The crate makes each step by `Node::step` of `sheep_node`, if `Node::may` lets it, and
-//! promises nothing of its own: that the words say what they should is seen by `node_steps`, whose list another program recorded.
+//! hex, an entry with its kind and fields in order. The crate makes each step by `Node::step` of `sheep_node`, if `Node::may` lets it:
+//! a line opens a node or makes such a step, or leaves the node (`specs/Lives.antt`). That the words say what they should is seen by
+//! `node_steps`, whose list another program recorded.
 #![tactic(auto)]
 
 mod entry_words;

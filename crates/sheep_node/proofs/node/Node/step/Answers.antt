@@ -13,5 +13,6 @@ invariant_of-self c = λ live. (
       (sym (c.take_outputs.ensures.node ∙ ap (λ (step : StepState). at_first step.node) c.in-Ok.ensures))
       (IsSoundNode-step c.args.input c.self.inside.step.node
       (subst (λ (seen : NodeOrSpent). May c.args.input seen.node) (sym c.self.view_is) c.requires.may)
+      c.objects_have_ids.ensures
       (c.self.invariant live).1),
 )

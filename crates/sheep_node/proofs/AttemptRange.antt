@@ -9,7 +9,7 @@ use Rattle.std.proofs.lemmas.List.Elements.{All-nil, All-cons, All-head, All-tai
 use Rattle.proof_tools.proofs.Booleans.{cond_either}
 use Rattle.object_id.specs.Node.{IsNode}
 use Rattle.object_id.specs.Oid.{kind_of}
-use Rattle.object_id.specs.Policy.{IsPolicy, wanted_of}
+use Rattle.object_id.specs.Policy.{IsPolicy}
 use Rattle.object_id.specs.declared.node.Epoch.{Epoch}
 use Rattle.object_id.specs.declared.node.NodeId.{NodeId}
 use Rattle.object_id.specs.declared.oid.Kind.{Kind}
@@ -29,7 +29,7 @@ use Rattle.vnode_table.specs.Targets.{targets_in}
 use Rattle.gateway.specs.Attempt.{message_for, send_of}
 use Rattle.gateway.specs.State.{Work}
 use Rattle.gateway.specs.Work.{read_from, targets_asked, ask_for}
-use Rattle.recovery.proofs.FoundLemmas.{wanted-most}
+use Rattle.gateway.proofs.AskingLemmas.{targets-most, policy_is}
 use Rattle.recovery.proofs.RangeLemmas as ranges
 use Rattle.sheep_node.specs.declared.input.Input.TheVariants as inputs
 use Rattle.sheep_node.specs.declared.limits.TheConstants.{SENDS_MAX}
@@ -42,8 +42,7 @@ use Rattle.sheep_node.specs.Step as steps
 use Rattle.sheep_node.specs.Step.{on_input, is_due, with_recovered, recovered_put, node_step}
 use Rattle.sheep_node.specs.Changes.{attempt_in}
 use Rattle.sheep_node.proofs.MessageCounts.{attempt_few}
-use Rattle.sheep_world.specs.WorkRange.{IsWorkInRange}
-use Rattle.sheep_world.proofs.RangeBySteps.{few_targets}
+use Rattle.sheep_node.specs.WorkRange.{IsWorkInRange}
 
 -- ---- what is asked of one node
 
@@ -124,38 +123,35 @@ sends_in_range me epoch work first (place ∷ places) own begun range are room =
     (record { from = own; number = omega (arith, room); epoch = begun; ask = asked_in_range work index range low })
     (sends_in_range me epoch work (first + 1) places own begun range (All-tail IsPlace place places are) (omega (arith, room)))
 
-has_policy : (work : ObjWork) → IsWork work → IsPolicy (policy_of work)
-has_policy (Create oid policy size offset bytes) is = is.0
-has_policy (Write oid policy offset bytes) is = is.0
-has_policy (Read oid policy offset size) is = is.0
-has_policy (ReadAll oid policy size) is = is.0
-
 pub attempt_in_range : (asked : Work) (node : Node) → IsNode node.gateway.me.0 → IsEpoch (record { 0 = node.peer.epoch }) → IsWorkInRange asked.work
     → node.sends + 31 ≤ 2 ^ 32
     → All CanBeSpelled (map (send_of node.gateway.me (record { 0 = node.peer.epoch }) asked.work) (attempt_in asked node).messages)
 attempt_in_range asked node own begun range room =
     let work : ObjWork = asked.work in
-    let policy : IsPolicy (policy_of work) = has_policy work range.is_work in
+    let policy : IsPolicy (policy_of work) = policy_is work range.is_work in
     let targets = targets_in node.epochs node.peer.epoch (oid_of work) (policy_of work) in
     let places = targets_asked work asked.ended targets in
-    let wanted : length targets ≤ wanted_of (policy_of work) (kind_of (oid_of work))
-    = few_targets node.epochs node.peer.epoch (oid_of work) (policy_of work) in
-    let most : wanted_of (policy_of work) (kind_of (oid_of work)) ≤ 31 = wanted-most (policy_of work) (kind_of (oid_of work)) policy in
+    let most : length targets ≤ 31 = targets-most node.epochs node.peer.epoch (oid_of work) (policy_of work) policy in
     let few : length (attempt_in asked node).messages ≤ 31 = attempt_few asked node policy in
     let made = length-map (enumerate_from node.sends places) (message_for work) in
     let numbered = length-enumerate_from node.sends places in
     sends_in_range node.gateway.me (record { 0 = node.peer.epoch }) work node.sends places own begun range
-    (asked_places work asked.ended targets (omega (arith, wanted, most))) (omega (arith, few, made, numbered, room))
+    (asked_places work asked.ended targets (omega (arith, most))) (omega (arith, few, made, numbered, room))
 
 -- ---- and a tick of a recovery
 
-pub tick_in_range : (node : Node) → may_tick node ≡ true → has_numbers node ≡ true → RecoversInRange node
-    → All CanBeSpelled (node_step inputs.RecoverTick node).outputs.sends
-unfolding node_step on_input recovered_put steps.on_recover_tick
-tick_in_range node may numbers range =
-    let so_far : StepState = steps.on_recover_tick (at_first node) in
+pub tick_asks_in_range : (node : Node) → may_tick node ≡ true → has_numbers node ≡ true → RecoversInRange node
+    → All CanBeSpelled (steps.on_recover_tick (at_first node)).outputs.sends
+unfolding steps.on_recover_tick
+tick_asks_in_range node may numbers range =
     let count : node.sends ≤ SENDS_MAX = leb-true node.sends SENDS_MAX numbers in
     let room : node.sends ≤ 2 ^ 32 - 64 = omega (arith, count) in
-    let asked : All CanBeSpelled so_far.outputs.sends
-    = ranges.asked_in_range node.sends (recovery_state_of node) (record { work = may; room = room }) range.range in
+    ranges.asked_in_range node.sends (recovery_state_of node) (record { work = may; room = room }) range.range
+
+pub tick_in_range : (node : Node) → may_tick node ≡ true → has_numbers node ≡ true → RecoversInRange node
+    → All CanBeSpelled (node_step inputs.RecoverTick node).outputs.sends
+unfolding node_step on_input recovered_put
+tick_in_range node may numbers range =
+    let so_far : StepState = steps.on_recover_tick (at_first node) in
+    let asked : All CanBeSpelled so_far.outputs.sends = tick_asks_in_range node may numbers range in
     cond_either (λ (so_far : StepState). All CanBeSpelled so_far.outputs.sends) (is_due so_far.node) (with_recovered so_far) so_far asked asked
