@@ -1,5 +1,6 @@
 pub mod Follows
 pub mod Counting
+pub mod OneDiskCounting
 pub mod Pieces
 pub mod DigitLemmas
 pub mod LineSteps

@@ -17,5 +17,6 @@ pub mod Spelling
 pub mod Writing
 pub mod OneDiskRequests
 pub mod OneDiskLines
-pub mod Totals
+pub mod OneDiskTotals
+pub mod OneDiskIndex
 pub mod Causes

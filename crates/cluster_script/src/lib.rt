@@ -1,29 +1,30 @@
 //! Cluster scripts: texts that say, line by line, what a cluster is and what is asked of it.
 //!
-//! A text is a script or it isn't: [`parse`] answers the statements that its lines spell, or else the first bad line
-//! and the cause of its first bad word. Both are exact, by a grammar over lines and words whose only state is the list
-//! of the statements so far. Want of memory is the one answer that the text doesn't decide.
+//! A text is a script or it isn't: [`parse_one_disk`] answers the statements that its lines spell, or else the first bad
+//! line and the cause of its first bad word. Both are exact, by a grammar over lines and words whose only state is the
+//! list of the statements so far. Want of memory is the one answer that the text doesn't decide.
 //!
 //! So far a text's script has one node, one session, and one disk with one copy. A definition apart from the grammar
-//! says which lists of statements are such scripts, and a [`Script`] keeps it.
+//! says which lists of statements are such scripts, and a [`OneDiskScript`] keeps it.
 //!
 //! The whole language is defined too: its statements are the type [`Statement`], and definitions say which words spell
 //! each of them, which may stand after which, how a text is read, and with which cause it is refused. Laws tie these
-//! together, and what [`parse`] takes is read the same there. What a cluster takes from a script is defined over all of
+//! together, and what [`parse_one_disk`] takes is read the same there. What a cluster takes from a script is defined over all of
 //! it: its settings and opening members, its requests by number and by session, its phases, and its sessions with the
-//! incarnations of their gateways. These are the index of a script. A [`Script`] looks them up without memory, by what
-//! [`parse`] noted once, and no look-up goes through the statements. Of the workspace the crate stands on `object_id` alone.
+//! incarnations of their gateways. These are the index of a script. A [`OneDiskScript`] looks them up without memory, by
+//! what was noted once, and no look-up goes through the statements. Of the workspace the crate stands on `object_id` alone.
 #![tactic(auto)]
 
-mod draft;
 mod fault;
 mod index;
 mod laws;
 mod limits;
-mod line;
 mod number;
-mod request;
-mod script;
+mod one_disk_draft;
+mod one_disk_index;
+mod one_disk_line;
+mod one_disk_request;
+mod one_disk_script;
 mod statement;
 mod words;
 
@@ -35,7 +36,7 @@ pub use laws::{
     one_disk_scripts_are_scripts, one_disk_texts_read_the_same, the_index_is_of_the_statements,
     what_is_asked,
 };
-pub use script::{Script, parse};
+pub use one_disk_script::{OneDiskScript, parse_one_disk};
 pub use statement::{Pattern, Statement};
 
 #[cfg(test)]

@@ -20,7 +20,7 @@ fn bad_line(
     if text.len() > INPUT_BYTES_MAX {
         return Err(Fail::from("the text is too long"));
     }
-    match parse(alloc, text.as_slice()) {
+    match parse_one_disk(alloc, text.as_slice()) {
         Ok(_script) => Ok(None),
         Err(ScriptFault::BadLine { line, cause }) => Ok(Some((line, cause.number()))),
         Err(ScriptFault::NoMemory) => Err(Fail::from("no memory")),
@@ -31,7 +31,9 @@ fn bad_line(
 fn reads_each_statement(rt: HostRuntime) -> Result<(), Fail> {
     let text =
         b"cluster 1\n\n# a comment\n session  1 node 0\n1 vdi create -c 1 a 1M\n1 vdi open a\n1 vdi write 1K 512 fill 7\n1 vdi read 0 1024\n1 vdi close";
-    let script = parse(rt.alloc(), text).ok().ok_or("the text is a script")?;
+    let script = parse_one_disk(rt.alloc(), text)
+        .ok()
+        .ok_or("the text is a script")?;
     assert!(rt;
         matches!(
             script.statements(),
@@ -73,7 +75,9 @@ fn reads_each_statement(rt: HostRuntime) -> Result<(), Fail> {
 
 #[test]
 fn has_the_settings_of_an_empty_text(rt: HostRuntime) -> Result<(), Fail> {
-    let script = parse(rt.alloc(), b"").ok().ok_or("nothing is a script")?;
+    let script = parse_one_disk(rt.alloc(), b"")
+        .ok()
+        .ok_or("nothing is a script")?;
     assert_eq!(rt; script.statements().len(), 0);
     assert_eq!(rt; script.nodes(), 1);
     assert_eq!(rt; script.vnodes(), 64);
@@ -89,7 +93,9 @@ const THREE: &[u8] =
 
 #[test]
 fn finds_a_request_by_its_number(rt: HostRuntime) -> Result<(), Fail> {
-    let script = parse(rt.alloc(), THREE).ok().ok_or("the text is a script")?;
+    let script = parse_one_disk(rt.alloc(), THREE)
+        .ok()
+        .ok_or("the text is a script")?;
     let read = script.request(3).ok_or("there is a read")?;
     assert!(rt; matches!(read.statement, Statement::Read { length: 1024, .. }));
     assert_eq!(rt; (read.session, read.phase), (1, 0));
@@ -100,7 +106,9 @@ fn finds_a_request_by_its_number(rt: HostRuntime) -> Result<(), Fail> {
 
 #[test]
 fn finds_the_requests_of_a_session(rt: HostRuntime) -> Result<(), Fail> {
-    let script = parse(rt.alloc(), THREE).ok().ok_or("the text is a script")?;
+    let script = parse_one_disk(rt.alloc(), THREE)
+        .ok()
+        .ok_or("the text is a script")?;
     assert_eq!(rt; script.request_of_session(1, 2), Some(3));
     assert_eq!(rt; script.request_of_session(1, 3), None);
     assert_eq!(rt; script.request_of_session(2, 0), None);
@@ -109,7 +117,9 @@ fn finds_the_requests_of_a_session(rt: HostRuntime) -> Result<(), Fail> {
 
 #[test]
 fn finds_a_session(rt: HostRuntime) -> Result<(), Fail> {
-    let script = parse(rt.alloc(), THREE).ok().ok_or("the text is a script")?;
+    let script = parse_one_disk(rt.alloc(), THREE)
+        .ok()
+        .ok_or("the text is a script")?;
     let session = script.session(1).ok_or("it is declared")?;
     assert_eq!(rt; (session.node, session.incarnation), (0, 1));
     assert!(rt; script.session(2).is_none());
@@ -118,7 +128,9 @@ fn finds_a_session(rt: HostRuntime) -> Result<(), Fail> {
 
 #[test]
 fn finds_a_phase(rt: HostRuntime) -> Result<(), Fail> {
-    let script = parse(rt.alloc(), THREE).ok().ok_or("the text is a script")?;
+    let script = parse_one_disk(rt.alloc(), THREE)
+        .ok()
+        .ok_or("the text is a script")?;
     assert_eq!(rt; script.phase_count(), 1);
     let phase = script.phase(0).ok_or("there is a phase")?;
     assert_eq!(rt; (phase.controls, phase.losses, phase.requests), (0, 0, 3));
@@ -130,7 +142,7 @@ fn finds_a_phase(rt: HostRuntime) -> Result<(), Fail> {
 
 #[test]
 fn has_no_phase_without_a_session(rt: HostRuntime) -> Result<(), Fail> {
-    let script = parse(rt.alloc(), b"cluster 1\n")
+    let script = parse_one_disk(rt.alloc(), b"cluster 1\n")
         .ok()
         .ok_or("a setting is a script")?;
     assert_eq!(rt; script.phase_count(), 0);
