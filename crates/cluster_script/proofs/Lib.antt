@@ -20,3 +20,4 @@ pub mod TextLaws
 pub mod PartLaws
 pub mod WritingLemmas
 pub mod WrittenLaws
+pub mod Noted

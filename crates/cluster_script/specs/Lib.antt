@@ -18,5 +18,7 @@ pub mod Writing
 pub mod OneDiskRequests
 pub mod OneDiskLines
 pub mod OneDiskTotals
+pub mod Totals
+pub mod Marks
 pub mod OneDiskIndex
 pub mod Causes

@@ -15,17 +15,28 @@
 //! what was noted once, and no look-up goes through the statements. Of the workspace the crate stands on `object_id` alone.
 #![tactic(auto)]
 
+mod disk_request;
+mod draft;
 mod fault;
+mod happening;
 mod index;
 mod laws;
 mod limits;
+mod line;
+mod marks;
 mod number;
 mod one_disk_draft;
 mod one_disk_index;
 mod one_disk_line;
 mod one_disk_request;
 mod one_disk_script;
+mod piece;
+mod policy;
+mod request;
+mod script;
+mod setting;
 mod statement;
+mod totals;
 mod words;
 
 pub use fault::{LineCause, ScriptFault};
@@ -37,6 +48,7 @@ pub use laws::{
     what_is_asked,
 };
 pub use one_disk_script::{OneDiskScript, parse_one_disk};
+pub use script::{Script, parse};
 pub use statement::{Pattern, Statement};
 
 #[cfg(test)]

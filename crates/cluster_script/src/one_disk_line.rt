@@ -1,22 +1,21 @@
-ghost use Rattle.std.specs.Prelude.{◌≡◌, true, codes, IfOk, IfErr, IfSome, OnOk};
-ghost use Rattle.std.specs.Str.{is_utf8};
+ghost use Rattle.std.specs.Prelude.{◌≡◌, true, IfOk, IfErr, IfSome, OnOk};
 ghost use Rattle.cluster_script.specs.Statements.{is_cluster, has, is_session_declared};
 ghost use Rattle.cluster_script.specs.OneDisk.{MayFollow};
 ghost use Rattle.cluster_script.specs.ReadResults.{GivesLine, FailsLine, GivesInMemory};
-ghost use Rattle.cluster_script.specs.Words.{words_of, is_next_word};
+ghost use Rattle.cluster_script.specs.Words.{words_of};
 ghost use Rattle.cluster_script.specs.Script.{line_at, IsLineTaken};
 ghost use Rattle.cluster_script.specs.OneDiskLines.{cluster_at, one_disk_session_at, one_disk_asking_session, one_disk_asked_at};
 ghost use Rattle.cluster_script.specs.OneDiskLines.{one_disk_statement_at};
 
 use crate::fault::{LineCause, ReadError};
 use crate::limits::ONE_DISK_SESSION_MAX;
+use crate::line::is_text;
 use crate::number::{is_decimal, number, number_in, within_limits};
 use crate::one_disk_draft::OneDiskDraft;
 use crate::one_disk_request::request;
 use crate::statement::Statement;
-use crate::words::{end, is_silent, is_word, keyword, next_word, word};
+use crate::words::{end, is_next, is_silent, is_word, keyword, word};
 use std::alloc::Global;
-use std::str::from_utf8;
 
 /// Reads a line after the statements before it, and adds its statement, if it has one.
 pub fn take_line(alloc: Global, draft: &mut OneDiskDraft, line: &[u8]) -> Result<(), ReadError>
@@ -48,12 +47,6 @@ fn statement_in(
     let (first, rest) = word(line)?;
     let s = statement(alloc, before, first, rest)?;
     Ok(Some(s))
-}
-
-fn is_text(line: &[u8]) -> bool
-    ensures { result ≡ is_utf8 line.now }
-{
-    from_utf8(line).is_ok()
 }
 
 /// The statement that the first word begins.
@@ -88,7 +81,7 @@ fn cluster(before: &OneDiskDraft, line: &[u8]) -> Result<Statement, LineCause>
     ensures statement { GivesLine (λ s. s) result (cluster_at before.now (words_of line.now)) }
     ensures follows { IfOk result (MayFollow before.now) }
 {
-    if !before.is_settings_only() || before.has_cluster() || is_info(line) {
+    if !before.is_settings_only() || before.has_cluster() || is_next(b"info", line) {
         return Err(LineCause::Word);
     }
     let (nodes, rest) = number(1, 1, line)?;
@@ -96,15 +89,6 @@ fn cluster(before: &OneDiskDraft, line: &[u8]) -> Result<Statement, LineCause>
     Ok(Statement::Cluster {
         nodes: nodes as u32,
     })
-}
-
-fn is_info(line: &[u8]) -> bool
-    ensures { result ≡ is_next_word (codes "info") (words_of line.now) }
-{
-    match next_word(line) {
-        None => false,
-        Some((first, _rest)) => is_word(first, b"info"),
-    }
 }
 
 /// `session S node N`.

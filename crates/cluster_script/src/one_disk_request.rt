@@ -1,10 +1,9 @@
 ghost use Rattle.std.specs.Prelude.{◌≡◌, true, false, [], IfOk};
 ghost use Rattle.cluster_script.specs.Statements.{is_open, has, requests_of, is_session_declared};
-ghost use Rattle.object_id.specs.Span.{IsSpan};
 ghost use Rattle.cluster_script.specs.OneDisk.{MayFollow, IsDiskOpen};
 ghost use Rattle.cluster_script.specs.ReadResults.{GivesLine, GivesInMemory};
 ghost use Rattle.cluster_script.specs.Words.{words_of};
-ghost use Rattle.cluster_script.specs.Requests.{close_request_at, span_at, read_request_at};
+ghost use Rattle.cluster_script.specs.Requests.{close_request_at, read_request_at};
 ghost use Rattle.cluster_script.specs.OneDiskRequests.{one_disk_create_at, one_disk_open_at, one_disk_write_at, disk_verb_at};
 ghost use Rattle.cluster_script.specs.OneDiskRequests.{one_disk_verb_at, one_disk_request_at};
 
@@ -12,9 +11,10 @@ use crate::fault::{LineCause, ReadError};
 use crate::limits::ONE_DISK_SIZE_MAX;
 use crate::number::{blocks, number};
 use crate::one_disk_draft::OneDiskDraft;
+use crate::piece::span;
 use crate::statement::{Pattern, Statement};
 use crate::words::{end, is_word, keyword, name, word};
-use object_id::{BLOCK_BYTES, Bytes, LENGTH_MAX, Policy, SHIFT_DEFAULT};
+use object_id::{BLOCK_BYTES, Bytes, Policy, SHIFT_DEFAULT};
 use std::alloc::Global;
 
 /// A request of the session, from its word `vdi` on.
@@ -168,17 +168,6 @@ fn close(before: &OneDiskDraft, session: u32, line: &[u8]) -> Result<Statement, 
         return Err(LineCause::TooMany);
     }
     Ok(Statement::Close { session })
-}
-
-/// `OFFSET LENGTH`, in bytes and whole blocks, and what follows.
-#[tactic(auto, unfolding(crate::specs::Requests::span_at))]
-fn span(line: &[u8]) -> Result<(u64, u32, &[u8]), LineCause>
-    ensures span { GivesLine (λ x. (x.0, x.1, words_of x.2.now)) result (span_at (words_of line.now)) }
-    ensures is_span { IfOk result (λ x. IsSpan x.0 x.1) }
-{
-    let (offset, rest) = blocks(0, u64::MAX, line)?;
-    let (length, rest) = blocks(u64::from(BLOCK_BYTES), LENGTH_MAX, rest)?;
-    Ok((offset, length as u32, rest))
 }
 
 /// `OFFSET LENGTH`.
