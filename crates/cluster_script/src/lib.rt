@@ -52,4 +52,6 @@ pub use script::{Script, parse};
 pub use statement::{Pattern, Statement};
 
 #[cfg(test)]
+mod one_disk_tests;
+#[cfg(test)]
 mod tests;
