@@ -21,3 +21,9 @@ pub mod PartLaws
 pub mod WritingLemmas
 pub mod WrittenLaws
 pub mod Noted
+pub mod ScriptPlaces
+pub mod SessionTables
+pub mod TableLemmas
+pub mod Stretches
+pub mod RequestReaders
+pub mod PhaseReaders

@@ -36,7 +36,7 @@ each-more before (first ∷ rest) s each may =
 pub script-more : (before : List Statement) (s : Statement) → IsScript before → MayStand before s → IsScript (before ++ s ∷ [])
 script-more before s each may = each-more [] before s each may
 
-losses-more : (sum : ℕ) (before : List Statement) (s : Statement) → losses_from sum (before ++ s ∷ []) ≡ losses_by (losses_from sum before) s
+pub losses-more : (sum : ℕ) (before : List Statement) (s : Statement) → losses_from sum (before ++ s ∷ []) ≡ losses_by (losses_from sum before) s
 losses-more sum [] s = refl
 losses-more sum (first ∷ rest) s = losses-more (losses_by sum first) rest s
 

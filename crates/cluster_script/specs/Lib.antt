@@ -20,5 +20,6 @@ pub mod OneDiskLines
 pub mod OneDiskTotals
 pub mod Totals
 pub mod Marks
+pub mod KeptIndex
 pub mod OneDiskIndex
 pub mod Causes

@@ -58,7 +58,8 @@ fn add_place(places: &mut Items<u32>, place: u32, s: &Statement) -> Result<(), N
     Ok(())
 }
 
-fn is_request(s: &Statement) -> bool
+/// Whether a statement is what a session asks for.
+pub fn is_request(s: &Statement) -> bool
     ensures { result ≡ is_request s.now }
 {
     matches!(

@@ -24,10 +24,10 @@ loop-rest-preserved c =
       count = omega (arith, after.1, c.loop-rest.invariant.count);
     }
 
-pub returns-clause-exact : goal.returns-clause-exact
-returns-clause-exact c =
+pub returns-in-Ok-of-clause-exact : goal.returns-in-Ok-of-clause-exact
+returns-in-Ok-of-clause-exact c =
     let e : c.loop-rest.rest.now ≡ [] = nil_from_length c.loop-rest.rest.now (search rules) in
     sym c.loop-rest.invariant.exact
     ∙ ap (λ t. script_of statement_at c.loop-rest.draft c.loop-rest.number (lines_of t)) e
     ∙ script_ends statement_at c.loop-rest.draft c.loop-rest.number
-    ∙ ap Ok (sym c.into_statements.ensures.statements)
+    ∙ ap Ok (sym c.into_statements.ensures.statements ∙ sym c.in-Ok-of.ensures)
