@@ -25,5 +25,6 @@ pub mod ScriptPlaces
 pub mod SessionTables
 pub mod TableLemmas
 pub mod Stretches
+pub mod PhaseOfRequest
 pub mod RequestReaders
 pub mod PhaseReaders

@@ -161,8 +161,13 @@ entry-fits controls requests (stretch ∷ rest) (suc k) entry is =
 pub requests-fit : (statements : List Statement) (phase : ℕ) (entry : PhaseEntry) → slice_get (kept_phases statements) phase ≡ Some entry
     → entry.requests_before + entry.requests ≤ length statements
 requests-fit statements phase entry is =
-    omega (arith, entry-fits 0 0 (stretches (others statements)) phase entry is, total-stretches (others statements), count-filter statements,
-    count_by-le-length is_request statements)
+    omega (
+      arith,
+      entry-fits 0 0 (stretches (others statements)) phase entry is,
+      total-stretches (others statements),
+      count-filter statements,
+      count_by-le-length is_request statements,
+    )
 
 -- the controls of stretches
 controls_in : List (List Statement) → List Statement
