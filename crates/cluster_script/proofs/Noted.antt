@@ -28,7 +28,8 @@ cluster_is_set (s ∷ rest) = go s (cluster_is_set rest)
     go s same = same
 
 -- one statement more
-each-more : (before rest : List Statement) (s : Statement) → EachMayStand before rest → MayStand (before ++ rest) s → EachMayStand before (rest ++ s ∷ [])
+each-more : (before rest : List Statement) (s : Statement) → EachMayStand before rest → MayStand (before ++ rest) s
+    → EachMayStand before (rest ++ s ∷ [])
 each-more before [] s each may = (subst (λ (b : List Statement). MayStand b s) (append-nil before) may, tt)
 each-more before (first ∷ rest) s each may =
     (each.0, each-more (before ++ first ∷ []) rest s each.1 (subst (λ (b : List Statement). MayStand b s) (sym (append_assoc before (first ∷ []) rest)) may))
@@ -36,7 +37,8 @@ each-more before (first ∷ rest) s each may =
 pub script-more : (before : List Statement) (s : Statement) → IsScript before → MayStand before s → IsScript (before ++ s ∷ [])
 script-more before s each may = each-more [] before s each may
 
-pub losses-more : (sum : ℕ) (before : List Statement) (s : Statement) → losses_from sum (before ++ s ∷ []) ≡ losses_by (losses_from sum before) s
+pub losses-more : (sum : ℕ) (before : List Statement) (s : Statement)
+    → losses_from sum (before ++ s ∷ []) ≡ losses_by (losses_from sum before) s
 losses-more sum [] s = refl
 losses-more sum (first ∷ rest) s = losses-more (losses_by sum first) rest s
 
@@ -53,7 +55,8 @@ record IsWithin (totals : Totals) : Type 0 where
   reads : totals.read_bytes ≤ READ_BYTES_MAX
   writes : totals.write_bytes ≤ WRITE_BYTES_MAX
 
-within : (before : List Statement) (totals : Totals) (s : Statement) → IsTotal before totals → MayStand before s → IsWithin (totals_after totals s)
+within : (before : List Statement) (totals : Totals) (s : Statement) → IsTotal before totals → MayStand before s
+    → IsWithin (totals_after totals s)
 within before totals (Create session policy shift name size) total may =
     record { losses = omega arith; requests = omega (arith, may.0.room); checks = omega arith; reads = omega arith; writes = omega arith }
 within before totals (OpenDisk session name tag) total may =

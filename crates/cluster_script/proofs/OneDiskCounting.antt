@@ -1,5 +1,5 @@
 -- The counters of a script of one disk with one statement more.
-use Rattle.std.proofs.Common.{◌≡◌, ℕ, ◌+◌, ◌≤◌, cond, List, [], ◌∷◌, ◌++◌, arith}
+use Rattle.std.proofs.Common.{◌≤◌, cond, List, [], ◌∷◌, ◌++◌, arith}
 use Rattle.object_id.specs.declared.limits.TheConstants.{REQUESTS_MAX, READ_BYTES_MAX, WRITE_BYTES_MAX}
 use Rattle.cluster_script.specs.declared.statement.Statement.{Statement}
 use Rattle.cluster_script.specs.declared.statement.Statement.TheVariants.{Cluster, Session, Create, OpenDisk, Close, Read, Write}

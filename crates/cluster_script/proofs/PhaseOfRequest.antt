@@ -88,7 +88,8 @@ place-longer : (number first : ℕ) (s : Statement) (stretch : List Statement) (
     → is_within number first (count_by is_request (s ∷ stretch)) ≡ is_within number (first + one s) (count_by is_request stretch)
     → place_of_number number first ((s ∷ stretch) ∷ rest) ≡ place_of_number number (first + one s) (stretch ∷ rest)
 place-longer number first s stretch rest same =
-    let behind : first + count_by is_request (s ∷ stretch) ≡ first + one s + count_by is_request stretch = omega (arith, count-cons s stretch) in
+    let behind : first + count_by is_request (s ∷ stretch) ≡ first + one s + count_by is_request stretch
+    = omega (arith, count-cons s stretch) in
     place-cons number first (s ∷ stretch) rest
     ∙ ap (λ (b : Bool). if b then 0 else 1 + place_of_number number (first + count_by is_request (s ∷ stretch)) rest) same
     ∙ ap (λ (n : ℕ). if is_within number (first + one s) (count_by is_request stretch) then 0 else 1 + place_of_number number n rest) behind
@@ -104,7 +105,8 @@ first-stretch s rest = go (stretches rest)
     chosen true f r = (s ∷ [], f ∷ r, refl)
     chosen false f r = (s ∷ f, r, refl)
 
-    go : (parts : List (List Statement)) → (first : List Statement) × (later : List (List Statement)) × (stretches_with s parts ≡ first ∷ later)
+    go : (parts : List (List Statement))
+        → (first : List Statement) × (later : List (List Statement)) × (stretches_with s parts ≡ first ∷ later)
     go [] = (s ∷ [], [], refl)
     go (f ∷ r) = chosen (is_barrier s) f r
 
@@ -181,7 +183,8 @@ phase-at first k phase q (s ∷ rest) is =
         let empty : count_by is_request (s ∷ []) ≡ 0 = omega (arith, count-cons s [], none) in
         let later : IsPhase first (first + k) (phase + 1) q rest = behind first k (phase + 1) is in
         let parted : place_of_number (first + k) first (stretches (s ∷ rest)) ≡ 1 + place_of_number (first + k) first (stretches rest)
-        = ap (place_of_number (first + k) first) (ends-with s (stretches rest) ends) ∙ place-behind (first + k) first (s ∷ []) (stretches rest) empty in
+        = ap (place_of_number (first + k) first) (ends-with s (stretches rest) ends)
+        ∙ place-behind (first + k) first (s ∷ []) (stretches rest) empty in
         omega (arith, parted, later)
     go behind false ends true asks zero is =
         let here : first ≡ first + 0 = omega arith in here-phase first (first + 0) phase q s rest ends asks here (same_Some phase q is)

@@ -74,12 +74,14 @@ begins = omega arith
 pub counts-at : (statements : List Statement) (place : ℕ)
     → option_map phase_counts (slice_get (phases_of statements) place) ≡ option_map counts_kept (slice_get (kept_phases statements) place)
 counts-at statements place =
-    at-place phase_counts counts_kept (phases_of statements) (kept_phases statements) place (same-counts 0 0 1 (stretches (others statements)) begins)
+    at-place phase_counts counts_kept (phases_of statements) (kept_phases statements) place
+    (same-counts 0 0 1 (stretches (others statements)) begins)
 
 pub barrier-at : (statements : List Statement) (place : ℕ)
     → phase_barrier_at statements place ≡ option_map (λ (entry : PhaseEntry). entry.barrier) (slice_get (kept_phases statements) place)
 barrier-at statements place =
-    at-place (λ (phase : Phase). phase.barrier) (λ (entry : PhaseEntry). entry.barrier) (phases_of statements) (kept_phases statements) place
+    at-place (λ (phase : Phase). phase.barrier) (λ (entry : PhaseEntry). entry.barrier) (phases_of statements) (kept_phases statements)
+    place
     (same-barriers 0 0 1 (stretches (others statements)))
 
 pub length-kept_phases : (statements : List Statement) → length (kept_phases statements) ≡ length (phases_of statements)
@@ -101,7 +103,8 @@ entry-barrier : (controls requests : ℕ) (parts : List (List Statement)) (k : �
     → slice_get (phase_entries controls requests parts) k ≡ Some entry → is_barrier entry.barrier ≡ true
 entry-barrier controls requests [] k entry is = absurd (none-some entry is)
 entry-barrier controls requests (stretch ∷ rest) zero entry is =
-    subst (λ (e : PhaseEntry). is_barrier e.barrier ≡ true) (same_Some (phase_entry controls requests stretch) entry is) (found-barrier stretch)
+    subst (λ (e : PhaseEntry). is_barrier e.barrier ≡ true) (same_Some (phase_entry controls requests stretch) entry is)
+    (found-barrier stretch)
 entry-barrier controls requests (stretch ∷ rest) (suc k) entry is =
     entry-barrier (controls + count_by is_control stretch) (requests + count_by is_request stretch) rest k entry is
 
@@ -131,14 +134,16 @@ request-none statements phase place none =
     request-at statements phase place
     ∙ ap (λ (found : Option PhaseEntry). option_and_then (λ (xs : List ℕ). slice_get xs place) (option_map numbers_kept found)) none
 
-pub request-past : (statements : List Statement) (phase place : ℕ) (entry : PhaseEntry) → slice_get (kept_phases statements) phase ≡ Some entry
+pub request-past : (statements : List Statement) (phase place : ℕ) (entry : PhaseEntry)
+    → slice_get (kept_phases statements) phase ≡ Some entry
     → entry.requests ≤ place → phase_request_at statements phase place ≡ None
 request-past statements phase place entry is past =
     request-at statements phase place
     ∙ ap (λ (found : Option PhaseEntry). option_and_then (λ (xs : List ℕ). slice_get xs place) (option_map numbers_kept found)) is
     ∙ range-past (entry.requests_before + 1) entry.requests place past
 
-pub request-there : (statements : List Statement) (phase place : ℕ) (entry : PhaseEntry) → slice_get (kept_phases statements) phase ≡ Some entry
+pub request-there : (statements : List Statement) (phase place : ℕ) (entry : PhaseEntry)
+    → slice_get (kept_phases statements) phase ≡ Some entry
     → place < entry.requests → phase_request_at statements phase place ≡ Some (entry.requests_before + place + 1)
 request-there statements phase place entry is within =
     let number : entry.requests_before + 1 + place ≡ entry.requests_before + place + 1 = omega arith in
@@ -174,7 +179,8 @@ controls_in : List (List Statement) → List Statement
 controls_in [] = []
 controls_in (stretch ∷ rest) = filter is_control stretch ++ controls_in rest
 
-controls-with : (s : Statement) (parts : List (List Statement)) → controls_in (stretches_with s parts) ≡ filter is_control (s ∷ []) ++ controls_in parts
+controls-with : (s : Statement) (parts : List (List Statement))
+    → controls_in (stretches_with s parts) ≡ filter is_control (s ∷ []) ++ controls_in parts
 unfolding controls_in
 controls-with s [] = refl
 controls-with s (first ∷ rest) = go (is_barrier s)
@@ -234,7 +240,8 @@ entry-control done controls requests first (suc k) place (stretch ∷ rest) entr
     = omega (arith, counted, length-append done (filter is_control stretch), length-filter is_control stretch) in
     entry-control (done ++ filter is_control stretch) (controls + count_by is_control stretch) (requests + count_by is_request stretch)
     (first + count_by is_request stretch) k place rest entry more is within
-    ∙ ap (λ (xs : List Statement). slice_get xs (entry.controls_before + place)) (append_assoc done (filter is_control stretch) (controls_in rest))
+    ∙ ap (λ (xs : List Statement). slice_get xs (entry.controls_before + place))
+    (append_assoc done (filter is_control stretch) (controls_in rest))
 
 entry-control-past : (controls requests first k place : ℕ) (parts : List (List Statement)) (entry : PhaseEntry)
     → slice_get (phase_entries controls requests parts) k ≡ Some entry → entry.controls ≤ place
@@ -260,8 +267,10 @@ control-of first (s ∷ rest) k = go (is_control s) (control-of (first + 1) rest
         → AreTogether first (s ∷ rest) (slice_get ((if b then first ∷ [] else []) ++ control_places (first + 1) rest) j)
         (slice_get (cond b (s ∷ filter is_control rest) (filter is_control rest)) j)
     go true found zero = let e : first ≡ first + 0 = omega arith in inr (0, ap Some e, refl)
-    go true found (suc j) = together-behind first s rest (slice_get (control_places (first + 1) rest) j) (slice_get (filter is_control rest) j) (found j)
-    go false found j = together-behind first s rest (slice_get (control_places (first + 1) rest) j) (slice_get (filter is_control rest) j) (found j)
+    go true found (suc j) =
+        together-behind first s rest (slice_get (control_places (first + 1) rest) j) (slice_get (filter is_control rest) j) (found j)
+    go false found j =
+        together-behind first s rest (slice_get (control_places (first + 1) rest) j) (slice_get (filter is_control rest) j) (found j)
 
 no-phase : (found : Option Phase) → option_map phase_counts found ≡ None → found ≡ None
 no-phase None none = refl
@@ -273,7 +282,8 @@ control-none statements phase place none =
     ap (option_and_then (λ (found : Phase). slice_get found.controls place))
     (no-phase (slice_get (phases_of statements) phase) (counts-at statements phase ∙ ap (option_map counts_kept) none))
 
-pub control-past : (statements : List Statement) (phase place : ℕ) (entry : PhaseEntry) → slice_get (kept_phases statements) phase ≡ Some entry
+pub control-past : (statements : List Statement) (phase place : ℕ) (entry : PhaseEntry)
+    → slice_get (kept_phases statements) phase ≡ Some entry
     → entry.controls ≤ place → control_at statements phase place ≡ None
 control-past statements phase place entry is past =
     entry-control-past 0 0 1 phase place (stretches (others statements)) entry is past
@@ -286,7 +296,8 @@ control-kept statements phase place entry is within =
     (controls-stretches (others statements) ∙ controls-others statements)
 
 -- without a place there is no control, and at its place it is found
-pub control-lost : (statements : List Statement) (phase place : ℕ) (entry : PhaseEntry) → slice_get (kept_phases statements) phase ≡ Some entry
+pub control-lost : (statements : List Statement) (phase place : ℕ) (entry : PhaseEntry)
+    → slice_get (kept_phases statements) phase ≡ Some entry
     → place < entry.controls → slice_get (control_places 0 statements) (entry.controls_before + place) ≡ None
     → control_at statements phase place ≡ None
 control-lost statements phase place entry is within none = elim (control-of 0 statements (entry.controls_before + place)) [
@@ -294,7 +305,8 @@ control-lost statements phase place entry is within none = elim (control-of 0 st
   | inr found ↦ absurd (none-some (0 + found.0) (sym none ∙ found.1))
 ]
 
-pub control-there : (statements : List Statement) (phase place at : ℕ) (entry : PhaseEntry) → slice_get (kept_phases statements) phase ≡ Some entry
+pub control-there : (statements : List Statement) (phase place at : ℕ) (entry : PhaseEntry)
+    → slice_get (kept_phases statements) phase ≡ Some entry
     → place < entry.controls → slice_get (control_places 0 statements) (entry.controls_before + place) ≡ Some at
     → control_at statements phase place ≡ slice_get statements at
 control-there statements phase place at entry is within there = elim (control-of 0 statements (entry.controls_before + place)) [

@@ -133,7 +133,8 @@ numbers_from session number statements =
     (filter (λ (request : ℕ × Statement). is_of_session session request.1) (enumerate_from number (requests_of statements)))
 
 -- the session that asks is this one
-asks-for : (session : ℕ) (asking : Option ℕ) → is_some asking ≡ true → (unwrap_or asking 0 == session) ≡ option_map_or (λ n. n == session) asking false
+asks-for : (session : ℕ) (asking : Option ℕ) → is_some asking ≡ true
+    → (unwrap_or asking 0 == session) ≡ option_map_or (λ n. n == session) asking false
 asks-for session None none = absurd (false≢true none)
 asks-for session (Some n) some = refl
 
@@ -155,7 +156,8 @@ numbers-kept session number place phase (s ∷ rest) =
     (numbers-kept session number (place + 1) (phase_after phase s) rest)
   where
     go : (asks : Bool) → is_request s ≡ asks
-        → numbers_asked session (number + 1) (request_entries (place + 1) (phase_after phase s) rest) ≡ numbers_from session (number + 1) rest
+        → numbers_asked session (number + 1) (request_entries (place + 1) (phase_after phase s) rest)
+        ≡ numbers_from session (number + 1) rest
         → numbers_asked session number (request_entries (place + 1) (phase_after phase s) rest) ≡ numbers_from session number rest
         → numbers_asked session number
         ((if asks then record { place = place; session = unwrap_or (session_of s) 0; phase = phase } ∷ [] else [])
@@ -177,7 +179,8 @@ asks-declared : (session : ℕ) (first later : List Statement) (s : Statement) �
     → is_session_declared session (first ++ s ∷ later) ≡ true
 asks-declared session first later s may asks = go s may asks
   where
-    declared : (s : Statement) (number : ℕ) → MayAsk first number → (number == session) ≡ true → is_session_declared session (first ++ s ∷ later) ≡ true
+    declared : (s : Statement) (number : ℕ) → MayAsk first number → (number == session) ≡ true
+        → is_session_declared session (first ++ s ∷ later) ≡ true
     declared s number ask same =
         any-before (declares session) first (s ∷ later)
         (subst (λ (n : ℕ). is_session_declared n first ≡ true) (eqb-true number session same) ask.declared)
@@ -201,7 +204,8 @@ none-of session number (s ∷ rest) none =
     let parts = neither (is_of_session session s) (list_any (is_of_session session) rest) none in
     go (is_request s) (none-of session (number + 1) rest parts.1) (none-of session number rest parts.1) parts.0
   where
-    go : (asks : Bool) → numbers_from session (number + 1) rest ≡ [] → numbers_from session number rest ≡ [] → is_of_session session s ≡ false
+    go : (asks : Bool) → numbers_from session (number + 1) rest ≡ [] → numbers_from session number rest ≡ []
+        → is_of_session session s ≡ false
         → map (λ (request : ℕ × Statement). request.0)
         (filter (λ (request : ℕ × Statement). is_of_session session request.1)
         (enumerate_from number (cond asks (s ∷ requests_of rest) (requests_of rest)))) ≡ []
@@ -209,7 +213,8 @@ none-of session number (s ∷ rest) none =
     go false next same other = same
 
 -- no other number than one of sessions asks in a script
-none-asked : (statements : List Statement) (session : ℕ) → IsScript statements → ¬ IsSession session → numbers_of_session statements session ≡ []
+none-asked : (statements : List Statement) (session : ℕ) → IsScript statements → ¬ IsSession session
+    → numbers_of_session statements session ≡ []
 none-asked statements session script other =
     none-of session 1 statements (false_from_ne_true (list_any (is_of_session session) statements) (λ found.
     other (is_session_declared-session statements session script

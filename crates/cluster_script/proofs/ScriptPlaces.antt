@@ -20,13 +20,15 @@ front before (s ∷ first) rest each = (each.0, front (before ++ s ∷ []) first
 
 -- the statements before one of them are a script
 pub script-before : (statements : List Statement) (i : ℕ) → IsScript statements → IsScript (take i statements)
-script-before statements i script = front [] (take i statements) (drop i statements) (subst IsScript (sym (take-append-drop i statements)) script)
+script-before statements i script =
+    front [] (take i statements) (drop i statements) (subst IsScript (sym (take-append-drop i statements)) script)
 
 -- each statement may stand behind those before it
 pub stands-at : (statements : List Statement) (i : ℕ) (d : Statement) → IsScript statements → i < length statements
     → MayStand (take i statements) (get_or statements i d)
 stands-at statements i d script within =
-    statement-stands (take i statements) (drop (suc i) statements) (get_or statements i d) (subst IsScript (sym (parted statements i d within)) script)
+    statement-stands (take i statements) (drop (suc i) statements) (get_or statements i d)
+    (subst IsScript (sym (parted statements i d within)) script)
 
 pub marked-at : (statements : List Statement) (i : ℕ) (d : Statement) → IsScript statements → i < length statements
     → MayBeMarked (get_or statements i d)

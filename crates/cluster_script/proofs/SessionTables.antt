@@ -16,7 +16,8 @@ use Rattle.cluster_script.proofs.TableLemmas.{get_or-same}
 use Rattle.cluster_script.proofs.SessionLaws.{Ascend, Ascend-sessions_from}
 
 -- among sessions that ascend from above a number there is none of it
-none-below : (number least : ℕ) (sessions : List ScriptSession) → number < least → Ascend least sessions → find (has_session_number number) sessions ≡ None
+none-below : (number least : ℕ) (sessions : List ScriptSession) → number < least → Ascend least sessions
+    → find (has_session_number number) sessions ≡ None
 unfolding Ascend
 none-below number least [] below up = refl
 none-below number least (first ∷ rest) below up =
@@ -32,7 +33,8 @@ or-none (Some x) = refl
 
 -- of one number, the one that was there is found
 find-sessions_with : (number least : ℕ) (session : ScriptSession) (sessions : List ScriptSession) → Ascend least sessions
-    → find (has_session_number number) (sessions_with session sessions) ≡ option_or (find (has_session_number number) sessions) (chosen number session)
+    → find (has_session_number number) (sessions_with session sessions)
+    ≡ option_or (find (has_session_number number) sessions) (chosen number session)
 unfolding Ascend
 find-sessions_with number least session [] up = refl
 find-sessions_with number least session (first ∷ rest) up =
@@ -53,12 +55,14 @@ find-sessions_with number least session (first ∷ rest) up =
     later false tail other is = is
 
     go : (before : Bool) → nat_lt session.number first.number ≡ before
-        → find (has_session_number number) (sessions_with session rest) ≡ option_or (find (has_session_number number) rest) (chosen number session)
+        → find (has_session_number number) (sessions_with session rest)
+        ≡ option_or (find (has_session_number number) rest) (chosen number session)
         → find (has_session_number number) (if before then session ∷ first ∷ rest else first ∷ sessions_with session rest)
         ≡ option_or (find (has_session_number number) (first ∷ rest)) (chosen number session)
     go true is behind = found (session.number == number) refl (ltb-true session.number first.number is)
     go false is behind =
-        later (first.number == number) (find (has_session_number number) (sessions_with session rest)) (find (has_session_number number) rest) behind
+        later (first.number == number) (find (has_session_number number) (sessions_with session rest))
+        (find (has_session_number number) rest) behind
 
 -- the session of a number where one more is declared
 abbrev session_after : ℕ → Option ScriptSession → Option ScriptSession → Option ScriptSession
@@ -127,7 +131,8 @@ pub table-more : (before : List Statement) (old new : SessionTable) (s : Stateme
     → ((node : ℕ) → backs_kept node new ≡ backs_kept node old + (if brings_back node s then 1 else 0))
     → IsSessionTable (before ++ s ∷ []) new
 table-more before old new s table kept counted = record {
-  sessions = λ number. ap (option_map session_seen) (kept number) ∙ declared-more number before old s table ∙ sym (numbered-more number [] before s);
+  sessions = λ number. ap (option_map session_seen) (kept number) ∙ declared-more number before old s table
+      ∙ sym (numbered-more number [] before s);
   backs = λ node. counted node ∙ sum_more (λ x. cond (brings_back node x) 1 0) (backs_kept node old) before s (table.backs node);
 }
 

@@ -33,7 +33,8 @@ neither true b none = absurd (false≢true (sym none))
 neither false b none = (refl, none)
 
 -- the first stretch ends at the first barrier
-pub stretch-ends : (statements : List Statement) (k : ℕ) (d : Statement) → list_any is_barrier (take k statements) ≡ false → k < length statements
+pub stretch-ends : (statements : List Statement) (k : ℕ) (d : Statement) → list_any is_barrier (take k statements) ≡ false
+    → k < length statements
     → is_barrier (get_or statements k d) ≡ true → stretches statements ≡ take (suc k) statements ∷ stretches (drop (suc k) statements)
 stretch-ends [] k d none within ends = absurd (omega (arith, within))
 stretch-ends (s ∷ rest) zero d none within ends = ends-with s (stretches rest) ends
@@ -90,10 +91,12 @@ behind before (s ∷ first) rest each =
 
 -- what stands from a place on may stand behind what stands before it
 pub each-behind : (statements : List Statement) (k : ℕ) → IsScript statements → EachMayStand (take k statements) (drop k statements)
-each-behind statements k script = behind [] (take k statements) (drop k statements) (subst IsScript (sym (take-append-drop k statements)) script)
+each-behind statements k script =
+    behind [] (take k statements) (drop k statements) (subst IsScript (sym (take-append-drop k statements)) script)
 
 -- the statements that are no settings are those from the first of them on
-pub others-from : (statements : List Statement) (k : ℕ) (d : Statement) → IsScript statements → list_all is_setting (take k statements) ≡ true
+pub others-from : (statements : List Statement) (k : ℕ) (d : Statement) → IsScript statements
+    → list_all is_setting (take k statements) ≡ true
     → k < length statements → is_setting (get_or statements k d) ≡ false → drop k statements ≡ others statements
 others-from statements k d script all within other =
     let s : Statement = get_or statements k d in
@@ -117,7 +120,8 @@ unfoldable pub AreBounded : List (List Statement) → Type 0
 AreBounded [] = Unit {0}
 AreBounded (stretch ∷ rest) = (sum_by losses_in stretch ≤ LOSSES_MAX) × AreBounded rest
 
-pub bounded-first : (first : List Statement) (rest : List (List Statement)) → AreBounded (first ∷ rest) → sum_by losses_in first ≤ LOSSES_MAX
+pub bounded-first : (first : List Statement) (rest : List (List Statement)) → AreBounded (first ∷ rest)
+    → sum_by losses_in first ≤ LOSSES_MAX
 unfolding AreBounded
 bounded-first first rest bounded = bounded.0
 
@@ -142,7 +146,8 @@ bounded-step : (lost : ℕ) (s : Statement) (parts : List (List Statement)) → 
 unfolding AreBounded AreBoundedBehind
 bounded-step lost s parts so_far bounded = go (is_barrier s) refl parts bounded
   where
-    go : (ends : Bool) → is_barrier s ≡ ends → (parts : List (List Statement)) → AreBoundedBehind (if ends then 0 else lost + losses_in s) parts
+    go : (ends : Bool) → is_barrier s ≡ ends → (parts : List (List Statement))
+        → AreBoundedBehind (if ends then 0 else lost + losses_in s) parts
         → AreBoundedBehind lost (stretches_with s parts)
     go true is [] bounded = (omega (arith, losses-cons s [], lossless s is, so_far), tt)
     go false is [] bounded = (omega (arith, losses-cons s [], bounded), tt)
@@ -188,7 +193,8 @@ bounded-from statements k script =
     (losses-within [] (take k statements) (omega arith) (script-before statements k script)) (each-behind statements k script))
 
 -- one phase more
-pub phases-step : (done : List PhaseEntry) (controls requests : ℕ) (stretch : List Statement) (parts : List (List Statement)) (phase : PhaseEntry)
+pub phases-step : (done : List PhaseEntry) (controls requests : ℕ) (stretch : List Statement) (parts : List (List Statement))
+    (phase : PhaseEntry)
     → phase ≡ phase_entry controls requests stretch
     → (done ++ phase ∷ []) ++ phase_entries (controls + phase.controls) (requests + phase.requests) parts
     ≡ done ++ phase_entries controls requests (stretch ∷ parts)

@@ -51,7 +51,8 @@ fn size_most(shift: u8) -> u64
 
 /// `-z SHIFT` where it stands, else the default; and what follows.
 fn shift_option(line: &[u8]) -> Result<(u8, &[u8]), LineCause>
-    ensures shift { GivesLine (λ x. (x.0, words_of x.1.now)) result (option_at (codes "-z") shift_option_at SHIFT_DEFAULT (words_of line.now)) }
+    ensures shift { GivesLine (λ x. (x.0, words_of x.1.now)) result
+        (option_at (codes "-z") shift_option_at SHIFT_DEFAULT (words_of line.now)) }
     ensures most { IfOk result (λ x. x.0 ≤ SHIFT_MAX) }
 {
     if !is_next(b"-z", line) {
@@ -65,7 +66,8 @@ fn shift_option(line: &[u8]) -> Result<(u8, &[u8]), LineCause>
 /// `[-s TAG] NAME`: a disk, or with a tag a snapshot of it, and what follows.
 #[tactic(auto, unfolding(crate::specs::Requests::disk_words_at))]
 fn disk(line: &[u8]) -> Result<(&[u8], Option<&[u8]>, &[u8]), LineCause>
-    ensures { GivesLine (λ x. (x.0.now, option_map (λ tag. tag.now) x.1, words_of x.2.now)) result (disk_words_at (words_of line.now)) }
+    ensures { GivesLine (λ x. (x.0.now, option_map (λ tag. tag.now) x.1, words_of x.2.now)) result
+        (disk_words_at (words_of line.now)) }
 {
     let (tag, rest) = tag_option(line)?;
     let (name, rest) = name(rest)?;
@@ -74,7 +76,8 @@ fn disk(line: &[u8]) -> Result<(&[u8], Option<&[u8]>, &[u8]), LineCause>
 
 /// `-s TAG` where it stands, and what follows.
 fn tag_option(line: &[u8]) -> Result<(Option<&[u8]>, &[u8]), LineCause>
-    ensures { GivesLine (λ x. (option_map (λ tag. tag.now) x.0, words_of x.1.now)) result (option_at (codes "-s") tag_at None (words_of line.now)) }
+    ensures { GivesLine (λ x. (option_map (λ tag. tag.now) x.0, words_of x.1.now)) result
+        (option_at (codes "-s") tag_at None (words_of line.now)) }
 {
     if !is_next(b"-s", line) {
         return Ok((None, line));

@@ -17,7 +17,8 @@ const COPIES_DEFAULT: u8 = 3;
 
 /// `-c POLICY` where it stands, else the default; and what follows.
 pub fn policy_option(line: &[u8]) -> Result<(Policy, &[u8]), LineCause>
-    ensures { GivesLine (λ x. (x.0, words_of x.1.now)) result (option_at (codes "-c") policy_option_at (policies.Copies 3) (words_of line.now)) }
+    ensures { GivesLine (λ x. (x.0, words_of x.1.now)) result
+        (option_at (codes "-c") policy_option_at (policies.Copies 3) (words_of line.now)) }
 {
     if !is_next(b"-c", line) {
         return Ok((Policy::Copies(COPIES_DEFAULT), line));

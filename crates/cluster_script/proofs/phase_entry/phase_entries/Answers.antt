@@ -33,7 +33,8 @@ loop-rest-preserved c =
       losses = bounded-rest c.split_at.result.0.now (stretches c.split_at.result.1.now) (subst AreBounded whole c.loop-rest.invariant.losses);
       phases = ap (λ xs. xs ++ phase_entries (c.loop-rest.controls + c.phase_of-phase.result.controls)
           (c.loop-rest.requests + c.phase_of-phase.result.requests) (stretches c.split_at.result.1.now)) c.in_ok-push.ensures.ok
-          ∙ phases-step c.loop-rest.phases c.loop-rest.controls c.loop-rest.requests c.split_at.result.0.now (stretches c.split_at.result.1.now)
+          ∙ phases-step c.loop-rest.phases c.loop-rest.controls c.loop-rest.requests c.split_at.result.0.now
+          (stretches c.split_at.result.1.now)
           c.phase_of-phase.result c.phase_of-phase.ensures.entry
           ∙ ap (λ parts. c.loop-rest.phases ++ phase_entries c.loop-rest.controls c.loop-rest.requests parts) (sym whole)
           ∙ c.loop-rest.invariant.phases;

@@ -8,7 +8,8 @@ use Rattle.cluster_script.proofs.phase_entry.setting_count.Goals as goal
 pub returns-then-not-is_setting-clause-behind : goal.returns-then-not-is_setting-clause-behind
 returns-then-not-is_setting-clause-behind c =
     let no : c.is_setting.result ≡ false = search rules in
-    others-from c.args.statements.now c.loop-place.place c.index-statements-place.result c.requires c.loop-place.invariant c.loop-place-test.true
+    others-from c.args.statements.now c.loop-place.place c.index-statements-place.result c.requires c.loop-place.invariant
+    c.loop-place-test.true
     (subst (λ s. is_setting s ≡ false) c.index-statements-place.is (sym c.is_setting.ensures ∙ no))
 
 pub returns-clause-behind : goal.returns-clause-behind

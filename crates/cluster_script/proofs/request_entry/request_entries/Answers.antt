@@ -10,6 +10,8 @@ returns-clause-few c =
     let past : length c.args.statements.now ≤ c.loop-s.s-index = omega (arith, c.loop-s-test.false) in
     let whole : c.loop-s.entries ≡ request_entries 0 0 c.args.statements.now
     = sym (append-nil c.loop-s.entries)
-    ∙ ap (λ rest. c.loop-s.entries ++ request_entries c.loop-s.place c.loop-s.phase rest) (sym (drop_all c.loop-s.s-index c.args.statements.now past))
+    ∙ ap (λ rest. c.loop-s.entries ++ request_entries c.loop-s.place c.loop-s.phase rest)
+    (sym (drop_all c.loop-s.s-index c.args.statements.now past))
     ∙ c.loop-s.invariant.entries in
-    subst (λ (entries : List RequestEntry). length entries ≤ length c.args.statements.now) (sym whole) (few-entries 0 0 c.args.statements.now)
+    subst (λ (entries : List RequestEntry). length entries ≤ length c.args.statements.now) (sym whole)
+    (few-entries 0 0 c.args.statements.now)

@@ -16,4 +16,5 @@ pub loop-count-preserved : goal.loop-count-preserved
 loop-count-preserved c = λ node within.
     c.note_zone.ensures node
     ∙ ap (λ zone. unwrap_or (zone_set node c.index-statements-statements.result) zone) (c.loop-count.invariant node within)
-    ∙ zone-step c.args.statements.now c.loop-count.count node c.index-statements-statements.result c.loop-count-test.true c.index-statements-statements.is
+    ∙ zone-step c.args.statements.now c.loop-count.count node c.index-statements-statements.result c.loop-count-test.true
+    c.index-statements-statements.is

@@ -15,7 +15,8 @@ note-requires-clause-numbers c =
 
 pub loop-s-preserved : goal.loop-s-preserved
 loop-s-preserved c =
-    subst (λ before. IsSessionTable before c.note.new.self) (sym (take_more c.args.statements.now c.loop-s.s-index c.s-item.result c.loop-s-test.true))
+    subst (λ before. IsSessionTable before c.note.new.self)
+    (sym (take_more c.args.statements.now c.loop-s.s-index c.s-item.result c.loop-s-test.true))
     (subst (λ s. IsSessionTable (take c.loop-s.s-index c.args.statements.now ++ s ∷ []) c.note.new.self) c.s-item.is
     (table-more (take c.loop-s.s-index c.args.statements.now) c.loop-s.table c.note.new.self c.s-item.result
     c.loop-s.invariant c.note.ensures.sessions c.note.ensures.backs))
