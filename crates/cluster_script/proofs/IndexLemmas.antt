@@ -20,11 +20,11 @@ use Rattle.cluster_script.specs.Index.{request_places, place_numbered, script_in
 use Rattle.cluster_script.proofs.Shape.{AreAsked, has_shape}
 
 -- at a place both lists have nothing, or a place among the statements and the statement there
-abbrev AreTogether : ℕ → List Statement → Option ℕ → Option Statement → Type 0
+abbrev pub AreTogether : ℕ → List Statement → Option ℕ → Option Statement → Type 0
 AreTogether first statements place request =
     ((place ≡ None) × (request ≡ None)) ⊎ ((i : ℕ) × (place ≡ Some (first + i)) × (request ≡ slice_get statements i))
 
-together-behind : (first : ℕ) (s : Statement) (rest : List Statement) (place : Option ℕ) (request : Option Statement)
+pub together-behind : (first : ℕ) (s : Statement) (rest : List Statement) (place : Option ℕ) (request : Option Statement)
     → AreTogether (first + 1) rest place request → AreTogether first (s ∷ rest) place request
 together-behind first s rest place request (inl none) = inl none
 together-behind first s rest place request (inr found) =

@@ -1,5 +1,6 @@
 pub mod Follows
 pub mod Counting
+pub mod OneDiskCounting
 pub mod Pieces
 pub mod DigitLemmas
 pub mod LineSteps
@@ -19,3 +20,11 @@ pub mod TextLaws
 pub mod PartLaws
 pub mod WritingLemmas
 pub mod WrittenLaws
+pub mod Noted
+pub mod ScriptPlaces
+pub mod SessionTables
+pub mod TableLemmas
+pub mod Stretches
+pub mod PhaseOfRequest
+pub mod RequestReaders
+pub mod PhaseReaders

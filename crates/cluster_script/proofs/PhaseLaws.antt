@@ -30,14 +30,14 @@ setting-no_request (Limit limit) setting = refl
 setting-no_request (Zone node zone) setting = refl
 setting-no_request s setting = absurd cc
 
-abbrev one : Statement → ℕ
+abbrev pub one : Statement → ℕ
 one s = cond (is_request s) 1 0
 
-count-cons : (s : Statement) (rest : List Statement) → count_by is_request (s ∷ rest) ≡ one s + count_by is_request rest
+pub count-cons : (s : Statement) (rest : List Statement) → count_by is_request (s ∷ rest) ≡ one s + count_by is_request rest
 count-cons s rest = omega (arith, sum_by-append (λ x. cond (is_request x) 1 0) (s ∷ []) rest)
 
 -- settings aside, the requests are the same
-count-filter : (statements : List Statement) → count_by is_request (filter (λ s. not (is_setting s)) statements) ≡ count_by is_request statements
+pub count-filter : (statements : List Statement) → count_by is_request (filter (λ s. not (is_setting s)) statements) ≡ count_by is_request statements
 count-filter [] = refl
 count-filter (s ∷ rest) = go (is_setting s) refl (count-filter rest)
   where
@@ -52,7 +52,7 @@ count-filter (s ∷ rest) = go (is_setting s) refl (count-filter rest)
     go false h kept = rw h (count-cons s (filter (λ s. not (is_setting s)) rest) ∙ ap (λ n. one s + n) kept ∙ sym (count-cons s rest))
 
 -- how many requests stretches have
-total : List (List Statement) → ℕ
+unfoldable pub total : List (List Statement) → ℕ
 total [] = 0
 total (stretch ∷ rest) = count_by is_request stretch + total rest
 
@@ -65,7 +65,7 @@ total-stretches_with s (first ∷ rest) = go (is_barrier s)
     go true = omega (arith, count-cons s [])
     go false = omega (arith, count-cons s first)
 
-total-stretches : (statements : List Statement) → total (stretches statements) ≡ count_by is_request statements
+pub total-stretches : (statements : List Statement) → total (stretches statements) ≡ count_by is_request statements
 unfolding total
 total-stretches [] = refl
 total-stretches (s ∷ rest) = total-stretches_with s (stretches rest) ∙ ap (λ n. one s + n) (total-stretches rest) ∙ sym (count-cons s rest)

@@ -15,7 +15,7 @@ use Rattle.cluster_script.specs.Nodes.{uses_node, is_node_used, failed_by, faile
 use Rattle.cluster_script.specs.Language.{HasCluster, MayStand, EachMayStand, IsScript}
 
 -- what a statement of a kind shows, where it may stand, holds where there is one
-kind-shows : (kind : Statement → Bool) (P : List Statement → Type 0)
+pub kind-shows : (kind : Statement → Bool) (P : List Statement → Type 0)
     → ((first later : List Statement) (s : Statement) → MayStand first s → kind s ≡ true → P (first ++ s ∷ later))
     → (before rest : List Statement) → EachMayStand before rest → list_any kind rest ≡ true → P (before ++ rest)
 kind-shows kind P shows before [] each found = absurd cc
@@ -25,7 +25,7 @@ kind-shows kind P shows before (s ∷ rest) each found =
       | inr later ↦ subst P (append_assoc before (s ∷ []) rest) (kind-shows kind P shows (before ++ s ∷ []) rest each.1 later)
     ]
 
-any-before : (kind : Statement → Bool) (before rest : List Statement) → list_any kind before ≡ true → list_any kind (before ++ rest) ≡ true
+pub any-before : (kind : Statement → Bool) (before rest : List Statement) → list_any kind before ≡ true → list_any kind (before ++ rest) ≡ true
 any-before kind before rest there = list_any-append kind before rest ∙ or_left (list_any kind before) (list_any kind rest) there
 
 -- a declared session has a number of sessions, and stands behind a `cluster`

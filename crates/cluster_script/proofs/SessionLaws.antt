@@ -42,7 +42,7 @@ pub session-is_session_declared : (statements : List Statement) (number : ℕ) �
 session-is_session_declared statements number = find-any (has_session_number number) (sessions_of statements) ∙ any-is_session_declared number [] statements
 
 -- the numbers don't fall, and none is below this one
-Ascend : ℕ → List ScriptSession → Type 0
+unfoldable pub Ascend : ℕ → List ScriptSession → Type 0
 Ascend least [] = Unit {0}
 Ascend least (first ∷ rest) = (least ≤ first.number) × Ascend first.number rest
 
@@ -59,7 +59,7 @@ Ascend-sessions_with least session (first ∷ rest) below up =
     go true h later = let less = ltb-true session.number first.number h in (below, (omega (arith, less), up.1))
     go false h later = (up.0, later (ltb-false session.number first.number h))
 
-Ascend-sessions_from : (before rest : List Statement) → Ascend 0 (sessions_from before rest)
+pub Ascend-sessions_from : (before rest : List Statement) → Ascend 0 (sessions_from before rest)
 unfolding Ascend
 Ascend-sessions_from before [] = tt
 Ascend-sessions_from before (lines.Session session node ∷ rest) =

@@ -1,10 +1,9 @@
 -- The index of a script: what a cluster looks up in it, so that no look-up goes through the statements.
-use Rattle.std.specs.Prelude.{◌≡◌, ℕ, zero, suc, ◌+◌, List, [], ◌∷◌, map, length, Option, None, unwrap_or, if◌then◌else◌}
+use Rattle.std.specs.Prelude.{ℕ, zero, suc, ◌+◌, List, [], ◌∷◌, map, length, Option, None, unwrap_or, if◌then◌else◌}
 use Rattle.std.specs.List.{slice_get, range_with_len}
 use Rattle.std.specs.Option.{option_map, option_and_then}
 use Rattle.object_id.specs.declared.limits.TheConstants.{NODES_MAX, SESSIONS_MAX}
 use Rattle.cluster_script.specs.declared.statement.Statement.{Statement}
-use Rattle.cluster_script.specs.declared.index.Index.{Index}
 use Rattle.cluster_script.specs.declared.index.RequestOfScript.{RequestOfScript}
 use Rattle.cluster_script.specs.declared.index.SessionOfScript.{SessionOfScript}
 use Rattle.cluster_script.specs.declared.index.PhaseOfScript.{PhaseOfScript}
@@ -110,11 +109,3 @@ request_places place (s ∷ rest) = if is_request s then place ∷ request_place
 abbrev pub place_numbered : List ℕ → ℕ → Option ℕ
 place_numbered places zero = None
 place_numbered places (suc place) = slice_get places place
-
--- what a script keeps is of its statements
-pub record IsIndex (statements : List Statement) (index : Index) : Type 0 where
-  pub nodes : index.nodes ≡ nodes_of statements
-  pub vnodes : index.vnodes ≡ vnodes_of statements
-  pub tries : index.tries ≡ tries_of statements
-  pub limit : index.limit ≡ limit_of statements
-  pub requests : index.requests ≡ request_places 0 statements

@@ -17,5 +17,9 @@ pub mod Spelling
 pub mod Writing
 pub mod OneDiskRequests
 pub mod OneDiskLines
+pub mod OneDiskTotals
 pub mod Totals
+pub mod Marks
+pub mod KeptIndex
+pub mod OneDiskIndex
 pub mod Causes

@@ -1,4 +1,4 @@
--- What `parse` takes today: the lines of scripts of one node, one session, and one disk with one copy.
+-- What `parse_one_disk` takes: the lines of scripts of one node, one session, and one disk with one copy.
 use Rattle.std.specs.Prelude.{ℕ, Bool, ◌&&◌, not, List, [], bytes_eq, codes, Result, Ok, Err, if◌then◌else◌}
 use Rattle.std.specs.List.{list_all}
 use Rattle.cluster_script.specs.declared.statement.Statement.{Statement}

@@ -1,276 +1,166 @@
-ghost use Rattle.std.specs.Prelude.{◌≡◌, ◌≤◌, ◌<◌, ◌+◌, ◌^◌, ◌==◌, ◌&&◌, not, false, ◌∷◌, ◌++◌, [], length, count_by, sum_by, Some, IsTrue};
-ghost use Rattle.std.specs.Prelude.{OnOk, OnErr};
+ghost use Rattle.std.specs.Prelude.{◌≡◌, ◌+◌, [], ◌∷◌, ◌++◌, count_by, nat_le, nat_lt, OnOk, OnErr};
 ghost use Rattle.std.specs.List.{list_all};
-ghost use Rattle.std.specs.Option.{option_copied};
-ghost use Rattle.cluster_script.specs.Statements.{is_setting, is_cluster, is_create, is_open, is_request, read_bytes, write_bytes, has};
-ghost use Rattle.cluster_script.specs.Statements.{requests_of, declares, is_session_declared, name_made, disk_name};
-ghost use Rattle.cluster_script.specs.OneDisk.{IsDiskOpen, MayFollow, IsOneDiskScript};
+ghost use Rattle.cluster_script.specs.Statements.{is_setting, is_cluster, is_session_declared, is_check, has};
+ghost use Rattle.cluster_script.specs.Settings.{is_set, nodes_set, vnodes_set, tries_set, limit_set, zone_set};
+ghost use Rattle.cluster_script.specs.Phases.{losses_from};
+ghost use Rattle.cluster_script.specs.Nodes.{is_node_used, is_failed, is_node_there};
+ghost use Rattle.cluster_script.specs.Language.{MayStand, IsScript};
 ghost use Rattle.cluster_script.specs.Requests.{has_room};
-ghost use Rattle.cluster_script.specs.OneDiskRequests.{is_disk_open, is_disk_named};
-ghost use Rattle.cluster_script.specs.Totals.{IsTotal, totals_after};
 
+use crate::marks::MarkedNumbers;
 use crate::statement::Statement;
-use crate::words::is_word;
-use object_id::{Bytes, Items, NoMemory, READ_BYTES_MAX, REQUESTS_MAX, WRITE_BYTES_MAX};
+use crate::totals::Totals;
+use object_id::{
+    CHECKS_MAX, Items, LOSSES_MAX, NoMemory, READ_BYTES_MAX, REQUESTS_MAX, WRITE_BYTES_MAX,
+};
 use std::alloc::Global;
 use std::marker::Model;
 
-/// What statements come to, so that no line has to look at all those before it.
-#[derive(Clone, Copy, Debug)]
-pub struct Totals {
-    pub settings_only: bool,
-    pub has_cluster: bool,
-    pub has_create: bool,
-    pub has_open: bool,
-    pub has_close: bool,
-    pub requests: u32,
-    pub read_bytes: u64,
-    pub write_bytes: u64,
-}
-
-impl Totals {
-    fn new() -> Self
-        ensures { IsTotal [] result }
-    {
-        Totals {
-            settings_only: true,
-            has_cluster: false,
-            has_create: false,
-            has_open: false,
-            has_close: false,
-            requests: 0,
-            read_bytes: 0,
-            write_bytes: 0,
-        }
-    }
-
-    /// With one statement more.
-    fn counted(self, s: &Statement) -> Self
-        requires requests { self.requests + 1 < 2 ^ 32 }
-        requires reads { self.read_bytes + read_bytes s.now < 2 ^ 64 }
-        requires writes { self.write_bytes + write_bytes s.now < 2 ^ 64 }
-        ensures { result ≡ totals_after self s.now }
-    {
-        match s {
-            Statement::Cluster { .. } => Totals {
-                has_cluster: true,
-                ..self
-            },
-            Statement::Vnodes { .. }
-            | Statement::Tries { .. }
-            | Statement::Limit { .. }
-            | Statement::Zone { .. } => self,
-            Statement::Session { .. }
-            | Statement::Fail { .. }
-            | Statement::Join { .. }
-            | Statement::Lose { .. }
-            | Statement::Settle
-            | Statement::ListNodes
-            | Statement::ListVdis
-            | Statement::ClusterInfo
-            | Statement::Dump
-            | Statement::Reweight { .. }
-            | Statement::Back { .. } => Totals {
-                settings_only: false,
-                ..self
-            },
-            Statement::Create { .. } => Totals {
-                has_create: true,
-                ..self.with_request()
-            },
-            Statement::OpenDisk { .. } => Totals {
-                has_open: true,
-                ..self.with_request()
-            },
-            Statement::Close { .. } => Totals {
-                has_close: true,
-                ..self.with_request()
-            },
-            Statement::Read { length, .. } => Totals {
-                read_bytes: self.read_bytes + *length as u64,
-                ..self.with_request()
-            },
-            Statement::Write { length, .. } => Totals {
-                write_bytes: self.write_bytes + *length as u64,
-                ..self.with_request()
-            },
-            Statement::Snapshot { .. }
-            | Statement::Clone { .. }
-            | Statement::Delete { .. }
-            | Statement::Check { .. } => self.with_request(),
-        }
-    }
-
-    fn with_request(self) -> Self
-        requires { self.requests + 1 < 2 ^ 32 }
-        ensures { result ≡ record self { settings_only = false; requests = self.requests + 1 } }
-    {
-        Totals {
-            settings_only: false,
-            requests: self.requests + 1,
-            ..self
-        }
-    }
-}
-
-/// The statements of the lines so far.
+/// The statements of the lines so far. What a line has to know of them is kept beside them, so that no answer goes through them.
 #[derive(Debug, Drop)]
 pub struct Draft {
     statements: Items<Statement>,
     totals: Totals,
+    numbers: MarkedNumbers,
 }
 
 impl Model for Draft {
     ghost use Rattle.std.specs.Prelude.{List};
     ghost use Rattle.cluster_script.specs.declared.statement.Statement.{Statement as Line};
-    ghost use Rattle.cluster_script.specs.OneDisk.{IsOneDiskScript};
+    ghost use Rattle.cluster_script.specs.Language.{IsScript};
     ghost use Rattle.cluster_script.specs.Totals.{IsTotal};
+    ghost use Rattle.cluster_script.specs.Marks.{AreMarked};
 
     ghost Value = { List Line };
 
     ghost view = { λ draft. draft.statements };
 
-    ghost invariant = { λ draft. IsTotal draft.statements draft.totals × IsOneDiskScript draft.statements };
+    ghost invariant = { λ draft. IsScript draft.statements × IsTotal draft.statements draft.totals
+        × AreMarked draft.statements draft.numbers };
 }
 
 impl Draft {
+    /// No statement. Takes no memory.
     pub fn new(alloc: Global) -> Self
         ensures { result ≡ [] }
     {
         Draft {
             statements: Items::new(alloc),
             totals: Totals::new(),
+            numbers: MarkedNumbers::new(),
         }
     }
 
+    /// Whether only settings stand in it, so that one more may stand.
     pub fn is_settings_only(&self) -> bool
-        ensures settings { result ≡ list_all is_setting self.now }
-        // No other setting is ever taken.
-        ensures none { IsTrue result → has is_cluster self.now ≡ false → self.now ≡ [] }
+        ensures { result ≡ list_all is_setting self.now }
     {
         self.totals.settings_only
     }
 
+    /// Whether `cluster` stands in it, so that a statement may stand that is no setting.
+    #[tactic(auto, using(crate::proofs::Noted::cluster_is_set))]
     pub fn has_cluster(&self) -> bool
-        ensures { result ≡ has is_cluster self.now }
+        ensures cluster { result ≡ has is_cluster self.now }
+        ensures set { result ≡ is_set nodes_set self.now }
     {
         self.totals.has_cluster
     }
 
-    /// Whether no request stands in it, so that the disk may be made.
-    #[tactic(auto, using(crate::proofs::Follows::no_requests))]
-    pub fn has_no_request(&self) -> bool
-        ensures count { result ≡ (count_by is_request self.now == 0) }
-        ensures none { IsTrue result → requests_of self.now ≡ [] }
+    pub fn has_vnodes(&self) -> bool
+        ensures { result ≡ is_set vnodes_set self.now }
     {
-        self.totals.requests == 0
+        self.totals.has_vnodes
     }
 
-    /// Whether the disk is made and wasn't opened.
-    pub fn awaits_open(&self) -> bool
-        ensures { result ≡ (has is_create self.now && not (has is_open self.now)) }
+    pub fn has_tries(&self) -> bool
+        ensures { result ≡ is_set tries_set self.now }
     {
-        self.totals.has_create && !self.totals.has_open
+        self.totals.has_tries
     }
 
-    /// Whether the disk is made and opened, and not closed.
-    #[tactic(auto, using(crate::proofs::Follows::disk_is_open))]
-    pub fn has_open_disk(&self) -> bool
-        ensures test { result ≡ is_disk_open self.now }
-        ensures open { IsTrue result → IsDiskOpen self.now }
+    pub fn has_limit(&self) -> bool
+        ensures { result ≡ is_set limit_set self.now }
     {
-        self.totals.has_create && self.totals.has_open && !self.totals.has_close
+        self.totals.has_limit
+    }
+
+    /// Whether the zone of a node is set.
+    pub fn has_zone(&self, node: u64) -> bool
+        ensures { result ≡ is_set (zone_set node) self.now }
+    {
+        self.numbers.zoned.has(node)
+    }
+
+    /// Whether a session of this number is declared.
+    pub fn declares(&self, session: u64) -> bool
+        ensures { result ≡ is_session_declared session self.now }
+    {
+        self.numbers.declared.has(session)
+    }
+
+    /// Whether the number of a node is used.
+    pub fn has_used(&self, node: u64) -> bool
+        ensures { result ≡ is_node_used node self.now }
+    {
+        self.numbers.used.has(node)
+    }
+
+    /// Whether a node is failed.
+    pub fn has_failed(&self, node: u64) -> bool
+        ensures { result ≡ is_failed node self.now }
+    {
+        self.numbers.failed.has(node)
+    }
+
+    /// Whether a node is there: used, and not failed.
+    pub fn has_node(&self, node: u64) -> bool
+        ensures { result ≡ is_node_there node self.now }
+    {
+        self.has_used(node) && !self.has_failed(node)
+    }
+
+    /// Whether so many messages more may be lost in the present phase.
+    pub fn may_lose(&self, count: u64) -> bool
+        ensures { result ≡ nat_le (losses_from 0 self.now + count) LOSSES_MAX }
+    {
+        count <= u64::from(LOSSES_MAX - self.totals.losses)
     }
 
     /// Whether one request more, which reads and writes so many bytes, stays within a script's limits.
     pub fn has_room(&self, read: u64, written: u64) -> bool
-        ensures room { result ≡ has_room read written self.now }
-        ensures requests { IsTrue result → count_by is_request self.now < REQUESTS_MAX }
-        ensures reads { IsTrue result → sum_by read_bytes self.now + read ≤ READ_BYTES_MAX }
-        ensures writes { IsTrue result → sum_by write_bytes self.now + written ≤ WRITE_BYTES_MAX }
+        ensures { result ≡ has_room read written self.now }
     {
         self.totals.requests < REQUESTS_MAX
             && read <= READ_BYTES_MAX - self.totals.read_bytes
             && written <= WRITE_BYTES_MAX - self.totals.write_bytes
     }
 
-    /// Whether a session of this number is declared. Looks at the statements up to its own.
-    pub fn declares(&self, session: u64) -> bool
-        ensures declared { result ≡ is_session_declared session self.now }
-        // No other session is ever declared.
-        ensures one { IsTrue result → session ≡ 1 }
+    /// Whether one check more stays within a script's limits, as far as these count checks alone.
+    pub fn may_check(&self) -> bool
+        ensures { result ≡ nat_lt (count_by is_check self.now) CHECKS_MAX }
     {
-        is_declared(session, self.statements.as_slice())
-    }
-
-    /// Whether the disk that was made has this name. Looks at the statements up to its create.
-    pub fn names_disk(&self, name: &[u8]) -> bool
-        ensures test { result ≡ is_disk_named name.now self.now }
-        ensures name { IsTrue result → disk_name self.now ≡ Some name.now }
-    {
-        is_named(name, self.statements.as_slice())
+        self.totals.checks < CHECKS_MAX
     }
 
     /// Adds the next statement. Without memory the draft stays, and the statement is dropped.
     pub fn push(&mut self, s: Statement) -> Result<(), NoMemory>
-        requires { MayFollow self.old s }
+        requires { MayStand self.old s }
         ensures ok { OnOk result (self.new ≡ self.old ++ s ∷ []) }
         ensures err { OnErr result (self.new ≡ self.old) }
     {
         let totals = self.totals.counted(&s);
+        let numbers = self.numbers.marked(&s);
         self.statements.push(s)?;
         self.totals = totals;
+        self.numbers = numbers;
         Ok(())
     }
 
     pub fn into_statements(self) -> Items<Statement>
         ensures statements { result ≡ self }
-        ensures one_disk { IsOneDiskScript result }
+        ensures script { IsScript result }
     {
         self.statements
-    }
-}
-
-fn is_declared(session: u64, before: &[Statement]) -> bool
-    ensures { result ≡ is_session_declared session before.now }
-{
-    for s in before {
-        if declares(session, s) {
-            return true;
-        }
-    }
-    false
-}
-
-fn declares(session: u64, s: &Statement) -> bool
-    ensures { result ≡ declares session s.now }
-{
-    match s {
-        Statement::Session {
-            session: number,
-            ..
-        } => *number as u64 == session,
-        _ => false,
-    }
-}
-
-fn is_named(name: &[u8], before: &[Statement]) -> bool
-    ensures { result ≡ is_disk_named name.now before.now }
-{
-    for s in before {
-        if let Some(disk) = made_by(s) {
-            return is_word(disk.as_slice(), name);
-        }
-    }
-    false
-}
-
-/// The name of the disk that a statement makes.
-fn made_by(s: &Statement) -> Option<&Bytes>
-    ensures { option_copied result ≡ name_made s.now }
-{
-    match s {
-        Statement::Create { name, .. } => Some(name),
-        _ => None,
     }
 }

@@ -2,7 +2,7 @@ ghost use Rattle.std.specs.Prelude.{◌≡◌, ◌≤◌, ◌++◌, ◌∷◌, [
 ghost use Rattle.cluster_script.specs.Statements.{is_request};
 ghost use Rattle.cluster_script.specs.Settings.{nodes_set, vnodes_set, tries_set, limit_set, nodes_of, vnodes_of, tries_of, limit_of};
 ghost use Rattle.cluster_script.specs.NumberedRequests.{session_of};
-ghost use Rattle.cluster_script.specs.Index.{IsIndex, request_places, place_numbered};
+ghost use Rattle.cluster_script.specs.Index.{request_places};
 
 use crate::statement::Statement;
 use object_id::{
@@ -34,45 +34,8 @@ pub struct PhaseOfScript {
     pub requests: u32,
 }
 
-/// What is looked up in a script, made once of its statements: the settings, and the places of the requests.
-#[derive(Debug, Drop)]
-pub struct Index {
-    pub nodes: u32,
-    pub vnodes: u16,
-    pub tries: u32,
-    pub limit: u32,
-    pub requests: Items<u32>,
-}
-
-impl Index {
-    /// The index of statements. Looks at each of them, and takes memory for the places of the requests.
-    pub fn of(alloc: Global, statements: &[Statement]) -> Result<Self, NoMemory>
-        requires { length statements.now ≤ INPUT_BYTES_MAX }
-        ensures { IfOk result (IsIndex statements.now) }
-    {
-        let requests = request_places(alloc, statements)?;
-        Ok(Index {
-            nodes: nodes_in(statements),
-            vnodes: vnodes_in(statements),
-            tries: tries_in(statements),
-            limit: limit_in(statements),
-            requests,
-        })
-    }
-
-    /// The place of a request among the statements, by its number.
-    pub fn place_of(&self, number: u32) -> Option<u32>
-        ensures { result ≡ place_numbered self.now.requests number }
-    {
-        if number == 0 {
-            return None;
-        }
-        self.requests.get(number as usize - 1).copied()
-    }
-}
-
 /// The places of the requests among statements, in order.
-fn request_places(alloc: Global, statements: &[Statement]) -> Result<Items<u32>, NoMemory>
+pub fn request_places(alloc: Global, statements: &[Statement]) -> Result<Items<u32>, NoMemory>
     requires { length statements.now ≤ INPUT_BYTES_MAX }
     ensures { IfOk result (λ places. places ≡ request_places 0 statements.now) }
 {
@@ -95,7 +58,8 @@ fn add_place(places: &mut Items<u32>, place: u32, s: &Statement) -> Result<(), N
     Ok(())
 }
 
-fn is_request(s: &Statement) -> bool
+/// Whether a statement is what a session asks for.
+pub fn is_request(s: &Statement) -> bool
     ensures { result ≡ is_request s.now }
 {
     matches!(
@@ -130,7 +94,7 @@ pub fn asking_session(s: &Statement) -> u32
     }
 }
 
-fn nodes_in(statements: &[Statement]) -> u32
+pub fn nodes_in(statements: &[Statement]) -> u32
     ensures { result ≡ nodes_of statements.now }
 {
     statements
@@ -139,7 +103,7 @@ fn nodes_in(statements: &[Statement]) -> u32
         .unwrap_or(NODES_DEFAULT)
 }
 
-fn vnodes_in(statements: &[Statement]) -> u16
+pub fn vnodes_in(statements: &[Statement]) -> u16
     ensures { result ≡ vnodes_of statements.now }
 {
     statements
@@ -148,7 +112,7 @@ fn vnodes_in(statements: &[Statement]) -> u16
         .unwrap_or(VNODES_DEFAULT)
 }
 
-fn tries_in(statements: &[Statement]) -> u32
+pub fn tries_in(statements: &[Statement]) -> u32
     ensures { result ≡ tries_of statements.now }
 {
     statements
@@ -157,7 +121,7 @@ fn tries_in(statements: &[Statement]) -> u32
         .unwrap_or(TRIES_DEFAULT)
 }
 
-fn limit_in(statements: &[Statement]) -> u32
+pub fn limit_in(statements: &[Statement]) -> u32
     ensures { result ≡ limit_of statements.now }
 {
     statements

@@ -4,28 +4,48 @@
 //! and the cause of its first bad word. Both are exact, by a grammar over lines and words whose only state is the list
 //! of the statements so far. Want of memory is the one answer that the text doesn't decide.
 //!
-//! So far a text's script has one node, one session, and one disk with one copy. A definition apart from the grammar
-//! says which lists of statements are such scripts, and a [`Script`] keeps it.
+//! The statements are the type [`Statement`]. Definitions say which words spell each of them, which may stand after
+//! which, how a text is read, and with which cause it is refused, and laws tie these together: a line is read as a
+//! statement exactly if its words spell that and it may stand there. While it reads, the parser keeps beside the
+//! statements what the grammar asks of them, so that no line goes through those before it.
 //!
-//! The whole language is defined too: its statements are the type [`Statement`], and definitions say which words spell
-//! each of them, which may stand after which, how a text is read, and with which cause it is refused. Laws tie these
-//! together, and what [`parse`] takes is read the same there. What a cluster takes from a script is defined over all of
-//! it: its settings and opening members, its requests by number and by session, its phases, and its sessions with the
-//! incarnations of their gateways. These are the index of a script. A [`Script`] looks them up without memory, by what
-//! [`parse`] noted once, and no look-up goes through the statements. Of the workspace the crate stands on `object_id` alone.
+//! What a cluster takes from a script is defined over its statements: its settings and opening members, its requests by
+//! number and by session, its phases, and its sessions with the incarnations of their gateways. These are the index of a
+//! script. A [`Script`] looks them up without memory, by what was noted once, and no look-up goes through the statements.
+//!
+//! [`parse_one_disk`] takes a part of the language: scripts of one node, one session, and one disk with one copy. A
+//! definition apart from the grammar says which lists of statements these are, and a [`OneDiskScript`] keeps it. What is
+//! taken there is read the same in the whole language. Of the workspace the crate stands on `object_id` alone.
 #![tactic(auto)]
 
+mod disk_request;
 mod draft;
 mod fault;
+mod happening;
 mod index;
 mod laws;
 mod limits;
 mod line;
+mod marks;
 mod number;
+mod one_disk_draft;
+mod one_disk_index;
+mod one_disk_line;
+mod one_disk_request;
+mod one_disk_script;
+mod phase_entry;
+mod piece;
+mod policy;
 mod request;
+mod request_entry;
 mod script;
+mod script_index;
+mod session_table;
+mod setting;
 mod statement;
+mod totals;
 mod words;
+mod zone_table;
 
 pub use fault::{LineCause, ScriptFault};
 pub use index::{PhaseOfScript, RequestOfScript, SessionOfScript};
@@ -35,8 +55,13 @@ pub use laws::{
     one_disk_scripts_are_scripts, one_disk_texts_read_the_same, the_index_is_of_the_statements,
     what_is_asked,
 };
+pub use one_disk_script::{OneDiskScript, parse_one_disk};
 pub use script::{Script, parse};
 pub use statement::{Pattern, Statement};
 
+#[cfg(test)]
+mod index_tests;
+#[cfg(test)]
+mod one_disk_tests;
 #[cfg(test)]
 mod tests;

@@ -1,27 +1,25 @@
-ghost use Rattle.std.specs.Prelude.{◌≡◌, true, codes, IfOk, IfErr, IfSome, OnOk};
+ghost use Rattle.std.specs.Prelude.{◌≡◌, IfOk, IfErr, IfSome, OnOk};
 ghost use Rattle.std.specs.Str.{is_utf8};
-ghost use Rattle.cluster_script.specs.Statements.{is_cluster, has, is_session_declared};
-ghost use Rattle.cluster_script.specs.OneDisk.{MayFollow};
-ghost use Rattle.cluster_script.specs.ReadResults.{GivesLine, FailsLine, GivesInMemory};
-ghost use Rattle.cluster_script.specs.Words.{words_of, is_next_word};
-ghost use Rattle.cluster_script.specs.Script.{line_at, IsLineTaken};
-ghost use Rattle.cluster_script.specs.OneDiskLines.{cluster_at, one_disk_session_at, one_disk_asking_session, one_disk_asked_at};
-ghost use Rattle.cluster_script.specs.OneDiskLines.{one_disk_statement_at};
+ghost use Rattle.cluster_script.specs.Language.{MayStand};
+ghost use Rattle.cluster_script.specs.ReadResults.{FailsLine, GivesInMemory};
+ghost use Rattle.cluster_script.specs.Words.{words_of};
+ghost use Rattle.cluster_script.specs.Script.{statement_behind_cluster, statement_at, line_at, IsLineTaken};
 
 use crate::draft::Draft;
 use crate::fault::{LineCause, ReadError};
-use crate::limits::ONE_DISK_SESSION_MAX;
-use crate::number::{is_decimal, number, number_in, within_limits};
-use crate::request::request;
+use crate::happening::happening;
+use crate::number::is_decimal;
+use crate::request::session_request;
+use crate::setting::{cluster, limit, tries, vnodes, zone};
 use crate::statement::Statement;
-use crate::words::{end, is_silent, is_word, keyword, next_word, word};
+use crate::words::{is_next, is_silent, is_word, word};
 use std::alloc::Global;
 use std::str::from_utf8;
 
 /// Reads a line after the statements before it, and adds its statement, if it has one.
 pub fn take_line(alloc: Global, draft: &mut Draft, line: &[u8]) -> Result<(), ReadError>
-    ensures ok { OnOk result (IsLineTaken draft.old draft.new (line_at one_disk_statement_at draft.old line.now)) }
-    ensures err { IfErr result (λ error. FailsLine error (line_at one_disk_statement_at draft.old line.now)) }
+    ensures ok { OnOk result (IsLineTaken draft.old draft.new (line_at statement_at draft.old line.now)) }
+    ensures err { IfErr result (λ error. FailsLine error (line_at statement_at draft.old line.now)) }
 {
     if let Some(s) = statement_in(alloc, draft, line)? {
         draft.push(s)?;
@@ -32,8 +30,8 @@ pub fn take_line(alloc: Global, draft: &mut Draft, line: &[u8]) -> Result<(), Re
 /// The statement of a line after those before it; `None` where the line says nothing.
 #[tactic(auto, unfolding(crate::specs::Script::line_at, crate::specs::Script::statement_of_words))]
 fn statement_in(alloc: Global, before: &Draft, line: &[u8]) -> Result<Option<Statement>, ReadError>
-    ensures line { GivesInMemory (λ s. s) result (line_at one_disk_statement_at before.now line.now) }
-    ensures follows { IfOk result (λ s. IfSome s (MayFollow before.now)) }
+    ensures line { GivesInMemory (λ s. s) result (line_at statement_at before.now line.now) }
+    ensures follows { IfOk result (λ s. IfSome s (MayStand before.now)) }
 {
     if !is_text(line) {
         return Err(ReadError::Cause(LineCause::NotUtf8));
@@ -46,103 +44,55 @@ fn statement_in(alloc: Global, before: &Draft, line: &[u8]) -> Result<Option<Sta
     Ok(Some(s))
 }
 
-fn is_text(line: &[u8]) -> bool
+pub fn is_text(line: &[u8]) -> bool
     ensures { result ≡ is_utf8 line.now }
 {
     from_utf8(line).is_ok()
 }
 
-/// The statement that the first word begins.
-#[tactic(auto, unfolding(crate::specs::OneDiskLines::one_disk_statement_at))]
+/// The statement that the first word begins. `cluster info` is no setting.
+#[tactic(auto, unfolding(crate::specs::Script::statement_at))]
 fn statement(
     alloc: Global,
     before: &Draft,
     first: &[u8],
     line: &[u8],
 ) -> Result<Statement, ReadError>
-    ensures statement { GivesInMemory (λ s. s) result (one_disk_statement_at before.now first.now (words_of line.now)) }
-    ensures follows { IfOk result (MayFollow before.now) }
+    ensures { GivesInMemory (λ s. s) result (statement_at before.now first.now (words_of line.now)) }
 {
-    if is_word(first, b"cluster") {
+    if is_word(first, b"cluster") && !is_next(b"info", line) {
         return Ok(cluster(before, line)?);
     }
+    if is_word(first, b"vnodes") {
+        return Ok(vnodes(before, line)?);
+    }
+    if is_word(first, b"tries") {
+        return Ok(tries(before, line)?);
+    }
+    if is_word(first, b"limit") {
+        return Ok(limit(before, line)?);
+    }
+    if is_word(first, b"zone") {
+        return Ok(zone(before, line)?);
+    }
+    behind_cluster(alloc, before, first, line)
+}
+
+/// Behind `cluster` a statement that is no setting may stand. Digits alone begin a request.
+#[tactic(auto, unfolding(crate::specs::Script::statement_behind_cluster))]
+fn behind_cluster(
+    alloc: Global,
+    before: &Draft,
+    first: &[u8],
+    line: &[u8],
+) -> Result<Statement, ReadError>
+    ensures { GivesInMemory (λ s. s) result (statement_behind_cluster before.now first.now (words_of line.now)) }
+{
     if !before.has_cluster() {
         return Err(ReadError::Cause(LineCause::Word));
     }
-    if is_word(first, b"session") {
-        return Ok(session(before, line)?);
-    }
     if is_decimal(first) {
-        return asked(alloc, before, first, line);
+        return session_request(alloc, before, first, line);
     }
-    Err(ReadError::Cause(LineCause::Word))
-}
-
-/// `cluster N`. It stands first, and `cluster info` is no setting.
-#[tactic(auto, unfolding(crate::specs::OneDiskLines::cluster_at))]
-fn cluster(before: &Draft, line: &[u8]) -> Result<Statement, LineCause>
-    ensures statement { GivesLine (λ s. s) result (cluster_at before.now (words_of line.now)) }
-    ensures follows { IfOk result (MayFollow before.now) }
-{
-    if !before.is_settings_only() || before.has_cluster() || is_info(line) {
-        return Err(LineCause::Word);
-    }
-    let (nodes, rest) = number(1, 1, line)?;
-    end(rest)?;
-    Ok(Statement::Cluster {
-        nodes: nodes as u32,
-    })
-}
-
-fn is_info(line: &[u8]) -> bool
-    ensures { result ≡ is_next_word (codes "info") (words_of line.now) }
-{
-    match next_word(line) {
-        None => false,
-        Some((first, _rest)) => is_word(first, b"info"),
-    }
-}
-
-/// `session S node N`.
-#[tactic(auto, unfolding(crate::specs::OneDiskLines::one_disk_session_at))]
-fn session(before: &Draft, line: &[u8]) -> Result<Statement, LineCause>
-    requires { has is_cluster before.now ≡ true }
-    ensures statement { GivesLine (λ s. s) result (one_disk_session_at before.now (words_of line.now)) }
-    ensures follows { IfOk result (MayFollow before.now) }
-{
-    let (session, rest) = number(1, 1, line)?;
-    if before.declares(session) {
-        return Err(LineCause::Twice);
-    }
-    let rest = keyword(b"node", rest)?;
-    let (node, rest) = number(0, 0, rest)?;
-    end(rest)?;
-    Ok(Statement::Session {
-        session: session as u32,
-        node: node as u32,
-    })
-}
-
-/// A request of the session that the first word names.
-#[tactic(auto, unfolding(crate::specs::OneDiskLines::one_disk_asked_at))]
-fn asked(alloc: Global, before: &Draft, first: &[u8], line: &[u8]) -> Result<Statement, ReadError>
-    ensures statement { GivesInMemory (λ s. s) result (one_disk_asked_at before.now first.now (words_of line.now)) }
-    ensures follows { IfOk result (MayFollow before.now) }
-{
-    let session = declared_session(before, first)?;
-    request(alloc, before, session, line)
-}
-
-/// The number of a declared session.
-#[tactic(auto, unfolding(crate::specs::OneDiskLines::one_disk_asking_session))]
-fn declared_session(before: &Draft, word: &[u8]) -> Result<u32, LineCause>
-    ensures session { result ≡ one_disk_asking_session before.now word.now }
-    ensures declared { IfOk result (λ number. (is_session_declared number before.now ≡ true) × (number ≡ 1)) }
-{
-    let number = number_in(word)?;
-    let session = within_limits(1, ONE_DISK_SESSION_MAX, number)?;
-    if !before.declares(session) {
-        return Err(LineCause::Unknown);
-    }
-    Ok(session as u32)
+    Ok(happening(before, first, line)?)
 }

@@ -1,42 +1,59 @@
-ghost use Rattle.std.specs.Prelude.{◌≡◌, true, false, [], IfOk};
-ghost use Rattle.cluster_script.specs.Statements.{is_open, has, requests_of, is_session_declared};
-ghost use Rattle.object_id.specs.Span.{IsSpan};
-ghost use Rattle.cluster_script.specs.OneDisk.{MayFollow, IsDiskOpen};
+ghost use Rattle.std.specs.Prelude.{◌≡◌};
 ghost use Rattle.cluster_script.specs.ReadResults.{GivesLine, GivesInMemory};
 ghost use Rattle.cluster_script.specs.Words.{words_of};
-ghost use Rattle.cluster_script.specs.Requests.{close_request_at, span_at, read_request_at};
-ghost use Rattle.cluster_script.specs.OneDiskRequests.{one_disk_create_at, one_disk_open_at, one_disk_write_at, disk_verb_at};
-ghost use Rattle.cluster_script.specs.OneDiskRequests.{one_disk_verb_at, one_disk_request_at};
+ghost use Rattle.cluster_script.specs.Requests.{close_request_at, read_request_at, write_request_at, check_request_at};
+ghost use Rattle.cluster_script.specs.Requests.{copy_verb_at, verb_at, vdi_request_at};
+ghost use Rattle.cluster_script.specs.Script.{asking_session as asking_session_of, session_request_at};
 
+use crate::disk_request::{clone_disk, create, delete, open_disk, snapshot};
 use crate::draft::Draft;
 use crate::fault::{LineCause, ReadError};
-use crate::limits::ONE_DISK_SIZE_MAX;
-use crate::number::{blocks, number};
-use crate::statement::{Pattern, Statement};
-use crate::words::{end, is_word, keyword, name, word};
-use object_id::{BLOCK_BYTES, Bytes, LENGTH_MAX, Policy, SHIFT_DEFAULT};
+use crate::number::{number_in, within_limits};
+use crate::piece::{pattern, span};
+use crate::statement::Statement;
+use crate::words::{end, is_word, keyword, word};
+use object_id::SESSIONS_MAX;
 use std::alloc::Global;
 
-/// A request of the session, from its word `vdi` on.
-#[tactic(auto, unfolding(crate::specs::OneDiskRequests::one_disk_request_at))]
-pub fn request(
+/// A request of the session that the first word names.
+#[tactic(auto, unfolding(crate::specs::Script::session_request_at))]
+pub fn session_request(
     alloc: Global,
     before: &Draft,
-    session: u32,
+    first: &[u8],
     line: &[u8],
 ) -> Result<Statement, ReadError>
-    requires one { session ≡ 1 }
-    requires declared { is_session_declared session before.now ≡ true }
-    ensures request { GivesInMemory (λ s. s) result (one_disk_request_at before.now session (words_of line.now)) }
-    ensures follows { IfOk result (MayFollow before.now) }
+    ensures { GivesInMemory (λ s. s) result (session_request_at before.now first.now (words_of line.now)) }
+{
+    let session = asking_session(before, first)?;
+    request(alloc, before, session, line)
+}
+
+/// The number of a declared session.
+#[tactic(auto, unfolding(crate::specs::Script::asking_session))]
+fn asking_session(before: &Draft, word: &[u8]) -> Result<u32, LineCause>
+    ensures { result ≡ asking_session_of before.now word.now }
+{
+    let number = number_in(word)?;
+    let session = within_limits(1, u64::from(SESSIONS_MAX), number)?;
+    if !before.declares(session) {
+        return Err(LineCause::Unknown);
+    }
+    Ok(session as u32)
+}
+
+/// A request of the session, from its word `vdi` on.
+#[tactic(auto, unfolding(crate::specs::Requests::vdi_request_at))]
+fn request(alloc: Global, before: &Draft, session: u32, line: &[u8]) -> Result<Statement, ReadError>
+    ensures { GivesInMemory (λ s. s) result (vdi_request_at before.now session (words_of line.now)) }
 {
     let rest = keyword(b"vdi", line)?;
     let (verb, rest) = word(rest)?;
     asked(alloc, before, session, verb, rest)
 }
 
-/// What the verb asks for. The first request is a create, and the second an open.
-#[tactic(auto, unfolding(crate::specs::OneDiskRequests::one_disk_verb_at))]
+/// What the verb asks for.
+#[tactic(auto, unfolding(crate::specs::Requests::verb_at))]
 fn asked(
     alloc: Global,
     before: &Draft,
@@ -44,119 +61,56 @@ fn asked(
     verb: &[u8],
     line: &[u8],
 ) -> Result<Statement, ReadError>
-    requires one { session ≡ 1 }
-    requires declared { is_session_declared session before.now ≡ true }
-    ensures request { GivesInMemory (λ s. s) result (one_disk_verb_at before.now session verb.now (words_of line.now)) }
-    ensures follows { IfOk result (MayFollow before.now) }
+    ensures { GivesInMemory (λ s. s) result (verb_at before.now session verb.now (words_of line.now)) }
 {
     if is_word(verb, b"create") {
-        return if before.has_no_request() {
-            create(alloc, before, session, line)
-        } else {
-            Err(ReadError::Cause(LineCause::Word))
-        };
+        return create(alloc, before, session, line);
     }
     if is_word(verb, b"open") {
-        return if before.awaits_open() {
-            open_disk(alloc, before, session, line)
-        } else {
-            Err(ReadError::Cause(LineCause::Word))
-        };
+        return open_disk(alloc, before, session, line);
     }
-    Ok(asked_of_open_disk(before, session, verb, line)?)
+    if is_word(verb, b"close") {
+        return Ok(close(before, session, line)?);
+    }
+    if is_word(verb, b"read") {
+        return Ok(read(before, session, line)?);
+    }
+    if is_word(verb, b"write") {
+        return Ok(write(before, session, line)?);
+    }
+    asked_of_copies(alloc, before, session, verb, line)
 }
 
-/// After the open the disk is read and written, and at last closed.
-#[tactic(auto, unfolding(crate::specs::OneDiskRequests::disk_verb_at))]
-fn asked_of_open_disk(
+/// What a verb asks for of snapshots, clones, disks that go, and the copies of a disk's objects.
+#[tactic(auto, unfolding(crate::specs::Requests::copy_verb_at))]
+fn asked_of_copies(
+    alloc: Global,
     before: &Draft,
     session: u32,
     verb: &[u8],
     line: &[u8],
-) -> Result<Statement, LineCause>
-    requires one { session ≡ 1 }
-    requires declared { is_session_declared session before.now ≡ true }
-    ensures request { GivesLine (λ s. s) result (disk_verb_at before.now session verb.now (words_of line.now)) }
-    ensures follows { IfOk result (MayFollow before.now) }
-{
-    if !before.has_open_disk() {
-        return Err(LineCause::Word);
-    }
-    if is_word(verb, b"close") {
-        return close(before, session, line);
-    }
-    if is_word(verb, b"read") {
-        return read(before, session, line);
-    }
-    if is_word(verb, b"write") {
-        return write(before, session, line);
-    }
-    Err(LineCause::Word)
-}
-
-/// `-c 1 NAME SIZE`.
-#[tactic(auto, unfolding(crate::specs::OneDiskRequests::one_disk_create_at))]
-fn create(alloc: Global, before: &Draft, session: u32, line: &[u8]) -> Result<Statement, ReadError>
-    requires one { session ≡ 1 }
-    requires declared { is_session_declared session before.now ≡ true }
-    requires turn { requests_of before.now ≡ [] }
-    ensures request { GivesInMemory (λ s. s) result (one_disk_create_at before.now session (words_of line.now)) }
-    ensures follows { IfOk result (MayFollow before.now) }
-{
-    let rest = keyword(b"-c", line)?;
-    let (copies, rest) = number(1, 1, rest)?;
-    let (name, rest) = name(rest)?;
-    let (size, rest) = blocks(u64::from(BLOCK_BYTES), ONE_DISK_SIZE_MAX, rest)?;
-    end(rest)?;
-    if !before.has_room(0, 0) {
-        return Err(ReadError::Cause(LineCause::TooMany));
-    }
-    Ok(Statement::Create {
-        session,
-        policy: Policy::Copies(copies as u8),
-        shift: SHIFT_DEFAULT,
-        name: Bytes::from_slice(alloc, name)?,
-        size,
-    })
-}
-
-/// `NAME`, that of the disk that was made.
-#[tactic(auto, unfolding(crate::specs::OneDiskRequests::one_disk_open_at))]
-fn open_disk(
-    alloc: Global,
-    before: &Draft,
-    session: u32,
-    line: &[u8],
 ) -> Result<Statement, ReadError>
-    requires one { session ≡ 1 }
-    requires declared { is_session_declared session before.now ≡ true }
-    requires turn { has is_open before.now ≡ false }
-    ensures request { GivesInMemory (λ s. s) result (one_disk_open_at before.now session (words_of line.now)) }
-    ensures follows { IfOk result (MayFollow before.now) }
+    ensures { GivesInMemory (λ s. s) result (copy_verb_at before.now session verb.now (words_of line.now)) }
 {
-    let (name, rest) = name(line)?;
-    if !before.names_disk(name) {
-        return Err(ReadError::Cause(LineCause::Word));
+    if is_word(verb, b"snapshot") {
+        return snapshot(alloc, before, session, line);
     }
-    end(rest)?;
-    if !before.has_room(0, 0) {
-        return Err(ReadError::Cause(LineCause::TooMany));
+    if is_word(verb, b"clone") {
+        return clone_disk(alloc, before, session, line);
     }
-    Ok(Statement::OpenDisk {
-        session,
-        name: Bytes::from_slice(alloc, name)?,
-        tag: None,
-    })
+    if is_word(verb, b"delete") {
+        return delete(alloc, before, session, line);
+    }
+    if is_word(verb, b"check") {
+        return Ok(check(before, session, line)?);
+    }
+    Err(ReadError::Cause(LineCause::Word))
 }
 
 /// Nothing follows the verb.
 #[tactic(auto, unfolding(crate::specs::Requests::close_request_at))]
 fn close(before: &Draft, session: u32, line: &[u8]) -> Result<Statement, LineCause>
-    requires one { session ≡ 1 }
-    requires declared { is_session_declared session before.now ≡ true }
-    requires turn { IsDiskOpen before.now }
-    ensures request { GivesLine (λ s. s) result (close_request_at before.now session (words_of line.now)) }
-    ensures follows { IfOk result (MayFollow before.now) }
+    ensures { GivesLine (λ s. s) result (close_request_at before.now session (words_of line.now)) }
 {
     end(line)?;
     if !before.has_room(0, 0) {
@@ -165,25 +119,10 @@ fn close(before: &Draft, session: u32, line: &[u8]) -> Result<Statement, LineCau
     Ok(Statement::Close { session })
 }
 
-/// `OFFSET LENGTH`, in bytes and whole blocks, and what follows.
-#[tactic(auto, unfolding(crate::specs::Requests::span_at))]
-fn span(line: &[u8]) -> Result<(u64, u32, &[u8]), LineCause>
-    ensures span { GivesLine (λ x. (x.0, x.1, words_of x.2.now)) result (span_at (words_of line.now)) }
-    ensures is_span { IfOk result (λ x. IsSpan x.0 x.1) }
-{
-    let (offset, rest) = blocks(0, u64::MAX, line)?;
-    let (length, rest) = blocks(u64::from(BLOCK_BYTES), LENGTH_MAX, rest)?;
-    Ok((offset, length as u32, rest))
-}
-
 /// `OFFSET LENGTH`.
 #[tactic(auto, unfolding(crate::specs::Requests::read_request_at))]
 fn read(before: &Draft, session: u32, line: &[u8]) -> Result<Statement, LineCause>
-    requires one { session ≡ 1 }
-    requires declared { is_session_declared session before.now ≡ true }
-    requires turn { IsDiskOpen before.now }
-    ensures request { GivesLine (λ s. s) result (read_request_at before.now session (words_of line.now)) }
-    ensures follows { IfOk result (MayFollow before.now) }
+    ensures { GivesLine (λ s. s) result (read_request_at before.now session (words_of line.now)) }
 {
     let (offset, length, rest) = span(line)?;
     end(rest)?;
@@ -197,18 +136,13 @@ fn read(before: &Draft, session: u32, line: &[u8]) -> Result<Statement, LineCaus
     })
 }
 
-/// `OFFSET LENGTH fill BYTE`.
-#[tactic(auto, unfolding(crate::specs::OneDiskRequests::one_disk_write_at))]
+/// `OFFSET LENGTH` and a pattern.
+#[tactic(auto, unfolding(crate::specs::Requests::write_request_at))]
 fn write(before: &Draft, session: u32, line: &[u8]) -> Result<Statement, LineCause>
-    requires one { session ≡ 1 }
-    requires declared { is_session_declared session before.now ≡ true }
-    requires turn { IsDiskOpen before.now }
-    ensures request { GivesLine (λ s. s) result (one_disk_write_at before.now session (words_of line.now)) }
-    ensures follows { IfOk result (MayFollow before.now) }
+    ensures { GivesLine (λ s. s) result (write_request_at before.now session (words_of line.now)) }
 {
     let (offset, length, rest) = span(line)?;
-    let rest = keyword(b"fill", rest)?;
-    let (byte, rest) = number(0, 255, rest)?;
+    let (pattern, rest) = pattern(rest)?;
     end(rest)?;
     if !before.has_room(0, length as u64) {
         return Err(LineCause::TooMany);
@@ -217,6 +151,18 @@ fn write(before: &Draft, session: u32, line: &[u8]) -> Result<Statement, LineCau
         session,
         offset,
         length,
-        pattern: Pattern::Fill(byte as u8),
+        pattern,
     })
+}
+
+/// Nothing follows the verb.
+#[tactic(auto, unfolding(crate::specs::Requests::check_request_at))]
+fn check(before: &Draft, session: u32, line: &[u8]) -> Result<Statement, LineCause>
+    ensures { GivesLine (λ s. s) result (check_request_at before.now session (words_of line.now)) }
+{
+    end(line)?;
+    if !before.may_check() || !before.has_room(0, 0) {
+        return Err(LineCause::TooMany);
+    }
+    Ok(Statement::Check { session })
 }

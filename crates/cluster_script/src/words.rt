@@ -2,7 +2,7 @@ ghost use Rattle.std.specs.Prelude.{◌≡◌, ◌<◌, ◌==◌, ◌∷◌, [],
 ghost use Rattle.std.specs.List.{before_first, after_first, list_all};
 ghost use Rattle.cluster_script.specs.OneDisk.{IsPrintedName};
 ghost use Rattle.cluster_script.specs.ReadResults.{GivesLine};
-ghost use Rattle.cluster_script.specs.Words.{words_of, says_nothing, word_at, keyword_at, end_of_words, is_name_byte, is_printed_name};
+ghost use Rattle.cluster_script.specs.Words.{words_of, says_nothing, word_at, keyword_at, is_next_word, end_of_words, is_name_byte, is_printed_name};
 ghost use Rattle.cluster_script.specs.Words.{name_word_at};
 
 use crate::fault::LineCause;
@@ -67,6 +67,16 @@ pub fn is_word(word: &[u8], expected: &[u8]) -> bool
     ensures { result ≡ bytes_eq word.now expected.now }
 {
     word == expected
+}
+
+/// Whether the next word is this one.
+pub fn is_next(expected: &[u8], line: &[u8]) -> bool
+    ensures { result ≡ is_next_word expected.now (words_of line.now) }
+{
+    match next_word(line) {
+        None => false,
+        Some((first, _rest)) => is_word(first, expected),
+    }
 }
 
 /// What follows this very word.

@@ -8,7 +8,7 @@ use crate::mode::{Mode, mode_of};
 use crate::report::report;
 use crate::runs::push_decimal;
 use crate::status::Status;
-use cluster_script::{LineCause, ScriptFault, parse};
+use cluster_script::{LineCause, ScriptFault, parse_one_disk};
 use object_id::{Bytes, INPUT_BYTES_MAX, NoMemory};
 use sheep_base::{ReadStop, Source, read_all};
 use std::alloc::Global;
@@ -68,7 +68,7 @@ fn run_script(alloc: Global, input: &[u8]) -> Result<Answer, NoMemory>
     ensures answer { IfOk result (λ answer. answer ≡ script_answer (one_disk_script_in input.now)) }
     ensures legal { IfOk result (λ _. MakesLegalHistory input.now) }
 {
-    match parse(alloc, input) {
+    match parse_one_disk(alloc, input) {
         Ok(script) => Ok(Answer {
             status: Status::Done,
             text: report(alloc, &script)?,

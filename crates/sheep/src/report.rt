@@ -5,7 +5,7 @@ ghost use Rattle.sheep.specs.Stored.{stored_block};
 
 use crate::disk::Disk;
 use crate::runs::push_decimal;
-use cluster_script::{Script, Statement};
+use cluster_script::{OneDiskScript, Statement};
 use object_id::{Bytes, NoMemory};
 use std::alloc::Global;
 
@@ -58,7 +58,7 @@ fn tell(
 }
 
 /// What the program prints for a script: a line for each request.
-pub fn report(alloc: Global, script: &Script) -> Result<Bytes, NoMemory>
+pub fn report(alloc: Global, script: &OneDiskScript) -> Result<Bytes, NoMemory>
     ensures { IfOk result (λ text. text ≡ printed_text script.now) }
 {
     let mut disk = Disk::new(alloc);

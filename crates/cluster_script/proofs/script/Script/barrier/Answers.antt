@@ -1,11 +1,23 @@
-use Rattle.std.proofs.Common.{◌<◌, List, length, sym, arith}
+use Rattle.std.proofs.Common.{◌≡◌, List, Bool, Some, None, sym, ap, ◌∙◌, if◌then◌else◌}
+use Rattle.std.specs.Prelude.{slice_get}
+use Rattle.std.specs.Option.{option_map, option_copied}
 use Rattle.cluster_script.specs.declared.statement.Statement.{Statement}
-use Rattle.cluster_script.specs.Phases.{phases_of}
-use Rattle.cluster_script.proofs.IndexLemmas.{looks, barrier-there}
+use Rattle.cluster_script.specs.declared.phase_entry.PhaseEntry.{PhaseEntry}
+use Rattle.cluster_script.proofs.PhaseReaders.{kept_phases, barrier-at, kept-barrier}
 use Rattle.cluster_script.proofs.script.Script.barrier.Goals as goal
+
+pub returns-in_err-phase : goal.returns-in_err-phase
+returns-in_err-phase c =
+    let xs : List Statement = c.self.inside.statements in
+    let none : slice_get (kept_phases xs) c.args.phase ≡ None
+    = ap (λ phases. slice_get phases c.args.phase) (sym c.self.invariant.2.phases) ∙ sym c.get.ensures ∙ ap option_copied c.in_err-phase.was in
+    c.from_residual.ensures ∙ rw (sym c.self.view_is) (sym (barrier-at xs c.args.phase ∙ ap (option_map (λ (entry : PhaseEntry). entry.barrier)) none))
 
 pub returns : goal.returns
 returns c =
     let xs : List Statement = c.self.inside.statements in
-    let within : c.args.phase < length (phases_of xs) = rw c.self.view_is (omega (arith, c.phase_count.ensures, c.if-phase-phase_count.false)) in
-    rw (sym c.self.view_is) (sym (barrier-there xs c.args.phase (looks xs c.self.invariant.1) within))
+    let some : slice_get (kept_phases xs) c.args.phase ≡ Some c.in_ok-phase.phase.now
+    = ap (λ phases. slice_get phases c.args.phase) (sym c.self.invariant.2.phases) ∙ sym c.get.ensures ∙ ap option_copied c.in_ok-phase.was in
+    c.barrier.ensures
+    ∙ ap (λ (ends : Bool). if ends then Some c.in_ok-phase.phase.now.barrier else None) (kept-barrier xs c.args.phase c.in_ok-phase.phase.now some)
+    ∙ rw (sym c.self.view_is) (sym (barrier-at xs c.args.phase ∙ ap (option_map (λ (entry : PhaseEntry). entry.barrier)) some))

@@ -1,19 +1,20 @@
-use Rattle.std.proofs.Common.{◌≡◌, ◌<◌, List, length, sym, ap, ◌∙◌, arith}
+use Rattle.std.proofs.Common.{◌≡◌, List, Some, None, sym, ap, ◌∙◌}
+use Rattle.std.specs.Prelude.{slice_get}
+use Rattle.std.specs.Option.{option_map, option_copied}
 use Rattle.cluster_script.specs.declared.statement.Statement.{Statement}
-use Rattle.cluster_script.specs.Index.{request_places}
-use Rattle.cluster_script.specs.Phases.{phases_of}
-use Rattle.cluster_script.proofs.IndexLemmas.{looks, counts-there, few-requests}
+use Rattle.cluster_script.proofs.PhaseReaders.{kept_phases, counts_kept, counts-at}
 use Rattle.cluster_script.proofs.script.Script.phase.Goals as goal
 
-pub overflow_cast-result : goal.overflow_cast-result
-overflow_cast-result c =
+pub returns-in_err-phase : goal.returns-in_err-phase
+returns-in_err-phase c =
     let xs : List Statement = c.self.inside.statements in
-    let count : c.len.result ≡ length (request_places 0 xs) = c.len.ensures ∙ ap length c.self.invariant.2.requests in
-    omega (arith, count, few-requests 0 xs, c.self.invariant.0)
+    let none : slice_get (kept_phases xs) c.args.place ≡ None
+    = ap (λ phases. slice_get phases c.args.place) (sym c.self.invariant.2.phases) ∙ sym c.get.ensures ∙ ap option_copied c.in_err-phase.was in
+    c.from_residual.ensures ∙ rw (sym c.self.view_is) (sym (counts-at xs c.args.place ∙ ap (option_map counts_kept) none))
 
 pub returns : goal.returns
 returns c =
     let xs : List Statement = c.self.inside.statements in
-    let count : c.len.result ≡ length (request_places 0 xs) = c.len.ensures ∙ ap length c.self.invariant.2.requests in
-    let within : c.args.place < length (phases_of xs) = rw c.self.view_is (omega (arith, c.phase_count.ensures, c.if-place-phase_count.false)) in
-    rw (sym c.self.view_is, count) (sym (counts-there xs c.args.place (looks xs c.self.invariant.1) within))
+    let some : slice_get (kept_phases xs) c.args.place ≡ Some c.in_ok-phase.phase.now
+    = ap (λ phases. slice_get phases c.args.place) (sym c.self.invariant.2.phases) ∙ sym c.get.ensures ∙ ap option_copied c.in_ok-phase.was in
+    rw (sym c.self.view_is) (sym (counts-at xs c.args.place ∙ ap (option_map counts_kept) some))

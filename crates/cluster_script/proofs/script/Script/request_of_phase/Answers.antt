@@ -1,26 +1,41 @@
-use Rattle.std.proofs.Common.{◌≡◌, ◌<◌, List, length, sym, ap, ◌∙◌, arith}
+use Rattle.std.proofs.Common.{◌≡◌, List, Some, None, sym, ap, ◌∙◌, arith}
+use Rattle.std.specs.Prelude.{slice_get}
+use Rattle.std.specs.Option.{option_copied}
 use Rattle.cluster_script.specs.declared.statement.Statement.{Statement}
-use Rattle.cluster_script.specs.Index.{request_places}
-use Rattle.cluster_script.specs.Phases.{phases_of}
-use Rattle.cluster_script.proofs.IndexLemmas.{looks, phase_request-behind, phase_request-there, few-requests}
+use Rattle.cluster_script.proofs.PhaseReaders.{kept_phases, request-none, request-past, request-there, requests-fit}
 use Rattle.cluster_script.proofs.script.Script.request_of_phase.Goals as goal
 
-pub returns-then-place-len : goal.returns-then-place-len
-returns-then-place-len c =
+pub returns-in_err-phase : goal.returns-in_err-phase
+returns-in_err-phase c =
     let xs : List Statement = c.self.inside.statements in
-    let count : c.len.result ≡ length (request_places 0 xs) = c.len.ensures ∙ ap length c.self.invariant.2.requests in
-    let within : c.args.phase < length (phases_of xs) = rw c.self.view_is (omega (arith, c.phase_count.ensures, c.if-phase-phase_count.false)) in
-    rw (sym c.self.view_is) (sym (phase_request-behind xs c.args.phase c.args.place (looks xs c.self.invariant.1) within (omega (arith, count, c.if-place-len.true))))
+    let none : slice_get (kept_phases xs) c.args.phase ≡ None
+    = ap (λ phases. slice_get phases c.args.phase) (sym c.self.invariant.2.phases) ∙ sym c.get.ensures ∙ ap option_copied c.in_err-phase.was in
+    c.from_residual.ensures ∙ rw (sym c.self.view_is) (sym (request-none xs c.args.phase c.args.place none))
+
+pub returns-then-place-phase : goal.returns-then-place-phase
+returns-then-place-phase c =
+    let xs : List Statement = c.self.inside.statements in
+    let some : slice_get (kept_phases xs) c.args.phase ≡ Some c.in_ok-phase.phase.now
+    = ap (λ phases. slice_get phases c.args.phase) (sym c.self.invariant.2.phases) ∙ sym c.get.ensures ∙ ap option_copied c.in_ok-phase.was in
+    rw (sym c.self.view_is) (sym (request-past xs c.args.phase c.args.place c.in_ok-phase.phase.now some c.if-place-phase.true))
 
 pub overflow_add-result : goal.overflow_add-result
 overflow_add-result c =
     let xs : List Statement = c.self.inside.statements in
-    let count : c.len.result ≡ length (request_places 0 xs) = c.len.ensures ∙ ap length c.self.invariant.2.requests in
-    omega (arith, count, c.if-place-len.false, few-requests 0 xs, c.self.invariant.0)
+    let some : slice_get (kept_phases xs) c.args.phase ≡ Some c.in_ok-phase.phase.now
+    = ap (λ phases. slice_get phases c.args.phase) (sym c.self.invariant.2.phases) ∙ sym c.get.ensures ∙ ap option_copied c.in_ok-phase.was in
+    omega (arith, requests-fit xs c.args.phase c.in_ok-phase.phase.now some, c.if-place-phase.false, c.self.invariant.0)
+
+pub overflow_add-result-2 : goal.overflow_add-result-2
+overflow_add-result-2 c =
+    let xs : List Statement = c.self.inside.statements in
+    let some : slice_get (kept_phases xs) c.args.phase ≡ Some c.in_ok-phase.phase.now
+    = ap (λ phases. slice_get phases c.args.phase) (sym c.self.invariant.2.phases) ∙ sym c.get.ensures ∙ ap option_copied c.in_ok-phase.was in
+    omega (arith, requests-fit xs c.args.phase c.in_ok-phase.phase.now some, c.if-place-phase.false, c.self.invariant.0)
 
 pub returns : goal.returns
 returns c =
     let xs : List Statement = c.self.inside.statements in
-    let count : c.len.result ≡ length (request_places 0 xs) = c.len.ensures ∙ ap length c.self.invariant.2.requests in
-    let within : c.args.phase < length (phases_of xs) = rw c.self.view_is (omega (arith, c.phase_count.ensures, c.if-phase-phase_count.false)) in
-    rw (sym c.self.view_is) (sym (phase_request-there xs c.args.phase c.args.place (looks xs c.self.invariant.1) within (omega (arith, count, c.if-place-len.false))))
+    let some : slice_get (kept_phases xs) c.args.phase ≡ Some c.in_ok-phase.phase.now
+    = ap (λ phases. slice_get phases c.args.phase) (sym c.self.invariant.2.phases) ∙ sym c.get.ensures ∙ ap option_copied c.in_ok-phase.was in
+    rw (sym c.self.view_is) (sym (request-there xs c.args.phase c.args.place c.in_ok-phase.phase.now some c.if-place-phase.false))

@@ -1,28 +1,29 @@
-use Rattle.std.proofs.Common.{◌≡◌, List, length, sym, ap, ◌∙◌, arith}
+use Rattle.std.proofs.Common.{◌≡◌, ◌-◌, ◌≤◌, ℕ, List, Some, None, sym, ap, ◌∙◌, arith}
+use Rattle.std.specs.Prelude.{slice_get}
+use Rattle.std.specs.Option.{option_copied}
 use Rattle.cluster_script.specs.declared.statement.Statement.{Statement}
-use Rattle.cluster_script.specs.Index.{request_places}
-use Rattle.cluster_script.proofs.IndexLemmas.{looks, number-there, number-past, number-other, few-requests}
+use Rattle.cluster_script.proofs.RequestReaders.{kept_numbers, numbers-zero, numbers-none, numbers-found}
 use Rattle.cluster_script.proofs.script.Script.request_of_session.Goals as goal
 
-pub returns-then-session-ne-ONLY_SESSION : goal.returns-then-session-ne-ONLY_SESSION
-returns-then-session-ne-ONLY_SESSION c =
+pub returns-then-session-eq0 : goal.returns-then-session-eq0
+returns-then-session-eq0 c =
     let xs : List Statement = c.self.inside.statements in
-    rw (sym c.self.view_is) (sym (number-other xs c.args.session c.args.place (looks xs c.self.invariant.1) c.if-session-ne-ONLY_SESSION.true))
+    rw (sym c.self.view_is, c.if-session-eq0.true) (sym (ap (λ (numbers : List ℕ). slice_get numbers c.args.place) (numbers-zero xs c.self.invariant.1)))
 
-pub returns-then-place-count : goal.returns-then-place-count
-returns-then-place-count c =
+pub returns-in_err-numbers : goal.returns-in_err-numbers
+returns-in_err-numbers c =
     let xs : List Statement = c.self.inside.statements in
-    let count : c.len-count.result ≡ length (request_places 0 xs) = c.len-count.ensures ∙ ap length c.self.invariant.2.requests in
-    rw (sym c.self.view_is, c.if-session-ne-ONLY_SESSION.false) (sym (number-past xs c.args.place (looks xs c.self.invariant.1) (omega (arith, count, c.if-place-count.true))))
-
-pub overflow_add-result : goal.overflow_add-result
-overflow_add-result c =
-    let xs : List Statement = c.self.inside.statements in
-    let count : c.len-count.result ≡ length (request_places 0 xs) = c.len-count.ensures ∙ ap length c.self.invariant.2.requests in
-    omega (arith, count, c.if-place-count.false, few-requests 0 xs, c.self.invariant.0)
+    let none : slice_get (kept_numbers xs) (c.args.session - 1) ≡ None
+    = ap (λ (lists : List (List ℕ)). slice_get lists (c.args.session - 1)) (sym c.self.invariant.2.numbers) ∙ sym c.get.ensures ∙ ap option_copied c.in_err-numbers.was in
+    let some : 1 ≤ c.args.session = omega (arith, c.if-session-eq0.false) in
+    c.from_residual.ensures
+    ∙ rw (sym c.self.view_is) (sym (ap (λ (numbers : List ℕ). slice_get numbers c.args.place) (numbers-none xs c.args.session c.self.invariant.1 some none)))
 
 pub returns : goal.returns
 returns c =
     let xs : List Statement = c.self.inside.statements in
-    let count : c.len-count.result ≡ length (request_places 0 xs) = c.len-count.ensures ∙ ap length c.self.invariant.2.requests in
-    rw (sym c.self.view_is, c.if-session-ne-ONLY_SESSION.false) (sym (number-there xs c.args.place (looks xs c.self.invariant.1) (omega (arith, count, c.if-place-count.false))))
+    let is : slice_get (kept_numbers xs) (c.args.session - 1) ≡ Some c.in_ok-numbers.numbers.now
+    = ap (λ (lists : List (List ℕ)). slice_get lists (c.args.session - 1)) (sym c.self.invariant.2.numbers) ∙ sym c.get.ensures ∙ ap option_copied c.in_ok-numbers.was in
+    let some : 1 ≤ c.args.session = omega (arith, c.if-session-eq0.false) in
+    c.copied.ensures ∙ c.get-2.ensures
+    ∙ rw (sym c.self.view_is) (sym (ap (λ (numbers : List ℕ). slice_get numbers c.args.place) (numbers-found xs c.args.session c.in_ok-numbers.numbers.now some is)))
