@@ -77,6 +77,13 @@ pub fn begin_check(alloc: Global, inode: &Inode) -> Result<(CheckOp, CheckAct), 
 }
 
 impl CheckOp {
+    /// How many own objects the check has found. Takes no memory.
+    pub fn objects_found(&self) -> u32
+        ensures { result ≡ self.now.found.objects }
+    {
+        self.found.objects
+    }
+
     /// How many bytes the work gives that the check waits for; `None` if it waits for none. Takes no memory.
     pub fn bytes_wanted(&self) -> Option<usize>
         ensures { result ≡ check_bytes_wanted self.now }

@@ -4,6 +4,7 @@ ghost use Rattle.std.specs.Prelude.{◌≡◌, ◌↔◌, false, IsTrue};
 ghost use Rattle.std.specs.Option.{option_map_or};
 ghost use Rattle.epoch_log.specs.Members.{is_member};
 ghost use Rattle.vnode_table.specs.Epochs.{members_at};
+ghost use Rattle.sheep_node.specs.LogReading.{is_epoch_member};
 ghost use Rattle.sheep_node.specs.State.{session_at};
 ghost use Rattle.sheep_node.specs.StepFacts.{FollowsLog, IsLogSoFar, HasReadLog, IsByTheLog};
 ghost use Rattle.sheep_node.specs.May.{MayRead, has_room_for, queued_at_most, has_work_to_retry};
@@ -105,6 +106,15 @@ impl NodeState {
         }
     }
 
+    /// Whether the node is a member of the newest epoch that it has read.
+    pub fn is_member(&self) -> bool
+        requires log { HasReadLog self.now }
+        requires by_the_log { IsByTheLog self.now }
+        ensures { result ≡ is_epoch_member self.now }
+    {
+        self.rows.has_member(self.me)
+    }
+
     /// Whether a guest's request may begin.
     fn may_take_ask(&self, req: u32, session: u32, ask: &Ask) -> bool
         requires log { HasReadLog self.now }
@@ -113,7 +123,7 @@ impl NodeState {
     {
         self.has_room_for(session, ask)
             && !self.requests.has(req)
-            && self.rows.has_member(self.me)
+            && self.is_member()
             && self.is_guest_ask(ask)
     }
 

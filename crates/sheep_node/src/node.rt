@@ -1,14 +1,20 @@
 //! A node of the cluster, and that it is spent at want of memory.
 
 ghost use Rattle.std.specs.Prelude.{◌≡◌, false, true, length, IfOk, IsTrue, OnErr, OnOk};
+ghost use Rattle.std.specs.Option.{option_copied};
+ghost use Rattle.std.specs.FinMap as tree;
 ghost use Rattle.sheep_node.specs.State.{initial_node};
 ghost use Rattle.sheep_node.specs.Step.{node_step};
-ghost use Rattle.sheep_node.specs.May.{May};
+ghost use Rattle.sheep_node.specs.May.{May, has_numbers};
+ghost use Rattle.sheep_node.specs.LogReading.{is_epoch_member};
 ghost use Rattle.sheep_node.specs.MayTests.{may};
 
 use crate::asks::objects_have_ids;
+use crate::course::Request;
 use crate::input::Input;
+use crate::limits::SENDS_MAX;
 use crate::outputs::Outputs;
+use crate::session::Session;
 use crate::state::{NodeState, NodeStore};
 use crate::step_state::StepState;
 use object_id::{NoMemory, NodeId};
@@ -95,6 +101,38 @@ impl Node {
         ensures { result ≡ length self.now.node.peer.entries }
     {
         self.peer().directory().entries().len()
+    }
+
+    /// Whether the node has numbers left for what a step may send. Takes no memory.
+    pub fn has_numbers(&self) -> bool
+        requires { self.now.spent ≡ false }
+        ensures { result ≡ has_numbers self.now.node }
+    {
+        self.step.node.sends <= SENDS_MAX
+    }
+
+    /// Whether the node is a member of the newest epoch that it has read. Takes no memory; looks through the epoch's members.
+    pub fn is_member(&self) -> bool
+        requires { self.now.spent ≡ false }
+        ensures { result ≡ is_epoch_member self.now.node }
+    {
+        self.step.node.is_member()
+    }
+
+    /// The session of a number; `None` if it has asked the node nothing. Takes no memory; costs a look-up.
+    pub fn session(&self, number: u32) -> Option<&Session>
+        requires { self.now.spent ≡ false }
+        ensures { option_copied result ≡ tree.get self.now.node.sessions number }
+    {
+        self.step.node.sessions.get(number)
+    }
+
+    /// The request of a number; `None` if the node has none that is without reply. Takes no memory; costs a look-up.
+    pub fn request(&self, req: u32) -> Option<&Request>
+        requires { self.now.spent ≡ false }
+        ensures { option_copied result ≡ tree.get self.now.node.requests req }
+    {
+        self.step.node.requests.get(req)
     }
 
     /// A step on an input: exactly the step of the definition, with what it gives. Without memory the node is spent.
