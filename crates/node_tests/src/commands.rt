@@ -1,46 +1,28 @@
 //! Worked commands: what each does, one act after the other, on the disks `a`, whose id is 0x01ec8c, and `b`, 0x01f1a5. They have
 //! three objects of 4,096 bytes, so 4,676 bytes of their inodes are ever written.
 
+use crate::act_words::{write_end, write_op_act};
 use crate::trial::{
-    A, SPEC, bytes, clone_b, close_a, course, create_a, decided, is_inode, make_snapshot, open_a,
+    A, Log, OpenDisk, SPEC, clone_b, course, create_a, decided, open_a, opened_a, snapshot_of_a,
     take_snapshot,
 };
-use disk_lock::Locks;
 use inode::Inode;
-use object_id::{Cause, Entry, NodeId, Origin, Policy, Vid};
-use peer_proto::{GuestRsp, ObjWork, VdiAsk};
+use object_id::{Bytes, Cause, NoMemory, NodeId, Vid};
+use peer_proto::VdiAsk;
+use std::alloc::Global;
 use std::test::Fail;
-use vdi_directory::{Directory, nobody_holds_at_first};
 use vdi_ops::{OpAct, begin_vdi, command_refusal};
 
 #[test]
 fn creates_a_disk(rt: HostRuntime) -> Result<(), Fail> {
     let alloc = rt.alloc();
-    let mut directory = Directory::new(alloc);
-    let mut locks = Locks::new(alloc);
-    nobody_holds_at_first();
-    let course = create_a(alloc, &mut directory, &mut locks)?;
-    let acts = course.acts.as_slice();
-    assert!(rt;
-        matches!(acts.get(0), Some(OpAct::Append(Entry::Reserve { by: NodeId(3), session: 1, name, origin: Origin::Fresh { .. } }))
-            if name.as_slice() == b"a".as_slice())
+    let told = create_a(alloc, &mut Log::new(alloc))?.told()?;
+    assert_eq!(rt;
+        told.as_str(),
+        "append reserve 3 1 61 fresh 12288 2 12;\
+         create 9223913597871063040 2 4198968 0 6100*536.3000*16.020c010000008cec0100*4113.;\
+         append publish 3 126092;reply done;stays"
     );
-    assert!(rt;
-        matches!(acts.get(1), Some(OpAct::Work(ObjWork::Create { oid, policy: Policy::Copies(2), length: 4_198_968, offset: 0, bytes }))
-            if oid.as_u64() == 0x8001_ec8c_0000_0000 && is_inode(bytes, b'a', 1, A, 0, [0, 0, 0]))
-    );
-    assert!(rt;
-        matches!(
-            acts.get(2),
-            Some(OpAct::Append(Entry::Publish {
-                by: NodeId(3),
-                vid: Vid(A)
-            }))
-        )
-    );
-    assert!(rt; matches!(acts.get(3), Some(OpAct::Reply(GuestRsp::Done))));
-    assert_eq!(rt; acts.len(), 4);
-    assert!(rt; !course.op.closes() && course.op.into_inode().is_none());
     Ok(())
 }
 
@@ -48,236 +30,161 @@ fn creates_a_disk(rt: HostRuntime) -> Result<(), Fail> {
 #[test]
 fn opens_a_disk(rt: HostRuntime) -> Result<(), Fail> {
     let alloc = rt.alloc();
-    let mut directory = Directory::new(alloc);
-    let mut locks = Locks::new(alloc);
-    nobody_holds_at_first();
-    create_a(alloc, &mut directory, &mut locks)?;
-    let course = open_a(alloc, None, &mut directory, &mut locks)?;
-    let acts = course.acts.as_slice();
-    assert!(rt;
-        matches!(acts.get(0), Some(OpAct::Append(Entry::Lock { by: NodeId(3), session: 1, name, tag: None }))
-            if name.as_slice() == b"a".as_slice())
-    );
-    assert!(rt;
-        matches!(acts.get(1), Some(OpAct::Work(ObjWork::Read { oid, policy: Policy::Copies(2), offset: 0, length: 4_676 }))
-            if oid.as_u64() == 0x8001_ec8c_0000_0000)
-    );
-    assert!(rt;
-        matches!(acts.get(2), Some(OpAct::Work(ObjWork::Write { oid, policy: Policy::Copies(2), offset: 0, bytes }))
-            if oid.as_u64() == 0x8001_ec8c_0000_0000 && is_inode(bytes, b'a', 1, A, 0, [A, 5, A]))
-    );
-    assert!(rt; matches!(acts.get(3), Some(OpAct::Reply(GuestRsp::Done))));
-    assert_eq!(rt; acts.len(), 4);
-    assert!(rt; !course.op.opens_snapshot());
-    assert!(rt;
-        course
-            .op
-            .into_inode()
-            .is_some_and(|inode| inode.entries() == [A, 0, A].as_slice())
+    let mut log = Log::new(alloc);
+    create_a(alloc, &mut log)?;
+    let told = open_a(alloc, None, &mut log)?.told()?;
+    assert_eq!(rt;
+        told.as_str(),
+        "append lock 3 1 61 .;read 9223913597871063040 2 0 4676;\
+         write 9223913597871063040 2 0 \
+         6100*536.3000*16.020c010000008cec0100*4101.8cec0100050000008cec0100;\
+         reply done;opens disk 126092: 126092 0 126092"
     );
     Ok(())
+}
+
+/// What is told of the snapshot of disk `a`; nothing if the disk couldn't be opened.
+fn told_snapshot(alloc: Global) -> Result<String, NoMemory> {
+    match opened_a(alloc)? {
+        Some(OpenDisk { mut log, inode }) => match take_snapshot(alloc, &inode, &mut log)? {
+            Some(course) => course.told(),
+            None => Ok(String::new(alloc)),
+        },
+        None => Ok(String::new(alloc)),
+    }
 }
 
 // The snapshot's tag is written to the open inode, and the next id takes its place with its table.
 #[test]
 fn takes_a_snapshot(rt: HostRuntime) -> Result<(), Fail> {
-    let alloc = rt.alloc();
-    let mut directory = Directory::new(alloc);
-    let mut locks = Locks::new(alloc);
-    nobody_holds_at_first();
-    create_a(alloc, &mut directory, &mut locks)?;
-    let opened = open_a(alloc, None, &mut directory, &mut locks)?;
-    let course = take_snapshot(alloc, opened.op.into_inode(), &mut directory, &mut locks)?;
-    assert!(rt; course.is_some());
-    if let Some(course) = course {
-        let acts = course.acts.as_slice();
-        assert!(rt;
-            matches!(acts.get(0), Some(OpAct::Append(Entry::Reserve { name, origin: Origin::SnapshotOf { tag }, .. }))
-                if name.as_slice() == b"a".as_slice() && tag.as_slice() == b"t".as_slice())
-        );
-        assert!(rt;
-            matches!(acts.get(1), Some(OpAct::Work(ObjWork::Write { oid, offset: 256, bytes, .. }))
-                if oid.as_u64() == 0x8001_ec8c_0000_0000 && bytes.as_slice() == b"t".as_slice())
-        );
-        assert!(rt;
-            matches!(acts.get(2), Some(OpAct::Work(ObjWork::Create { oid, offset: 0, bytes, .. }))
-                if oid.as_u64() == 0x8001_ec8d_0000_0000 && is_inode(bytes, b'a', 1, 0x01_ec8d, A, [A, 0, A]))
-        );
-        assert!(rt;
-            matches!(
-                acts.get(3),
-                Some(OpAct::Append(Entry::Snapshot {
-                    by: NodeId(3),
-                    old: Vid(A),
-                    vid: Vid(0x01_ec8d)
-                }))
-            )
-        );
-        assert!(rt; matches!(acts.get(4), Some(OpAct::Reply(GuestRsp::Done))));
-        assert!(rt;
-            course
-                .op
-                .into_inode()
-                .is_some_and(|inode| inode.vid() == Vid(0x01_ec8d))
-        );
-    }
+    let told = told_snapshot(rt.alloc())?;
+    assert_eq!(rt;
+        told.as_str(),
+        "append reserve 3 1 61 snapshot 74;write 9223913597871063040 2 256 74;\
+         create 9223913602166030336 2 4198968 0 \
+         6100*536.3000*16.020c010000008dec01008cec0100*4097.8cec0100*5.8cec0100;\
+         append snapshot 3 126092 126093;reply done;opens disk 126093: 126092 0 126092"
+    );
     Ok(())
+}
+
+/// What is told of the clone of a snapshot of disk `a`.
+fn told_clone(alloc: Global) -> Result<String, NoMemory> {
+    match snapshot_of_a(alloc)? {
+        Some(mut log) => clone_b(alloc, [A, 0x01_f1a5, 7], &mut log)?.told(),
+        None => Ok(String::new(alloc)),
+    }
 }
 
 // Of the base's table a clone takes the entries of its own parent chain alone: its own id isn't among them.
 #[test]
 fn makes_a_clone(rt: HostRuntime) -> Result<(), Fail> {
-    let alloc = rt.alloc();
-    let mut directory = Directory::new(alloc);
-    let mut locks = Locks::new(alloc);
-    nobody_holds_at_first();
-    make_snapshot(alloc, &mut directory, &mut locks)?;
-    let course = clone_b(alloc, [A, 0x01_f1a5, 7], &mut directory, &mut locks)?;
-    let acts = course.acts.as_slice();
-    assert!(rt;
-        matches!(acts.get(1), Some(OpAct::Work(ObjWork::Read { oid, offset: 0, length: 4_676, .. }))
-            if oid.as_u64() == 0x8001_ec8c_0000_0000)
+    let told = told_clone(rt.alloc())?;
+    assert_eq!(rt;
+        told.as_str(),
+        "append reserve 3 1 62 clone 61 74;read 9223913597871063040 2 0 4676;\
+         create 9223919202803384320 2 4198968 0 \
+         6200*536.3000*16.020c01000000a5f101008cec0100*4097.8cec0100*9.;\
+         append clone 3 127397;reply done;stays"
     );
-    assert!(rt;
-        matches!(acts.get(2), Some(OpAct::Work(ObjWork::Create { oid, offset: 0, bytes, .. }))
-            if oid.as_u64() == 0x8001_f1a5_0000_0000 && is_inode(bytes, b'b', 1, 0x01_f1a5, A, [A, 0, 0]))
-    );
-    assert!(rt;
-        matches!(
-            acts.get(3),
-            Some(OpAct::Append(Entry::Clone {
-                by: NodeId(3),
-                vid: Vid(0x01_f1a5)
-            }))
-        )
-    );
-    assert!(rt; matches!(acts.get(4), Some(OpAct::Reply(GuestRsp::Done))));
     Ok(())
+}
+
+/// What is told of the opening of snapshot `t` of disk `a`.
+fn told_open_snapshot(alloc: Global) -> Result<String, NoMemory> {
+    match snapshot_of_a(alloc)? {
+        Some(mut log) => open_a(alloc, Some(Bytes::from_slice(alloc, b"t")?), &mut log)?.told(),
+        None => Ok(String::new(alloc)),
+    }
 }
 
 // A snapshot is only read.
 #[test]
 fn opens_a_snapshot(rt: HostRuntime) -> Result<(), Fail> {
-    let alloc = rt.alloc();
-    let mut directory = Directory::new(alloc);
-    let mut locks = Locks::new(alloc);
-    nobody_holds_at_first();
-    make_snapshot(alloc, &mut directory, &mut locks)?;
-    let tag = bytes(alloc, b"t")?;
-    let course = open_a(alloc, Some(tag), &mut directory, &mut locks)?;
-    let acts = course.acts.as_slice();
-    assert!(rt; matches!(acts.get(1), Some(OpAct::Work(ObjWork::Read { .. }))));
-    assert!(rt; matches!(acts.get(2), Some(OpAct::Reply(GuestRsp::Done))));
-    assert!(rt; course.op.opens_snapshot());
+    let told = told_open_snapshot(rt.alloc())?;
+    assert_eq!(rt;
+        told.as_str(),
+        "append lock 3 1 61 74;read 9223913597871063040 2 0 4676;reply done;\
+         opens snapshot 126092: 126092 0 126092"
+    );
     Ok(())
 }
 
 #[test]
 fn refuses_a_tag_that_no_snapshot_has(rt: HostRuntime) -> Result<(), Fail> {
     let alloc = rt.alloc();
-    let mut directory = Directory::new(alloc);
-    let mut locks = Locks::new(alloc);
-    nobody_holds_at_first();
-    create_a(alloc, &mut directory, &mut locks)?;
-    let tag = bytes(alloc, b"t")?;
-    let course = open_a(alloc, Some(tag), &mut directory, &mut locks)?;
-    assert!(rt;
-        matches!(
-            course.acts.as_slice().get(1),
-            Some(OpAct::Reply(GuestRsp::Refused(Cause::NoTag)))
-        )
+    let mut log = Log::new(alloc);
+    create_a(alloc, &mut log)?;
+    let tag = Bytes::from_slice(alloc, b"t")?;
+    let told = open_a(alloc, Some(tag), &mut log)?.told()?;
+    assert_eq!(rt;
+        told.as_str(),
+        "append lock 3 1 61 74;reply refused NO_TAG;stays"
     );
     Ok(())
 }
 
+/// What is told of the closing of disk `a`.
+fn told_close(alloc: Global) -> Result<String, NoMemory> {
+    match opened_a(alloc)? {
+        Some(OpenDisk { mut log, inode }) => {
+            course(alloc, VdiAsk::Close, &[], Some(&inode), &mut log)?.told()
+        }
+        None => Ok(String::new(alloc)),
+    }
+}
+
 #[test]
 fn closes_a_disk(rt: HostRuntime) -> Result<(), Fail> {
-    let alloc = rt.alloc();
-    let mut directory = Directory::new(alloc);
-    let mut locks = Locks::new(alloc);
-    nobody_holds_at_first();
-    create_a(alloc, &mut directory, &mut locks)?;
-    let opened = open_a(alloc, None, &mut directory, &mut locks)?;
-    let course = close_a(alloc, opened.op.into_inode(), &mut directory, &mut locks)?;
-    assert!(rt; course.is_some());
-    if let Some(course) = course {
-        let acts = course.acts.as_slice();
-        assert!(rt;
-            matches!(
-                acts.get(0),
-                Some(OpAct::Append(Entry::Unlock {
-                    by: NodeId(3),
-                    session: 1,
-                    vid: Vid(A)
-                }))
-            )
-        );
-        assert!(rt; matches!(acts.get(1), Some(OpAct::Reply(GuestRsp::Done))));
-        assert!(rt; course.op.closes());
-    }
+    let told = told_close(rt.alloc())?;
+    assert_eq!(rt; told.as_str(), "append unlock 3 1 126092;reply done;closes");
     Ok(())
 }
 
 #[test]
 fn deletes_a_disk(rt: HostRuntime) -> Result<(), Fail> {
     let alloc = rt.alloc();
-    let mut directory = Directory::new(alloc);
-    let mut locks = Locks::new(alloc);
-    nobody_holds_at_first();
-    create_a(alloc, &mut directory, &mut locks)?;
+    let mut log = Log::new(alloc);
+    create_a(alloc, &mut log)?;
     let ask = VdiAsk::Delete {
-        name: bytes(alloc, b"a")?,
+        name: Bytes::from_slice(alloc, b"a")?,
         tag: None,
     };
-    let course = course(alloc, ask, &[], None, &mut directory, &mut locks)?;
-    let acts = course.acts.as_slice();
-    assert!(rt;
-        matches!(acts.get(0), Some(OpAct::Append(Entry::Delete { by: NodeId(3), session: 1, name, tag: None }))
-            if name.as_slice() == b"a".as_slice())
-    );
-    assert!(rt; matches!(acts.get(1), Some(OpAct::Reply(GuestRsp::Done))));
+    let told = course(alloc, ask, &[], None, &mut log)?.told()?;
+    assert_eq!(rt; told.as_str(), "append delete 3 1 61 .;reply done;stays");
     Ok(())
+}
+
+/// The end of a create whose work is refused with `HALT 1 2`.
+fn told_refusal(alloc: Global) -> Result<String, NoMemory> {
+    let mut told = String::new(alloc);
+    let ask = VdiAsk::Create {
+        name: Bytes::from_slice(alloc, b"a")?,
+        spec: SPEC,
+    };
+    let (mut op, act) = begin_vdi(alloc, NodeId(3), 1, ask, None)?;
+    write_op_act(&mut told, &act)?;
+    if let OpAct::Append(entry) = &act {
+        decided(alloc, &mut op, entry, None, &mut Log::new(alloc))?;
+    }
+    if op.bytes_wanted().is_some() {
+        let end = op.on_refused(Cause::Halt {
+            members: 1,
+            wanted: 2,
+        });
+        write_end(&mut told, &end)?;
+    }
+    Ok(told)
 }
 
 // The id that was granted is given back, and the refusal is the reply.
 #[test]
 fn ends_with_the_refusal_of_its_work(rt: HostRuntime) -> Result<(), Fail> {
-    let alloc = rt.alloc();
-    let mut directory = Directory::new(alloc);
-    let mut locks = Locks::new(alloc);
-    nobody_holds_at_first();
-    let name = bytes(alloc, b"a")?;
-    let ask = VdiAsk::Create { name, spec: SPEC };
-    let (mut op, act) = begin_vdi(alloc, NodeId(3), 1, ask, None)?;
-    assert!(rt; op.bytes_wanted().is_none());
-    decided(alloc, &mut op, &act, None, &mut directory, &mut locks)?;
-    assert_eq!(rt; op.bytes_wanted(), Some(0));
-    if op.bytes_wanted().is_some() {
-        let halt = Cause::Halt {
-            members: 1,
-            wanted: 2,
-        };
-        let end = op.on_refused(halt);
-        assert!(rt;
-            matches!(
-                end.unlock,
-                Some(Entry::Unlock {
-                    by: NodeId(3),
-                    session: 1,
-                    vid: Vid(A)
-                })
-            )
-        );
-        assert!(rt;
-            matches!(
-                end.reply,
-                GuestRsp::Refused(Cause::Halt {
-                    members: 1,
-                    wanted: 2
-                })
-            )
-        );
-    }
+    let told = told_refusal(rt.alloc())?;
+    assert_eq!(rt;
+        told.as_str(),
+        "append reserve 3 1 61 fresh 12288 2 12;append unlock 3 1 126092;reply refused HALT 1 2;"
+    );
     Ok(())
 }
 
@@ -295,11 +202,11 @@ fn refuses_commands_on_the_spot(rt: HostRuntime) -> Result<(), Fail> {
     let alloc = rt.alloc();
     let disk = Inode::new(alloc, b"a", Vid(A), 1, None, SPEC)?;
     let attach = VdiAsk::Attach {
-        name: bytes(alloc, b"a")?,
+        name: Bytes::from_slice(alloc, b"a")?,
         tag: None,
     };
     let snapshot = VdiAsk::Snapshot {
-        tag: bytes(alloc, b"t")?,
+        tag: Bytes::from_slice(alloc, b"t")?,
     };
     assert_eq!(rt;
         refusals(&attach, &disk),

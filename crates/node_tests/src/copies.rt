@@ -1,228 +1,153 @@
 //! Each copy with ample memory: a body that never finds any would meet the contracts too.
 
-use epoch_log::EntryList;
-use object_id::{Bytes, Cause, Entry, Epoch, NodeId, Oid, Policy, VdiSpec, Vid};
-use object_store::Key;
-use peer_proto::{
-    DiskAsk, GuestRsp, ObjWork, PeerAsk, PeerReq, PeerRsp, PeerSay, Refusal, SendList, VdiAsk,
-};
-use sheep_node::{Ask, Input, Outputs, ReplyList};
+use crate::act_words::{write_driver_act, write_end, write_op_act};
+use guest_driver::DriverAct;
+use object_id::{Bytes, Cause, Entry, NodeId, Oid, Policy, Vid};
+use peer_proto::{GuestRsp, ObjWork, SendList};
+use sheep_node::{Input, Outputs, ReplyList};
+use std::alloc::Global;
 use std::test::Fail;
+use step_text::{Fault, input_of, outputs_line, write_input};
 use vdi_ops::{OpAct, OpEnd};
 
-fn a_read(number: u32) -> PeerReq {
-    PeerReq {
-        from: NodeId(3),
-        number,
-        epoch: Epoch(5),
-        ask: PeerAsk::Read {
-            key: Key {
-                oid: Oid::object(Vid(9), 2),
-                index: 1,
-            },
-            offset: 512,
-            length: 1024,
-        },
-    }
-}
+/// A request to read, and a refusal, as `peer_proto` spells them.
+const REQUEST: &str = "request 01a20000050000000800*7.020000000900*4.040000030000000100*8.0200*6.";
 
-fn a_refusal(number: u32) -> PeerRsp {
-    PeerRsp {
-        number,
-        epoch: Epoch(5),
-        say: PeerSay::Refused(Refusal::Recovery),
-    }
-}
+const REPLY: &str = "reply 01a10000050000000600*7.8300*4.0500*26.";
 
-fn an_entry(session: u32) -> Entry {
-    Entry::Unlock {
-        by: NodeId(3),
-        session,
-        vid: Vid(9),
-    }
-}
-
-#[test]
-fn copies_what_a_session_asks(rt: HostRuntime) -> Result<(), Fail> {
-    let alloc = rt.alloc();
-    let write = Ask::Disk(DiskAsk::Write {
-        offset: 512,
-        bytes: Bytes::from_slice(alloc, b"piece")?,
-    });
-    assert!(rt;
-        matches!(&write.copy(alloc)?, Ask::Disk(DiskAsk::Write { offset: 512, bytes }) if bytes.as_slice() == b"piece".as_slice())
-    );
-    let create = Ask::Vdi(VdiAsk::Create {
-        name: Bytes::from_slice(alloc, b"vm")?,
-        spec: VdiSpec {
-            size: 4096,
-            policy: Policy::Copies(3),
-            shift: 12,
-        },
-    });
-    assert!(rt;
-        matches!(&create.copy(alloc)?, Ask::Vdi(VdiAsk::Create { name, spec }) if name.as_slice() == b"vm".as_slice() && spec.size == 4096)
-    );
-    Ok(())
+/// What the copy of a line's input says.
+fn copied_input(alloc: Global, line: &str) -> Result<String, Fault> {
+    let mut told = String::new(alloc);
+    write_input(alloc, &mut told, &input_of(alloc, line)?.copy(alloc)?)?;
+    Ok(told)
 }
 
 #[test]
 fn copies_inputs(rt: HostRuntime) -> Result<(), Fail> {
-    let alloc = rt.alloc();
-    let guest = Input::Guest {
-        req: 4,
-        session: 7,
-        ask: Ask::Vdi(VdiAsk::Close),
-    };
-    assert!(rt;
-        matches!(
-            &guest.copy(alloc)?,
-            Input::Guest {
-                req: 4,
-                session: 7,
-                ask: Ask::Vdi(VdiAsk::Close)
-            }
-        )
-    );
-    assert!(rt;
-        matches!(
-            &Input::Request(a_read(8)).copy(alloc)?,
-            Input::Request(PeerReq { number: 8, .. })
-        )
-    );
-    assert!(rt;
-        matches!(
-            &Input::Reply(a_refusal(8)).copy(alloc)?,
-            Input::Reply(PeerRsp { number: 8, .. })
-        )
-    );
-    assert!(rt;
-        matches!(
-            &Input::Lost { number: 8 }.copy(alloc)?,
-            Input::Lost { number: 8 }
-        )
-    );
-    assert!(rt;
-        matches!(
-            &Input::LogEntry(an_entry(7)).copy(alloc)?,
-            Input::LogEntry(Entry::Unlock { session: 7, .. })
-        )
-    );
-    assert!(rt; matches!(&Input::Put.copy(alloc)?, Input::Put));
-    assert!(rt; matches!(&Input::RecoverTick.copy(alloc)?, Input::RecoverTick));
-    assert!(rt; matches!(&Input::RetryTick.copy(alloc)?, Input::RetryTick));
-    let mut entries = EntryList::new(alloc);
-    entries.push(an_entry(7))?;
-    assert!(rt;
-        matches!(&Input::Back { entries }.copy(alloc)?, Input::Back { entries } if entries.len() == 1)
-    );
+    for line in [
+        "guest 4 7 disk read 512 1024",
+        "guest 4 7 disk write 512 07*512.",
+        "guest 4 7 vdi create 766d 4096 3 12",
+        "guest 4 7 vdi open 766d 74",
+        "guest 4 7 vdi close",
+        "guest 4 7 vdi snapshot 74",
+        "guest 4 7 vdi clone 766d 74 77",
+        "guest 4 7 vdi delete 766d .",
+        "guest 4 7 vdi check",
+        "guest 4 7 object read 38654705666 4:2 512 1024",
+        "guest 4 7 entry unlock 3 7 9",
+        REQUEST,
+        REPLY,
+        "lost 8",
+        "log unlock 3 7 9",
+        "put",
+        "recover_tick",
+        "retry_tick",
+        "back 2 format 2 0 0 64 1 0 32 leave 1",
+    ] {
+        let told = copied_input(rt.alloc(), line)?;
+        assert_eq!(rt; told.as_str(), line);
+    }
     Ok(())
 }
 
-#[test]
-fn copies_outputs(rt: HostRuntime) -> Result<(), Fail> {
-    let alloc = rt.alloc();
+fn an_entry() -> Entry {
+    Entry::Unlock {
+        by: NodeId(3),
+        session: 7,
+        vid: Vid(9),
+    }
+}
+
+/// What the copy of outputs says that have one of each kind.
+fn copied_outputs(alloc: Global) -> Result<String, Fault> {
     let mut sends = SendList::new(alloc);
-    sends.push((NodeId(1), a_read(8)))?;
-    sends.push((NodeId(2), a_read(9)))?;
+    if let Input::Request(request) = input_of(alloc, REQUEST)? {
+        sends.push((NodeId(1), request))?;
+    }
+    let say = match input_of(alloc, REPLY)? {
+        Input::Reply(reply) => Some(reply),
+        _ => None,
+    };
     let mut replies = ReplyList::new(alloc);
     replies.push((4, GuestRsp::Refused(Cause::Readonly)))?;
     let outputs = Outputs {
         sends,
-        say: Some(a_refusal(6)),
+        say,
         replies,
-        put: Some(an_entry(7)),
+        put: Some(an_entry()),
     };
-    let copy = outputs.copy(alloc)?;
-    assert_eq!(rt; copy.sends.len(), 2);
-    assert!(rt; matches!(&copy.say, Some(PeerRsp { number: 6, .. })));
-    assert!(rt;
-        matches!(
-            copy.replies.get(0),
-            Some((4, GuestRsp::Refused(Cause::Readonly)))
-        )
-    );
-    assert!(rt; copy.replies.get(1).is_none());
-    assert!(rt; !copy.replies.is_empty());
-    assert!(rt; matches!(&copy.put, Some(Entry::Unlock { session: 7, .. })));
-    let nothing = Outputs {
-        sends: SendList::new(alloc),
-        say: None,
-        replies: ReplyList::new(alloc),
-        put: None,
-    };
-    let copy = nothing.copy(alloc)?;
-    assert!(rt;
-        copy.sends.is_empty() && copy.say.is_none() && copy.replies.is_empty() && copy.put.is_none()
+    Ok(outputs_line(alloc, &outputs.copy(alloc)?)?)
+}
+
+#[test]
+fn copies_outputs(rt: HostRuntime) -> Result<(), Fail> {
+    let told = copied_outputs(rt.alloc())?;
+    assert_eq!(rt;
+        told.as_str(),
+        "send 1 01a20000050000000800*7.020000000900*4.040000030000000100*8.0200*6.;\
+         say 01a10000050000000600*7.8300*4.0500*26.;reply 4 refused READONLY;put unlock 3 7 9;"
     );
     Ok(())
+}
+
+/// What the copies of a command's acts say.
+fn copied_op_acts(alloc: Global) -> Result<String, Fault> {
+    let mut told = String::new(alloc);
+    for act in [
+        OpAct::Append(an_entry()),
+        OpAct::Work(ObjWork::Read {
+            oid: Oid::inode(Vid(9)),
+            policy: Policy::Copies(3),
+            offset: 0,
+            length: 4_668,
+        }),
+        OpAct::Reply(GuestRsp::Refused(Cause::NoTag)),
+    ] {
+        write_op_act(&mut told, &act.copy(alloc)?)?;
+    }
+    let end = OpEnd {
+        unlock: Some(an_entry()),
+        reply: GuestRsp::Refused(Cause::Link { node: NodeId(1) }),
+    };
+    write_end(&mut told, &end.copy(alloc)?)?;
+    Ok(told)
 }
 
 #[test]
 fn copies_acts_of_commands(rt: HostRuntime) -> Result<(), Fail> {
-    let alloc = rt.alloc();
-    let append = OpAct::Append(Entry::Lock {
-        by: NodeId(3),
-        session: 7,
-        name: Bytes::from_slice(alloc, b"vm")?,
-        tag: None,
-    });
-    assert!(rt;
-        matches!(&append.copy(alloc)?, OpAct::Append(Entry::Lock { session: 7, name, tag: None, .. }) if name.as_slice() == b"vm".as_slice())
-    );
-    let work = OpAct::Work(ObjWork::Read {
-        oid: Oid::inode(Vid(9)),
-        policy: Policy::Copies(3),
-        offset: 0,
-        length: 4_668,
-    });
-    assert!(rt;
-        matches!(
-            &work.copy(alloc)?,
-            OpAct::Work(ObjWork::Read {
-                offset: 0,
-                length: 4_668,
-                ..
-            })
-        )
-    );
-    let reply = OpAct::Reply(GuestRsp::Refused(Cause::NoTag));
-    assert!(rt;
-        matches!(
-            &reply.copy(alloc)?,
-            OpAct::Reply(GuestRsp::Refused(Cause::NoTag))
-        )
+    let told = copied_op_acts(rt.alloc())?;
+    assert_eq!(rt;
+        told.as_str(),
+        "append unlock 3 7 9;read 9223372075509481472 3 0 4668;reply refused NO_TAG;\
+         append unlock 3 7 9;reply refused LINK 1;"
     );
     Ok(())
 }
 
-#[test]
-fn copies_ends_of_commands(rt: HostRuntime) -> Result<(), Fail> {
-    let alloc = rt.alloc();
-    let end = OpEnd {
-        unlock: Some(Entry::Unlock {
-            by: NodeId(3),
-            session: 7,
-            vid: Vid(9),
+/// What the copies of the acts of a write say.
+fn copied_driver_acts(alloc: Global) -> Result<String, Fault> {
+    let mut told = String::new(alloc);
+    for act in [
+        DriverAct::Work(ObjWork::Write {
+            oid: Oid::object(Vid(9), 2),
+            policy: Policy::Copies(3),
+            offset: 512,
+            bytes: Bytes::from_slice(alloc, b"piece")?,
         }),
-        reply: GuestRsp::Refused(Cause::Link { node: NodeId(1) }),
-    };
-    let copy = end.copy(alloc)?;
-    assert!(rt;
-        matches!(
-            &copy.unlock,
-            Some(Entry::Unlock {
-                session: 7,
-                vid: Vid(9),
-                ..
-            })
-        )
-    );
-    assert!(rt;
-        matches!(
-            &copy.reply,
-            GuestRsp::Refused(Cause::Link { node: NodeId(1) })
-        )
+        DriverAct::Reply(GuestRsp::Refused(Cause::Readonly)),
+    ] {
+        write_driver_act(&mut told, &act.copy(alloc)?)?;
+    }
+    Ok(told)
+}
+
+#[test]
+fn copies_acts_of_disk_requests(rt: HostRuntime) -> Result<(), Fail> {
+    let told = copied_driver_acts(rt.alloc())?;
+    assert_eq!(rt;
+        told.as_str(),
+        "write 38654705666 3 512 7069656365;reply refused READONLY;"
     );
     Ok(())
 }

@@ -1,40 +1,34 @@
-//! Each call with ample memory: a body that never finds any would meet the contracts too. And worked requests, on disk 5 of
-//! three objects of 4,096 bytes, next to its parent 4.
+//! Worked requests, act by act in words, on disk 5 of three objects of 4,096 bytes, next to its parent 4. And the calls that don't
+//! serve these, with ample memory: a body that never finds any would meet the contracts too.
 
-ghost use Rattle.std.specs.Prelude.{◌≤◌, IfOk, IfSome};
+ghost use Rattle.std.specs.Prelude.{◌≤◌, OnOk};
 ghost use Rattle.object_id.specs.declared.limits.TheConstants.{VID_MAX};
 ghost use Rattle.peer_proto.specs.Work.{IsWork};
 ghost use Rattle.guest_driver.specs.OnDisk.{IsDriverOn};
 
+use crate::act_words::write_driver_act;
 use guest_driver::{
     Disk, Driver, DriverAct, InodeQueue, WaitingWork, begin_disk, disk_refusal, is_ask,
 };
 use inode::Inode;
 use object_id::{Bytes, Cause, NoMemory, Oid, Policy, VdiSpec, Vid};
-use peer_proto::{DiskAsk, GuestRsp, ObjWork, WorkDone};
+use peer_proto::{DiskAsk, ObjWork, WorkDone};
 use std::alloc::Global;
+use std::fmt::Write;
 use std::test::Fail;
 
-#[test]
-fn copies_acts(rt: HostRuntime) -> Result<(), Fail> {
-    let alloc = rt.alloc();
-    let act = DriverAct::Work(ObjWork::Write {
-        oid: Oid::object(Vid(9), 2),
-        policy: Policy::Copies(3),
-        offset: 512,
-        bytes: Bytes::from_slice(alloc, b"piece")?,
-    });
-    assert!(rt;
-        matches!(&act.copy(alloc)?, DriverAct::Work(ObjWork::Write { offset: 512, bytes, .. }) if bytes.as_slice() == b"piece".as_slice())
-    );
-    let reply = DriverAct::Reply(GuestRsp::Refused(Cause::Readonly));
-    assert!(rt;
-        matches!(
-            &reply.copy(alloc)?,
-            DriverAct::Reply(GuestRsp::Refused(Cause::Readonly))
-        )
-    );
-    Ok(())
+/// What a disk has open, in words: its name, whether it is a snapshot, and its table.
+fn disk_words(alloc: Global, disk: &Disk) -> Result<String, NoMemory> {
+    let kind = if disk.snapshot() { "snapshot" } else { "disk" };
+    let mut told = String::new(alloc);
+    told.push_str(kind)?;
+    for byte in disk.inode().name() {
+        write!(told, " {byte:02x}")?;
+    }
+    for entry in disk.inode().entries() {
+        write!(told, " {entry}")?;
+    }
+    Ok(told)
 }
 
 #[test]
@@ -47,12 +41,8 @@ fn keeps_an_open_disk(rt: HostRuntime) -> Result<(), Fail> {
     };
     let mut inode = Inode::new(alloc, b"b", Vid(9), 2, Some(Vid(7)), spec)?;
     inode.set_entry(1, Vid(9));
-    let snapshot = Disk::new(inode, true);
-    let copy = snapshot.copy(alloc)?;
-    assert!(rt; snapshot.snapshot());
-    assert!(rt; copy.snapshot());
-    assert_eq!(rt; copy.inode().name(), b"b".as_slice());
-    assert_eq!(rt; copy.inode().entries(), [0, 9, 0].as_slice());
+    let told = disk_words(alloc, &Disk::new(inode, true).copy(alloc)?)?;
+    assert_eq!(rt; told.as_str(), "snapshot 62 0 9 0");
     Ok(())
 }
 
@@ -71,40 +61,6 @@ fn small_disk(alloc: Global, first: u32, second: u32, snapshot: bool) -> Result<
     Ok(Disk::new(inode, snapshot))
 }
 
-/// Begins a request that asks for whole blocks.
-fn begun(alloc: Global, disk: &Disk, ask: DiskAsk) -> Result<Option<(Driver, DriverAct)>, NoMemory>
-    ensures { IfOk result (λ begun. IfSome begun (λ pair. IsDriverOn disk.now.inode pair.0)) }
-{
-    if is_ask(&ask) {
-        Ok(Some(begin_disk(alloc, disk, ask)?))
-    } else {
-        Ok(None)
-    }
-}
-
-/// Tells a driver that its work is done. Where memory is wanted once, the call is made again: driver and disk are as they were.
-fn told(
-    alloc: Global,
-    driver: &mut Driver,
-    disk: &mut Disk,
-    bytes: &[u8],
-) -> Result<Option<DriverAct>, NoMemory>
-    requires { IsDriverOn disk.old.inode driver.old }
-    ensures { IfOk result (λ _. IsDriverOn disk.new.inode driver.new) }
-{
-    let done = WorkDone {
-        req: 1,
-        bytes: Bytes::from_slice(alloc, bytes)?,
-    };
-    if driver.bytes_wanted(disk) != Some(done.bytes.len()) {
-        return Ok(None);
-    }
-    match driver.on_done(alloc, disk, &done) {
-        Ok(act) => Ok(Some(act)),
-        Err(NoMemory) => Ok(Some(driver.on_done(alloc, disk, &done)?)),
-    }
-}
-
 /// So many bytes of each of some values, one behind the other.
 fn runs(alloc: Global, long: usize, values: &[u8]) -> Result<Bytes, NoMemory> {
     let mut bytes = Vec::new(alloc);
@@ -116,19 +72,48 @@ fn runs(alloc: Global, long: usize, values: &[u8]) -> Result<Bytes, NoMemory> {
     Ok(Bytes::from_vec(bytes))
 }
 
-fn is_create(act: &Option<DriverAct>, id: u64, from: u32, expected: &[u8]) -> bool {
-    matches!(act, Some(DriverAct::Work(ObjWork::Create { oid, policy: Policy::Copies(3), length: 4_096, offset, bytes }))
-        if oid.as_u64() == id && *offset == from && bytes.as_slice() == expected)
+/// Tells a driver that its work is done: a read gives these bytes, and any other work none. `None` if it doesn't wait for so many.
+fn done(
+    alloc: Global,
+    driver: &mut Driver,
+    disk: &mut Disk,
+    act: &DriverAct,
+    read: &[u8],
+) -> Result<Option<DriverAct>, NoMemory>
+    requires { IsDriverOn disk.old.inode driver.old }
+    ensures { OnOk result (IsDriverOn disk.new.inode driver.new) }
+{
+    let given = match act {
+        DriverAct::Work(ObjWork::Read { .. }) => read,
+        _ => &[],
+    };
+    let done = WorkDone {
+        req: 1,
+        bytes: Bytes::from_slice(alloc, given)?,
+    };
+    if driver.bytes_wanted(disk) != Some(done.bytes.len()) {
+        return Ok(None);
+    }
+    Ok(Some(driver.on_done(alloc, disk, &done)?))
 }
 
-fn is_entry(act: &Option<DriverAct>, from: u32) -> bool {
-    matches!(act, Some(DriverAct::Work(ObjWork::Write { oid, policy: Policy::Copies(3), offset, bytes }))
-        if oid.as_u64() == 0x8000_0005_0000_0000 && *offset == from && bytes.as_slice() == [5, 0, 0, 0].as_slice())
-}
-
-fn is_read(act: &Option<DriverAct>, id: u64, from: u32, long: u32) -> bool {
-    matches!(act, Some(DriverAct::Work(ObjWork::Read { oid, policy: Policy::Copies(3), offset, length }))
-        if oid.as_u64() == id && *offset == from && *length == long)
+/// A request of a disk, to its reply, in words: each act, with the table that the session has then.
+fn told(alloc: Global, disk: &mut Disk, ask: DiskAsk, read: &[u8]) -> Result<String, NoMemory> {
+    let mut told = String::new(alloc);
+    if !is_ask(&ask) {
+        return Ok(told);
+    }
+    let (mut driver, mut act) = begin_disk(alloc, disk, ask)?;
+    for _ in 0..6 {
+        write_driver_act(&mut told, &act)?;
+        match done(alloc, &mut driver, disk, &act, read)? {
+            Some(next) => act = next,
+            None => break,
+        }
+        told.push_str(disk_words(alloc, disk)?.as_str())?;
+        told.push(';')?;
+    }
+    Ok(told)
 }
 
 // Two blocks over the border of two holes: each object is created, then entered.
@@ -140,26 +125,15 @@ fn writes_over_two_holes(rt: HostRuntime) -> Result<(), Fail> {
         offset: 3_584,
         bytes: runs(alloc, 512, &[1, 2])?,
     };
-    if let Some((mut driver, act)) = begun(alloc, &disk, ask)? {
-        let ones = runs(alloc, 512, &[1])?;
-        let twos = runs(alloc, 512, &[2])?;
-        assert!(rt; is_create(&Some(act), 0x5_0000_0000, 3_584, ones.as_slice()));
-        let act = told(alloc, &mut driver, &mut disk, &[])?;
-        assert!(rt; is_entry(&act, 4_664));
-        assert_eq!(rt; disk.inode().entries(), [0, 0, 0].as_slice());
-        let act = told(alloc, &mut driver, &mut disk, &[])?;
-        assert!(rt; is_create(&act, 0x5_0000_0001, 0, twos.as_slice()));
-        assert_eq!(rt; disk.inode().entries(), [5, 0, 0].as_slice());
-        let act = told(alloc, &mut driver, &mut disk, &[])?;
-        assert!(rt; is_entry(&act, 4_668));
-        let act = told(alloc, &mut driver, &mut disk, &[])?;
-        assert!(rt; matches!(&act, Some(DriverAct::Reply(GuestRsp::Done))));
-        assert_eq!(rt; disk.inode().entries(), [5, 5, 0].as_slice());
-        assert!(rt; driver.bytes_wanted(&disk) == None);
-        Ok(())
-    } else {
-        Err(Fail::new("asks for no whole blocks"))
-    }
+    let told = told(alloc, &mut disk, ask, &[])?;
+    assert_eq!(rt;
+        told.as_str(),
+        "create 21474836480 3 4096 3584 01*512.;disk 61 0 0 0;\
+         write 9223372058329612288 3 4664 05000000;disk 61 5 0 0;\
+         create 21474836481 3 4096 0 02*512.;disk 61 5 0 0;\
+         write 9223372058329612288 3 4668 05000000;disk 61 5 5 0;reply done;"
+    );
+    Ok(())
 }
 
 // The zeros of a hole are told at once, and the parent's object is read in its place.
@@ -171,20 +145,13 @@ fn reads_a_hole_and_its_parent(rt: HostRuntime) -> Result<(), Fail> {
         offset: 3_584,
         length: 1_024,
     };
-    if let Some((mut driver, act)) = begun(alloc, &disk, ask)? {
-        assert!(rt; is_read(&Some(act), 0x4_0000_0001, 0, 512));
-        assert!(rt; driver.bytes_wanted(&disk) == Some(512));
-        let sevens = runs(alloc, 512, &[7])?;
-        let both = runs(alloc, 512, &[0, 7])?;
-        let act = told(alloc, &mut driver, &mut disk, sevens.as_slice())?;
-        assert!(rt;
-            matches!(&act, Some(DriverAct::Reply(GuestRsp::Piece(bytes))) if bytes.as_slice() == both.as_slice())
-        );
-        assert_eq!(rt; disk.inode().entries(), [0, 4, 0].as_slice());
-        Ok(())
-    } else {
-        Err(Fail::new("asks for no whole blocks"))
-    }
+    let sevens = runs(alloc, 512, &[7])?;
+    let told = told(alloc, &mut disk, ask, sevens.as_slice())?;
+    assert_eq!(rt;
+        told.as_str(),
+        "read 17179869185 3 0 512;snapshot 61 0 4 0;reply piece 00*512.07*512.;"
+    );
+    Ok(())
 }
 
 // A write on the parent's object copies it whole; the next one is written in place.
@@ -192,36 +159,38 @@ fn reads_a_hole_and_its_parent(rt: HostRuntime) -> Result<(), Fail> {
 fn copies_its_parents_object(rt: HostRuntime) -> Result<(), Fail> {
     let alloc = rt.alloc();
     let mut disk = small_disk(alloc, 0, 4, false)?;
-    let ask = DiskAsk::Write {
+    let old = runs(alloc, 512, &[1, 2, 3, 4, 5, 6, 7, 8])?;
+    let first = DiskAsk::Write {
         offset: 4_608,
         bytes: runs(alloc, 512, &[9])?,
     };
-    if let Some((mut driver, act)) = begun(alloc, &disk, ask)? {
-        assert!(rt; is_read(&Some(act), 0x4_0000_0001, 0, 4_096));
-        let old = runs(alloc, 512, &[1, 2, 3, 4, 5, 6, 7, 8])?;
-        let new = runs(alloc, 512, &[1, 9, 3, 4, 5, 6, 7, 8])?;
-        let act = told(alloc, &mut driver, &mut disk, old.as_slice())?;
-        assert!(rt; is_create(&act, 0x5_0000_0001, 0, new.as_slice()));
-        let act = told(alloc, &mut driver, &mut disk, &[])?;
-        assert!(rt; is_entry(&act, 4_668));
-        let act = told(alloc, &mut driver, &mut disk, &[])?;
-        assert!(rt; matches!(&act, Some(DriverAct::Reply(GuestRsp::Done))));
-        assert_eq!(rt; disk.inode().entries(), [0, 5, 0].as_slice());
-    }
-    let again = DiskAsk::Write {
+    let first = told(alloc, &mut disk, first, old.as_slice())?;
+    assert_eq!(rt;
+        first.as_str(),
+        "read 17179869185 3 0 4096;disk 61 0 4 0;\
+         create 21474836481 3 4096 0 01*512.09*512.03*512.04*512.05*512.06*512.07*512.08*512.;\
+         disk 61 0 4 0;write 9223372058329612288 3 4668 05000000;disk 61 0 5 0;reply done;"
+    );
+    let next = DiskAsk::Write {
         offset: 4_608,
         bytes: runs(alloc, 512, &[6])?,
     };
-    if let Some((_, act)) = begun(alloc, &disk, again)? {
-        let sixes = runs(alloc, 512, &[6])?;
-        assert!(rt;
-            matches!(&act, DriverAct::Work(ObjWork::Write { oid, policy: Policy::Copies(3), offset: 512, bytes })
-                if oid.as_u64() == 0x5_0000_0001 && bytes.as_slice() == sixes.as_slice())
-        );
-        Ok(())
-    } else {
-        Err(Fail::new("asks for no whole blocks"))
-    }
+    let next = told(alloc, &mut disk, next, &[])?;
+    assert_eq!(rt;
+        next.as_str(),
+        "write 21474836481 3 512 06*512.;disk 61 0 5 0;reply done;"
+    );
+    Ok(())
+}
+
+/// The refusals of a request with no disk open, with a disk, a snapshot, and a snapshot that was deleted.
+fn refusals(ask: &DiskAsk, disk: &Disk, snapshot: &Disk) -> [Option<Cause>; 4] {
+    [
+        disk_refusal(None, false, ask),
+        disk_refusal(Some(disk), true, ask),
+        disk_refusal(Some(snapshot), false, ask),
+        disk_refusal(Some(snapshot), true, ask),
+    ]
 }
 
 // A closed disk, a write on a snapshot, a read of a deleted one, and an end past the disk.
@@ -230,58 +199,40 @@ fn refuses_on_the_spot(rt: HostRuntime) -> Result<(), Fail> {
     let alloc = rt.alloc();
     let disk = small_disk(alloc, 0, 0, false)?;
     let snapshot = small_disk(alloc, 0, 0, true)?;
-    let read = DiskAsk::Read {
-        offset: 11_776,
-        length: 1_024,
-    };
+    let closed = Some(Cause::VdiNotLocked);
+    let past = Some(Cause::InvalidParms);
+    let gone = Some(Cause::NoVdi);
+    for (offset, length, expected) in [
+        (11_776, 512, [closed, None, None, gone]),
+        (11_776, 1_024, [closed, past, past, gone]),
+        (18_446_744_073_709_551_104, 512, [closed, past, past, gone]),
+    ] {
+        let read = DiskAsk::Read { offset, length };
+        assert_eq!(rt; refusals(&read, &disk, &snapshot), expected);
+    }
     let write = DiskAsk::Write {
         offset: 11_776,
         bytes: runs(alloc, 512, &[1, 1])?,
     };
-    let last = DiskAsk::Read {
-        offset: 11_776,
-        length: 512,
+    let readonly = Some(Cause::Readonly);
+    assert_eq!(rt;
+        refusals(&write, &disk, &snapshot),
+        [closed, past, readonly, readonly]
+    );
+    Ok(())
+}
+
+// A request that is refused has its reply at once.
+#[test]
+fn replies_with_a_refusal(rt: HostRuntime) -> Result<(), Fail> {
+    let alloc = rt.alloc();
+    let mut snapshot = small_disk(alloc, 0, 0, true)?;
+    let write = DiskAsk::Write {
+        offset: 0,
+        bytes: runs(alloc, 512, &[1])?,
     };
-    assert!(rt; matches!(disk_refusal(None, false, &read), Some(Cause::VdiNotLocked)));
-    assert!(rt;
-        matches!(
-            disk_refusal(Some(&snapshot), true, &write),
-            Some(Cause::Readonly)
-        )
-    );
-    assert!(rt;
-        matches!(
-            disk_refusal(Some(&snapshot), true, &read),
-            Some(Cause::NoVdi)
-        )
-    );
-    assert!(rt;
-        matches!(
-            disk_refusal(Some(&snapshot), false, &read),
-            Some(Cause::InvalidParms)
-        )
-    );
-    assert!(rt;
-        matches!(
-            disk_refusal(Some(&disk), true, &write),
-            Some(Cause::InvalidParms)
-        )
-    );
-    assert!(rt; disk_refusal(Some(&disk), true, &last).is_none());
-    let far = DiskAsk::Read {
-        offset: 18_446_744_073_709_551_104,
-        length: 512,
-    };
-    assert!(rt;
-        matches!(
-            disk_refusal(Some(&disk), false, &far),
-            Some(Cause::InvalidParms)
-        )
-    );
-    if let Some((driver, act)) = begun(alloc, &snapshot, write)? {
-        assert!(rt; matches!(&act, DriverAct::Reply(GuestRsp::Refused(Cause::Readonly))));
-        assert!(rt; driver.bytes_wanted(&snapshot) == None);
-    }
+    let told = told(alloc, &mut snapshot, write, &[])?;
+    assert_eq!(rt; told.as_str(), "reply refused READONLY;");
     Ok(())
 }
 
@@ -312,13 +263,21 @@ fn read_of(oid: Oid) -> ObjWork
     }
 }
 
+/// The request whose work begins next.
+fn started(queue: &mut InodeQueue) -> Option<u32> {
+    match queue.start() {
+        Some(WaitingWork { req, .. }) => Some(req),
+        None => None,
+    }
+}
+
 // A work on the inode waits for the one that is open, in the order of coming; a work on a data object waits for none.
 #[test]
 fn works_on_the_inode_go_in_line(rt: HostRuntime) -> Result<(), Fail> {
     let mut queue = InodeQueue::new(rt.alloc());
     let inode = read_of(Oid::inode(Vid(5)));
     let block = read_of(Oid::object(Vid(5), 0));
-    assert!(rt; queue.start().is_none());
+    assert_eq!(rt; started(&mut queue), None);
     assert!(rt; queue.may_open(&inode));
     queue.open(1, &inode);
     assert!(rt; queue.may_open(&block));
@@ -326,11 +285,11 @@ fn works_on_the_inode_go_in_line(rt: HostRuntime) -> Result<(), Fail> {
     queue.wait(2, read_of(Oid::inode(Vid(5))))?;
     queue.wait(3, read_of(Oid::inode(Vid(5))))?;
     queue.end(&block);
-    assert!(rt; queue.start().is_none());
+    assert_eq!(rt; started(&mut queue), None);
     queue.end(&inode);
-    assert!(rt; matches!(queue.start(), Some(WaitingWork { req: 2, .. })));
-    assert!(rt; queue.start().is_none());
+    assert_eq!(rt; started(&mut queue), Some(2));
+    assert_eq!(rt; started(&mut queue), None);
     queue.end(&inode);
-    assert!(rt; matches!(queue.start(), Some(WaitingWork { req: 3, .. })));
+    assert_eq!(rt; started(&mut queue), Some(3));
     Ok(())
 }

@@ -6,6 +6,8 @@ use Rattle.sheep_node.specs.State.{initial_node}
 use Rattle.sheep_node.specs.Step.{node_step}
 use Rattle.sheep_node.specs.May.{May}
 use Rattle.sheep_node.specs.SpentNode.{NodeOrSpent}
+use Rattle.step_text.specs.declared.fault.Fault.{Fault}
+use Rattle.step_text.specs.declared.fault.Fault.TheVariants.{NoMemory}
 
 -- a node opens
 pub record HasOpened (now : NodeOrSpent) : Type 0 where
@@ -24,6 +26,6 @@ pub record HasStepped (old now : NodeOrSpent) : Type 0 where
 abbrev pub HasGoneOn : NodeOrSpent → NodeOrSpent → Type 0
 HasGoneOn old now = HasOpened now ⊎ HasStepped old now
 
--- a line gave nothing: the node is as it was, or out of memory, or what it did could not be told for want of memory
-abbrev pub HasFailed : NodeOrSpent → NodeOrSpent → Type 0
-HasFailed old now = (now ≡ old) ⊎ (now.spent ≡ true) ⊎ HasStepped old now
+-- a line gave nothing, for this reason: the node is as it was; or memory was wanting, and it is spent, or what it did could not be told
+abbrev pub HasFailed : Fault → NodeOrSpent → NodeOrSpent → Type 0
+HasFailed fault old now = (now ≡ old) ⊎ ((fault ≡ NoMemory) × ((now.spent ≡ true) ⊎ HasStepped old now))

@@ -1,8 +1,8 @@
 //! The words of an entry of the log, read and written.
 
 use crate::fault::Fault;
-use crate::words::{Words, write_bytes};
-use object_id::{Bytes, Entry, Member, MemberList, Origin, Policy};
+use crate::words::{Words, write_bytes, write_named, write_spec};
+use object_id::{Entry, Member, MemberList, Origin};
 use std::alloc::AllocError;
 use std::fmt::Write;
 
@@ -104,8 +104,8 @@ fn disk_entry(kind: &str, words: &mut Words) -> Result<Entry, Fault> {
     }
 }
 
-/// Writes an entry as `read_entry` reads it.
-pub(crate) fn write_entry(out: &mut String, entry: &Entry) -> Result<(), AllocError> {
+/// Writes an entry of the log: its kind, and its fields in order.
+pub fn write_entry(out: &mut String, entry: &Entry) -> Result<(), AllocError> {
     match entry {
         Entry::Format { members } => {
             write!(out, "format {}", members.len())?;
@@ -153,24 +153,11 @@ pub(crate) fn write_entry(out: &mut String, entry: &Entry) -> Result<(), AllocEr
     }
 }
 
-fn write_named(out: &mut String, name: &Bytes, tag: &Option<Bytes>) -> Result<(), AllocError> {
-    write_bytes(out, name.as_slice())?;
-    out.push(' ')?;
-    match tag {
-        Some(tag) => write_bytes(out, tag.as_slice()),
-        None => out.push('.'),
-    }
-}
-
 fn write_origin(out: &mut String, origin: &Origin) -> Result<(), AllocError> {
     match origin {
         Origin::Fresh { spec } => {
-            write!(out, " fresh {} ", spec.size)?;
-            match spec.policy {
-                Policy::Copies(copies) => write!(out, "{copies}")?,
-                Policy::Coded { d, p } => write!(out, "{d}:{p}")?,
-            }
-            write!(out, " {}", spec.shift)
+            out.push_str(" fresh ")?;
+            write_spec(out, *spec)
         }
         Origin::SnapshotOf { tag } => {
             out.push_str(" snapshot ")?;

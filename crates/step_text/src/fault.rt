@@ -1,4 +1,5 @@
 use object_id::NoMemory;
+use peer_proto::PeerFault;
 use std::alloc::{AllocError, AllocFailed};
 
 /// Why a line of the list gave nothing.
@@ -20,6 +21,15 @@ pub enum Fault {
 impl From<NoMemory> for Fault {
     fn from(_: NoMemory) -> Fault {
         Fault::NoMemory
+    }
+}
+
+impl From<PeerFault> for Fault {
+    fn from(fault: PeerFault) -> Fault {
+        match fault {
+            PeerFault::NoMemory => Fault::NoMemory,
+            _ => Fault::Word,
+        }
     }
 }
 

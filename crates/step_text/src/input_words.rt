@@ -1,11 +1,22 @@
-//! The words of a node's input.
+//! The words of a node's input, read and written.
 
-use crate::entry_words::read_entry;
+use crate::entry_words::{read_entry, write_entry};
 use crate::fault::Fault;
-use crate::words::Words;
+use crate::words::{Words, write_bytes, write_named, write_spec};
+use crate::work_words::{read_work, write_work};
 use epoch_log::EntryList;
-use peer_proto::{DiskAsk, ObjWork, VdiAsk, decode_ask, decode_say};
+use object_id::NoMemory;
+use peer_proto::{DiskAsk, VdiAsk, decode_ask, decode_say, encode_ask, encode_say};
 use sheep_node::{Ask, Input};
+use std::alloc::{AllocError, Global};
+use std::fmt::Write;
+
+/// The input that a line spells.
+pub fn input_of(alloc: Global, line: &str) -> Result<Input, Fault> {
+    let mut words = Words::new(alloc, line);
+    let kind = words.word()?;
+    read_input(kind, &mut words)
+}
 
 /// The input of this kind that the next words spell. Messages stand as their bytes.
 pub(crate) fn read_input(kind: &str, words: &mut Words) -> Result<Input, Fault> {
@@ -17,17 +28,11 @@ pub(crate) fn read_input(kind: &str, words: &mut Words) -> Result<Input, Fault> 
         }),
         "request" => {
             let bytes = words.bytes()?;
-            match decode_ask(words.alloc, bytes.as_slice()) {
-                Ok(request) => Ok(Input::Request(request)),
-                Err(_) => Err(Fault::Word),
-            }
+            Ok(Input::Request(decode_ask(words.alloc, bytes.as_slice())?))
         }
         "reply" => {
             let bytes = words.bytes()?;
-            match decode_say(words.alloc, bytes.as_slice()) {
-                Ok(reply) => Ok(Input::Reply(reply)),
-                Err(_) => Err(Fault::Word),
-            }
+            Ok(Input::Reply(decode_say(words.alloc, bytes.as_slice())?))
         }
         "lost" => Ok(Input::Lost {
             number: words.number()?,
@@ -104,35 +109,96 @@ fn read_command(words: &mut Words) -> Result<VdiAsk, Fault> {
     }
 }
 
-fn read_work(words: &mut Words) -> Result<ObjWork, Fault> {
-    let kind = words.word()?;
-    let oid = words.oid()?;
-    let policy = words.policy()?;
-    match kind {
-        "create" => Ok(ObjWork::Create {
-            oid,
-            policy,
-            length: words.number()?,
-            offset: words.number()?,
-            bytes: words.bytes()?,
-        }),
-        "write" => Ok(ObjWork::Write {
-            oid,
-            policy,
-            offset: words.number()?,
-            bytes: words.bytes()?,
-        }),
-        "read" => Ok(ObjWork::Read {
-            oid,
-            policy,
-            offset: words.number()?,
-            length: words.number()?,
-        }),
-        "read_all" => Ok(ObjWork::ReadAll {
-            oid,
-            policy,
-            length: words.number()?,
-        }),
-        _ => Err(Fault::Word),
+/// Writes an input as `input_of` reads it.
+pub fn write_input(alloc: Global, out: &mut String, input: &Input) -> Result<(), NoMemory> {
+    match input {
+        Input::Guest { req, session, ask } => {
+            write!(out, "guest {req} {session} ")?;
+            write_ask(out, ask)?;
+        }
+        Input::Request(request) => {
+            out.push_str("request ")?;
+            write_bytes(out, encode_ask(alloc, request)?.as_slice())?;
+        }
+        Input::Reply(reply) => {
+            out.push_str("reply ")?;
+            write_bytes(out, encode_say(alloc, reply)?.as_slice())?;
+        }
+        Input::Lost { number } => write!(out, "lost {number}")?,
+        Input::LogEntry(entry) => {
+            out.push_str("log ")?;
+            write_entry(out, entry)?;
+        }
+        Input::Put => out.push_str("put")?,
+        Input::RecoverTick => out.push_str("recover_tick")?,
+        Input::RetryTick => out.push_str("retry_tick")?,
+        Input::Back { entries } => write_entries(out, entries)?,
+    }
+    Ok(())
+}
+
+fn write_entries(out: &mut String, entries: &EntryList) -> Result<(), AllocError> {
+    write!(out, "back {}", entries.len())?;
+    for entry in entries.as_slice() {
+        out.push(' ')?;
+        write_entry(out, entry)?;
+    }
+    Ok(())
+}
+
+fn write_ask(out: &mut String, ask: &Ask) -> Result<(), AllocError> {
+    match ask {
+        Ask::Disk(ask) => write_disk_ask(out, ask),
+        Ask::Vdi(ask) => write_command(out, ask),
+        Ask::Object(work) => {
+            out.push_str("object ")?;
+            write_work(out, work)
+        }
+        Ask::Entry(entry) => {
+            out.push_str("entry ")?;
+            write_entry(out, entry)
+        }
+    }
+}
+
+fn write_disk_ask(out: &mut String, ask: &DiskAsk) -> Result<(), AllocError> {
+    match ask {
+        DiskAsk::Read { offset, length } => write!(out, "disk read {offset} {length}"),
+        DiskAsk::Write { offset, bytes } => {
+            write!(out, "disk write {offset} ")?;
+            write_bytes(out, bytes.as_slice())
+        }
+    }
+}
+
+fn write_command(out: &mut String, ask: &VdiAsk) -> Result<(), AllocError> {
+    match ask {
+        VdiAsk::Create { name, spec } => {
+            out.push_str("vdi create ")?;
+            write_bytes(out, name.as_slice())?;
+            out.push(' ')?;
+            write_spec(out, *spec)
+        }
+        VdiAsk::Attach { name, tag } => {
+            out.push_str("vdi open ")?;
+            write_named(out, name, tag)
+        }
+        VdiAsk::Close => out.push_str("vdi close"),
+        VdiAsk::Snapshot { tag } => {
+            out.push_str("vdi snapshot ")?;
+            write_bytes(out, tag.as_slice())
+        }
+        VdiAsk::Clone { base, tag, name } => {
+            for (text, before) in [(base, "vdi clone "), (tag, " "), (name, " ")] {
+                out.push_str(before)?;
+                write_bytes(out, text.as_slice())?;
+            }
+            Ok(())
+        }
+        VdiAsk::Delete { name, tag } => {
+            out.push_str("vdi delete ")?;
+            write_named(out, name, tag)
+        }
+        VdiAsk::Check => out.push_str("vdi check"),
     }
 }

@@ -13,6 +13,11 @@ mod input_words;
 mod life;
 mod output_words;
 mod words;
+mod work_words;
 
+pub use entry_words::write_entry;
 pub use fault::Fault;
+pub use input_words::{input_of, write_input};
 pub use life::Life;
+pub use output_words::{outputs_line, write_reply};
+pub use work_words::write_work;

@@ -1,6 +1,6 @@
 //! The lives of nodes, line by line.
 
-ghost use Rattle.std.specs.Prelude.{◌≡◌, false, OnOk, OnErr};
+ghost use Rattle.std.specs.Prelude.{◌≡◌, false, OnOk, IfErr};
 ghost use Rattle.sheep_node.specs.State.{initial_node};
 ghost use Rattle.step_text.specs.Lives.{HasStepped, HasGoneOn, HasFailed};
 
@@ -8,7 +8,7 @@ use crate::fault::Fault;
 use crate::input_words::read_input;
 use crate::output_words::outputs_line;
 use crate::words::Words;
-use object_id::NodeId;
+use object_id::{NoMemory, NodeId};
 use sheep_node::{Input, Node, conditions_are_tests};
 use std::alloc::Global;
 
@@ -31,10 +31,11 @@ impl Life {
     }
 
     /// What a line of the list gives: nothing if a node opens, and otherwise the outputs of the node's step. A line that is refused
-    /// leaves the node as it is.
+    /// for its words, or because the node may not make the step, leaves the node as it is; without memory the node may be spent, or
+    /// have made a step that can't be told.
     pub fn step(&mut self, line: &str) -> Result<String, Fault>
         ensures ok { OnOk result (HasGoneOn self.old.node self.new.node) }
-        ensures err { OnErr result (HasFailed self.old.node self.new.node) }
+        ensures err { IfErr result (λ fault. HasFailed fault self.old.node self.new.node) }
     {
         let mut words = Words::new(self.alloc, line);
         match words.word()? {
@@ -53,7 +54,7 @@ impl Life {
 
 fn outputs_of(alloc: Global, node: &mut Node, input: Input) -> Result<String, Fault>
     ensures ok { OnOk result (HasStepped node.old node.new) }
-    ensures err { OnErr result (HasFailed node.old node.new) }
+    ensures err { IfErr result (λ fault. HasFailed fault node.old node.new) }
 {
     if node.spent() {
         return Err(Fault::Spent);
@@ -63,5 +64,12 @@ fn outputs_of(alloc: Global, node: &mut Node, input: Input) -> Result<String, Fa
     }
     // The test is the condition of a step.
     conditions_are_tests();
-    outputs_line(alloc, &node.step(input)?)
+    let told = match node.step(input) {
+        Ok(outputs) => outputs_line(alloc, &outputs),
+        Err(NoMemory) => Err(NoMemory),
+    };
+    match told {
+        Ok(line) => Ok(line),
+        Err(NoMemory) => Err(Fault::NoMemory),
+    }
 }

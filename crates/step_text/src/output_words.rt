@@ -1,16 +1,15 @@
 //! The words of what a step gives.
 
 use crate::entry_words::write_entry;
-use crate::fault::Fault;
 use crate::words::write_bytes;
-use object_id::Cause;
+use object_id::{Cause, NoMemory};
 use peer_proto::{Checked, GuestRsp, encode_ask, encode_say};
 use sheep_node::Outputs;
 use std::alloc::{AllocError, Global};
 use std::fmt::Write;
 
 /// The outputs of a step on one line: what it sends, says, replies and puts, each ended by `;`. Messages stand as their bytes.
-pub(crate) fn outputs_line(alloc: Global, given: &Outputs) -> Result<String, Fault> {
+pub fn outputs_line(alloc: Global, given: &Outputs) -> Result<String, NoMemory> {
     let mut out = String::new(alloc);
     for (to, request) in given.sends.as_slice() {
         write!(out, "send {} ", to.0)?;
@@ -35,7 +34,8 @@ pub(crate) fn outputs_line(alloc: Global, given: &Outputs) -> Result<String, Fau
     Ok(out)
 }
 
-fn write_reply(out: &mut String, reply: &GuestRsp) -> Result<(), AllocError> {
+/// Writes a guest's reply: its kind, and what it gives.
+pub fn write_reply(out: &mut String, reply: &GuestRsp) -> Result<(), AllocError> {
     match reply {
         GuestRsp::Done => out.push_str("done"),
         GuestRsp::Piece(piece) => {

@@ -1,4 +1,5 @@
 use crate::fault::Fault;
+use hex::FromHexError;
 use object_id::{Bytes, Epoch, NodeId, Oid, Policy, VdiSpec, Vid};
 use std::alloc::{AllocError, Global};
 use std::fmt::Write;
@@ -101,7 +102,7 @@ impl<'a> Words<'a> {
             Some((digits, count)) => (digits, number_of::<u32>(count)?),
             None => (piece, 1),
         };
-        let decoded = hex::decode(self.alloc, digits).map_err(|_| Fault::Word)?;
+        let decoded = decoded(self.alloc, digits)?;
         bytes.extend_from_slice(decoded.as_slice())?;
         if let Some(last) = decoded.last() {
             for _ in 1..count {
@@ -109,6 +110,14 @@ impl<'a> Words<'a> {
             }
         }
         Ok(())
+    }
+}
+
+fn decoded(alloc: Global, digits: &str) -> Result<Vec<u8>, Fault> {
+    match hex::decode(alloc, digits) {
+        Ok(bytes) => Ok(bytes),
+        Err(FromHexError::OutOfMemory) => Err(Fault::NoMemory),
+        Err(_) => Err(Fault::Word),
     }
 }
 
@@ -140,6 +149,35 @@ pub(crate) fn write_bytes(out: &mut String, bytes: &[u8]) -> Result<(), AllocErr
         }
     }
     write_run(out, run)
+}
+
+/// Writes a policy as `Words::policy` reads it.
+pub(crate) fn write_policy(out: &mut String, policy: Policy) -> Result<(), AllocError> {
+    match policy {
+        Policy::Copies(copies) => write!(out, "{copies}"),
+        Policy::Coded { d, p } => write!(out, "{d}:{p}"),
+    }
+}
+
+/// Writes a specification as `Words::spec` reads it.
+pub(crate) fn write_spec(out: &mut String, spec: VdiSpec) -> Result<(), AllocError> {
+    write!(out, "{} ", spec.size)?;
+    write_policy(out, spec.policy)?;
+    write!(out, " {}", spec.shift)
+}
+
+/// Writes a name and a tag as `Words::bytes` and `Words::tag` read them.
+pub(crate) fn write_named(
+    out: &mut String,
+    name: &Bytes,
+    tag: &Option<Bytes>,
+) -> Result<(), AllocError> {
+    write_bytes(out, name.as_slice())?;
+    out.push(' ')?;
+    match tag {
+        Some(tag) => write_bytes(out, tag.as_slice()),
+        None => out.push('.'),
+    }
 }
 
 /// How often a byte stands in a row.

@@ -3,4 +3,4 @@ use Rattle.vdi_directory.specs.DirectoryState.{AreLocks}
 use Rattle.node_tests.proofs.trial.course.Given as goal
 
 abbrev pub invariant-loop : goal.invariant-loop
-invariant-loop l = AreLocks (log_effects l.directory) l.locks
+invariant-loop l = AreLocks (log_effects l.log.directory) l.log.locks
