@@ -152,7 +152,7 @@ fn written(node: &Node, rsp: &PeerRsp) -> Result<Option<(u32, u32, usize)>, NoMe
     }
 }
 
-// The node has sent four messages before: the new inode, its read, the object's create and its entry.
+// The node has sent five messages before the read that the check waits for.
 #[test]
 fn a_check_comes_to_its_write(rt: HostRuntime) -> Result<(), Fail> {
     let alloc = rt.alloc();
@@ -162,7 +162,7 @@ fn a_check_comes_to_its_write(rt: HostRuntime) -> Result<(), Fail> {
     node.ask(3, "disk write 0 07*512.")?;
     node.life.step("guest 4 1 vdi check")?;
     let rsp = PeerRsp {
-        number: 4,
+        number: 5,
         epoch: Epoch(1),
         say: PeerSay::Piece(Bytes::from_slice(alloc, &[7; 4_096])?),
     };
