@@ -2,14 +2,15 @@
 
 ghost use Rattle.std.specs.Prelude.{◌≡◌, false, OnOk, IfErr};
 ghost use Rattle.sheep_node.specs.State.{initial_node};
+ghost use Rattle.step_text.specs.declared.fault.Fault.TheVariants as faults;
 ghost use Rattle.step_text.specs.Lives.{HasStepped, HasGoneOn, HasFailed};
 
 use crate::fault::Fault;
 use crate::input_words::read_input;
 use crate::output_words::outputs_line;
 use crate::words::Words;
-use object_id::{NoMemory, NodeId};
-use sheep_node::{Input, Node, conditions_are_tests};
+use object_id::NodeId;
+use sheep_node::{Input, Node, Outputs, conditions_are_tests};
 use std::alloc::Global;
 
 /// The node that opened last. Before the first one opens it is a node that has read nothing.
@@ -64,12 +65,13 @@ fn outputs_of(alloc: Global, node: &mut Node, input: Input) -> Result<String, Fa
     }
     // The test is the condition of a step.
     conditions_are_tests();
-    let told = match node.step(input) {
-        Ok(outputs) => outputs_line(alloc, &outputs),
-        Err(NoMemory) => Err(NoMemory),
-    };
-    match told {
-        Ok(line) => Ok(line),
-        Err(NoMemory) => Err(Fault::NoMemory),
-    }
+    let outputs = node.step(input)?;
+    line_of(alloc, outputs)
+}
+
+/// The line that a step's outputs give.
+fn line_of(alloc: Global, outputs: Outputs) -> Result<String, Fault>
+    ensures { IfErr result (λ fault. fault ≡ faults.NoMemory) }
+{
+    Ok(outputs_line(alloc, &outputs)?)
 }
