@@ -1,13 +1,15 @@
 //! Each copy with ample memory: a body that never finds any would meet the contracts too.
 
 use crate::act_words::{write_driver_act, write_end, write_op_act};
+use crate::fault::Fault;
+use crate::input_words::{input_of, write_input};
+use crate::output_words::outputs_line;
 use guest_driver::DriverAct;
 use object_id::{Bytes, Cause, Entry, NodeId, Oid, Policy, Vid};
 use peer_proto::{GuestRsp, ObjWork, SendList};
 use sheep_node::{Input, Outputs, ReplyList};
 use std::alloc::Global;
 use std::test::Fail;
-use step_text::{Fault, input_of, outputs_line, write_input};
 use vdi_ops::{OpAct, OpEnd};
 
 /// A request to read, and a refusal, as `peer_proto` spells them.
@@ -15,11 +17,23 @@ const REQUEST: &str = "request 01a20000050000000800*7.020000000900*4.04000003000
 
 const REPLY: &str = "reply 01a10000050000000600*7.8300*4.0500*26.";
 
+/// What an input says.
+fn input_line(alloc: Global, input: &Input) -> Result<String, Fault> {
+    let mut told = String::new(alloc);
+    write_input(alloc, &mut told, input)?;
+    Ok(told)
+}
+
+/// What the copy of an input says.
+fn copied_line(alloc: Global, input: &Input) -> Result<String, Fault> {
+    let copy = input.copy(alloc)?;
+    input_line(alloc, &copy)
+}
+
 /// What the copy of a line's input says.
 fn copied_input(alloc: Global, line: &str) -> Result<String, Fault> {
-    let mut told = String::new(alloc);
-    write_input(alloc, &mut told, &input_of(alloc, line)?.copy(alloc)?)?;
-    Ok(told)
+    let input = input_of(alloc, line)?;
+    copied_line(alloc, &input)
 }
 
 #[test]

@@ -7,12 +7,13 @@ ghost use Rattle.peer_proto.specs.Work.{IsWork};
 ghost use Rattle.guest_driver.specs.OnDisk.{IsDriverOn};
 
 use crate::act_words::write_driver_act;
+use crate::output_words::write_reply;
 use guest_driver::{
     Disk, Driver, DriverAct, InodeQueue, WaitingWork, begin_disk, disk_refusal, is_ask,
 };
 use inode::Inode;
 use object_id::{Bytes, Cause, NoMemory, Oid, Policy, VdiSpec, Vid};
-use peer_proto::{DiskAsk, ObjWork, WorkDone};
+use peer_proto::{DiskAsk, GuestRsp, ObjWork, WorkDone};
 use std::alloc::Global;
 use std::fmt::Write;
 use std::test::Fail;
@@ -183,14 +184,29 @@ fn copies_its_parents_object(rt: HostRuntime) -> Result<(), Fail> {
     Ok(())
 }
 
+/// Writes a refusal, if there is one.
+fn write_refusal(told: &mut String, cause: Option<Cause>) -> Result<(), NoMemory> {
+    match cause {
+        Some(cause) => write_reply(told, &GuestRsp::Refused(cause))?,
+        None => told.push_str("none")?,
+    }
+    told.push(';')?;
+    Ok(())
+}
+
 /// The refusals of a request with no disk open, with a disk, a snapshot, and a snapshot that was deleted.
-fn refusals(ask: &DiskAsk, disk: &Disk, snapshot: &Disk) -> [Option<Cause>; 4] {
-    [
-        disk_refusal(None, false, ask),
-        disk_refusal(Some(disk), true, ask),
-        disk_refusal(Some(snapshot), false, ask),
-        disk_refusal(Some(snapshot), true, ask),
-    ]
+fn refusals(
+    alloc: Global,
+    ask: &DiskAsk,
+    disk: &Disk,
+    snapshot: &Disk,
+) -> Result<String, NoMemory> {
+    let mut told = String::new(alloc);
+    write_refusal(&mut told, disk_refusal(None, false, ask))?;
+    write_refusal(&mut told, disk_refusal(Some(disk), true, ask))?;
+    write_refusal(&mut told, disk_refusal(Some(snapshot), false, ask))?;
+    write_refusal(&mut told, disk_refusal(Some(snapshot), true, ask))?;
+    Ok(told)
 }
 
 // A closed disk, a write on a snapshot, a read of a deleted one, and an end past the disk.
@@ -199,25 +215,42 @@ fn refuses_on_the_spot(rt: HostRuntime) -> Result<(), Fail> {
     let alloc = rt.alloc();
     let disk = small_disk(alloc, 0, 0, false)?;
     let snapshot = small_disk(alloc, 0, 0, true)?;
-    let closed = Some(Cause::VdiNotLocked);
-    let past = Some(Cause::InvalidParms);
-    let gone = Some(Cause::NoVdi);
     for (offset, length, expected) in [
-        (11_776, 512, [closed, None, None, gone]),
-        (11_776, 1_024, [closed, past, past, gone]),
-        (18_446_744_073_709_551_104, 512, [closed, past, past, gone]),
+        (
+            11_776,
+            512,
+            "refused VDI_NOT_LOCKED;none;none;refused NO_VDI;",
+        ),
+        (
+            11_776,
+            1_024,
+            "refused VDI_NOT_LOCKED;refused INVALID_PARMS;refused INVALID_PARMS;refused NO_VDI;",
+        ),
+        (
+            18_446_744_073_709_551_104,
+            512,
+            "refused VDI_NOT_LOCKED;refused INVALID_PARMS;refused INVALID_PARMS;refused NO_VDI;",
+        ),
     ] {
-        let read = DiskAsk::Read { offset, length };
-        assert_eq!(rt; refusals(&read, &disk, &snapshot), expected);
+        let told = refusals(alloc, &DiskAsk::Read { offset, length }, &disk, &snapshot)?;
+        assert_eq!(rt; told.as_str(), expected);
     }
+    Ok(())
+}
+
+#[test]
+fn refuses_writes_on_the_spot(rt: HostRuntime) -> Result<(), Fail> {
+    let alloc = rt.alloc();
+    let disk = small_disk(alloc, 0, 0, false)?;
+    let snapshot = small_disk(alloc, 0, 0, true)?;
     let write = DiskAsk::Write {
         offset: 11_776,
         bytes: runs(alloc, 512, &[1, 1])?,
     };
-    let readonly = Some(Cause::Readonly);
+    let told = refusals(alloc, &write, &disk, &snapshot)?;
     assert_eq!(rt;
-        refusals(&write, &disk, &snapshot),
-        [closed, past, readonly, readonly]
+        told.as_str(),
+        "refused VDI_NOT_LOCKED;refused INVALID_PARMS;refused READONLY;refused READONLY;"
     );
     Ok(())
 }
