@@ -19,7 +19,11 @@
 //! together (`specs/WireMatch.antt`, `specs/HoldsTogether.antt`), and works go with their requests (`specs/OneWork.antt`).
 #![tactic(auto)]
 
+mod control;
+mod delivery;
 mod fault;
+mod host;
+mod hosts;
 mod laws;
 mod progress;
 
