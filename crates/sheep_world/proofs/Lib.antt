@@ -47,3 +47,4 @@ pub mod TogetherInRuns
 pub mod EnabledParts
 pub mod EventEffects
 mod ClientLaws
+mod GrantedAdds
