@@ -47,3 +47,5 @@ pub mod TogetherInRuns
 pub mod EnabledParts
 pub mod EventEffects
 mod ClientLaws
+mod GrantedAdds
+pub mod Deliveries

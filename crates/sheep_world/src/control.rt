@@ -2,6 +2,7 @@
 
 ghost use Rattle.std.specs.Prelude.{◌≡◌, ◌++◌, map, Some, None, IfOk, if◌then◌else◌};
 ghost use Rattle.std.specs.Option.{option_map};
+ghost use Rattle.cluster_script.specs.Index.{control_at};
 ghost use Rattle.cluster_script.specs.Phases.{is_control};
 ghost use Rattle.sheep_world.specs.Controls.{control_statement};
 ghost use Rattle.sheep_world.specs.Opening.{controls_at};
@@ -32,6 +33,16 @@ fn control_of(statement: &Statement) -> Option<Control>
     }
 }
 
+/// A phase's control at a place.
+fn control_at(script: &Script, phase: usize, place: usize) -> Option<Control>
+    ensures { option_map control_statement result ≡ control_at script.now phase place }
+{
+    match script.control(phase, place) {
+        Some(statement) => control_of(statement),
+        None => None,
+    }
+}
+
 /// The controls of the phase at a place stand behind those that are left.
 pub(crate) fn with_controls_of(
     controls: VecDeque<Control>,
@@ -41,12 +52,13 @@ pub(crate) fn with_controls_of(
     ensures { IfOk result (λ after. map control_statement after.items ≡ map control_statement controls.items ++ controls_at script.now phase) }
 {
     let mut controls = controls;
-    let mut place = 0;
-    while let Some(statement) = script.control(phase, place) {
-        if let Some(control) = control_of(statement) {
+    let Some(found) = script.phase(phase) else {
+        return Ok(controls);
+    };
+    for place in 0..found.controls as usize {
+        if let Some(control) = control_at(script, phase, place) {
             controls.push_back(control)?;
         }
-        place += 1;
     }
     Ok(controls)
 }

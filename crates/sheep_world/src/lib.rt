@@ -19,9 +19,11 @@
 //! together (`specs/WireMatch.antt`, `specs/HoldsTogether.antt`), and works go with their requests (`specs/OneWork.antt`).
 #![tactic(auto)]
 
+mod cluster_log;
 mod control;
 mod delivery;
 mod fault;
+mod granted;
 mod host;
 mod hosts;
 mod laws;
@@ -40,3 +42,4 @@ pub use laws::{
     the_enabled_list_is_in_parts, the_log_holds, what_is_asked_can_be_spelled,
     what_is_in_the_wire_was_spelled, what_may_happen_is_made,
 };
+pub use progress::{ClientAsk, SessionProgress, StartedRequest};
