@@ -49,3 +49,4 @@ pub mod EventEffects
 mod ClientLaws
 mod GrantedAdds
 pub mod Deliveries
+pub mod ControlsOfPhases

@@ -1,7 +1,7 @@
 //! The controls of a script that aren't taken.
 
 ghost use Rattle.std.specs.Prelude.{◌≡◌, ◌++◌, map, Some, None, IfOk, if◌then◌else◌};
-ghost use Rattle.std.specs.Option.{option_map};
+ghost use Rattle.std.specs.Option.{option_map, option_to_list};
 ghost use Rattle.cluster_script.specs.Index.{control_at};
 ghost use Rattle.cluster_script.specs.Phases.{is_control};
 ghost use Rattle.sheep_world.specs.Controls.{control_statement};
@@ -43,6 +43,23 @@ fn control_at(script: &Script, phase: usize, place: usize) -> Option<Control>
     }
 }
 
+/// A phase's control at a place, if there is one, stands behind those that are left.
+fn with_control_at(
+    controls: VecDeque<Control>,
+    script: &Script,
+    phase: usize,
+    place: usize,
+) -> Result<VecDeque<Control>, NoMemory>
+    ensures { IfOk result (λ after. map control_statement after.items
+        ≡ map control_statement controls.items ++ option_to_list (control_at script.now phase place)) }
+{
+    let mut controls = controls;
+    if let Some(control) = control_at(script, phase, place) {
+        controls.push_back(control)?;
+    }
+    Ok(controls)
+}
+
 /// The controls of the phase at a place stand behind those that are left.
 pub(crate) fn with_controls_of(
     controls: VecDeque<Control>,
@@ -56,9 +73,7 @@ pub(crate) fn with_controls_of(
         return Ok(controls);
     };
     for place in 0..found.controls as usize {
-        if let Some(control) = control_at(script, phase, place) {
-            controls.push_back(control)?;
-        }
+        controls = with_control_at(controls, script, phase, place)?;
     }
     Ok(controls)
 }

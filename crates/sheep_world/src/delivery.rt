@@ -1,9 +1,11 @@
 //! What a delivered message comes to, read before the node steps on it.
 
-ghost use Rattle.std.specs.Prelude.{◌≡◌, IfOk};
+ghost use Rattle.std.specs.Prelude.{◌≡◌, ◌≢◌, IfOk, IsOk};
 ghost use Rattle.std.specs.Option.{option_copied};
+ghost use Rattle.peer_proto.specs.declared.fault.PeerFault.TheVariants as faults;
 ghost use Rattle.peer_proto.specs.Ask.{ask_in};
 ghost use Rattle.peer_proto.specs.Say.{say_in};
+ghost use Rattle.sheep_world.specs.declared.delivery.Delivery.TheVariants.{Unreadable};
 ghost use Rattle.sheep_world.specs.Deliveries.{request_in, reply_in, delivery_of};
 
 use message_wire::Packet;
@@ -24,14 +26,24 @@ pub(crate) enum Delivery {
     Reply(PeerRsp),
 }
 
+/// What bytes come to that a codec refused: they are no message's, unless memory was wanting.
+fn unreadable(fault: PeerFault) -> Result<Delivery, NoMemory>
+    ensures unreadable { IfOk result (λ delivery. delivery ≡ Unreadable) }
+    ensures refused { IsOk result → fault ≢ faults.NoMemory }
+{
+    match fault {
+        PeerFault::NoMemory => Err(NoMemory),
+        _ => Ok(Delivery::Unreadable),
+    }
+}
+
 /// A request to a node, as its bytes have it. Takes memory for what it carries.
 fn request_in(alloc: Global, to: NodeId, bytes: &[u8]) -> Result<Delivery, NoMemory>
     ensures { IfOk result (λ delivery. delivery ≡ request_in to (ask_in bytes.now)) }
 {
     match decode_ask(alloc, bytes) {
         Ok(request) => Ok(Delivery::Request { to, request }),
-        Err(PeerFault::NoMemory) => Err(NoMemory),
-        Err(_) => Ok(Delivery::Unreadable),
+        Err(fault) => unreadable(fault),
     }
 }
 
@@ -41,8 +53,7 @@ fn reply_in(alloc: Global, bytes: &[u8]) -> Result<Delivery, NoMemory>
 {
     match decode_say(alloc, bytes) {
         Ok(rsp) => Ok(Delivery::Reply(rsp)),
-        Err(PeerFault::NoMemory) => Err(NoMemory),
-        Err(_) => Ok(Delivery::Unreadable),
+        Err(fault) => unreadable(fault),
     }
 }
 

@@ -30,7 +30,6 @@ mod laws;
 mod progress;
 
 pub use fault::ApplyFault;
-pub use progress::{ClientAsk, SessionProgress, StartedRequest};
 pub use laws::{
     a_check_reads_what_it_writes, a_history_only_grows, a_lost_node_gets_no_reply,
     a_phase_brings_its_losses, a_run_is_cut_anywhere, a_small_world_worked_out,

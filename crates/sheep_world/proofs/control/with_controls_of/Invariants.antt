@@ -6,4 +6,4 @@ use Rattle.sheep_world.proofs.control.with_controls_of.Given as goal
 abbrev pub invariant-loop-place : goal.invariant-loop-place
 invariant-loop-place l =
     map control_statement l.controls.items
-    ≡ map control_statement l.initial.controls.items ++ take l.place (controls_at l.fn.script.now l.fn.phase)
+    ≡ map control_statement l.initial.controls.items ++ take l.place (controls_at l.fn.script l.fn.phase)
