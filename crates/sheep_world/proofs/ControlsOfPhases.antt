@@ -1,5 +1,5 @@
 -- What a phase has as its controls are controls, so the code keeps each of them.
-use Rattle.std.proofs.Common.{◌≡◌, ℕ, zero, suc, ◌+◌, ◌<◌, ◌==◌, Bool, true, false, not, cond, List, [], ◌∷◌, ◌++◌, length, refl, sym, ap, subst, ◌∙◌, Option, Some, None, rules, append-nil}
+use Rattle.std.proofs.Common.{◌≡◌, ℕ, zero, suc, ◌+◌, ◌<◌, ◌==◌, Bool, true, false, not, cond, List, [], ◌∷◌, ◌++◌, length, refl, sym, ap, subst, ◌∙◌, Option, Some, None, arith, append-nil}
 use Rattle.std.specs.Prelude.{All, map, take, slice_get}
 use Rattle.std.specs.List.{filter, count_by}
 use Rattle.std.specs.Option.{option_map, option_map_or, option_and_then, option_to_list}
@@ -54,9 +54,13 @@ up_to xs place None is = take-past xs place is ∙ sym (append-nil (take place x
 up_to xs place (Some s) is =
     take-suc xs place s (slice_get_within xs place s is) ∙ ap (λ x. take place xs ++ x ∷ []) (get_or_from_slice_get xs place s s is)
 
+one-more : (place : ℕ) → place + 1 ≡ suc place
+one-more place = omega (arith)
+
 -- the controls of a phase up to a place, and the one there
 pub take-controls : (statements : List Statement) (phase place : ℕ)
-    → take (suc place) (controls_at statements phase)
+    → take (place + 1) (controls_at statements phase)
     ≡ take place (controls_at statements phase) ++ option_to_list (control_at statements phase place)
 take-controls statements phase place =
-    up_to (controls_at statements phase) place (control_at statements phase place) (sym (in_list (slice_get (phases_of statements) phase) place))
+    ap (λ (n : ℕ). take n (controls_at statements phase)) (one-more place)
+    ∙ up_to (controls_at statements phase) place (control_at statements phase place) (sym (in_list (slice_get (phases_of statements) phase) place))
