@@ -50,3 +50,6 @@ mod ClientLaws
 mod GrantedAdds
 pub mod Deliveries
 pub mod ControlsOfPhases
+pub mod HistoryBlocks
+pub mod ScriptLookUps
+pub mod SessionTrees
