@@ -52,4 +52,5 @@ pub mod Deliveries
 pub mod ControlsOfPhases
 pub mod HistoryBlocks
 pub mod ScriptLookUps
-pub mod SessionTrees
+pub mod TakenValues
+pub mod StepsInParts

@@ -9,7 +9,7 @@ use crate::progress::ClientAsk;
 use crate::world_state::WorldState;
 use cluster_script::Script;
 use message_wire::{MessageName, Packet, Wire};
-use object_id::NoMemory;
+use object_id::{NoMemory, NodeId};
 use peer_proto::{GuestRsp, PeerReq, SendList, encode_ask};
 use sheep_node::{Input, Outputs, ReplyList};
 use std::alloc::Global;
@@ -24,14 +24,28 @@ fn request_name(request: &PeerReq) -> MessageName
     }
 }
 
+/// A request enters the wire, on its way to a node.
+fn wire_with_request(
+    alloc: Global,
+    wire: Wire,
+    to: NodeId,
+    request: &PeerReq,
+) -> Result<Wire, NoMemory>
+    ensures { IfOk result (λ after. after ≡ wire_with_request wire (to, request.now)) }
+{
+    let mut wire = wire;
+    let bytes = encode_ask(alloc, request)?;
+    wire.put(request_name(request), Packet::Request { to, bytes })?;
+    Ok(wire)
+}
+
 /// The requests of a step enter the wire, each on its way to a node.
 fn wire_with_sends(alloc: Global, wire: Wire, sends: &SendList) -> Result<Wire, NoMemory>
     ensures { IfOk result (λ after. after ≡ fold wire_with_request wire sends.now) }
 {
     let mut wire = wire;
     for (to, request) in sends.as_slice() {
-        let bytes = encode_ask(alloc, request)?;
-        wire.put(request_name(request), Packet::Request { to: *to, bytes })?;
+        wire = wire_with_request(alloc, wire, *to, request)?;
     }
     Ok(wire)
 }

@@ -1,10 +1,11 @@
--- A session that was taken out of a tree of sessions and put back, changed.
+-- A value that was taken out of a map and put back, changed.
 use Rattle.std.proofs.Common.{◌≡◌, ℕ, Bool, true, false, cond, Option, Some, None, refl, sym, ap, ◌∙◌}
 use Rattle.std.specs.Prelude.{unwrap_or}
 use Rattle.std.specs.Ordering.{nat_cmp}
 use Rattle.std.specs.Cmp.{nat_cmp_total}
 use Rattle.std.specs.BTreeMap.{is_at}
 use Rattle.std.specs.FinMap as tree
+use Rattle.proof_tools.proofs.FiniteMaps.{is_at-true}
 
 module _ {X : Type 0} (m : tree.FinMap nat_cmp X) (k : ℕ) where
   pub insert-remove : (x : X) → tree.insert (tree.remove m k) k x ≡ tree.insert m k x
@@ -25,3 +26,13 @@ module _ {X : Type 0} (m : tree.FinMap nat_cmp X) (k : ℕ) where
   put-back change other taken changed rest others was is =
       ap (λ (left : tree.FinMap nat_cmp X). tree.insert left k changed) others ∙ insert-remove changed
       ∙ ap (tree.insert m k) (is ∙ ap change was)
+
+  -- where there is none, none is taken out
+  pub remove-none : tree.get m k ≡ None → tree.remove m k ≡ m
+  remove-none none =
+      tree.same_map nat_cmp_total tree.nat_cmp-IsAntisymmetric (tree.remove m k) m (λ q.
+      tree.get-remove nat_cmp_total m k q ∙ by_tie q (is_at (nat_cmp q) k) refl)
+    where
+      by_tie : (q : ℕ) (b : Bool) → is_at (nat_cmp q) k ≡ b → cond b None (tree.get m q) ≡ tree.get m q
+      by_tie q true is = sym (ap (tree.get m) (is_at-true q k is) ∙ none)
+      by_tie q false is = refl
