@@ -47,3 +47,6 @@ pub mod TogetherInRuns
 pub mod EnabledParts
 pub mod EventEffects
 mod ClientLaws
+mod ScriptLookUps
+mod SessionTrees
+mod HistoryBlocks

@@ -20,11 +20,14 @@
 #![tactic(auto)]
 
 mod fault;
+mod guests;
+mod history_blocks;
 mod laws;
 mod progress;
+mod request_conditions;
+mod script_requests;
 
 pub use fault::ApplyFault;
-pub use progress::{ClientAsk, SessionProgress, StartedRequest};
 pub use laws::{
     a_check_reads_what_it_writes, a_history_only_grows, a_lost_node_gets_no_reply,
     a_phase_brings_its_losses, a_run_is_cut_anywhere, a_small_world_worked_out,
@@ -36,3 +39,4 @@ pub use laws::{
     the_enabled_list_is_in_parts, the_log_holds, what_is_asked_can_be_spelled,
     what_is_in_the_wire_was_spelled, what_may_happen_is_made,
 };
+pub use progress::{ClientAsk, SessionProgress, StartedRequest};
