@@ -47,10 +47,6 @@ pub mod TogetherInRuns
 pub mod EnabledParts
 pub mod EventEffects
 mod ClientLaws
-mod GrantedAdds
-pub mod Deliveries
-pub mod ControlsOfPhases
-pub mod HistoryBlocks
-pub mod ScriptLookUps
-pub mod TakenValues
-pub mod StepsInParts
+mod ScriptLookUps
+mod SessionTrees
+mod HistoryBlocks

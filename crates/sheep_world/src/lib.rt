@@ -24,17 +24,13 @@ mod conditions;
 mod control;
 mod delivery;
 mod fault;
-mod granted;
 mod guests;
 mod history_blocks;
-mod host;
-mod hosts;
 mod laws;
 mod node_steps;
 mod progress;
 mod request_conditions;
 mod script_requests;
-mod world_state;
 
 pub use fault::ApplyFault;
 pub use laws::{
