@@ -48,5 +48,9 @@ pub mod EnabledParts
 pub mod EventEffects
 mod ClientLaws
 mod ScriptLookUps
-mod SessionTrees
 mod HistoryBlocks
+pub mod GrantedAdds
+pub mod StepsInParts
+pub mod ControlsOfPhases
+pub mod TakenValues
+pub mod Deliveries

@@ -24,13 +24,21 @@ mod conditions;
 mod control;
 mod delivery;
 mod fault;
+mod granted;
+mod guest_event;
 mod guests;
 mod history_blocks;
+mod host;
+mod hosts;
 mod laws;
+mod log_events;
+mod membership_events;
+mod message_events;
 mod node_steps;
 mod progress;
 mod request_conditions;
 mod script_requests;
+mod world_state;
 
 pub use fault::ApplyFault;
 pub use laws::{

@@ -1,7 +1,7 @@
 use Rattle.std.proofs.Common.{◌≡◌, OnOk, sym, ap, subst, ◌∙◌}
 use Rattle.sheep_world.specs.World.{no_progress}
 use Rattle.sheep_world.specs.NodeSteps.{progress_without_request, progress_after_reply_in}
-use Rattle.sheep_world.proofs.SessionTrees.{put-back}
+use Rattle.sheep_world.proofs.TakenValues.{put-back}
 use Rattle.sheep_world.proofs.guests.Guests.answer.Goals as goal
 
 pub returns-in-Some : goal.returns-in-Some

@@ -1,7 +1,7 @@
 use Rattle.std.proofs.Common.{◌≡◌, OnOk, subst}
 use Rattle.sheep_world.specs.World.{no_progress}
 use Rattle.sheep_world.specs.Effects.{progress_with_started}
-use Rattle.sheep_world.proofs.SessionTrees.{put-back}
+use Rattle.sheep_world.proofs.TakenValues.{put-back}
 use Rattle.sheep_world.proofs.guests.Guests.with_started.Goals as goal
 
 pub returns : goal.returns
