@@ -1,18 +1,19 @@
 -- What the readers of a script tell of a request, in the words of the world.
-use Rattle.std.proofs.Common.{◌≡◌, ◌≢◌, ℕ, zero, suc, ◌+◌, ◌<◌, ◌≤◌, ◌==◌, Bool, true, false, not, cond, ◌||◌, List, [], ◌∷◌, length, get_or, Option, Some, None, refl, ap, sym, ◌∙◌, arith}
+use Rattle.std.proofs.Common.{◌≡◌, ◌≢◌, ℕ, zero, suc, ◌+◌, ◌<◌, ◌≤◌, ◌==◌, Bool, true, false, not, cond, ◌||◌, List, [], ◌∷◌, ◌++◌, ◌/◌, length, get_or, Option, Some, None, refl, ap, sym, ◌∙◌, arith}
 use Rattle.std.specs.Prelude.{◌^◌, filter, slice_get, unwrap_or, is_some, flat_map, IfSome}
 use Rattle.std.specs.List.{list_any, range_with_len, position_or_len}
 use Rattle.std.specs.Option.{option_map, option_and_then}
 use Rattle.std.proofs.lemmas.Bool.{false≢true, ne_eqb}
 use Rattle.std.proofs.lemmas.List.{length-map}
 use Rattle.std.proofs.lemmas.List.Folds.{list_any-append}
-use Rattle.std.proofs.lemmas.List.FromFn.{length-enumerate_from}
+use Rattle.std.proofs.lemmas.List.FromFn.{length-enumerate_from, map-range_with_len_more}
 use Rattle.std.proofs.lemmas.Option.{none-some, same_Some, slice_get-get_or, slice_get_within}
-use Rattle.object_id.specs.declared.limits.TheConstants.{INPUT_BYTES_MAX}
+use Rattle.object_id.specs.declared.limits.TheConstants.{BLOCK_BYTES, INPUT_BYTES_MAX}
+use Rattle.cluster_script.specs.declared.statement.Pattern.{Pattern}
 use Rattle.cluster_script.specs.declared.statement.Statement.{Statement}
 use Rattle.cluster_script.specs.declared.statement.Statement.TheVariants.{Settle}
 use Rattle.cluster_script.specs.Statements.{is_request, requests_of}
-use Rattle.cluster_script.specs.NumberedRequests.{session_of, is_of_session, request_at, numbered_requests, numbers_of_session}
+use Rattle.cluster_script.specs.NumberedRequests.{session_of, is_of_session, request_at, numbered_requests, numbers_of_session, byte_of, payload_of}
 use Rattle.cluster_script.specs.Phases.{Phase, phases_of, has_request, phase_of_request}
 use Rattle.cluster_script.specs.Index.{IndexedRequest, script_index, indexed_at, indexed_request}
 use Rattle.cluster_script.proofs.IndexLemmas.{indexed_at-request_at}
@@ -160,3 +161,14 @@ pub few-begun : (statements : List Statement) (session begun : ℕ) (next : Opti
 few-begun statements session begun None is few = tt
 few-begun statements session begun (Some req) is few =
     omega (arith, slice_get_within (numbers_of_session statements session) begun req (sym is), few-numbers statements session, few)
+
+-- ---- the bytes of a write
+
+-- one byte more
+pub payload_of-more : (pattern : Pattern) (place byte : ℕ) (so_far : List ℕ) → byte ≡ byte_of pattern (place / BLOCK_BYTES)
+    → so_far ≡ payload_of pattern place → so_far ++ byte ∷ [] ≡ payload_of pattern (place + 1)
+payload_of-more pattern place byte so_far is was =
+    let next : 0 + place ≡ place = omega arith in
+    ap (λ (bytes : List ℕ). bytes ++ byte ∷ []) was
+    ∙ ap (λ (last : ℕ). payload_of pattern place ++ last ∷ []) is
+    ∙ sym (map-range_with_len_more (λ place. byte_of pattern (place / BLOCK_BYTES)) 0 place place next)
