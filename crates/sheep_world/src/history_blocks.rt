@@ -5,7 +5,8 @@ ghost use Rattle.object_id.specs.declared.limits.TheConstants.{BLOCK_BYTES};
 ghost use Rattle.object_id.specs.declared.oid.Kind.TheVariants.{Block};
 ghost use Rattle.gf256.specs.Part.{is_in_strips};
 ghost use Rattle.disk_history.specs.declared.event.HistEvent.TheVariants.{WriteStart, Read};
-ghost use Rattle.sheep_world.specs.HistoryAdditions.{block_in, each_block, writes_begin, begins_on, blocks_read, write_ended, reply_adds, added_by};
+ghost use Rattle.sheep_world.specs.HistoryAdditions.{block_in, each_block, writes_begin, begins_on, blocks_read};
+ghost use Rattle.sheep_world.specs.HistoryAdditions.{write_ended, reply_adds, added_by};
 
 use crate::script_requests::payload;
 use cluster_script::Statement;

@@ -9,4 +9,5 @@ pub returns-clause-room : goal.returns-clause-room
 returns-clause-room c =
     few-begun c.args.script.now c.args.session _ c.request_of_session.result
     (c.request_of_session.ensures ∙ ap (slice_get (numbers_of_session c.args.script.now c.args.session)) c.begun.ensures)
-    (subst (λ statements. length statements ≤ INPUT_BYTES_MAX) c.statements-statements.ensures.statements c.statements-statements.ensures.count)
+    (subst (λ statements. length statements ≤ INPUT_BYTES_MAX) c.statements-statements.ensures.statements
+    c.statements-statements.ensures.count)
