@@ -12,7 +12,8 @@ abbrev pub first_blocks : (ℕ → List ℕ → HistEvent) → ℕ → List ℕ 
 first_blocks event offset bytes count = map (λ place. event (offset / BLOCK_BYTES + place) (block_in bytes place)) (range_with_len 0 count)
 
 -- the event of one block more
-pub first_blocks-more : (event : ℕ → List ℕ → HistEvent) (offset : ℕ) (bytes : List ℕ) (place : ℕ) (before so_far : List HistEvent) (piece : List ℕ)
+pub first_blocks-more : (event : ℕ → List ℕ → HistEvent) (offset : ℕ) (bytes : List ℕ) (place : ℕ)
+    (before so_far : List HistEvent) (piece : List ℕ)
     → piece ≡ block_in bytes place → so_far ≡ before ++ first_blocks event offset bytes place
     → so_far ++ event (offset / BLOCK_BYTES + place) piece ∷ [] ≡ before ++ first_blocks event offset bytes (place + 1)
 first_blocks-more event offset bytes place before so_far piece is was =

@@ -1,18 +1,21 @@
 -- What the readers of a script tell of a request, in the words of the world.
-use Rattle.std.proofs.Common.{◌≡◌, ◌≢◌, ℕ, zero, suc, ◌+◌, ◌<◌, ◌≤◌, ◌==◌, Bool, true, false, not, cond, ◌||◌, List, [], ◌∷◌, length, get_or, Option, Some, None, refl, ap, sym, ◌∙◌, arith}
+use Rattle.std.proofs.Common.{◌≡◌, ◌≢◌, ℕ, zero, suc, ◌+◌, ◌<◌, ◌≤◌, ◌==◌, Bool, true, false, not, cond, ◌||◌}
+use Rattle.std.proofs.Common.{List, [], ◌∷◌, ◌++◌, ◌/◌, length, get_or, Option, Some, None, refl, ap, sym, ◌∙◌, arith}
 use Rattle.std.specs.Prelude.{◌^◌, filter, slice_get, unwrap_or, is_some, flat_map, IfSome}
 use Rattle.std.specs.List.{list_any, range_with_len, position_or_len}
 use Rattle.std.specs.Option.{option_map, option_and_then}
 use Rattle.std.proofs.lemmas.Bool.{false≢true, ne_eqb}
 use Rattle.std.proofs.lemmas.List.{length-map}
 use Rattle.std.proofs.lemmas.List.Folds.{list_any-append}
-use Rattle.std.proofs.lemmas.List.FromFn.{length-enumerate_from}
+use Rattle.std.proofs.lemmas.List.FromFn.{length-enumerate_from, map-range_with_len_more}
 use Rattle.std.proofs.lemmas.Option.{none-some, same_Some, slice_get-get_or, slice_get_within}
-use Rattle.object_id.specs.declared.limits.TheConstants.{INPUT_BYTES_MAX}
+use Rattle.object_id.specs.declared.limits.TheConstants.{BLOCK_BYTES, INPUT_BYTES_MAX}
+use Rattle.cluster_script.specs.declared.statement.Pattern.{Pattern}
 use Rattle.cluster_script.specs.declared.statement.Statement.{Statement}
 use Rattle.cluster_script.specs.declared.statement.Statement.TheVariants.{Settle}
 use Rattle.cluster_script.specs.Statements.{is_request, requests_of}
-use Rattle.cluster_script.specs.NumberedRequests.{session_of, is_of_session, request_at, numbered_requests, numbers_of_session}
+use Rattle.cluster_script.specs.NumberedRequests.{session_of, is_of_session, request_at, numbered_requests}
+use Rattle.cluster_script.specs.NumberedRequests.{numbers_of_session, byte_of, payload_of}
 use Rattle.cluster_script.specs.Phases.{Phase, phases_of, has_request, phase_of_request}
 use Rattle.cluster_script.specs.Index.{IndexedRequest, script_index, indexed_at, indexed_request}
 use Rattle.cluster_script.proofs.IndexLemmas.{indexed_at-request_at}
@@ -29,7 +32,8 @@ own_session (Some session) there = refl
 pub statement-indexed_at : (statements : List Statement) (req : ℕ)
     → option_map (λ (request : IndexedRequest). request.statement) (indexed_at (script_index statements) req) ≡ request_at statements req
 statement-indexed_at statements req =
-    ap (option_map (λ (request : IndexedRequest). request.statement)) (indexed_at-request_at statements req) ∙ go (request_at statements req)
+    ap (option_map (λ (request : IndexedRequest). request.statement)) (indexed_at-request_at statements req)
+    ∙ go (request_at statements req)
   where
     go : (found : Option Statement)
         → option_map (λ (request : IndexedRequest). request.statement) (option_map (λ s. indexed_request statements (req, s)) found) ≡ found
@@ -40,7 +44,8 @@ statement-indexed_at statements req =
 pub session-indexed_at : (statements : List Statement) (req : ℕ)
     → option_map (λ (request : IndexedRequest). request.session) (indexed_at (script_index statements) req) ≡ session_asking statements req
 session-indexed_at statements req =
-    ap (option_map (λ (request : IndexedRequest). request.session)) (indexed_at-request_at statements req) ∙ go (request_at statements req) refl
+    ap (option_map (λ (request : IndexedRequest). request.session)) (indexed_at-request_at statements req)
+    ∙ go (request_at statements req) refl
   where
     go : (found : Option Statement) → request_at statements req ≡ found
         → option_map (λ (request : IndexedRequest). request.session) (option_map (λ s. indexed_request statements (req, s)) found)
@@ -68,12 +73,15 @@ request-indexed_at statements req request there =
         let session : request.session ≡ unwrap_or (session_of s) 0 = ap (λ (r : IndexedRequest). r.session) same in
         record {
           stands = at ∙ ap Some (sym statement);
-          session = ap session_of statement ∙ sym (own_session (session_of s) (session_of-there s ∙ request_is statements req s at)) ∙ ap Some (sym session);
+          session =
+              ap session_of statement
+              ∙ sym (own_session (session_of s) (session_of-there s ∙ request_is statements req s at)) ∙ ap Some (sym session);
           phase = sym (ap (λ (r : IndexedRequest). r.phase) same);
         }
 
 -- where the index has nothing, the script has no such request
-pub none-indexed_at : (statements : List Statement) (req : ℕ) → None ≡ indexed_at (script_index statements) req → request_at statements req ≡ None
+pub none-indexed_at : (statements : List Statement) (req : ℕ)
+    → None ≡ indexed_at (script_index statements) req → request_at statements req ≡ None
 none-indexed_at statements req none =
     sym (statement-indexed_at statements req) ∙ ap (option_map (λ (request : IndexedRequest). request.statement)) (sym none)
 
@@ -86,7 +94,8 @@ input_of-request statements req request there =
     ap (option_and_then (λ s. input_by req (session_of s) (ask_of_statement s))) is.stands
     ∙ ap (λ session. input_by req session (ask_of_statement request.statement)) is.session
 
-pub input_of-none : (statements : List Statement) (req : ℕ) → None ≡ indexed_at (script_index statements) req → input_of statements req ≡ None
+pub input_of-none : (statements : List Statement) (req : ℕ)
+    → None ≡ indexed_at (script_index statements) req → input_of statements req ≡ None
 input_of-none statements req none =
     ap (option_and_then (λ s. input_by req (session_of s) (ask_of_statement s))) (none-indexed_at statements req none)
 
@@ -101,12 +110,14 @@ any-phase req (phase ∷ phases) =
     ∙ sym (list_any-append (λ other. other == req) phase.requests (flat_map (λ (phase : Phase). phase.requests) phases))
 
 -- a number that isn't in a row
-any-row : (req first count : ℕ) → ((k : ℕ) → k < count → first + k ≢ req) → list_any (λ other. other == req) (range_with_len first count) ≡ false
+any-row : (req first count : ℕ) → ((k : ℕ) → k < count → first + k ≢ req)
+    → list_any (λ other. other == req) (range_with_len first count) ≡ false
 any-row req first zero apart = refl
 any-row req first (suc count) apart =
     let here : first ≢ req = λ e. apart 0 (omega arith) (let same : first + 0 ≡ req = omega (arith, e) in same) in
     ap (λ b. b || list_any (λ other. other == req) (range_with_len (first + 1) count)) (ne_eqb first req here)
-    ∙ any-row req (first + 1) count (λ k within e. apart (suc k) (omega (arith, within)) (let same : first + suc k ≡ req = omega (arith, e) in same))
+    ∙ any-row req (first + 1) count
+    (λ k within e. apart (suc k) (omega (arith, within)) (let same : first + suc k ≡ req = omega (arith, e) in same))
 
 -- without one that passes, the place is behind all
 place-none : {X : Type 0} (p : X → Bool) (xs : List X) → list_any p xs ≡ false → position_or_len p xs ≡ length xs
@@ -131,7 +142,8 @@ phase_of_request-none statements req none =
     apart (suc place) none k within e =
         let same : k ≡ place = omega (arith, e) in
         let inside : place < length (requests_of statements) = omega (arith, same, within) in
-        absurd (none-some (get_or (requests_of statements) place Settle) (sym none ∙ slice_get-get_or (requests_of statements) place Settle inside))
+        absurd (none-some (get_or (requests_of statements) place Settle)
+        (sym none ∙ slice_get-get_or (requests_of statements) place Settle inside))
 
 -- ---- how many requests a session has
 
@@ -147,7 +159,8 @@ few-numbers : (statements : List Statement) (session : ℕ) → length (numbers_
 few-numbers statements session =
     omega (
       arith,
-      length-map (filter (λ (request : ℕ × Statement). is_of_session session request.1) (numbered_requests statements)) (λ (request : ℕ × Statement). request.0),
+      length-map (filter (λ (request : ℕ × Statement). is_of_session session request.1) (numbered_requests statements))
+          (λ (request : ℕ × Statement). request.0),
       filter-shorter (λ (request : ℕ × Statement). is_of_session session request.1) (numbered_requests statements),
       length-enumerate_from 1 (requests_of statements),
       filter-shorter is_request statements,
@@ -160,3 +173,14 @@ pub few-begun : (statements : List Statement) (session begun : ℕ) (next : Opti
 few-begun statements session begun None is few = tt
 few-begun statements session begun (Some req) is few =
     omega (arith, slice_get_within (numbers_of_session statements session) begun req (sym is), few-numbers statements session, few)
+
+-- ---- the bytes of a write
+
+-- one byte more
+pub payload_of-more : (pattern : Pattern) (place byte : ℕ) (so_far : List ℕ) → byte ≡ byte_of pattern (place / BLOCK_BYTES)
+    → so_far ≡ payload_of pattern place → so_far ++ byte ∷ [] ≡ payload_of pattern (place + 1)
+payload_of-more pattern place byte so_far is was =
+    let next : 0 + place ≡ place = omega arith in
+    ap (λ (bytes : List ℕ). bytes ++ byte ∷ []) was
+    ∙ ap (λ (last : ℕ). payload_of pattern place ++ last ∷ []) is
+    ∙ sym (map-range_with_len_more (λ place. byte_of pattern (place / BLOCK_BYTES)) 0 place place next)

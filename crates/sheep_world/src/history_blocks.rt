@@ -1,13 +1,14 @@
 //! What begun writes and replies add to the history: an event for each block, ascending.
-ghost use Rattle.std.specs.Prelude.{◌≡◌, ℕ, ◌+◌, ◌*◌, ◌/◌, ◌<◌, ◌≤◌, ◌++◌, length, take, drop, map, IfOk, OnOk, None, Some};
-ghost use Rattle.std.specs.List.{range_with_len};
+ghost use Rattle.std.specs.Prelude.{◌≡◌, ◌/◌, ◌<◌, ◌++◌, length, IfOk, OnOk};
 ghost use Rattle.std.specs.Option.{option_copied};
 ghost use Rattle.object_id.specs.declared.limits.TheConstants.{BLOCK_BYTES};
 ghost use Rattle.object_id.specs.declared.oid.Kind.TheVariants.{Block};
 ghost use Rattle.gf256.specs.Part.{is_in_strips};
 ghost use Rattle.disk_history.specs.declared.event.HistEvent.TheVariants.{WriteStart, Read};
-ghost use Rattle.sheep_world.specs.HistoryAdditions.{block_in, each_block, writes_begin, blocks_read, write_ended, reply_adds, added_by};
+ghost use Rattle.sheep_world.specs.HistoryAdditions.{block_in, each_block, writes_begin, begins_on, blocks_read};
+ghost use Rattle.sheep_world.specs.HistoryAdditions.{write_ended, reply_adds, added_by};
 
+use crate::script_requests::payload;
 use cluster_script::Statement;
 use disk_history::{HistEvent, HistList};
 use guest_driver::Disk;
@@ -79,6 +80,33 @@ pub(crate) fn add_writes_begun(
         offset,
         bytes,
     )
+}
+
+/// Adds what a request begins on the disk that its session has open: of a write its blocks. Takes the bytes of a write twice.
+pub(crate) fn add_begun(
+    alloc: Global,
+    events: &mut HistList,
+    req: u32,
+    disk: Option<&Disk>,
+    statement: &Statement,
+) -> Result<(), NoMemory>
+    ensures { OnOk result (events.new ≡ events.old ++ begins_on req (option_copied disk.entry) statement.now) }
+{
+    match (disk, statement) {
+        (
+            Some(disk),
+            Statement::Write {
+                offset,
+                length,
+                pattern,
+                ..
+            },
+        ) => {
+            let bytes = payload(alloc, *pattern, *length)?;
+            add_writes_begun(alloc, events, req, *offset, bytes.as_slice(), disk)
+        }
+        _ => Ok(()),
+    }
 }
 
 /// Adds a read of each block of a piece.

@@ -1,5 +1,5 @@
 //! When a session's next request may begin.
-ghost use Rattle.std.specs.Prelude.{◌≡◌, unwrap_or, slice_get};
+ghost use Rattle.std.specs.Prelude.{◌≡◌, ◌+◌, ◌^◌, ◌<◌, IfSome, unwrap_or, slice_get};
 ghost use Rattle.std.specs.Option.{option_copied};
 ghost use Rattle.std.specs.List.{list_all};
 ghost use Rattle.std.specs.FinMap as tree;
@@ -69,9 +69,12 @@ pub(crate) fn may_begin_request(
     phase_of_request(script, req) <= phase && has_room(script, progress, req)
 }
 
-/// The number of a session's next request.
+/// The number of a session's next request. Where there is one, the session's count of begun requests may grow.
 pub(crate) fn next_request(script: &Script, session: u32, guests: &Guests) -> Option<u32>
-    ensures { result ≡ slice_get (numbers_of_session script.now session) (unwrap_or (tree.get guests.now session) no_progress).begun }
+    ensures value { result
+        ≡ slice_get (numbers_of_session script.now session) (unwrap_or (tree.get guests.now session) no_progress).begun }
+    ensures room { IfSome result (λ req. (unwrap_or (tree.get guests.now session) no_progress).begun + 1 < 2 ^ 32) }
 {
+    let _statements = script.statements();
     script.request_of_session(session, guests.begun(session))
 }

@@ -79,7 +79,7 @@ fn byte_of(pattern: Pattern, block: u32) -> u8
 }
 
 /// The bytes of a write of this length.
-fn payload(alloc: Global, pattern: Pattern, length: u32) -> Result<Bytes, NoMemory>
+pub(crate) fn payload(alloc: Global, pattern: Pattern, length: u32) -> Result<Bytes, NoMemory>
     ensures { IfOk result (λ bytes. bytes ≡ payload_of pattern length) }
 {
     let mut bytes = Vec::with_capacity(alloc, length as usize)?;

@@ -5,4 +5,5 @@ use Rattle.sheep_world.proofs.history_blocks.add_writes.Given as goal
 
 -- so many blocks have their events
 abbrev pub invariant-loop-place : goal.invariant-loop-place
-invariant-loop-place l = l.events ≡ l.fn.events ++ first_blocks (λ block piece. WriteStart l.req l.disk block l.coded piece) l.offset l.bytes l.place
+invariant-loop-place l =
+    l.events ≡ l.fn.events ++ first_blocks (λ block piece. WriteStart l.req l.disk block l.coded piece) l.offset l.bytes l.place
