@@ -20,6 +20,14 @@ module _ (statements : List Statement) (node : ℕ) (input : Input) (world : Wor
   unfolding node_stepped
   unfolded = refl
 
+  log_by_host : (host : Option Host) → (by_host host).log ≡ world.log
+  log_by_host None = refl
+  log_by_host (Some host) = refl
+
+  -- a step leaves the log
+  pub node_stepped-log : (node_stepped statements node input world).log ≡ world.log
+  node_stepped-log = ap (λ (world : World). world.log) unfolded ∙ log_by_host (tree.get world.hosts node)
+
   -- a node that doesn't exist makes none
   pub node_stepped-none : (hosts : tree.FinMap nat_cmp Host) → hosts ≡ tree.remove world.hosts node → tree.get world.hosts node ≡ None
       → record world { hosts = hosts } ≡ node_stepped statements node input world

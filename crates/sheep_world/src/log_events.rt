@@ -51,7 +51,7 @@ impl WorldState {
     /// What the last step put stands at the log's end; with what that adds to the history.
     fn put_done(self) -> Result<(WorldState, HistList), NoMemory>
         ensures world { IfOk result (λ made. made.0 ≡ put_done self) }
-        ensures grown { IfOk result (λ made. made.1 ≡ put_adds self.log self.outputs.put) }
+        ensures grown { IfOk result (λ made. made.1 ≡ put_adds self.log made.0.outputs.put) }
     {
         let WorldState { log, outputs, .. } = self;
         let GrownLog { log, adds } = match &outputs.put {
@@ -68,7 +68,7 @@ impl WorldState {
     #[tactic(auto, unfolding(crate::specs::Effects::put_effect))]
     pub fn put(self, script: &Script, node: u32) -> Result<(WorldState, HistList), NoMemory>
         ensures world { IfOk result (λ made. made.0 ≡ put_effect script.now node self) }
-        ensures grown { IfOk result (λ made. made.1 ≡ put_adds self.log (put_effect script.now node self).outputs.put) }
+        ensures grown { IfOk result (λ made. made.1 ≡ put_adds self.log made.0.outputs.put) }
     {
         self.at_rest()
             .node_stepped(script, node, Input::Put)?
