@@ -54,3 +54,4 @@ pub mod StepsInParts
 pub mod ControlsOfPhases
 pub mod TakenValues
 pub mod Deliveries
+pub mod MadeDeliveries

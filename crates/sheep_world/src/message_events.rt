@@ -1,16 +1,40 @@
 //! What becomes of the messages in the wire: they are delivered or lost.
 
 ghost use Rattle.std.specs.Prelude.{◌≡◌, IfOk};
+ghost use Rattle.std.specs.Option.{option_copied};
 ghost use Rattle.sheep_world.specs.World.{message_at};
-ghost use Rattle.sheep_world.specs.Messages.{without_message, reply_sent, message_delivered, loss_used, loss_told, message_lost};
+ghost use Rattle.sheep_world.specs.Messages.{without_message, wire_with_reply, reply_sent, message_delivered, loss_used, loss_told, message_lost};
 
 use crate::delivery::{Delivery, delivery_of};
 use crate::world_state::WorldState;
 use cluster_script::Script;
-use message_wire::{MessageName, Packet};
+use message_wire::{MessageName, Packet, Wire};
 use object_id::{NoMemory, NodeId};
-use peer_proto::encode_say;
+use peer_proto::{PeerRsp, encode_say};
 use sheep_node::Input;
+use std::alloc::Global;
+
+/// The wire once a request was served: what was said takes the place of the request, on its way back, if the sender is up; else the
+/// message goes.
+fn wire_with_reply(
+    alloc: Global,
+    wire: Wire,
+    name: MessageName,
+    from: NodeId,
+    is_up: bool,
+    say: Option<&PeerRsp>,
+) -> Result<Wire, NoMemory>
+    ensures { IfOk result (λ after. after ≡ wire_with_reply name from is_up (option_copied say.entry) wire) }
+{
+    let mut wire = wire;
+    if !is_up {
+        drop(wire.take(name));
+    } else if let Some(rsp) = say {
+        let bytes = encode_say(alloc, rsp)?;
+        wire.put(name, Packet::Reply { from, bytes })?;
+    }
+    Ok(wire)
+}
 
 impl WorldState {
     /// A message isn't in the wire. Takes no memory.
@@ -22,17 +46,22 @@ impl WorldState {
     }
 
     /// A request was served: what was said takes its place in the wire, on its way back, if the sender is up; else the message goes.
-    fn reply_sent(mut self, name: MessageName, from: NodeId) -> Result<WorldState, NoMemory>
+    fn reply_sent(self, name: MessageName, from: NodeId) -> Result<WorldState, NoMemory>
         ensures { IfOk result (λ after. after ≡ reply_sent name from self) }
     {
-        if !self.is_up(name.sender.0) {
-            return Ok(self.without_message(name));
-        }
-        if let Some(rsp) = &self.outputs.say {
-            let bytes = encode_say(self.alloc, rsp)?;
-            self.wire.put(name, Packet::Reply { from, bytes })?;
-        }
-        Ok(self)
+        let is_up = self.is_up(name.sender.0);
+        let WorldState {
+            alloc,
+            wire,
+            outputs,
+            ..
+        } = self;
+        let wire = wire_with_reply(alloc, wire, name, from, is_up, outputs.say.as_ref())?;
+        Ok(WorldState {
+            wire,
+            outputs,
+            ..self
+        })
     }
 
     /// Deliver: the receiver steps on the message. Bytes that are no message's change nothing.
