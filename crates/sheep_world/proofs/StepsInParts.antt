@@ -9,6 +9,7 @@ use Rattle.sheep_node.specs.declared.outputs.Outputs.{Outputs}
 use Rattle.sheep_node.specs.Step.{node_step}
 use Rattle.sheep_world.specs.World.{Host, World}
 use Rattle.sheep_world.specs.NodeSteps.{world_after_step, node_stepped}
+use Rattle.sheep_world.specs.MembershipChanges.{host_changed}
 use Rattle.sheep_world.specs.StepsInParts.{with_outputs}
 use Rattle.sheep_world.proofs.TakenValues.{insert-remove, remove-none}
 
@@ -44,3 +45,18 @@ module _ (statements : List Statement) (node : ℕ) (input : Input) (world : Wor
   node_stepped-some host stepped taken hosts kept outputs there others steps gives put copy =
       rw (put, others, steps, gives, copy, insert-remove world.hosts node (record host { node = (node_step input host.node).node }))
       (sym (unfolded ∙ ap by_host there))
+
+-- a node that was taken out is changed, and put back
+module _ (change : Host → Host) (node : ℕ) (world : World) where
+  pub host_changed-none : (hosts : tree.FinMap nat_cmp Host) → hosts ≡ tree.remove world.hosts node → tree.get world.hosts node ≡ None
+      → record world { hosts = hosts } ≡ host_changed change node (tree.get world.hosts node) world
+  host_changed-none hosts is none =
+      ap (λ (hosts : tree.FinMap nat_cmp Host). record world { hosts = hosts }) (is ∙ remove-none world.hosts node none)
+      ∙ sym (ap (λ (host : Option Host). host_changed change node host world) none)
+
+  pub host_changed-some : (host changed : Host) (taken hosts : tree.FinMap nat_cmp Host) → tree.get world.hosts node ≡ Some host
+      → taken ≡ tree.remove world.hosts node → changed ≡ change host → hosts ≡ tree.insert taken node changed
+      → record world { hosts = hosts } ≡ host_changed change node (tree.get world.hosts node) world
+  host_changed-some host changed taken hosts there others is put =
+      rw (put, others, is, insert-remove world.hosts node (change host))
+      (sym (ap (λ (host : Option Host). host_changed change node host world) there))

@@ -4,10 +4,10 @@ ghost use Rattle.std.specs.Prelude.{◌≡◌, ◌<◌, IfOk, IsTrue};
 ghost use Rattle.std.specs.Option.{option_map_or};
 ghost use Rattle.object_id.specs.declared.limits.TheConstants.{NODES_MAX};
 ghost use Rattle.sheep_world.specs.Conditions.{may_end_phase};
-ghost use Rattle.sheep_world.specs.MembershipChanges.{control_taken, node_lost, node_left, join_of, node_joined, node_reweighted};
+ghost use Rattle.sheep_world.specs.MembershipChanges.{control_taken, host_changed, lost_host, revived_host, node_lost, node_left, join_of, node_joined, node_reweighted};
 ghost use Rattle.sheep_world.specs.MembershipChanges.{node_rejoined, log_handed, came_back, phase_ended, weight_in};
 ghost use Rattle.sheep_world.specs.Opening.{with_phase};
-ghost use Rattle.sheep_world.specs.World.{next_control};
+ghost use Rattle.sheep_world.specs.World.{host_at, next_control};
 
 use crate::control::{Control, with_controls_of};
 use crate::host::Host;
@@ -38,6 +38,28 @@ impl WorldState {
         self
     }
 
+    /// A node is lost, if it exists.
+    fn host_lost(mut self, node: u32) -> Result<WorldState, NoMemory>
+        ensures { IfOk result (λ after. after ≡ host_changed lost_host node (host_at node self) self) }
+    {
+        let Some(host) = self.hosts.take(node) else {
+            return Ok(self);
+        };
+        self.hosts.put(node, host.lose())?;
+        Ok(self)
+    }
+
+    /// A lost node begins its next incarnation, if it exists.
+    fn host_revived(mut self, node: u32) -> Result<WorldState, NoMemory>
+        ensures { IfOk result (λ after. after ≡ host_changed revived_host node (host_at node self) self) }
+    {
+        let Some(host) = self.hosts.take(node) else {
+            return Ok(self);
+        };
+        self.hosts.put(node, host.revive()?)?;
+        Ok(self)
+    }
+
     /// Lost: the node is lost, and the replies to it go. Costs the messages of which it is the sender.
     #[tactic(auto, unfolding(crate::specs::MembershipChanges::node_lost))]
     pub fn node_lost(self, node: u32) -> Result<WorldState, NoMemory>
@@ -45,10 +67,7 @@ impl WorldState {
     {
         let mut world = self.at_rest().control_taken();
         world.wire.drop_replies_to(NodeId(node));
-        if let Some(host) = world.hosts.take(node) {
-            world.hosts.put(node, host.lose())?;
-        }
-        Ok(world)
+        world.host_lost(node)
     }
 
     /// Leave: the node's leave stands at the log's end.
@@ -100,11 +119,10 @@ impl WorldState {
         ensures { IfOk result (λ after. after ≡ node_rejoined script.now node self) }
     {
         let entry = join_of(script, node, self.log.last_weight(node));
-        let mut world = self.at_rest().control_taken().with_entry(&entry)?;
-        if let Some(host) = world.hosts.take(node) {
-            world.hosts.put(node, host.revive()?)?;
-        }
-        Ok(world)
+        self.at_rest()
+            .control_taken()
+            .with_entry(&entry)?
+            .host_revived(node)
     }
 
     /// A node steps on coming back, with the whole log.

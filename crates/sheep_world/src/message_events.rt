@@ -29,11 +29,16 @@ fn wire_with_reply(
     let mut wire = wire;
     if !is_up {
         drop(wire.take(name));
-    } else if let Some(rsp) = say {
-        let bytes = encode_say(alloc, rsp)?;
-        wire.put(name, Packet::Reply { from, bytes })?;
+        return Ok(wire);
     }
-    Ok(wire)
+    match say {
+        None => Ok(wire),
+        Some(rsp) => {
+            let bytes = encode_say(alloc, rsp)?;
+            wire.put(name, Packet::Reply { from, bytes })?;
+            Ok(wire)
+        }
+    }
 }
 
 impl WorldState {
