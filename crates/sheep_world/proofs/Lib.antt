@@ -55,3 +55,4 @@ pub mod ControlsOfPhases
 pub mod TakenValues
 pub mod Deliveries
 pub mod MadeDeliveries
+pub mod GuestRequests

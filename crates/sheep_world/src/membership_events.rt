@@ -1,9 +1,8 @@
 //! What becomes of the members, the incarnations and the phases: the events that a script's controls make, Leave, and Phase.
 
-ghost use Rattle.std.specs.Prelude.{◌≡◌, ◌<◌, IfOk, IsTrue};
+ghost use Rattle.std.specs.Prelude.{◌≡◌, ◌<◌, IfOk};
 ghost use Rattle.std.specs.Option.{option_map_or};
 ghost use Rattle.object_id.specs.declared.limits.TheConstants.{NODES_MAX};
-ghost use Rattle.sheep_world.specs.Conditions.{may_end_phase};
 ghost use Rattle.sheep_world.specs.MembershipChanges.{control_taken, host_changed, lost_host, revived_host, node_lost, node_left, join_of, node_joined, node_reweighted};
 ghost use Rattle.sheep_world.specs.MembershipChanges.{node_rejoined, log_handed, came_back, phase_ended, weight_in};
 ghost use Rattle.sheep_world.specs.Opening.{with_phase};
@@ -16,6 +15,18 @@ use cluster_script::Script;
 use epoch_log::EntryList;
 use object_id::{Entry, NoMemory, NodeId};
 use sheep_node::{Input, Node};
+use std::alloc::Global;
+
+/// A copy of entries.
+fn copied(alloc: Global, entries: &[Entry]) -> Result<EntryList, NoMemory>
+    ensures { IfOk result (λ copy. copy ≡ entries.now) }
+{
+    let mut copy = EntryList::new(alloc);
+    for entry in entries {
+        copy.push(entry.copy(alloc)?)?;
+    }
+    Ok(copy)
+}
 
 /// The entry by which a node joins.
 fn join_of(script: &Script, node: u32, vnodes: u16) -> Entry
@@ -129,10 +140,7 @@ impl WorldState {
     fn log_handed(self, script: &Script, node: u32) -> Result<WorldState, NoMemory>
         ensures { IfOk result (λ after. after ≡ log_handed script.now node self) }
     {
-        let mut entries = EntryList::new(self.alloc);
-        for entry in self.log.entries() {
-            entries.push(entry.copy(self.alloc)?)?;
-        }
+        let entries = copied(self.alloc, self.log.entries())?;
         self.node_stepped(script, node, Input::Back { entries })
     }
 
@@ -161,13 +169,14 @@ impl WorldState {
         })
     }
 
-    /// Phase: the next phase is present.
+    /// Phase: the next phase is present. A place that doesn't fit is told as want of memory: a script hasn't so many lines.
     #[tactic(auto, unfolding(crate::specs::MembershipChanges::phase_ended))]
     pub fn phase_ended(self, script: &Script) -> Result<WorldState, NoMemory>
-        requires { IsTrue (may_end_phase script.now self) }
         ensures { IfOk result (λ after. after ≡ phase_ended script.now self) }
     {
-        let next = self.phase + 1;
-        self.at_rest().with_phase(script, next)
+        match self.phase.checked_add(1) {
+            Some(next) => self.at_rest().with_phase(script, next),
+            None => Err(NoMemory),
+        }
     }
 }
