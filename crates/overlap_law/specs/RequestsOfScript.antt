@@ -25,7 +25,8 @@ use Rattle.sheep_node.specs.declared.course.Course.{Course}
 use Rattle.sheep_node.specs.declared.course.Request.{Request}
 use Rattle.sheep_node.specs.declared.course.Course.TheVariants.{Waiting, Driving, Commanding, Checking, DoingWork, AwaitingDecision}
 use Rattle.sheep_node.specs.State.{session_at}
-use Rattle.sheep_world.specs.World.{Host, StartedRequest, World, progress_at, host_at}
+use Rattle.sheep_world.specs.declared.progress.StartedRequest.{StartedRequest}
+use Rattle.sheep_world.specs.World.{Host, World, progress_at, host_at}
 use Rattle.sheep_world.specs.BegunRequests.{WasBegun}
 use Rattle.sheep_world.specs.ControlsToCome.{controls_to_come}
 use Rattle.sheep_world.specs.Asking.{ask_of_statement, session_asking}

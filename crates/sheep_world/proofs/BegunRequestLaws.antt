@@ -17,7 +17,8 @@ use Rattle.sheep_node.specs.declared.input.Input.TheVariants as inputs
 use Rattle.sheep_node.specs.State as nodes
 use Rattle.sheep_node.specs.declared.course.Request.{Request}
 use Rattle.sheep_node.specs.Step.{node_step}
-use Rattle.sheep_world.specs.World.{Host, SessionProgress, World, no_progress, progress_at}
+use Rattle.sheep_world.specs.declared.progress.SessionProgress.{SessionProgress}
+use Rattle.sheep_world.specs.World.{Host, World, no_progress, progress_at}
 use Rattle.sheep_world.specs.Opening.{format_entry, initial_world}
 use Rattle.sheep_world.specs.Asking.{session_asking}
 use Rattle.sheep_world.specs.NodeSteps.{progress_without_request, progress_after_reply_in, progress_after_reply}

@@ -22,7 +22,8 @@ use Rattle.sheep_node.specs.LogReading.{is_epoch_member, decision_told, entry_re
 use Rattle.sheep_node.specs.Step.{on_input, recovered_put, node_step}
 use Rattle.message_wire.specs.declared.packet.Packet.{Packet}
 use Rattle.message_wire.specs.Message.{name_cmp}
-use Rattle.sheep_world.specs.World.{Host, SessionProgress, World, host_at, is_host_up, no_progress, progress_at}
+use Rattle.sheep_world.specs.declared.progress.SessionProgress.{SessionProgress}
+use Rattle.sheep_world.specs.World.{Host, World, host_at, is_host_up, no_progress, progress_at}
 use Rattle.sheep_world.specs.Opening as worlds
 use Rattle.sheep_world.specs.Opening.{format_entry, initial_member_node, initial_host, before_phases, with_phase}
 use Rattle.sheep_world.specs.Conditions.{serves, may_begin_request}

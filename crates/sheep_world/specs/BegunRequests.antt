@@ -7,7 +7,8 @@ use Rattle.cluster_script.specs.declared.statement.Statement.{Statement}
 use Rattle.cluster_script.specs.NumberedRequests.{numbers_of_session}
 use Rattle.cluster_script.specs.Sessions.{ScriptSession, session_numbered}
 use Rattle.sheep_node.specs.declared.course.Request.{Request}
-use Rattle.sheep_world.specs.World.{Host, SessionProgress, World, no_progress}
+use Rattle.sheep_world.specs.declared.progress.SessionProgress.{SessionProgress}
+use Rattle.sheep_world.specs.World.{Host, World, no_progress}
 
 -- how many of its requests a session has begun
 abbrev pub begun_count : ℕ → tree.FinMap nat_cmp SessionProgress → ℕ

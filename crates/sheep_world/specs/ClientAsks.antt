@@ -7,7 +7,8 @@ use Rattle.sheep_node.specs.declared.ask.Ask.{Ask}
 use Rattle.sheep_node.specs.State.{Node}
 use Rattle.sheep_node.specs.LogReading.{is_epoch_member}
 use Rattle.sheep_node.specs.MayTests.{is_guest_ask}
-use Rattle.sheep_world.specs.World.{ClientAsk, World, is_up_with}
+use Rattle.sheep_world.specs.declared.progress.ClientAsk.{ClientAsk}
+use Rattle.sheep_world.specs.World.{World, is_up_with}
 
 -- the number of its next request, behind all that a script may have
 abbrev pub next_ask_number : World → ℕ

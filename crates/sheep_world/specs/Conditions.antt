@@ -16,7 +16,9 @@ use Rattle.message_wire.specs.declared.name.MessageName.{MessageName}
 use Rattle.message_wire.specs.declared.packet.Packet.{Packet}
 use Rattle.message_wire.specs.declared.packet.Packet.TheVariants.{Request, Reply}
 use Rattle.message_wire.specs.Message.{receiver_of, has_end}
-use Rattle.sheep_world.specs.World.{Host, StartedRequest, SessionProgress, World, host_at, is_host_up, is_up}
+use Rattle.sheep_world.specs.declared.progress.StartedRequest.{StartedRequest}
+use Rattle.sheep_world.specs.declared.progress.SessionProgress.{SessionProgress}
+use Rattle.sheep_world.specs.World.{Host, World, host_at, is_host_up, is_up}
 use Rattle.sheep_world.specs.World.{is_up_with, is_lost, is_newest_member, message_at, has_lost_end, progress_at}
 use Rattle.sheep_world.specs.World.{next_control}
 

@@ -9,7 +9,9 @@ use Rattle.guest_driver.specs.declared.disk.Disk.{Disk}
 use Rattle.sheep_node.specs.declared.input.Input.{Input}
 use Rattle.sheep_node.specs.declared.input.Input.TheVariants as inputs
 use Rattle.sheep_node.specs.State.{Node, session_at}
-use Rattle.sheep_world.specs.World.{StartedRequest, SessionProgress, World, node_at, progress_at}
+use Rattle.sheep_world.specs.declared.progress.StartedRequest.{StartedRequest}
+use Rattle.sheep_world.specs.declared.progress.SessionProgress.{SessionProgress}
+use Rattle.sheep_world.specs.World.{World, node_at, progress_at}
 use Rattle.sheep_world.specs.Conditions.{next_request}
 use Rattle.sheep_world.specs.Asking.{input_of}
 use Rattle.sheep_world.specs.NodeSteps.{node_stepped, at_rest}

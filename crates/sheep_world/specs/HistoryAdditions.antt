@@ -15,7 +15,8 @@ use Rattle.cluster_script.specs.Sessions.{ScriptSession, session_numbered}
 use Rattle.peer_proto.specs.declared.guest.GuestRsp.{GuestRsp}
 use Rattle.peer_proto.specs.declared.guest.GuestRsp.TheVariants as replies
 use Rattle.guest_driver.specs.declared.disk.Disk.{Disk}
-use Rattle.sheep_world.specs.World.{Host, StartedRequest, World, host_at, progress_at, node_at}
+use Rattle.sheep_world.specs.declared.progress.StartedRequest.{StartedRequest}
+use Rattle.sheep_world.specs.World.{Host, World, host_at, progress_at, node_at}
 use Rattle.sheep_world.specs.Asking.{session_asking}
 use Rattle.sheep_world.specs.Conditions.{next_request}
 use Rattle.sheep_world.specs.Effects.{open_disk_at}

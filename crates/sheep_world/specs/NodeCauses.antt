@@ -27,8 +27,9 @@ use Rattle.message_wire.specs.declared.name.MessageName.{MessageName}
 use Rattle.message_wire.specs.declared.packet.Packet.{Packet}
 use Rattle.message_wire.specs.declared.packet.Packet.TheVariants.{Request, Reply}
 use Rattle.message_wire.specs.Message.{name_cmp}
-use Rattle.sheep_world.specs.World.{Host, SessionProgress, World, is_host_up, message_at, progress_at}
-use Rattle.sheep_world.specs.World.{ClientAsk}
+use Rattle.sheep_world.specs.declared.progress.SessionProgress.{SessionProgress}
+use Rattle.sheep_world.specs.World.{Host, World, is_host_up, message_at, progress_at}
+use Rattle.sheep_world.specs.declared.progress.ClientAsk.{ClientAsk}
 use Rattle.sheep_world.specs.Conditions.{next_request, may_begin_request, may_go}
 use Rattle.sheep_world.specs.Asking.{ask_of_statement}
 use Rattle.sheep_world.specs.Messages.{losses_after_loss, wire_with_reply}

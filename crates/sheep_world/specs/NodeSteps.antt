@@ -15,8 +15,10 @@ use Rattle.message_wire.specs.declared.name.MessageName.{MessageName}
 use Rattle.message_wire.specs.declared.packet.Packet.{Packet}
 use Rattle.message_wire.specs.declared.packet.Packet.TheVariants.{Request}
 use Rattle.message_wire.specs.Message.{name_cmp}
-use Rattle.sheep_world.specs.World.{Host, StartedRequest, SessionProgress, World, host_at, no_progress}
-use Rattle.sheep_world.specs.World.{ClientAsk}
+use Rattle.sheep_world.specs.declared.progress.StartedRequest.{StartedRequest}
+use Rattle.sheep_world.specs.declared.progress.SessionProgress.{SessionProgress}
+use Rattle.sheep_world.specs.World.{Host, World, host_at, no_progress}
+use Rattle.sheep_world.specs.declared.progress.ClientAsk.{ClientAsk}
 use Rattle.sheep_world.specs.Opening.{no_outputs}
 use Rattle.sheep_world.specs.Asking.{session_asking}
 use Rattle.std.specs.Option.{option_map, option_or}

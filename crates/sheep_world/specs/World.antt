@@ -16,28 +16,14 @@ use Rattle.sheep_node.specs.May.{has_numbers}
 use Rattle.message_wire.specs.declared.name.MessageName.{MessageName}
 use Rattle.message_wire.specs.declared.packet.Packet.{Packet}
 use Rattle.message_wire.specs.Message.{name_cmp, packet_ends}
-use Rattle.peer_proto.specs.declared.guest.GuestRsp.{GuestRsp}
+use Rattle.sheep_world.specs.declared.progress.SessionProgress.{SessionProgress}
+use Rattle.sheep_world.specs.declared.progress.ClientAsk.{ClientAsk}
 
 -- a node of the cluster: the node, whether it is lost, and which of its incarnations it is in, from 1 on
 pub record Host : Type 0 where
   pub node : Node
   pub is_lost : Bool
   pub incarnation : ℕ
-
--- a request that was started and has no reply: its number, and the disk that its session had open then
-pub record StartedRequest : Type 0 where
-  pub req : ℕ
-  pub disk : Option ℕ
-
--- a session, as the world sees it: how many of its requests were started, and which of them have no reply
-pub record SessionProgress : Type 0 where
-  pub begun : ℕ
-  pub unanswered : List StartedRequest
-
--- what a client without a script asked last: the number of its request, and the reply, once there is one
-pub record ClientAsk : Type 0 where
-  pub req : ℕ
-  pub reply : Option GuestRsp
 
 -- the cluster: its nodes by number, the log, the messages in the wire, the sessions by number, the place of the present
 -- phase, its controls that aren't taken, how many messages may still be lost, and a client's last ask; and the input and
