@@ -7,16 +7,16 @@ use Rattle.object_id.specs.declared.memory.NoMemory.{NoMemory}
 use Rattle.sheep_world.specs.declared.delivery.Delivery.{Delivery}
 use Rattle.peer_proto.specs.Header.{AnswersBytes}
 use Rattle.sheep_world.specs.declared.delivery.Delivery.TheVariants.{Unreadable}
-use Rattle.sheep_world.specs.Deliveries.{reply_in}
+use Rattle.sheep_world.specs.Deliveries.{delivery_of_reply}
 
 reply-refused : (read : Result PeerRsp PeerFault) (fault : PeerFault) → AnswersBytes read (Err fault) → fault ≢ faults.NoMemory
-    → Unreadable ≡ reply_in read
+    → Unreadable ≡ delivery_of_reply read
 reply-refused (Ok rsp) fault refused other = absurd (other refused)
 reply-refused (Err own) fault refused other = refl
 
 -- what a refused reply comes to
 pub reply-unreadable : (read : Result PeerRsp PeerFault) (fault : PeerFault) (result : Result Delivery NoMemory) → AnswersBytes read (Err fault)
     → IfOk result (λ delivery. delivery ≡ Unreadable) → (IsOk result → fault ≢ faults.NoMemory)
-    → IfOk result (λ delivery. delivery ≡ reply_in read)
+    → IfOk result (λ delivery. delivery ≡ delivery_of_reply read)
 reply-unreadable read fault (Ok delivery) refused is other = is ∙ reply-refused read fault refused (other refl)
 reply-unreadable read fault (Err error) refused is other = tt

@@ -13,7 +13,7 @@ use Rattle.message_wire.specs.declared.packet.Packet.{Packet}
 use Rattle.message_wire.specs.declared.packet.Packet.TheVariants as packets
 use Rattle.sheep_world.specs.declared.delivery.Delivery.{Delivery}
 use Rattle.sheep_world.specs.declared.delivery.Delivery.TheVariants.{NoMessage, Unreadable, Request, Reply}
-use Rattle.sheep_world.specs.Deliveries.{request_in, reply_in, delivery_of}
+use Rattle.sheep_world.specs.Deliveries.{delivery_of_request, delivery_of_reply, delivery_of}
 use Rattle.sheep_world.specs.World.{World, message_at}
 use Rattle.sheep_world.specs.NodeSteps.{node_stepped, at_rest}
 use Rattle.sheep_world.specs.Messages.{without_message, reply_sent, request_got, request_delivered, reply_got, reply_delivered, delivered_as}
@@ -27,11 +27,11 @@ module _ (statements : List Statement) (name : MessageName) (world : World) wher
   world_by (Reply rsp) = node_stepped statements name.sender.0 (inputs.Reply rsp) (without_message name (at_rest world))
 
   of_request : (to : NodeId) (read : Result PeerReq PeerFault)
-      → world_by (request_in to read) ≡ request_got statements name to read (at_rest world)
+      → world_by (delivery_of_request to read) ≡ request_got statements name to read (at_rest world)
   of_request to (Ok request) = refl
   of_request to (Err fault) = refl
 
-  of_reply : (read : Result PeerRsp PeerFault) → world_by (reply_in read) ≡ reply_got statements name read (at_rest world)
+  of_reply : (read : Result PeerRsp PeerFault) → world_by (delivery_of_reply read) ≡ reply_got statements name read (at_rest world)
   of_reply (Ok rsp) = refl
   of_reply (Err fault) = refl
 

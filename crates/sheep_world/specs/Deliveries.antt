@@ -12,17 +12,17 @@ use Rattle.sheep_world.specs.declared.delivery.Delivery.TheVariants as deliverie
 use Rattle.object_id.specs.declared.node.NodeId.{NodeId}
 
 -- a request that was read
-abbrev pub request_in : NodeId → Result PeerReq PeerFault → Delivery
-request_in to (Ok request) = deliveries.Request to request
-request_in to (Err fault) = deliveries.Unreadable
+abbrev pub delivery_of_request : NodeId → Result PeerReq PeerFault → Delivery
+delivery_of_request to (Ok request) = deliveries.Request to request
+delivery_of_request to (Err fault) = deliveries.Unreadable
 
 -- a reply that was read
-abbrev pub reply_in : Result PeerRsp PeerFault → Delivery
-reply_in (Ok rsp) = deliveries.Reply rsp
-reply_in (Err fault) = deliveries.Unreadable
+abbrev pub delivery_of_reply : Result PeerRsp PeerFault → Delivery
+delivery_of_reply (Ok rsp) = deliveries.Reply rsp
+delivery_of_reply (Err fault) = deliveries.Unreadable
 
 -- what a message is, if it is there
 abbrev pub delivery_of : Option Packet → Delivery
 delivery_of None = deliveries.NoMessage
-delivery_of (Some (Request to bytes)) = request_in to (ask_in bytes)
-delivery_of (Some (Reply from bytes)) = reply_in (say_in bytes)
+delivery_of (Some (Request to bytes)) = delivery_of_request to (ask_in bytes)
+delivery_of (Some (Reply from bytes)) = delivery_of_reply (say_in bytes)

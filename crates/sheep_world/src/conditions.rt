@@ -9,9 +9,9 @@ ghost use Rattle.sheep_world.specs.Conditions.{may_join, may_reweight, may_come_
 ghost use Rattle.sheep_world.specs.Enabled.{is_enabled};
 ghost use Rattle.cluster_script.specs.Index.{session_seen};
 
-use crate::request_conditions::{may_begin_request, next_request};
 use crate::control::Control;
 use crate::host::Host;
+use crate::request_conditions::{may_begin_request, next_request};
 use crate::world_state::WorldState;
 use cluster_script::{Script, SessionOfScript};
 use message_wire::{MessageName, Packet};

@@ -6,7 +6,7 @@ ghost use Rattle.peer_proto.specs.declared.fault.PeerFault.TheVariants as faults
 ghost use Rattle.peer_proto.specs.Ask.{ask_in};
 ghost use Rattle.peer_proto.specs.Say.{say_in};
 ghost use Rattle.sheep_world.specs.declared.delivery.Delivery.TheVariants.{Unreadable};
-ghost use Rattle.sheep_world.specs.Deliveries.{request_in, reply_in, delivery_of};
+ghost use Rattle.sheep_world.specs.Deliveries.{delivery_of_request, delivery_of_reply, delivery_of};
 
 use message_wire::Packet;
 use object_id::{NoMemory, NodeId};
@@ -38,8 +38,8 @@ fn unreadable(fault: PeerFault) -> Result<Delivery, NoMemory>
 }
 
 /// A request to a node, as its bytes have it. Takes memory for what it carries.
-fn request_in(alloc: Global, to: NodeId, bytes: &[u8]) -> Result<Delivery, NoMemory>
-    ensures { IfOk result (λ delivery. delivery ≡ request_in to (ask_in bytes.now)) }
+fn delivery_of_request(alloc: Global, to: NodeId, bytes: &[u8]) -> Result<Delivery, NoMemory>
+    ensures { IfOk result (λ delivery. delivery ≡ delivery_of_request to (ask_in bytes.now)) }
 {
     match decode_ask(alloc, bytes) {
         Ok(request) => Ok(Delivery::Request { to, request }),
@@ -48,8 +48,8 @@ fn request_in(alloc: Global, to: NodeId, bytes: &[u8]) -> Result<Delivery, NoMem
 }
 
 /// A reply, as its bytes have it. Takes memory for what it carries.
-fn reply_in(alloc: Global, bytes: &[u8]) -> Result<Delivery, NoMemory>
-    ensures { IfOk result (λ delivery. delivery ≡ reply_in (say_in bytes.now)) }
+fn delivery_of_reply(alloc: Global, bytes: &[u8]) -> Result<Delivery, NoMemory>
+    ensures { IfOk result (λ delivery. delivery ≡ delivery_of_reply (say_in bytes.now)) }
 {
     match decode_say(alloc, bytes) {
         Ok(rsp) => Ok(Delivery::Reply(rsp)),
@@ -63,7 +63,7 @@ pub(crate) fn delivery_of(alloc: Global, packet: Option<&Packet>) -> Result<Deli
 {
     match packet {
         None => Ok(Delivery::NoMessage),
-        Some(Packet::Request { to, bytes }) => request_in(alloc, *to, bytes.as_slice()),
-        Some(Packet::Reply { from: _, bytes }) => reply_in(alloc, bytes.as_slice()),
+        Some(Packet::Request { to, bytes }) => delivery_of_request(alloc, *to, bytes.as_slice()),
+        Some(Packet::Reply { from: _, bytes }) => delivery_of_reply(alloc, bytes.as_slice()),
     }
 }

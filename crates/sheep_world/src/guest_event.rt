@@ -6,8 +6,8 @@ ghost use Rattle.cluster_script.specs.Index.{session_seen};
 ghost use Rattle.sheep_world.specs.World.{progress_at};
 ghost use Rattle.sheep_world.specs.Effects.{open_disk_at, disk_open, request_started, guest_effect};
 
-use crate::request_conditions::next_request;
 use crate::progress::StartedRequest;
+use crate::request_conditions::next_request;
 use crate::script_requests::input_of;
 use crate::world_state::WorldState;
 use cluster_script::{Script, SessionOfScript};
@@ -34,11 +34,7 @@ impl WorldState {
     }
 
     /// A request of a session is started, with the disk that the session has open.
-    fn request_started(
-        self,
-        session: SessionOfScript,
-        req: u32,
-    ) -> Result<WorldState, NoMemory>
+    fn request_started(self, session: SessionOfScript, req: u32) -> Result<WorldState, NoMemory>
         requires { (progress_at session.number self).begun + 1 < 2 ^ 32 }
         ensures { IfOk result (λ after. after ≡ request_started (session_seen session) (Some req) self) }
     {

@@ -61,7 +61,14 @@ impl WorldState {
                 adds: HistList::new(self.alloc),
             },
         };
-        Ok((WorldState { log, outputs, ..self }, adds))
+        Ok((
+            WorldState {
+                log,
+                outputs,
+                ..self
+            },
+            adds,
+        ))
     }
 
     /// Put: the first entry of a node's outbox stands at the log's end; with what that adds to the history.
@@ -80,7 +87,8 @@ impl WorldState {
     pub fn recover_tick(self, script: &Script, node: u32) -> Result<WorldState, NoMemory>
         ensures { IfOk result (λ after. after ≡ recover_tick_effect script.now node self) }
     {
-        self.at_rest().node_stepped(script, node, Input::RecoverTick)
+        self.at_rest()
+            .node_stepped(script, node, Input::RecoverTick)
     }
 
     /// RetryTick: a work of a node is tried again.

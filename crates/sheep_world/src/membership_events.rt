@@ -86,7 +86,8 @@ impl WorldState {
     pub fn node_left(self, node: u32) -> Result<WorldState, NoMemory>
         ensures { IfOk result (λ after. after ≡ node_left node self) }
     {
-        self.at_rest().with_entry(&Entry::Leave { node: NodeId(node) })
+        self.at_rest()
+            .with_entry(&Entry::Leave { node: NodeId(node) })
     }
 
     /// Join: the node's join stands at the log's end; the node exists, in its first incarnation, and has read nothing.

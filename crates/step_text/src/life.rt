@@ -3,7 +3,7 @@
 ghost use Rattle.std.specs.Prelude.{◌≡◌, false, OnOk, IfErr};
 ghost use Rattle.sheep_node.specs.State.{initial_node};
 ghost use Rattle.step_text.specs.declared.fault.Fault.TheVariants as faults;
-ghost use Rattle.step_text.specs.Lives.{HasStepped, HasGoneOn, HasFailed};
+ghost use Rattle.step_text.specs.Lives.{HasMadeStep, HasGoneOn, HasFailed};
 
 use crate::fault::Fault;
 use crate::input_words::read_input;
@@ -54,7 +54,7 @@ impl Life {
 }
 
 fn outputs_of(alloc: Global, node: &mut Node, input: Input) -> Result<String, Fault>
-    ensures ok { OnOk result (HasStepped node.old node.new) }
+    ensures ok { OnOk result (HasMadeStep node.old node.new) }
     ensures err { IfErr result (λ fault. HasFailed fault node.old node.new) }
 {
     if node.spent() {

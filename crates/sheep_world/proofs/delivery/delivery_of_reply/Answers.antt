@@ -1,6 +1,6 @@
 use Rattle.sheep_world.proofs.Deliveries.{reply-unreadable}
 use Rattle.peer_proto.specs.Say.{say_in}
-use Rattle.sheep_world.proofs.delivery.reply_in.Goals as goal
+use Rattle.sheep_world.proofs.delivery.delivery_of_reply.Goals as goal
 
 pub returns-in-Err : goal.returns-in-Err
 returns-in-Err c =
