@@ -27,5 +27,5 @@ abbrev pub HasGoneOn : NodeOrSpent → NodeOrSpent → Type 0
 HasGoneOn old now = HasOpened now ⊎ HasMadeStep old now
 
 -- a line gave nothing, for this reason: the node is as it was; or memory was wanting, and it is spent, or what it did could not be told
-abbrev pub HasFailed : Fault → NodeOrSpent → NodeOrSpent → Type 0
-HasFailed fault old now = (now ≡ old) ⊎ ((fault ≡ NoMemory) × ((now.spent ≡ true) ⊎ HasMadeStep old now))
+abbrev pub HasToldNothing : Fault → NodeOrSpent → NodeOrSpent → Type 0
+HasToldNothing fault old now = (now ≡ old) ⊎ ((fault ≡ NoMemory) × ((now.spent ≡ true) ⊎ HasMadeStep old now))

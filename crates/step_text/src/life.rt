@@ -3,7 +3,7 @@
 ghost use Rattle.std.specs.Prelude.{◌≡◌, false, OnOk, IfErr};
 ghost use Rattle.sheep_node.specs.State.{initial_node};
 ghost use Rattle.step_text.specs.declared.fault.Fault.TheVariants as faults;
-ghost use Rattle.step_text.specs.Lives.{HasMadeStep, HasGoneOn, HasFailed};
+ghost use Rattle.step_text.specs.Lives.{HasMadeStep, HasGoneOn, HasToldNothing};
 
 use crate::fault::Fault;
 use crate::input_words::read_input;
@@ -36,7 +36,7 @@ impl Life {
     /// have made a step that can't be told.
     pub fn step(&mut self, line: &str) -> Result<String, Fault>
         ensures ok { OnOk result (HasGoneOn self.old.node self.new.node) }
-        ensures err { IfErr result (λ fault. HasFailed fault self.old.node self.new.node) }
+        ensures err { IfErr result (λ fault. HasToldNothing fault self.old.node self.new.node) }
     {
         let mut words = Words::new(self.alloc, line);
         match words.word()? {
@@ -55,7 +55,7 @@ impl Life {
 
 fn outputs_of(alloc: Global, node: &mut Node, input: Input) -> Result<String, Fault>
     ensures ok { OnOk result (HasMadeStep node.old node.new) }
-    ensures err { IfErr result (λ fault. HasFailed fault node.old node.new) }
+    ensures err { IfErr result (λ fault. HasToldNothing fault node.old node.new) }
 {
     if node.spent() {
         return Err(Fault::Spent);
