@@ -14,7 +14,7 @@ use Rattle.cluster_script.specs.Phases.{losses_by, losses_from}
 use Rattle.cluster_script.specs.Nodes.{uses_node, failed_by, failed_from}
 use Rattle.cluster_script.specs.Language.{MayStand, EachMayStand, IsScript}
 use Rattle.cluster_script.specs.Totals.{IsTotal, totals_after}
-use Rattle.cluster_script.specs.Marks.{is_marked, zoned_by, declared_by, used_by, AreMarked, AreMarkedAfter, MayBeMarked}
+use Rattle.cluster_script.specs.Marks.{is_marked, zoned_by, declared_by, used_by, HaveMarks, AreMarkedAfter, MayBeMarked}
 use Rattle.cluster_script.proofs.Counting.{all_more, any_more, sum_more}
 use Rattle.cluster_script.proofs.ScriptFacts.{used-node, failed-node}
 
@@ -126,8 +126,8 @@ used-once node was (Cluster nodes) = or-chosen was (nat_lt node nodes)
 used-once node was (Join number) = or-chosen was (number == node)
 used-once node was s = sym (or-false was)
 
-pub marked-more : (before : List Statement) (old new : MarkedNumbers) (s : Statement) → AreMarked before old → AreMarkedAfter old s new
-    → AreMarked (before ++ s ∷ []) new
+pub marked-more : (before : List Statement) (old new : MarkedNumbers) (s : Statement) → HaveMarks before old → AreMarkedAfter old s new
+    → HaveMarks (before ++ s ∷ []) new
 marked-more before old new s marked after = record {
   zoned = λ node. after.zoned node ∙ zoned-once node (is_marked node old.zoned) s
       ∙ any_more (λ x. is_some (zone_set node x)) (is_marked node old.zoned) before s (marked.zoned node);

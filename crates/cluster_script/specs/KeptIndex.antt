@@ -20,8 +20,8 @@ use Rattle.cluster_script.specs.Sessions.{brings_back, session_numbered}
 use Rattle.cluster_script.specs.Index.{session_seen}
 
 -- where a statement stands, if it is a request
-abbrev pub entry_of : ℕ → ℕ → Statement → List RequestEntry
-entry_of place phase s =
+abbrev pub statement_entry : ℕ → ℕ → Statement → List RequestEntry
+statement_entry place phase s =
     if is_request s then record { place = place; session = unwrap_or (session_of s) 0; phase = phase } ∷ [] else []
 
 -- the place of the phase that goes on behind a statement
@@ -31,7 +31,7 @@ phase_after phase s = if is_barrier s then phase + 1 else phase
 -- where the requests stand among statements, of which the first has this place and is of the phase of this place
 abbrev pub request_entries : ℕ → ℕ → List Statement → List RequestEntry
 request_entries place phase [] = []
-request_entries place phase (s ∷ rest) = entry_of place phase s ++ request_entries (place + 1) (phase_after phase s) rest
+request_entries place phase (s ∷ rest) = statement_entry place phase s ++ request_entries (place + 1) (phase_after phase s) rest
 
 -- the entry of a request by its number
 abbrev pub entry_numbered : List RequestEntry → ℕ → Option RequestEntry

@@ -31,7 +31,7 @@ used_by node was (Join number) = if number == node then true else was
 used_by node was s = was
 
 -- each number is marked exactly where the list says so
-pub record AreMarked (before : List Statement) (numbers : MarkedNumbers) : Type 0 where
+pub record HaveMarks (before : List Statement) (numbers : MarkedNumbers) : Type 0 where
   pub zoned : (node : ℕ) → is_marked node numbers.zoned ≡ is_set (zone_set node) before
   pub declared : (session : ℕ) → is_marked session numbers.declared ≡ is_session_declared session before
   pub used : (node : ℕ) → is_marked node numbers.used ≡ is_node_used node before

@@ -29,14 +29,14 @@ impl Model for Draft {
     ghost use Rattle.cluster_script.specs.declared.statement.Statement.{Statement as Line};
     ghost use Rattle.cluster_script.specs.Language.{IsScript};
     ghost use Rattle.cluster_script.specs.Totals.{IsTotal};
-    ghost use Rattle.cluster_script.specs.Marks.{AreMarked};
+    ghost use Rattle.cluster_script.specs.Marks.{HaveMarks};
 
     ghost Value = { List Line };
 
     ghost view = { λ draft. draft.statements };
 
     ghost invariant = { λ draft. IsScript draft.statements × IsTotal draft.statements draft.totals
-        × AreMarked draft.statements draft.numbers };
+        × HaveMarks draft.statements draft.numbers };
 }
 
 impl Draft {

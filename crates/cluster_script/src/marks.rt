@@ -1,5 +1,5 @@
 ghost use Rattle.std.specs.Prelude.{◌≡◌, ℕ, ◌≤◌, ◌<◌, ◌==◌, nat_lt, true, false, [], if◌then◌else◌};
-ghost use Rattle.cluster_script.specs.Marks.{is_marked, AreMarked, AreMarkedAfter, MayBeMarked};
+ghost use Rattle.cluster_script.specs.Marks.{is_marked, HaveMarks, AreMarkedAfter, MayBeMarked};
 
 use crate::statement::Statement;
 
@@ -70,7 +70,7 @@ pub struct MarkedNumbers {
 impl MarkedNumbers {
     /// Those of no statements.
     pub fn new() -> Self
-        ensures { AreMarked [] result }
+        ensures { HaveMarks [] result }
     {
         MarkedNumbers {
             zoned: Marks::none(),

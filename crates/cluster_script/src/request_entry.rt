@@ -1,6 +1,6 @@
 ghost use Rattle.std.specs.Prelude.{◌≡◌, ◌+◌, ◌^◌, ◌<◌, ◌≤◌, ◌++◌, length, map, IfOk, OnOk};
 ghost use Rattle.std.specs.List.{range_with_len};
-ghost use Rattle.cluster_script.specs.KeptIndex.{entry_of, phase_after, request_entries, number_asked, numbers_asked};
+ghost use Rattle.cluster_script.specs.KeptIndex.{statement_entry, phase_after, request_entries, number_asked, numbers_asked};
 
 use crate::index::{asking_session, is_request};
 use crate::phase_entry::is_barrier;
@@ -43,7 +43,7 @@ fn add_entry(
     phase: u32,
     s: &Statement,
 ) -> Result<(), NoMemory>
-    ensures { OnOk result (entries.new ≡ entries.old ++ entry_of place phase s.now) }
+    ensures { OnOk result (entries.new ≡ entries.old ++ statement_entry place phase s.now) }
 {
     if is_request(s) {
         entries.push(RequestEntry {

@@ -29,7 +29,7 @@ passes_at : {X : Type 0} (test : X → Bool) (xs : List X) (k : ℕ) (x : X) →
 passes_at test [] k x is = absurd (cc (is))
 passes_at test (y ∷ xs) k x is = passes_if test y xs k x (test y) refl (λ k. passes_at test xs k x) is
 
-request_is : (statements : List Statement) (req : ℕ) (s : Statement) → request_at statements req ≡ Some s → is_request s ≡ true
+pub request_is : (statements : List Statement) (req : ℕ) (s : Statement) → request_at statements req ≡ Some s → is_request s ≡ true
 request_is statements zero s is = absurd (cc (is))
 request_is statements (suc place) s is = passes_at is_request statements place s is
 

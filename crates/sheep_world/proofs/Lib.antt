@@ -47,3 +47,12 @@ pub mod TogetherInRuns
 pub mod EnabledParts
 pub mod EventEffects
 mod ClientLaws
+mod ScriptLookUps
+mod HistoryBlocks
+pub mod GrantedAdds
+pub mod StepsInParts
+pub mod ControlsOfPhases
+pub mod TakenValues
+pub mod Deliveries
+pub mod MadeDeliveries
+pub mod GuestRequests

@@ -30,3 +30,6 @@ pub mod LogFronts
 pub mod ControlsToCome
 pub mod LogHolds
 pub mod HoldsTogether
+pub mod Controls
+pub mod StepsInParts
+pub mod Deliveries

@@ -9,6 +9,12 @@
 //! runs reach (`specs/Began.antt`), the list of what may happen (`specs/Enabled.antt`), and the incarnations of nodes
 //! (`specs/Incarnations.antt`).
 //!
+//! Of the code there stand the parts of the type of worlds that is to come: what a world keeps (`world_state.rt`, with `host.rt` and
+//! `hosts.rt`, `cluster_log.rt`, `guests.rt`, `control.rt`), what is looked up in a script (`script_requests.rt`), when each event may happen
+//! (`conditions.rt`, with `request_conditions.rt`), what each makes of the world (`node_steps.rt`, `guest_event.rt`, `message_events.rt` with
+//! `delivery.rt`, `log_events.rt`, `membership_events.rt`), and of the history what entries, reads and writes add (`granted.rt`,
+//! `history_blocks.rt`). Each function is exactly the definition of its name, or out of memory.
+//!
 //! The laws of `laws.rt` say what these mean. An event is made exactly if it may happen, and is of one of nine kinds
 //! (`specs/EventKinds.antt`), of which the step of a node has eight causes (`specs/NodeCauses.antt`); so a proof goes by
 //! kinds, and what holds of each node follows from its five changes (`specs/HostChanges.antt`). In each world that a run
@@ -19,12 +25,28 @@
 //! together (`specs/WireMatch.antt`, `specs/HoldsTogether.antt`), and works go with their requests (`specs/OneWork.antt`).
 #![tactic(auto)]
 
+mod cluster_log;
+mod conditions;
+mod control;
+mod delivery;
 mod fault;
+mod granted;
+mod guest_event;
+mod guests;
+mod history_blocks;
+mod host;
+mod hosts;
 mod laws;
+mod log_events;
+mod membership_events;
+mod message_events;
+mod node_steps;
 mod progress;
+mod request_conditions;
+mod script_requests;
+mod world_state;
 
 pub use fault::ApplyFault;
-pub use progress::{ClientAsk, SessionProgress, StartedRequest};
 pub use laws::{
     a_check_reads_what_it_writes, a_history_only_grows, a_lost_node_gets_no_reply,
     a_phase_brings_its_losses, a_run_is_cut_anywhere, a_small_world_worked_out,
@@ -36,3 +58,4 @@ pub use laws::{
     the_enabled_list_is_in_parts, the_log_holds, what_is_asked_can_be_spelled,
     what_is_in_the_wire_was_spelled, what_may_happen_is_made,
 };
+pub use progress::{ClientAsk, SessionProgress, StartedRequest};

@@ -16,7 +16,7 @@ pub record HasOpened (now : NodeOrSpent) : Type 0 where
   pub opens : now ≡ record { spent = false; node = initial_node me tries }
 
 -- the node makes a step that it may take
-pub record HasStepped (old now : NodeOrSpent) : Type 0 where
+pub record HasMadeStep (old now : NodeOrSpent) : Type 0 where
   pub input : Input
   pub live : old.spent ≡ false
   pub may : May input old.node
@@ -24,8 +24,8 @@ pub record HasStepped (old now : NodeOrSpent) : Type 0 where
 
 -- a line of a list was read
 abbrev pub HasGoneOn : NodeOrSpent → NodeOrSpent → Type 0
-HasGoneOn old now = HasOpened now ⊎ HasStepped old now
+HasGoneOn old now = HasOpened now ⊎ HasMadeStep old now
 
 -- a line gave nothing, for this reason: the node is as it was; or memory was wanting, and it is spent, or what it did could not be told
-abbrev pub HasFailed : Fault → NodeOrSpent → NodeOrSpent → Type 0
-HasFailed fault old now = (now ≡ old) ⊎ ((fault ≡ NoMemory) × ((now.spent ≡ true) ⊎ HasStepped old now))
+abbrev pub HasToldNothing : Fault → NodeOrSpent → NodeOrSpent → Type 0
+HasToldNothing fault old now = (now ≡ old) ⊎ ((fault ≡ NoMemory) × ((now.spent ≡ true) ⊎ HasMadeStep old now))

@@ -1,3 +1,5 @@
+ghost use Rattle.std.specs.Prelude.{◌≡◌};
+
 use object_id::NoMemory;
 use peer_proto::PeerFault;
 use std::alloc::{AllocError, AllocFailed};
@@ -19,6 +21,10 @@ pub enum Fault {
 }
 
 impl From<NoMemory> for Fault {
+    ghost use Rattle.step_text.specs.declared.fault.Fault.TheVariants as faults;
+
+    ghost from_gives = { λ _ e. e ≡ faults.NoMemory };
+
     fn from(_: NoMemory) -> Fault {
         Fault::NoMemory
     }

@@ -12,7 +12,7 @@ use std::alloc::{AllocError, Global};
 use std::fmt::Write;
 
 /// The input that a line spells.
-pub fn input_of(alloc: Global, line: &str) -> Result<Input, Fault> {
+pub(crate) fn input_of(alloc: Global, line: &str) -> Result<Input, Fault> {
     let mut words = Words::new(alloc, line);
     let kind = words.word()?;
     read_input(kind, &mut words)
@@ -110,7 +110,7 @@ fn read_command(words: &mut Words) -> Result<VdiAsk, Fault> {
 }
 
 /// Writes an input as `input_of` reads it.
-pub fn write_input(alloc: Global, out: &mut String, input: &Input) -> Result<(), NoMemory> {
+pub(crate) fn write_input(alloc: Global, out: &mut String, input: &Input) -> Result<(), NoMemory> {
     match input {
         Input::Guest { req, session, ask } => {
             write!(out, "guest {req} {session} ")?;

@@ -7,17 +7,25 @@
 //! `node_steps`, whose list another program recorded.
 #![tactic(auto)]
 
+#[cfg(test)]
+mod act_words;
+#[cfg(test)]
+mod commands;
+#[cfg(test)]
+mod copies;
+#[cfg(test)]
+mod disk_requests;
 mod entry_words;
 mod fault;
 mod input_words;
 mod life;
+#[cfg(test)]
+mod one_node;
 mod output_words;
+#[cfg(test)]
+mod trial;
 mod words;
 mod work_words;
 
-pub use entry_words::write_entry;
 pub use fault::Fault;
-pub use input_words::{input_of, write_input};
 pub use life::Life;
-pub use output_words::{outputs_line, write_reply};
-pub use work_words::write_work;

@@ -2,14 +2,15 @@
 
 ghost use Rattle.std.specs.Prelude.{◌≡◌, false, OnOk, IfErr};
 ghost use Rattle.sheep_node.specs.State.{initial_node};
-ghost use Rattle.step_text.specs.Lives.{HasStepped, HasGoneOn, HasFailed};
+ghost use Rattle.step_text.specs.declared.fault.Fault.TheVariants as faults;
+ghost use Rattle.step_text.specs.Lives.{HasMadeStep, HasGoneOn, HasToldNothing};
 
 use crate::fault::Fault;
 use crate::input_words::read_input;
 use crate::output_words::outputs_line;
 use crate::words::Words;
-use object_id::{NoMemory, NodeId};
-use sheep_node::{Input, Node, conditions_are_tests};
+use object_id::NodeId;
+use sheep_node::{Input, Node, Outputs, conditions_are_tests};
 use std::alloc::Global;
 
 /// The node that opened last. Before the first one opens it is a node that has read nothing.
@@ -42,7 +43,7 @@ impl Life {
     /// have made a step that can't be told.
     pub fn step(&mut self, line: &str) -> Result<String, Fault>
         ensures ok { OnOk result (HasGoneOn self.old.node self.new.node) }
-        ensures err { IfErr result (λ fault. HasFailed fault self.old.node self.new.node) }
+        ensures err { IfErr result (λ fault. HasToldNothing fault self.old.node self.new.node) }
     {
         let mut words = Words::new(self.alloc, line);
         match words.word()? {
@@ -60,8 +61,8 @@ impl Life {
 }
 
 fn outputs_of(alloc: Global, node: &mut Node, input: Input) -> Result<String, Fault>
-    ensures ok { OnOk result (HasStepped node.old node.new) }
-    ensures err { IfErr result (λ fault. HasFailed fault node.old node.new) }
+    ensures ok { OnOk result (HasMadeStep node.old node.new) }
+    ensures err { IfErr result (λ fault. HasToldNothing fault node.old node.new) }
 {
     if node.spent() {
         return Err(Fault::Spent);
@@ -71,12 +72,13 @@ fn outputs_of(alloc: Global, node: &mut Node, input: Input) -> Result<String, Fa
     }
     // The test is the condition of a step.
     conditions_are_tests();
-    let told = match node.step(input) {
-        Ok(outputs) => outputs_line(alloc, &outputs),
-        Err(NoMemory) => Err(NoMemory),
-    };
-    match told {
-        Ok(line) => Ok(line),
-        Err(NoMemory) => Err(Fault::NoMemory),
-    }
+    let outputs = node.step(input)?;
+    line_of(alloc, outputs)
+}
+
+/// The line that a step's outputs give.
+fn line_of(alloc: Global, outputs: Outputs) -> Result<String, Fault>
+    ensures { IfErr result (λ fault. fault ≡ faults.NoMemory) }
+{
+    Ok(outputs_line(alloc, &outputs)?)
 }

@@ -1,0 +1,134 @@
+//! One node's step in the world: what it sends enters the wire, and what it replied to is answered.
+
+ghost use Rattle.std.specs.Prelude.{◌≡◌, fold, IfOk};
+ghost use Rattle.std.specs.Option.{option_copied};
+ghost use Rattle.sheep_world.specs.StepsInParts.{with_outputs};
+ghost use Rattle.sheep_world.specs.NodeSteps.{request_name, wire_with_request, reply_among, ask_after_replies, node_stepped};
+
+use crate::progress::ClientAsk;
+use crate::world_state::WorldState;
+use cluster_script::Script;
+use message_wire::{MessageName, Packet, Wire};
+use object_id::{NoMemory, NodeId};
+use peer_proto::{GuestRsp, PeerReq, SendList, encode_ask};
+use sheep_node::{Input, Outputs, ReplyList};
+use std::alloc::Global;
+
+/// The name of a request.
+fn request_name(request: &PeerReq) -> MessageName
+    ensures { result ≡ request_name request.now }
+{
+    MessageName {
+        sender: request.from,
+        number: request.number,
+    }
+}
+
+/// A request enters the wire, on its way to a node.
+fn wire_with_request(
+    alloc: Global,
+    wire: Wire,
+    to: NodeId,
+    request: &PeerReq,
+) -> Result<Wire, NoMemory>
+    ensures { IfOk result (λ after. after ≡ wire_with_request wire (to, request.now)) }
+{
+    let mut wire = wire;
+    let bytes = encode_ask(alloc, request)?;
+    wire.put(request_name(request), Packet::Request { to, bytes })?;
+    Ok(wire)
+}
+
+/// The requests of a step enter the wire, each on its way to a node.
+fn wire_with_sends(alloc: Global, wire: Wire, sends: &SendList) -> Result<Wire, NoMemory>
+    ensures { IfOk result (λ after. after ≡ fold wire_with_request wire sends.now) }
+{
+    let mut wire = wire;
+    for (to, request) in sends.as_slice() {
+        wire = wire_with_request(alloc, wire, *to, request)?;
+    }
+    Ok(wire)
+}
+
+/// The reply to the request of a number among some.
+fn reply_among(req: u32, replies: &ReplyList) -> Option<&GuestRsp>
+    ensures { option_copied result ≡ reply_among req replies.now }
+{
+    match replies.as_slice().iter().find(|reply| reply.0 == req) {
+        Some((_, rsp)) => Some(rsp),
+        None => None,
+    }
+}
+
+/// A client's ask, once these replies were given.
+fn ask_after_replies(
+    alloc: Global,
+    replies: &ReplyList,
+    ask: ClientAsk,
+) -> Result<ClientAsk, NoMemory>
+    ensures { IfOk result (λ after. after ≡ ask_after_replies replies.now ask) }
+{
+    let ClientAsk { req, reply } = ask;
+    let reply = match reply {
+        Some(rsp) => Some(rsp),
+        None => match reply_among(req, replies) {
+            Some(rsp) => Some(rsp.copy(alloc)?),
+            None => None,
+        },
+    };
+    Ok(ClientAsk { req, reply })
+}
+
+impl WorldState {
+    /// What a step has given is told: its requests enter the wire, and what it replied to is answered.
+    fn with_outputs(
+        self,
+        script: &Script,
+        input: Input,
+        outputs: Outputs,
+    ) -> Result<WorldState, NoMemory>
+        ensures { IfOk result (λ after. after ≡ with_outputs script.now input outputs self) }
+    {
+        let WorldState {
+            alloc,
+            wire,
+            mut guests,
+            asked,
+            ..
+        } = self;
+        guests.after_replies(alloc, script, &outputs.replies)?;
+        let asked = match asked {
+            Some(ask) => Some(ask_after_replies(alloc, &outputs.replies, ask)?),
+            None => None,
+        };
+        let wire = wire_with_sends(alloc, wire, &outputs.sends)?;
+        Ok(WorldState {
+            wire,
+            guests,
+            asked,
+            input: Some(input),
+            outputs,
+            ..self
+        })
+    }
+
+    /// A node steps on an input. Costs the step, and a look-up for each message and reply that it gives. An input on which the node may
+    /// not step is told as want of memory.
+    #[tactic(auto, unfolding(crate::specs::NodeSteps::node_stepped))]
+    pub fn node_stepped(
+        mut self,
+        script: &Script,
+        node: u32,
+        input: Input,
+    ) -> Result<WorldState, NoMemory>
+        ensures { IfOk result (λ after. after ≡ node_stepped script.now node input self) }
+    {
+        let Some(host) = self.hosts.take(node) else {
+            return Ok(self);
+        };
+        let kept = input.copy(self.alloc)?;
+        let (host, outputs) = host.step(input)?;
+        self.hosts.put(node, host)?;
+        self.with_outputs(script, kept, outputs)
+    }
+}
