@@ -1,13 +1,12 @@
 -- The writers that a node's loss leaves without reply, as they are found one request after another.
 use Rattle.std.proofs.Common.{◌≡◌, ℕ, zero, suc, ◌+◌, ◌≤◌, Bool, true, false, cond, List, [], ◌∷◌, ◌++◌, length, take, map, filter}
-use Rattle.std.proofs.Common.{Option, Some, None, refl, sym, ap, ◌∙◌, arith}
+use Rattle.std.proofs.Common.{Option, Some, refl, sym, ap, ◌∙◌, arith}
 use Rattle.std.specs.Prelude.{slice_get}
 use Rattle.std.specs.List.{enumerate_from}
 use Rattle.std.specs.Option.{option_map_or}
 use Rattle.std.proofs.lemmas.List.{take_all}
 use Rattle.cluster_script.specs.declared.statement.Statement.{Statement}
 use Rattle.cluster_script.specs.Statements.{is_request, requests_of}
-use Rattle.cluster_script.specs.NumberedRequests.{request_at}
 use Rattle.disk_history.specs.declared.event.HistEvent.{HistEvent}
 use Rattle.disk_history.specs.declared.event.HistEvent.TheVariants.{WriterLost}
 use Rattle.sheep_world.specs.World.{Host, World}
@@ -36,13 +35,15 @@ module _ (statements : List Statement) (world : World) (node : ℕ) (host : Host
       let same : first ≡ first + 0 = omega arith in
       by_test (is_lost_write statements world node host (first, s)) ∙ ap (λ req. lost_at req (Some s)) same
     where
-      by_test : (b : Bool) → map (λ (request : ℕ × Statement). WriterLost request.0) (cond b ((first, s) ∷ []) []) ≡ cond b (WriterLost first ∷ []) []
+      by_test : (b : Bool)
+          → map (λ (request : ℕ × Statement). WriterLost request.0) (cond b ((first, s) ∷ []) []) ≡ cond b (WriterLost first ∷ []) []
       by_test true = refl
       by_test false = refl
   one_more first (suc place) (s ∷ rest) =
       let same : (first + 1) + place ≡ first + suc place = omega arith in
       by_test (is_lost_write statements world node host (first, s))
-      (one_more (first + 1) place rest ∙ ap (λ req. lost (enumerate_from (first + 1) (take place rest)) ++ lost_at req (slice_get rest place)) same)
+      (one_more (first + 1) place rest
+      ∙ ap (λ req. lost (enumerate_from (first + 1) (take place rest)) ++ lost_at req (slice_get rest place)) same)
     where
       by_test : (b : Bool)
           → lost (enumerate_from (first + 1) (take (suc place) rest))
@@ -65,7 +66,8 @@ module _ (statements : List Statement) (world : World) (node : ℕ) (host : Host
       let number : 1 + place ≡ suc place = omega arith in
       ap (λ (events : List HistEvent). events ++ writer_lost statements world node host (place + 1)) was
       ∙ ap (λ req. first_lost place ++ writer_lost statements world node host req) next
-      ∙ sym (one_more 1 place (requests_of statements) ∙ ap (λ req. first_lost place ++ lost_at req (slice_get (requests_of statements) place)) number)
+      ∙ sym (one_more 1 place (requests_of statements)
+      ∙ ap (λ req. first_lost place ++ lost_at req (slice_get (requests_of statements) place)) number)
       ∙ sym (ap first_lost next)
 
   -- there are no more requests than statements

@@ -9,10 +9,10 @@ use Rattle.sheep_world.specs.World.{Host, World}
 use Rattle.sheep_world.specs.HistoryAdditions.{is_lost_write}
 
 -- whether the request of a number is a writer that a host's loss leaves without reply
-abbrev pub is_lost_writer : List Statement → World → ℕ → Host → ℕ → Bool
-is_lost_writer statements world node host req =
+abbrev pub is_lost_write_at : List Statement → World → ℕ → Host → ℕ → Bool
+is_lost_write_at statements world node host req =
     option_map_or (λ (s : Statement). is_lost_write statements world node host (req, s)) (request_at statements req) false
 
 -- what that adds
 abbrev pub writer_lost : List Statement → World → ℕ → Host → ℕ → List HistEvent
-writer_lost statements world node host req = if is_lost_writer statements world node host req then WriterLost req ∷ [] else []
+writer_lost statements world node host req = if is_lost_write_at statements world node host req then WriterLost req ∷ [] else []

@@ -140,11 +140,7 @@ impl Guests {
 
     /// The requests without reply that are checks, by their sessions. Looks at each without reply once, and takes memory for the checks
     /// alone.
-    pub fn unanswered_checks(
-        &self,
-        alloc: Global,
-        script: &Script,
-    ) -> Result<Items<u32>, NoMemory>
+    pub fn unanswered_checks(&self, alloc: Global, script: &Script) -> Result<Items<u32>, NoMemory>
         ensures { IfOk result (λ checks. checks ≡ unanswered_checks script.now self.now) }
     {
         let mut checks = Items::new(alloc);

@@ -3,7 +3,7 @@
 ghost use Rattle.std.specs.Prelude.{◌≡◌, ◌++◌, false, Some, IfOk, OnOk};
 ghost use Rattle.std.specs.Option.{option_map_or};
 ghost use Rattle.sheep_world.specs.HistoryAdditions.{is_of_incarnation, is_writing_request, writers_lost, loss_grown};
-ghost use Rattle.sheep_world.specs.LossInParts.{is_lost_writer, writer_lost};
+ghost use Rattle.sheep_world.specs.LossInParts.{is_lost_write_at, writer_lost};
 
 use crate::host::Host;
 use crate::reply_history::disk_began;
@@ -33,9 +33,7 @@ impl Host {
             return false;
         };
         match script.session(number) {
-            Some(session) => {
-                session.node == node && session.incarnation == self.incarnation()
-            }
+            Some(session) => session.node == node && session.incarnation == self.incarnation(),
             None => false,
         }
     }
@@ -43,8 +41,8 @@ impl Host {
 
 impl WorldState {
     /// Whether the request of a number is a writer that a host's loss leaves without reply. Takes no memory.
-    fn is_lost_writer(&self, script: &Script, node: u32, host: &Host, req: u32) -> bool
-        ensures { result ≡ is_lost_writer script.now self.now node host.now req }
+    fn is_lost_write_at(&self, script: &Script, node: u32, host: &Host, req: u32) -> bool
+        ensures { result ≡ is_lost_write_at script.now self.now node host.now req }
     {
         match statement_of(script, req) {
             Some(statement) => {
@@ -67,7 +65,7 @@ impl WorldState {
     ) -> Result<(), NoMemory>
         ensures { OnOk result (events.new ≡ events.old ++ writer_lost script.now self.now node host.now req) }
     {
-        if self.is_lost_writer(script, node, host, req) {
+        if self.is_lost_write_at(script, node, host, req) {
             return events.push(HistEvent::WriterLost { req });
         }
         Ok(())

@@ -10,5 +10,6 @@ loop-progress-init c =
     let es : List (ℕ × SessionProgress) = c.self.inside.by_number.entries in
     let rest : c.into_iter-progress-iterator.result ≡ es = search rules in
     ap (λ checks. checks ++ flat_map (checks_of_session c.args.script.now) c.into_iter-progress-iterator.result) c.new-checks.ensures
-    ∙ ap (flat_map (checks_of_session c.args.script.now)) (rest ∙ sym (entries-from_entries es (is_sorted-from_keys es c.iter-progress-items.ensures.ordered)))
+    ∙ ap (flat_map (checks_of_session c.args.script.now))
+    (rest ∙ sym (entries-from_entries es (is_sorted-from_keys es c.iter-progress-items.ensures.ordered)))
     ∙ ap (unanswered_checks c.args.script.now) c.self.view_is

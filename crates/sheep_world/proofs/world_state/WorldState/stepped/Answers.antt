@@ -1,4 +1,4 @@
-use Rattle.std.proofs.Common.{◌≡◌, ℕ, Option, Some, None, refl, sym, ap, ◌∙◌}
+use Rattle.std.proofs.Common.{Option, refl, sym, ap, ◌∙◌}
 use Rattle.std.specs.Ordering.{nat_cmp}
 use Rattle.std.specs.FinMap as tree
 use Rattle.sheep_world.specs.World.{Host, World}
@@ -27,10 +27,10 @@ returns-clause-world c =
     let host_in : World → Option Host = λ world. tree.get world.hosts c.args.node in
     let left : World → tree.FinMap nat_cmp Host = λ world. tree.remove world.hosts c.args.node in
     c.in_ok-world.ensures
-    ∙ ap (λ (world : World). with_outputs c.args.script.now c.in_ok-kept.kept c.in_ok-host.outputs (record world { hosts = c.put.new.self }))
-    c.self.view_is
-    ∙ node_stepped-some c.args.script.now c.args.node c.args.input c.args.self c.in-Some.host c.in_ok-host.host c.take.new.self c.put.new.self
-    c.in_ok-kept.kept c.in_ok-host.outputs (sym (c.take.ensures.value ∙ ap host_in c.self.view_is) ∙ c.in-Some.is)
+    ∙ ap (λ (world : World).
+    with_outputs c.args.script.now c.in_ok-kept.kept c.in_ok-host.outputs (record world { hosts = c.put.new.self })) c.self.view_is
+    ∙ node_stepped-some c.args.script.now c.args.node c.args.input c.args.self c.in-Some.host c.in_ok-host.host c.take.new.self
+    c.put.new.self c.in_ok-kept.kept c.in_ok-host.outputs (sym (c.take.ensures.value ∙ ap host_in c.self.view_is) ∙ c.in-Some.is)
     (c.take.ensures.others ∙ ap left c.self.view_is) c.in_ok-host.ensures.host c.in_ok-host.ensures.outputs c.in_ok-put.ensures
     c.in_ok-kept.ensures
 
