@@ -10,7 +10,8 @@ use Rattle.cluster_script.specs.Statements.{is_check}
 use Rattle.cluster_script.specs.NumberedRequests.{request_at}
 use Rattle.disk_history.specs.declared.event.HistEvent.{HistEvent}
 use Rattle.peer_proto.specs.declared.guest.GuestRsp.{GuestRsp}
-use Rattle.sheep_node.specs.CheckWrites.{CheckWrite, has_check_written}
+use Rattle.sheep_node.specs.declared.check_write.CheckWrite.{CheckWrite}
+use Rattle.sheep_node.specs.CheckWrites.{has_check_written}
 use Rattle.sheep_world.specs.declared.progress.StartedRequest.{StartedRequest}
 use Rattle.sheep_world.specs.declared.progress.SessionProgress.{SessionProgress}
 use Rattle.sheep_world.specs.World.{World, no_progress}
