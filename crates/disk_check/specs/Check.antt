@@ -94,6 +94,25 @@ check_done_at bytes check Answered = None
 unfoldable pub check_on_done : List ℕ → Check → Option CheckStep
 check_on_done bytes check = check_done_at bytes check check.stage
 
+-- whether a check compares an own object
+abbrev pub is_comparing_at : CheckStage → Bool
+is_comparing_at (Comparing index later) = true
+is_comparing_at (WritingBack later) = false
+is_comparing_at Answered = false
+
+abbrev pub is_comparing : Check → Bool
+is_comparing check = is_comparing_at check.stage
+
+-- the index of the own object that a check compares, with the value that it writes over that by the bytes that came; none where it
+-- compares none
+abbrev pub value_at_stage : List ℕ → VdiSpec → CheckStage → Option (ℕ × List ℕ)
+value_at_stage bytes spec (Comparing index later) = Some (index, value_of spec.policy (pieces_in spec bytes))
+value_at_stage bytes spec (WritingBack later) = None
+value_at_stage bytes spec Answered = None
+
+abbrev pub value_written : List ℕ → Check → Option (ℕ × List ℕ)
+value_written bytes check = value_at_stage bytes check.spec check.stage
+
 -- how many bytes a work gives that is waited for
 abbrev pub bytes_at : VdiSpec → CheckStage → Option ℕ
 bytes_at spec (Comparing index later) = Some (all_bytes spec)

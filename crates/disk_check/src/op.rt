@@ -3,6 +3,7 @@ ghost use Rattle.object_id.specs.Oid.{IsVid};
 ghost use Rattle.disk_check.specs.Value.{all_bytes, pieces_in};
 ghost use Rattle.disk_check.specs.Check.{CheckStage, Comparing, WritingBack, later_of, check_on, begin_check, write_back_step};
 ghost use Rattle.disk_check.specs.Check.{check_on_done, check_bytes_wanted, takes_memory, CheckBeginsWork};
+ghost use Rattle.disk_check.specs.Check.{is_comparing, value_written};
 
 use crate::act::CheckAct;
 use crate::compare::{all_bytes, differ, value_of};
@@ -10,7 +11,7 @@ use crate::found::{add_object, copy_found};
 use crate::stage::Stage;
 use crate::table::entries_by_owner;
 use inode::Inode;
-use object_id::{NoMemory, Oid, VdiSpec, Vid};
+use object_id::{Bytes, NoMemory, Oid, VdiSpec, Vid};
 use object_store::OidList;
 use peer_proto::{Checked, ObjWork, WorkDone};
 use std::alloc::Global;
@@ -77,6 +78,20 @@ pub fn begin_check(alloc: Global, inode: &Inode) -> Result<(CheckOp, CheckAct), 
 }
 
 impl CheckOp {
+    /// The id of the disk.
+    pub fn vid(&self) -> Vid
+        ensures { result.0 ≡ self.now.vid }
+    {
+        self.vid
+    }
+
+    /// What the disk was made with.
+    pub fn spec(&self) -> VdiSpec
+        ensures { result ≡ self.now.spec }
+    {
+        self.spec
+    }
+
     /// How many own objects the check has found. Takes no memory.
     pub fn objects_found(&self) -> u32
         ensures { result ≡ self.now.found.objects }
@@ -92,6 +107,38 @@ impl CheckOp {
             Stage::Comparing(_) => Some(all_bytes(self.spec)),
             Stage::WritingBack => Some(0),
             Stage::Answered => None,
+        }
+    }
+
+    /// Whether the check compares an own object. Takes no memory.
+    pub fn is_comparing(&self) -> bool
+        ensures { result ≡ is_comparing self.now }
+    {
+        match self.stage {
+            Stage::Comparing(_) => true,
+            Stage::WritingBack => false,
+            Stage::Answered => false,
+        }
+    }
+
+    /// The index of the own object that the check compares, with the value that [`CheckOp::on_done`] would write over it; `None` if it
+    /// compares none. The check stays as it is. Takes the value's bytes, and no memory for `None`.
+    pub fn value_written(
+        &self,
+        alloc: Global,
+        done: &WorkDone,
+    ) -> Result<Option<(u32, Bytes)>, NoMemory>
+        requires { check_bytes_wanted self.now ≡ Some (length done.now.bytes) }
+        ensures ok { IfOk result (λ written. written ≡ value_written done.now.bytes self.now) }
+        ensures memory { is_comparing self.now ≡ false → IsOk result }
+    {
+        match self.stage {
+            Stage::Comparing(index) => {
+                let value = value_of(alloc, self.spec, done.bytes.as_slice())?;
+                Ok(Some((index, value)))
+            }
+            Stage::WritingBack => Ok(None),
+            Stage::Answered => Ok(None),
         }
     }
 

@@ -76,6 +76,21 @@ fn told(alloc: Global, check: &mut CheckOp, bytes: &[u8]) -> Result<Option<Check
     }
 }
 
+/// Whether a check writes this value over object 0, where these bytes come.
+fn writes(alloc: Global, check: &CheckOp, bytes: &[u8], value: &[u8]) -> Result<bool, NoMemory> {
+    let done = WorkDone {
+        req: 1,
+        bytes: Bytes::from_slice(alloc, bytes)?,
+    };
+    if check.bytes_wanted() != Some(done.bytes.len()) {
+        return Ok(false);
+    }
+    match check.value_written(alloc, &done)? {
+        Some((index, written)) => Ok(index == 0 && written.as_slice() == value),
+        None => Ok(false),
+    }
+}
+
 /// So many bytes of each of some values, one behind the other.
 fn runs(alloc: Global, long: usize, values: &[u8]) -> Result<Vec<u8>, NoMemory> {
     let mut bytes = Vec::new(alloc);
@@ -99,6 +114,7 @@ fn writes_the_first_copy_back(rt: HostRuntime) -> Result<(), Fail> {
     );
     let pieces = runs(alloc, 4_096, &[1, 2])?;
     let ones = runs(alloc, 4_096, &[1])?;
+    assert!(rt; writes(alloc, &check, pieces.as_slice(), ones.as_slice())?);
     let act = told(alloc, &mut check, pieces.as_slice())?;
     assert!(rt;
         matches!(&act, Some(CheckAct::Work(ObjWork::Write { oid, policy: Policy::Copies(2), offset: 0, bytes }))

@@ -14,5 +14,6 @@ pub mod WorkedCases
 pub mod MapLaws
 pub mod FailureLaws
 mod WaitingWork
+pub mod DoneWorks
 mod BeginningLemmas
 pub mod LengthLaws

@@ -1,7 +1,7 @@
 -- How the code of a gateway keeps its works, and what follows from a message that ended and from an attempt that begins.
-use Rattle.std.specs.Prelude.{◌≡◌, ℕ, ◌+◌, nat_lt, nat_le, not, ◌&&◌, Bool, true, List, map, Option, Some, None, if◌then◌else◌}
-use Rattle.std.specs.List.{find}
-use Rattle.std.specs.Option.{option_map}
+use Rattle.std.specs.Prelude.{◌≡◌, ℕ, ◌+◌, nat_lt, nat_le, not, ◌&&◌, ◌==◌, Bool, true, false, List, map, Option, Some, None, if◌then◌else◌}
+use Rattle.std.specs.List.{find, list_all}
+use Rattle.std.specs.Option.{option_map, option_map_or}
 use Rattle.std.specs.Ordering.{nat_cmp}
 use Rattle.std.specs.FinMap as tree
 use Rattle.object_id.specs.declared.cause.Cause.{Cause}
@@ -12,6 +12,8 @@ use Rattle.hash_ring.specs.Placement.{zone_count}
 use Rattle.vnode_table.specs.Epochs.{EpochMembers, members_at}
 use Rattle.vnode_table.specs.Targets.{targets_in}
 use Rattle.peer_proto.specs.declared.work.ObjWork.{ObjWork}
+use Rattle.peer_proto.specs.declared.work.ObjWork.TheVariants.{Create, Write, Read, ReadAll}
+use Rattle.peer_proto.specs.declared.work.WorkDone.{WorkDone}
 use Rattle.peer_proto.specs.Work.{oid_of, policy_of}
 use Rattle.gateway.specs.declared.act.Act.{Act}
 use Rattle.gateway.specs.declared.act.Act.TheVariants as acts
@@ -22,7 +24,7 @@ use Rattle.gateway.specs.declared.message.Status.{Status}
 use Rattle.gateway.specs.declared.outcome.Outcome.{Outcome}
 use Rattle.gateway.specs.declared.outcome.Outcome.TheVariants as outcomes
 use Rattle.gateway.specs.Work.{zones_for}
-use Rattle.gateway.specs.Attempt.{Attempt, messages_of, send_of, is_over, is_done, bytes_given, first_failure}
+use Rattle.gateway.specs.Attempt.{Attempt, messages_of, send_of, is_unanswered, is_success, is_over, is_done, bytes_given, first_failure}
 use Rattle.gateway.specs.State.{WorkStage, Open, Ended, WaitsForMembers, Work, Gateway, is_awaited_in, may_try}
 use Rattle.gateway.specs.Step.{GatewayStep, with_work, waiting_step, refusal_step, attempt_with_status}
 
@@ -117,6 +119,52 @@ MessageEnds req number status tries touched work before after act =
     let told : Work = work_with_status number status work in
     let outcome : Outcome = outcome_at tries touched work told.stage in
     (after ≡ works_by req told outcome before) × (act ≡ act_by req work.work outcome)
+
+-- ---- whether a work is done by what one message came to, and what it gives
+
+-- the bytes of a work that these messages do, if they do it
+abbrev pub bytes_if_done : ObjWork → List Message → Option (List ℕ)
+bytes_if_done work messages = if is_over messages && is_done work messages then Some (bytes_given work messages) else None
+
+abbrev pub bytes_if_done_at : ObjWork → WorkStage → Option (List ℕ)
+bytes_if_done_at work (Open attempt) = bytes_if_done work attempt.messages
+bytes_if_done_at work Ended = None
+bytes_if_done_at work (WaitsForMembers epoch) = None
+
+-- a request's work is done, and gave these bytes
+abbrev pub work_done_of : ℕ → List ℕ → WorkDone
+work_done_of req bytes = record { req = req; bytes = bytes }
+
+-- the work that a message of a number belongs to, where it is done by what that came to
+abbrev pub work_if_done : ℕ → Status → Option (ℕ × Work) → Option WorkDone
+work_if_done number status None = None
+work_if_done number status (Some found) =
+    option_map (work_done_of found.0) (bytes_if_done_at found.1.work (stage_with_status number status found.1.stage))
+
+-- whether a message succeeds, where the one of a number does or doesn't
+abbrev pub succeeds_with : ℕ → Bool → Message → Bool
+succeeds_with number success message = if message.number == number then success else is_success message.status
+
+-- whether it is answered, where the one of a number is
+abbrev pub is_answered_with : ℕ → Message → Bool
+is_answered_with number message = if message.number == number then true else not (is_unanswered message.status)
+
+-- whether an attempt may be done where the message of a number succeeds or doesn't: else it isn't
+abbrev pub may_be_done : ObjWork → ℕ → Bool → List Message → Bool
+may_be_done (Create oid policy size offset bytes) number success messages = list_all (succeeds_with number success) messages
+may_be_done (Write oid policy offset bytes) number success messages = list_all (succeeds_with number success) messages
+may_be_done (Read oid policy offset size) number success messages = list_all (is_answered_with number) messages
+may_be_done (ReadAll oid policy size) number success messages = list_all (succeeds_with number success) messages
+
+abbrev pub may_be_done_at : ℕ → Bool → ObjWork → WorkStage → Bool
+may_be_done_at number success work (Open attempt) = may_be_done work number success attempt.messages
+may_be_done_at number success work Ended = false
+may_be_done_at number success work (WaitsForMembers epoch) = false
+
+-- whether the work that a message belongs to may be
+abbrev pub may_be_done_by : ℕ → Bool → Option (ℕ × Work) → Bool
+may_be_done_by number success found =
+    option_map_or (λ (found : ℕ × Work). may_be_done_at number success found.1.work found.1.stage) found false
 
 -- of the works that may be tried in an epoch the smallest request
 abbrev pub next_req : Epoch → Works → Option ℕ

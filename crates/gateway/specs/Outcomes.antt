@@ -1,6 +1,7 @@
 -- What each act of a gateway tells, in the words of its work.
-use Rattle.std.specs.Prelude.{◌≡◌, ◌⊎◌, ℕ, ◌+◌, ◌<◌, ◌≤◌, true, false, List, length, map, All, Some, None}
+use Rattle.std.specs.Prelude.{◌≡◌, ◌⊎◌, ℕ, ◌+◌, ◌<◌, ◌≤◌, true, false, List, length, map, All, Option, Some, None}
 use Rattle.std.specs.List.{range_with_len}
+use Rattle.std.specs.FinMap as tree
 use Rattle.object_id.specs.declared.cause.Cause.TheVariants.{Halt}
 use Rattle.object_id.specs.declared.node.NodeId.{NodeId}
 use Rattle.object_id.specs.Oid.{kind_of}
@@ -8,6 +9,7 @@ use Rattle.object_id.specs.Policy.{need_of}
 use Rattle.peer_proto.specs.declared.ask.PeerReq.{PeerReq}
 use Rattle.peer_proto.specs.declared.work.ObjWork.{ObjWork}
 use Rattle.peer_proto.specs.declared.work.ObjWork.TheVariants.{Create, Write, Read, ReadAll}
+use Rattle.peer_proto.specs.declared.work.WorkDone.{WorkDone}
 use Rattle.gateway.specs.declared.act.Act.{Act}
 use Rattle.gateway.specs.declared.act.Act.TheVariants as acts
 use Rattle.gateway.specs.declared.message.Message.{Message}
@@ -81,3 +83,16 @@ GivesItsBytes (acts.Send sends) = Unit {0}
 GivesItsBytes acts.Wait = Unit {0}
 GivesItsBytes (acts.Done ended done) = length done.bytes ≡ bytes_of_work ended
 GivesItsBytes (acts.Refused ended number cause) = Unit {0}
+
+-- the work that an act tells done, if it tells that
+abbrev pub work_done_in : Act → Option WorkDone
+work_done_in (acts.Send sends) = None
+work_done_in acts.Wait = None
+work_done_in (acts.Done work done) = Some done
+work_done_in (acts.Refused work req cause) = None
+
+-- what is told done is the work of its request, and gave as many bytes as that gives by its kind and size
+pub record IsWorkDone (gateway : Gateway) (done : WorkDone) : Type 0 where
+  pub work : Work
+  pub stands : tree.get gateway.works done.req ≡ Some work
+  pub given : length done.bytes ≡ bytes_of_work work.work

@@ -1,13 +1,13 @@
-ghost use Rattle.std.specs.Prelude.{◌≡◌, ◌&&◌, false, Some, IfOk, IfSome, OnErr, IsTrue, not};
+ghost use Rattle.std.specs.Prelude.{◌≡◌, ℕ, ◌&&◌, false, Some, IfOk, IfSome, OnErr, IsTrue, not};
 ghost use Rattle.std.specs.Option.{option_map};
 ghost use Rattle.peer_proto.specs.Work.{IsWork};
 ghost use Rattle.gateway.specs.Work.{is_making as makes_something};
-ghost use Rattle.gateway.specs.Attempt.{is_unanswered, may_be_made, status_by};
+ghost use Rattle.gateway.specs.Attempt.{is_unanswered, is_success, may_be_made, status_by};
 ghost use Rattle.gateway.specs.State.{initial_gateway, asker, has_work, gateway_awaits, fits_work, fits_gateway, can_retry};
-ghost use Rattle.gateway.specs.State.{MaySend, MayStart};
+ghost use Rattle.gateway.specs.State.{Work as TheWork, MaySend, MayStart};
 ghost use Rattle.gateway.specs.Messages.{IsPieceFor};
-ghost use Rattle.gateway.specs.Kept.{next_req};
-ghost use Rattle.gateway.specs.Outcomes.{RefusesWork, GivesItsBytes};
+ghost use Rattle.gateway.specs.Kept.{next_req, may_be_done_by};
+ghost use Rattle.gateway.specs.Outcomes.{RefusesWork, GivesItsBytes, work_done_in, IsWorkDone};
 ghost use Rattle.gateway.specs.Step.{start_step, retry_step, message_ended, gateway_on_reply, gateway_on_loss, without_touch};
 
 use crate::act::Act;
@@ -20,7 +20,7 @@ use crate::stage::Stage;
 use crate::touched::Touched;
 use crate::works::Works;
 use object_id::{Bytes, Epoch, NoMemory, NodeId};
-use peer_proto::{ObjWork, PeerRsp, PeerSay};
+use peer_proto::{ObjWork, PeerRsp, PeerSay, WorkDone};
 use std::alloc::Global;
 use std::marker::Model;
 use vnode_table::Placement;
@@ -88,6 +88,20 @@ fn status_by(alloc: Global, say: &PeerSay) -> Result<Status, NoMemory>
     })
 }
 
+/// Whether a message succeeded of which a reply says this.
+fn is_success(say: &PeerSay) -> bool
+    ensures { result ≡ is_success (status_by say.now) }
+{
+    match say {
+        PeerSay::Success => true,
+        PeerSay::Piece(_) => true,
+        PeerSay::Objects(_) => false,
+        PeerSay::Row(_) => false,
+        PeerSay::NoRow => false,
+        PeerSay::Refused(_) => false,
+    }
+}
+
 /// Whether a message that came to this touches its request.
 fn touches(work: &ObjWork, status: &Status) -> bool
     ensures { result ≡ (makes_something work.now && may_be_made status.now) }
@@ -146,6 +160,57 @@ impl Gateway {
         match self.asked(rsp.number) {
             Some((_, work)) => fits_work(work.work(), &rsp.say),
             None => false,
+        }
+    }
+
+    /// The request that an unanswered message belongs to. Takes no memory. Costs two look-ups.
+    pub fn asker(&self, number: u32) -> Option<u32>
+        ensures { result ≡ option_map (λ (found : ℕ × TheWork). found.0) (asker number self.now) }
+    {
+        match self.asked(number) {
+            Some((req, _)) => Some(req),
+            None => None,
+        }
+    }
+
+    /// Whether the work that an unanswered message belongs to may be done where that succeeds or doesn't; else it isn't.
+    fn may_be_done(&self, number: u32, success: bool) -> bool
+        ensures { result ≡ may_be_done_by number success (asker number self.now) }
+    {
+        match self.asked(number) {
+            Some((_, work)) => work.may_be_done(number, success),
+            None => false,
+        }
+    }
+
+    /// The work that a reply does, with what it gives: what [`Gateway::on_reply`] would tell as done; `None` if that would tell nothing or
+    /// something else. The gateway stays as it is. Costs four look-ups, and looks at each message of the attempt. It takes memory only
+    /// where no other message is unanswered, and of a create, a write and a read of all parts only where each has succeeded: a copy of the
+    /// messages, with the pieces that they gave, and the bytes given.
+    pub fn work_done_by(&self, rsp: &PeerRsp) -> Result<Option<WorkDone>, NoMemory>
+        requires { IsTrue (fits_gateway rsp.now self.now) }
+        ensures done { IfOk result (λ done. done ≡ work_done_in (gateway_on_reply self.now rsp.now).act) }
+        ensures given { IfOk result (λ done. IfSome done (IsWorkDone self.now)) }
+    {
+        if !self.may_be_done(rsp.number, is_success(&rsp.say)) {
+            return Ok(None);
+        }
+        let status = status_by(self.alloc, &rsp.say)?;
+        self.work_done_with(rsp.number, status)
+    }
+
+    /// The work that is done by what a message came to, if one is.
+    fn work_done_with(&self, number: u32, status: Status) -> Result<Option<WorkDone>, NoMemory>
+        requires { IfSome (asker number self.now) (λ found. IsPieceFor found.1.work status) }
+        ensures done { IfOk result (λ done. done ≡ work_done_in (message_ended self.now number status).act) }
+        ensures given { IfOk result (λ done. IfSome done (IsWorkDone self.now)) }
+    {
+        let Some((req, work)) = self.asked(number) else {
+            return Ok(None);
+        };
+        match work.bytes_if_done(self.alloc, number, status)? {
+            Some(bytes) => Ok(Some(WorkDone { req, bytes })),
+            None => Ok(None),
         }
     }
 

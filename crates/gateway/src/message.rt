@@ -1,8 +1,10 @@
-ghost use Rattle.std.specs.Prelude.{◌≡◌};
+ghost use Rattle.std.specs.Prelude.{◌≡◌, IfOk};
 ghost use Rattle.gateway.specs.Attempt.{is_unanswered, is_success, may_be_made, bytes_in, is_awaited_message};
+ghost use Rattle.gateway.specs.Kept.{succeeds_with, is_answered_with};
 
-use object_id::{Bytes, NodeId};
+use object_id::{Bytes, NoMemory, NodeId};
 use peer_proto::Refusal;
+use std::alloc::Global;
 
 /// What is known of a message.
 #[derive(Debug, Drop)]
@@ -50,6 +52,18 @@ impl Status {
             _ => &[],
         }
     }
+
+    /// A copy, which takes no memory but for the bytes that the message gave.
+    fn copy(&self, alloc: Global) -> Result<Self, NoMemory>
+        ensures { IfOk result (λ copy. copy ≡ self.now) }
+    {
+        Ok(match self {
+            Status::Unanswered => Status::Unanswered,
+            Status::Succeeded(bytes) => Status::Succeeded(bytes.copy(alloc)?),
+            Status::Refused(refusal) => Status::Refused(*refusal),
+            Status::Lost => Status::Lost,
+        })
+    }
 }
 
 /// A message of an attempt: its number, the node that it goes to, and the index of the part that it asks for.
@@ -71,5 +85,38 @@ impl Message {
         } else {
             false
         }
+    }
+
+    /// Whether the message succeeds, where the one of a number does or doesn't.
+    pub(crate) fn succeeds_with(&self, number: u32, success: bool) -> bool
+        ensures { result ≡ succeeds_with number success self.now }
+    {
+        if self.number == number {
+            success
+        } else {
+            self.status.is_success()
+        }
+    }
+
+    /// Whether the message is answered, where the one of a number is.
+    pub(crate) fn is_answered_with(&self, number: u32) -> bool
+        ensures { result ≡ is_answered_with number self.now }
+    {
+        if self.number == number {
+            true
+        } else {
+            !self.status.is_unanswered()
+        }
+    }
+
+    pub(crate) fn copy(&self, alloc: Global) -> Result<Self, NoMemory>
+        ensures { IfOk result (λ copy. copy ≡ self.now) }
+    {
+        Ok(Message {
+            number: self.number,
+            node: self.node,
+            index: self.index,
+            status: self.status.copy(alloc)?,
+        })
     }
 }

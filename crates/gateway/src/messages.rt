@@ -1,11 +1,12 @@
 //! The messages of an attempt: what is known of them, and what they come to.
 
-ghost use Rattle.std.specs.Prelude.{◌≡◌, ◌==◌, ◌++◌, ◌∷◌, [], nat_le, length, OnOk, OnErr};
+ghost use Rattle.std.specs.Prelude.{◌≡◌, ◌==◌, ◌++◌, ◌∷◌, [], nat_le, length, IfOk, OnOk, OnErr};
 ghost use Rattle.std.specs.List.{list_any, list_all, position};
 ghost use Rattle.peer_proto.specs.Work.{IsWork};
 ghost use Rattle.gateway.specs.declared.message.Message.{Message as TheMessage};
 ghost use Rattle.gateway.specs.Attempt.{is_unanswered, is_success, is_awaited_message, cause_by, messages_with_status, successes, is_over, is_done, failure, first_failure};
 ghost use Rattle.gateway.specs.Messages.{NumbersDiffer};
+ghost use Rattle.gateway.specs.Kept.{succeeds_with, is_answered_with, may_be_done};
 
 use crate::message::{Message, Status};
 use object_id::{Cause, Epoch, NoMemory, NodeId};
@@ -51,6 +52,14 @@ impl Messages {
         self.items.as_slice()
     }
 
+    pub fn copy(&self, alloc: Global) -> Result<Self, NoMemory>
+        ensures { IfOk result (λ copy. copy ≡ self.now) }
+    {
+        Ok(Messages {
+            items: copied(alloc, self.as_slice())?,
+        })
+    }
+
     /// Whether the message of a number is unanswered.
     pub fn waits_for(&self, number: u32) -> bool
         ensures { result ≡ list_any (is_awaited_message number) self.now }
@@ -65,6 +74,16 @@ impl Messages {
     {
         set_status(self.items.as_mut_slice(), number, status);
     }
+}
+
+fn copied(alloc: Global, messages: &[Message]) -> Result<Vec<Message>, NoMemory>
+    ensures { IfOk result (λ copy. copy.items ≡ messages.now) }
+{
+    let mut copy = Vec::new(alloc);
+    for message in messages {
+        copy.push(message.copy(alloc)?)?;
+    }
+    Ok(copy)
 }
 
 fn waits_for(messages: &[Message], number: u32) -> bool
@@ -134,6 +153,34 @@ pub(crate) fn is_done(work: &ObjWork, messages: &[Message]) -> bool
             has_successes(messages, policy.need(oid.kind()) as usize)
         }
         ObjWork::ReadAll { .. } => have_all_succeeded(messages),
+    }
+}
+
+fn have_succeeded_with(messages: &[Message], number: u32, success: bool) -> bool
+    ensures { result ≡ list_all (succeeds_with number success) messages.now }
+{
+    messages
+        .iter()
+        .all(|message| message.succeeds_with(number, success))
+}
+
+fn are_answered_with(messages: &[Message], number: u32) -> bool
+    ensures { result ≡ list_all (is_answered_with number) messages.now }
+{
+    messages
+        .iter()
+        .all(|message| message.is_answered_with(number))
+}
+
+/// Whether an attempt of these messages may be done where the one of a number succeeds or doesn't; else it isn't. Looks at each message.
+pub(crate) fn may_be_done(work: &ObjWork, number: u32, success: bool, messages: &[Message]) -> bool
+    ensures { result ≡ may_be_done work.now number success messages.now }
+{
+    match work {
+        ObjWork::Create { .. } => have_succeeded_with(messages, number, success),
+        ObjWork::Write { .. } => have_succeeded_with(messages, number, success),
+        ObjWork::Read { .. } => are_answered_with(messages, number),
+        ObjWork::ReadAll { .. } => have_succeeded_with(messages, number, success),
     }
 }
 

@@ -1,18 +1,19 @@
-ghost use Rattle.std.specs.Prelude.{◌≡◌, true, false, IfOk, IsOk, OnErr};
+ghost use Rattle.std.specs.Prelude.{◌≡◌, true, false, length, IfOk, IfSome, IsOk, OnErr};
 ghost use Rattle.peer_proto.specs.Work.{IsWork};
-ghost use Rattle.gateway.specs.Work.{is_making};
-ghost use Rattle.gateway.specs.Attempt.{is_unanswered};
+ghost use Rattle.gateway.specs.Work.{is_making, bytes_of_work};
+ghost use Rattle.gateway.specs.Attempt.{is_unanswered, messages_with_status};
 ghost use Rattle.gateway.specs.State.{is_awaited_in, may_try};
 ghost use Rattle.gateway.specs.Messages.{AreMessagesFor, IsPieceFor};
 ghost use Rattle.gateway.specs.Stage.{work_stage, IsStageFor, IsOpenWork, IsOpenStage};
-ghost use Rattle.gateway.specs.Kept.{work_with_status, work_failed, work_by, outcome_with, outcome_at, failure_outcome};
+ghost use Rattle.gateway.specs.Kept.{stage_with_status, work_with_status, work_failed, work_by, outcome_with, outcome_at, failure_outcome};
+ghost use Rattle.gateway.specs.Kept.{bytes_if_done, bytes_if_done_at, may_be_done_at};
 
 use crate::given::bytes_given;
 use crate::message::{Message, Status};
-use crate::messages::{first_failure, is_done, is_over};
+use crate::messages::{Messages, first_failure, is_done, is_over, may_be_done};
 use crate::outcome::Outcome;
 use crate::stage::{Stage, set_status};
-use object_id::{Cause, Epoch, NoMemory};
+use object_id::{Bytes, Cause, Epoch, NoMemory};
 use peer_proto::ObjWork;
 use std::alloc::Global;
 use std::marker::Model;
@@ -164,6 +165,73 @@ impl OpenWork {
                 Err(NoMemory)
             }
         }
+    }
+
+    /// Whether the work may be done where the message of a number succeeds or doesn't; else it isn't.
+    pub fn may_be_done(&self, number: u32, success: bool) -> bool
+        ensures { result ≡ may_be_done_at number success self.now.work self.now.stage }
+    {
+        match &self.stage {
+            Stage::Open { messages, .. } => {
+                may_be_done(&self.work, number, success, messages.as_slice())
+            }
+            _ => false,
+        }
+    }
+
+    /// The bytes that the work gives if it is done by what the message of a number came to. Takes a copy of the messages, with the pieces
+    /// that they gave, and the bytes given.
+    pub fn bytes_if_done(
+        &self,
+        alloc: Global,
+        number: u32,
+        status: Status,
+    ) -> Result<Option<Bytes>, NoMemory>
+        requires { IsPieceFor self.now.work status }
+        ensures done { IfOk result (λ bytes. bytes ≡ bytes_if_done_at self.now.work (stage_with_status number status self.now.stage)) }
+        ensures given { IfOk result (λ bytes. IfSome bytes (λ bytes. length bytes ≡ bytes_of_work self.now.work)) }
+    {
+        match &self.stage {
+            Stage::Open { messages, .. } => bytes_with(alloc, &self.work, messages, number, status),
+            _ => Ok(None),
+        }
+    }
+}
+
+/// The bytes that a work gives if these messages do it, once it is known what the one of a number came to.
+fn bytes_with(
+    alloc: Global,
+    work: &ObjWork,
+    messages: &Messages,
+    number: u32,
+    status: Status,
+) -> Result<Option<Bytes>, NoMemory>
+    requires work { IsWork work.now }
+    requires messages { AreMessagesFor work.now messages.now }
+    requires piece { IsPieceFor work.now status }
+    ensures done { IfOk result (λ bytes. bytes ≡ bytes_if_done work.now (messages_with_status number status messages.now)) }
+    ensures given { IfOk result (λ bytes. IfSome bytes (λ bytes. length bytes ≡ bytes_of_work work.now)) }
+{
+    let mut told = messages.copy(alloc)?;
+    told.set_status(number, status);
+    bytes_if_done(alloc, work, told.as_slice())
+}
+
+/// The bytes that a work gives if these messages do it.
+fn bytes_if_done(
+    alloc: Global,
+    work: &ObjWork,
+    messages: &[Message],
+) -> Result<Option<Bytes>, NoMemory>
+    requires work { IsWork work.now }
+    requires messages { AreMessagesFor work.now messages.now }
+    ensures done { IfOk result (λ bytes. bytes ≡ bytes_if_done work.now messages.now) }
+    ensures given { IfOk result (λ bytes. IfSome bytes (λ bytes. length bytes ≡ bytes_of_work work.now)) }
+{
+    if is_over(messages) && is_done(work, messages) {
+        Ok(Some(bytes_given(alloc, work, messages)?))
+    } else {
+        Ok(None)
     }
 }
 

@@ -262,6 +262,22 @@ fn ends(gateway: &mut Gateway, number: u32, say: PeerSay, bytes: &[u8]) -> Resul
     Ok(is_done(&replied(gateway, number, say)?, bytes))
 }
 
+/// Whether a reply would end the work, which gives these bytes.
+fn would_end(gateway: &Gateway, number: u32, say: PeerSay, bytes: &[u8]) -> Result<bool, NoMemory> {
+    let rsp = PeerRsp {
+        number,
+        epoch: Epoch(1),
+        say,
+    };
+    if !gateway.fits(&rsp) {
+        return Ok(false);
+    }
+    match gateway.work_done_by(&rsp)? {
+        Some(done) => Ok(done.req == 4 && done.bytes.as_slice() == bytes),
+        None => Ok(false),
+    }
+}
+
 /// Whether the work goes on after a loss.
 fn outlives(gateway: &mut Gateway, number: u32) -> Result<bool, NoMemory> {
     Ok(is_wait(&lost(gateway, number)?))
@@ -396,7 +412,9 @@ fn a_read_of_all() -> ObjWork
 fn reads_all_copies(rt: HostRuntime) -> Result<(), Fail> {
     let alloc = rt.alloc();
     let mut gateway = begun(&rt, alloc, 2, 1, a_read_of_all(), 2)?;
+    assert_eq!(rt; gateway.asker(11), Some(4));
     assert!(rt; waits_on(&mut gateway, 11, piece(alloc, b"2")?)?);
+    assert!(rt; would_end(&gateway, 10, piece(alloc, b"1")?, b"12")?);
     assert!(rt; ends(&mut gateway, 10, piece(alloc, b"1")?, b"12")?);
     Ok(())
 }

@@ -37,7 +37,8 @@ use Rattle.overlap_law.specs.Words.{Hosts}
 use Rattle.overlap_law.specs.Past.{MomentWithPast, run_with_past}
 use Rattle.overlap_law.specs.Headline.{IsOfAnotherEpoch, ChangesNothing, OtherEpochsChangeNothing}
 use Rattle.overlap_law.proofs.NoRecoveredDue.{AreRested, run-rested}
-use Rattle.sheep_node.specs.CheckWrites.{CheckWrite, check_write_on}
+use Rattle.sheep_node.specs.declared.check_write.CheckWrite.{CheckWrite}
+use Rattle.sheep_node.specs.CheckWrites.{check_write_on}
 
 got-own : (hosts : Hosts) (n : ℕ) (host : Host) → tree.get (tree.insert hosts n host) n ≡ Some host
 got-own hosts n host =

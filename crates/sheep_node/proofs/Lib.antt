@@ -46,6 +46,7 @@ pub mod ReceivedInputs
 pub mod RefusedEnds
 pub mod GivenNumbers
 pub mod GoingOn
+mod CheckWriteLemmas
 pub mod BeginningWorks
 pub mod InSteps
 pub mod TurnSteps

@@ -29,13 +29,14 @@ use Rattle.peer_proto.specs.declared.guest.VdiAsk.TheVariants as disk_commands
 use Rattle.peer_proto.specs.declared.guest.GuestRsp.TheVariants.{Piece}
 use Rattle.guest_driver.specs.declared.disk.Disk.{Disk}
 use Rattle.disk_check.specs.Value.{pieces_in, value_of}
-use Rattle.disk_check.specs.Check.{Check, CheckStage, CheckStep, Comparing, WritingBack, Answered, begin_check, write_value, write_back_step, check_done_at, check_on_done}
+use Rattle.disk_check.specs.Check.{Check, CheckStage, CheckStep, Comparing, WritingBack, Answered, begin_check, value_at_stage, write_back_step, check_done_at, check_on_done}
 use Rattle.sheep_node.specs.declared.ask.Ask.TheVariants.{Vdi, Object}
 use Rattle.sheep_node.specs.StepState.{StepState, session_in, with_sole_request, request_ended}
 use Rattle.sheep_node.specs.RequestWorks.{work_asked}
 use Rattle.sheep_node.specs.Courses.{inode_open, check_stepped, decision_reply, course_went_on, course_decided}
 use Rattle.sheep_node.specs.Guests.{request_refusal, request_taken_unless, on_guest}
-use Rattle.sheep_node.specs.CheckWrites.{CheckWrite, write_at_stage, write_of_course}
+use Rattle.sheep_node.specs.declared.check_write.CheckWrite.{CheckWrite}
+use Rattle.sheep_node.specs.CheckWrites.{write_of_value, work_of_write, write_of_course}
 use Rattle.sheep_node.specs.declared.ask.Ask.TheVariants as asks
 
 -- the spec of what a node knows is valid
@@ -125,20 +126,38 @@ check_begins req session disk so_far on allowed =
 pub check_writes : (session req : ℕ) (bytes : List ℕ) (check : Check) (write : CheckWrite) (so_far : StepState)
     → write_of_course req bytes (Checking check) ≡ Some write
     → (moved : StepState) × (course_went_on session req bytes (Checking check) so_far
-    ≡ work_asked session req (write_value write.check write.index write.value) moved)
+    ≡ work_asked session req (work_of_write write) moved)
 unfolding course_went_on check_on_done check_stepped
 check_writes session req bytes check write so_far comes = by_stage check.stage refl comes
   where
-    by_stage : (stage : CheckStage) → check.stage ≡ stage → write_at_stage req bytes check stage ≡ Some write
+    by_stage : (stage : CheckStage) → check.stage ≡ stage
+        → option_map (write_of_value req check) (value_at_stage bytes check.spec stage) ≡ Some write
         → (moved : StepState) × (option_map_or (λ (step : CheckStep). check_stepped session req step so_far) (check_done_at bytes check check.stage) so_far
-        ≡ work_asked session req (write_value write.check write.index write.value) moved)
+        ≡ work_asked session req (work_of_write write) moved)
     by_stage (Comparing index later) is comes =
-        let step = write_back_step check index later (pieces_in check.spec bytes) in
+        let pieces = pieces_in check.spec bytes in
+        let step = write_back_step check index later pieces in
         let moved = with_sole_request session req (Checking step.check) so_far in
-        let same : record { req = req; check = check; index = index; value = value_of check.spec.policy (pieces_in check.spec bytes) } ≡ write = cc (comes) in (
+        let same : write_of_value req check (index, value_of check.spec.policy pieces) ≡ write = cc (comes) in (
           moved,
           ap (λ (stage : CheckStage). option_map_or (λ (step : CheckStep). check_stepped session req step so_far) (check_done_at bytes check stage) so_far) is
-              ∙ ap (λ (write : CheckWrite). work_asked session req (write_value write.check write.index write.value) moved) same,
+              ∙ ap (λ (write : CheckWrite). work_asked session req (work_of_write write) moved) same,
         )
     by_stage (WritingBack later) is comes = absurd (cc (comes))
     by_stage Answered is comes = absurd (cc (comes))
+
+-- it is on the check's disk
+pub written-on : (req : ℕ) (bytes : List ℕ) (check : Check) (write : CheckWrite) → write_of_course req bytes (Checking check) ≡ Some write
+    → (write.req ≡ req) × (write.vid.0 ≡ check.vid) × (write.spec ≡ check.spec)
+written-on req bytes check write comes = by_stage check.stage comes
+  where
+    by_stage : (stage : CheckStage) → option_map (write_of_value req check) (value_at_stage bytes check.spec stage) ≡ Some write
+        → (write.req ≡ req) × (write.vid.0 ≡ check.vid) × (write.spec ≡ check.spec)
+    by_stage (Comparing index later) comes =
+        let same : write ≡ write_of_value req check (index, value_of check.spec.policy (pieces_in check.spec bytes)) = cc (comes) in (
+          ap (λ (write : CheckWrite). write.req) same,
+          ap (λ (write : CheckWrite). write.vid.0) same,
+          ap (λ (write : CheckWrite). write.spec) same,
+        )
+    by_stage (WritingBack later) comes = absurd (cc (comes))
+    by_stage Answered comes = absurd (cc (comes))

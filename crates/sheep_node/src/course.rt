@@ -3,7 +3,7 @@ ghost use Rattle.peer_proto.specs.declared.guest.GuestRsp.TheVariants.{Refused};
 ghost use Rattle.vdi_ops.specs.Steps.{on_refusal};
 ghost use Rattle.sheep_node.specs.AwaitedEntry.{waits_for_entry};
 ghost use Rattle.sheep_node.specs.AwaitedNumbers.{awaited_number};
-ghost use Rattle.sheep_node.specs.CheckWrites.{has_course_written};
+ghost use Rattle.sheep_node.specs.CheckWrites.{has_course_written, is_course_comparing};
 ghost use Rattle.sheep_node.specs.Kept.{waits_for_turn, ask_in_waiting, end_on_refusal};
 
 use disk_check::CheckOp;
@@ -44,6 +44,20 @@ impl Course {
         match self {
             Course::Waiting(_) => true,
             _ => false,
+        }
+    }
+
+    /// Whether the request is a check that compares an own object. Takes no memory.
+    pub fn is_comparing(&self) -> bool
+        ensures { result ≡ is_course_comparing self.now }
+    {
+        match self {
+            Course::Waiting(_) => false,
+            Course::Driving(_) => false,
+            Course::Commanding(_) => false,
+            Course::Checking(check) => check.is_comparing(),
+            Course::DoingWork(_) => false,
+            Course::AwaitingDecision(_) => false,
         }
     }
 

@@ -50,7 +50,8 @@ ghost use Rattle.sheep_node.specs.ValidDisks.{HasValidDisks};
 ghost use Rattle.sheep_node.specs.LogReading.{begins_recovery, node_with_entry, come_back_with};
 ghost use Rattle.sheep_node.specs.Guests.{request_refusal, on_guest};
 ghost use Rattle.sheep_node.specs.OutsideAsks.{IsObjectAsk, InputNamesObjects};
-ghost use Rattle.sheep_node.specs.CheckWrites.{CheckWrite, write_of_course};
+ghost use Rattle.sheep_node.specs.declared.check_write.CheckWrite.{CheckWrite};
+ghost use Rattle.sheep_node.specs.CheckWrites.{write_of_course, work_of_write};
 ghost use Rattle.peer_proto.specs.declared.guest.GuestRsp.TheVariants.{Piece};
 ghost use Rattle.peer_proto.specs.declared.work.ObjWork.TheVariants.{Read};
 ghost use Rattle.peer_proto.specs.Ask.{IsPeerReq};
@@ -59,7 +60,7 @@ ghost use Rattle.peer_service.specs.State.{Peer};
 ghost use Rattle.epoch_log.specs.Appending.{IsReservable};
 ghost use Rattle.vdi_directory.specs.declared.decision.Decision.{Decision};
 ghost use Rattle.object_id.specs.declared.policy.Policy.{Policy};
-ghost use Rattle.disk_check.specs.Check.{Check as TheCheck, begin_check, write_value};
+ghost use Rattle.disk_check.specs.Check.{Check as TheCheck, begin_check};
 ghost use Rattle.peer_proto.specs.declared.guest.GuestRsp.TheVariants as replies;
 ghost use Rattle.sheep_node.specs.declared.ask.Ask.TheVariants as asks;
 
@@ -179,12 +180,15 @@ pub fn a_check_begins_on_the_open_disk()
         → on_guest req session (Vdi Check) so_far ≡ check_stepped session req (begin_check disk.inode) so_far }
 {}
 
-/// The write that the history has of a check is the one that the check comes to.
+/// The write that the history has of a check is the one that the check comes to, on its disk.
 pub fn the_history_has_the_write_of_a_check()
-    ensures { (session req : ℕ) (bytes : List ℕ) (check : TheCheck) (write : CheckWrite) (so_far : StepState)
+    ensures work { (session req : ℕ) (bytes : List ℕ) (check : TheCheck) (write : CheckWrite) (so_far : StepState)
         → write_of_course req bytes (Checking check) ≡ Some write
         → (moved : StepState) × (course_went_on session req bytes (Checking check) so_far
-        ≡ work_asked session req (write_value write.check write.index write.value) moved) }
+        ≡ work_asked session req (work_of_write write) moved) }
+    ensures disk { (req : ℕ) (bytes : List ℕ) (check : TheCheck) (write : CheckWrite)
+        → write_of_course req bytes (Checking check) ≡ Some write
+        → (write.req ≡ req) × (write.vid.0 ≡ check.vid) × (write.spec ≡ check.spec) }
 {}
 
 /// A touched request's work begins or waits, and no guest is replied to: it is never refused at its start.

@@ -18,7 +18,8 @@
 //! The changes leave a node's peer and its recovery alone: that the recovery may make each step (`specs/RecoveryRange.antt`)
 //! follows from what the input makes of them.
 //!
-//! The code is `Node` (`node.rt`): whether it may step (`may.rt`, with `entry_tests.rt` for a log without tally), and the step (`step.rt`).
+//! The code is `Node` (`node.rt`): whether it may step (`may.rt`, with `entry_tests.rt` for a log without tally), to which write a check
+//! comes by a reply (`check_write.rt`), and the step (`step.rt`).
 //! Below that stand what a node keeps (`state.rt`, with `requests.rt`, `sessions.rt` and, for its recovery, `node_rows.rt`), the elementary
 //! changes of a step (`step_state.rt`), a guest's request (`guests.rt`; what a client may ask in `asks.rt`), how a request's work begins
 //! (`request_works.rt`), what a request that took a step comes to (`courses.rt`), what waited in a session (`waiting.rt`), and how a node
@@ -32,6 +33,7 @@
 
 mod ask;
 mod asks;
+mod check_write;
 mod course;
 mod courses;
 mod entry_tests;
@@ -56,6 +58,7 @@ mod step_state;
 mod waiting;
 
 pub use ask::Ask;
+pub use check_write::CheckWrite;
 pub use course::{Course, Request};
 pub use event::Event;
 pub use input::Input;

@@ -1,15 +1,18 @@
 //! A node of the cluster, and that it is spent at want of memory.
 
-ghost use Rattle.std.specs.Prelude.{◌≡◌, false, true, length, IfOk, IsTrue, OnErr, OnOk};
+ghost use Rattle.std.specs.Prelude.{◌≡◌, false, true, length, IfOk, IsOk, OnErr, OnOk};
 ghost use Rattle.std.specs.Option.{option_copied};
 ghost use Rattle.std.specs.FinMap as tree;
+ghost use Rattle.sheep_node.specs.declared.input.Input.TheVariants as inputs;
 ghost use Rattle.sheep_node.specs.State.{initial_node};
+ghost use Rattle.sheep_node.specs.CheckWrites.{check_write_on, is_message_comparing};
 ghost use Rattle.sheep_node.specs.Step.{node_step};
 ghost use Rattle.sheep_node.specs.May.{May, has_numbers};
 ghost use Rattle.sheep_node.specs.LogReading.{is_epoch_member};
 ghost use Rattle.sheep_node.specs.MayTests.{may};
 
 use crate::asks::objects_have_ids;
+use crate::check_write::CheckWrite;
 use crate::course::Request;
 use crate::input::Input;
 use crate::limits::SENDS_MAX;
@@ -18,6 +21,7 @@ use crate::session::Session;
 use crate::state::{NodeState, NodeStore};
 use crate::step_state::StepState;
 use object_id::{NoMemory, NodeId};
+use peer_proto::PeerRsp;
 use peer_service::PeerState;
 use std::alloc::Global;
 use std::marker::Model;
@@ -133,6 +137,17 @@ impl Node {
         ensures { option_copied result ≡ tree.get self.now.node.requests req }
     {
         self.step.node.requests.get(req)
+    }
+
+    /// The write that a check of the node comes to by a reply, before the node steps on that; `None` if none does, or the reply fits no
+    /// message of its gateway. The node stays as it is. Takes memory only for the last reply to a check that compares: a copy of the
+    /// pieces that came, these one behind the other, and the value.
+    pub fn check_write_on(&self, rsp: &PeerRsp) -> Result<Option<CheckWrite>, NoMemory>
+        requires { self.now.spent ≡ false }
+        ensures write { IfOk result (λ write. write ≡ check_write_on (inputs.Reply rsp.now) self.now.node) }
+        ensures memory { is_message_comparing self.now.node rsp.now.number ≡ false → IsOk result }
+    {
+        self.step.node.check_write_on(rsp)
     }
 
     /// A step on an input: exactly the step of the definition, with what it gives. Without memory the node is spent.

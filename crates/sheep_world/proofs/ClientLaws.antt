@@ -14,7 +14,7 @@ use Rattle.disk_history.specs.declared.event.HistEvent.TheVariants.{WriteStart, 
 use Rattle.cluster_script.specs.declared.statement.Statement.{Statement}
 use Rattle.sheep_node.specs.declared.ask.Ask.{Ask}
 use Rattle.sheep_node.specs.declared.event.Event.{Event}
-use Rattle.sheep_node.specs.CheckWrites.{CheckWrite}
+use Rattle.sheep_node.specs.declared.check_write.CheckWrite.{CheckWrite}
 use Rattle.sheep_world.specs.World.{World}
 use Rattle.sheep_world.specs.HistoryAdditions.{block_in, is_on_disk, block_written, block_checked, check_write_adds}
 use Rattle.sheep_world.specs.ClientAsks.{answer_of}
@@ -95,7 +95,7 @@ module _ (write : CheckWrite) (req disk block : ℕ) (coded : Bool) (bytes : Lis
   begins = WriteStart req disk block coded bytes
 
   abbrev IsChecked : List HistEvent → Type 0
-  IsChecked events = (block < write.check.spec.size / BLOCK_BYTES) × Contains events (Read disk block bytes)
+  IsChecked events = (block < write.spec.size / BLOCK_BYTES) × Contains events (Read disk block bytes)
 
   -- more events before these
   behind : (first second : HistEvent) (events : List HistEvent) → IsChecked events → IsChecked (first ∷ second ∷ events)
@@ -108,7 +108,7 @@ module _ (write : CheckWrite) (req disk block : ℕ) (coded : Bool) (bytes : Lis
   checked-among (place ∷ places) there = by_on (is_on_disk write place) refl (λ inside. checked-among places inside) there
     where
       own : Bool
-      own = is_in_strips write.check.spec.policy Block
+      own = is_in_strips write.spec.policy Block
 
       piece : List ℕ
       piece = block_in write.value place
@@ -117,10 +117,10 @@ module _ (write : CheckWrite) (req disk block : ℕ) (coded : Bool) (bytes : Lis
       later = flat_map (block_checked write) (filter (is_on_disk write) places)
 
       reads : HistEvent
-      reads = Read write.check.vid (block_written write place) piece
+      reads = Read write.vid.0 (block_written write place) piece
 
       writes : HistEvent
-      writes = WriteStart write.req write.check.vid (block_written write place) own piece
+      writes = WriteStart write.req write.vid.0 (block_written write place) own piece
 
       by_on : (b : Bool) → is_on_disk write place ≡ b → (Contains later begins → IsChecked later)
           → Contains (flat_map (block_checked write) (cond b (place ∷ filter (is_on_disk write) places) (filter (is_on_disk write) places))) begins
@@ -132,9 +132,9 @@ module _ (write : CheckWrite) (req disk block : ℕ) (coded : Bool) (bytes : Lis
           (λ (is : writes ≡ begins).
           let number : block_written write place ≡ block = cc (is) in
           let same : reads ≡ Read disk block bytes = cc (is) in
-          let below : block_written write place < write.check.spec.size / BLOCK_BYTES
-          = ltb-true (block_written write place) (write.check.spec.size / BLOCK_BYTES) on in (
-            subst (λ (k : ℕ). k < write.check.spec.size / BLOCK_BYTES) number below,
+          let below : block_written write place < write.spec.size / BLOCK_BYTES
+          = ltb-true (block_written write place) (write.spec.size / BLOCK_BYTES) on in (
+            subst (λ (k : ℕ). k < write.spec.size / BLOCK_BYTES) number below,
             Contains-first reads (Read disk block bytes) (writes ∷ later) same,
           ))
           (λ (inside : Contains later begins). behind reads writes later (among inside))

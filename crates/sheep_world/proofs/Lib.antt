@@ -51,6 +51,8 @@ mod ScriptLookUps
 mod HistoryBlocks
 pub mod GrantedAdds
 pub mod StepsInParts
+pub mod RepliesInParts
+mod LostWriters
 pub mod ControlsOfPhases
 pub mod TakenValues
 pub mod Deliveries

@@ -147,7 +147,7 @@ phase_of_request-none statements req none =
 
 -- ---- how many requests a session has
 
-filter-shorter : {X : Type 0} (p : X → Bool) (xs : List X) → length (filter p xs) ≤ length xs
+pub filter-shorter : {X : Type 0} (p : X → Bool) (xs : List X) → length (filter p xs) ≤ length xs
 filter-shorter p [] = omega arith
 filter-shorter p (x ∷ xs) = go (p x) (filter-shorter p xs)
   where

@@ -22,7 +22,8 @@ use Rattle.sheep_world.specs.Conditions.{next_request}
 use Rattle.sheep_world.specs.Effects.{open_disk_at}
 use Rattle.sheep_node.specs.declared.input.Input.{Input}
 use Rattle.sheep_node.specs.State.{Node}
-use Rattle.sheep_node.specs.CheckWrites.{CheckWrite, check_write_on, has_check_written}
+use Rattle.sheep_node.specs.declared.check_write.CheckWrite.{CheckWrite}
+use Rattle.sheep_node.specs.CheckWrites.{check_write_on, has_check_written}
 use Rattle.message_wire.specs.declared.name.MessageName.{MessageName}
 use Rattle.cluster_script.specs.Statements.{is_check}
 
@@ -138,17 +139,17 @@ replies_grown statements before write after = flat_map (reply_grown statements b
 
 -- the number of a block of the value that a check writes
 abbrev pub block_written : CheckWrite → ℕ → ℕ
-block_written write place = write.index * 2 ^ write.check.spec.shift / BLOCK_BYTES + place
+block_written write place = write.index * 2 ^ write.spec.shift / BLOCK_BYTES + place
 
 -- whether the disk has it: its last object may reach beyond its end
 abbrev pub is_on_disk : CheckWrite → ℕ → Bool
-is_on_disk write place = nat_lt (block_written write place) (write.check.spec.size / BLOCK_BYTES)
+is_on_disk write place = nat_lt (block_written write place) (write.spec.size / BLOCK_BYTES)
 
 -- a block of a check's value is read, and its write begins
 abbrev pub block_checked : CheckWrite → ℕ → List HistEvent
 block_checked write place =
-    Read write.check.vid (block_written write place) (block_in write.value place)
-    ∷ WriteStart write.req write.check.vid (block_written write place) (is_in_strips write.check.spec.policy Block)
+    Read write.vid.0 (block_written write place) (block_in write.value place)
+    ∷ WriteStart write.req write.vid.0 (block_written write place) (is_in_strips write.spec.policy Block)
     (block_in write.value place) ∷ []
 
 -- what a check's write adds as it begins: each block that the disk has, ascending

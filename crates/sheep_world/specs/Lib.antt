@@ -32,4 +32,6 @@ pub mod LogHolds
 pub mod HoldsTogether
 pub mod Controls
 pub mod StepsInParts
+pub mod RepliesInParts
+pub mod LossInParts
 pub mod Deliveries

@@ -1,4 +1,4 @@
-ghost use Rattle.std.specs.Prelude.{◌≡◌, ◌+◌, ◌^◌, ◌<◌, ◌==◌, not, filter, IfOk, OnOk, fold, find, unwrap_or};
+ghost use Rattle.std.specs.Prelude.{◌≡◌, ◌+◌, ◌^◌, ◌<◌, ◌==◌, ◌∷◌, ◌++◌, [], not, filter, IfOk, OnOk, fold, find, unwrap_or};
 ghost use Rattle.std.specs.Option.{option_copied};
 ghost use Rattle.std.specs.FinMap as tree;
 ghost use Rattle.sheep_world.specs.declared.progress.StartedRequest.{StartedRequest as Started};
@@ -7,9 +7,10 @@ ghost use Rattle.sheep_world.specs.Asking.{session_asking};
 ghost use Rattle.sheep_world.specs.Effects.{progress_with_started};
 ghost use Rattle.sheep_world.specs.NodeSteps.{progress_without_request, progress_after_reply_in, progress_after_reply};
 ghost use Rattle.sheep_world.specs.HistoryAdditions.{is_started_request};
+ghost use Rattle.sheep_world.specs.RepliesInParts.{is_check_request, checks_among, unanswered_checks};
 
 use crate::progress::{SessionProgress, StartedRequest};
-use crate::script_requests::session_asking;
+use crate::script_requests::{is_check_request, session_asking};
 use cluster_script::Script;
 use object_id::{Items, NoMemory};
 use sheep_node::ReplyList;
@@ -78,6 +79,30 @@ fn without_request(progress: SessionProgress, req: u32) -> SessionProgress
     }
 }
 
+/// Adds a request, if it is a check.
+fn add_check(script: &Script, checks: &mut Items<u32>, req: u32) -> Result<(), NoMemory>
+    ensures { OnOk result (checks.new ≡ checks.old ++ filter (is_check_request script.now) (req ∷ [])) }
+{
+    if is_check_request(script, req) {
+        return checks.push(req);
+    }
+    Ok(())
+}
+
+/// Adds the checks among a session's requests without reply.
+fn add_checks(
+    script: &Script,
+    checks: &mut Items<u32>,
+    unanswered: &[StartedRequest],
+) -> Result<(), NoMemory>
+    ensures { OnOk result (checks.new ≡ checks.old ++ checks_among script.now unanswered.now) }
+{
+    for started in unanswered {
+        add_check(script, checks, started.req)?;
+    }
+    Ok(())
+}
+
 impl Guests {
     pub fn new(alloc: Global) -> Guests
         ensures { result ≡ tree.empty }
@@ -111,6 +136,18 @@ impl Guests {
             Some(progress) => started_among(progress.unanswered.as_slice(), req).copied(),
             None => None,
         }
+    }
+
+    /// The requests without reply that are checks, by their sessions. Looks at each without reply once, and takes memory for the checks
+    /// alone.
+    pub fn unanswered_checks(&self, alloc: Global, script: &Script) -> Result<Items<u32>, NoMemory>
+        ensures { IfOk result (λ checks. checks ≡ unanswered_checks script.now self.now) }
+    {
+        let mut checks = Items::new(alloc);
+        for (_, progress) in self.by_number.iter() {
+            add_checks(script, &mut checks, progress.unanswered.as_slice())?;
+        }
+        Ok(checks)
     }
 
     fn put(&mut self, number: u32, progress: SessionProgress) -> Result<(), NoMemory>

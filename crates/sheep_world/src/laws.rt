@@ -61,7 +61,7 @@ ghost use Rattle.sheep_world.specs.OneWork.{NodesHaveOneWorkPerRequest, IsSentIn
 ghost use Rattle.sheep_world.specs.RunsWithAsks.{Happens, Asks, next_move, run_with_asks, BeganWithAsks};
 ghost use Rattle.sheep_world.specs.ClientAsks.{answer_of};
 ghost use Rattle.sheep_world.specs.ClientSteps.{brings_answers, next_driven, world_driven};
-ghost use Rattle.sheep_node.specs.CheckWrites.{CheckWrite};
+ghost use Rattle.sheep_node.specs.declared.check_write.CheckWrite.{CheckWrite};
 
 /// An event makes something exactly where it may happen.
 pub fn what_may_happen_is_made()
@@ -277,5 +277,5 @@ pub fn an_answer_is_brought_by_events()
 pub fn a_check_reads_what_it_writes()
     ensures { (write : CheckWrite) (req disk block : ℕ) (coded : Bool) (bytes : List ℕ)
         → Contains (check_write_adds write) (WriteStart req disk block coded bytes)
-        → (block < write.check.spec.size / BLOCK_BYTES) × Contains (check_write_adds write) (Read disk block bytes) }
+        → (block < write.spec.size / BLOCK_BYTES) × Contains (check_write_adds write) (Read disk block bytes) }
 {}

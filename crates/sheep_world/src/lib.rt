@@ -38,13 +38,16 @@ mod host;
 mod hosts;
 mod laws;
 mod log_events;
+mod lost_writers;
 mod membership_events;
 mod message_events;
 mod node_steps;
 mod progress;
+mod reply_history;
 mod request_conditions;
 mod script_requests;
 mod world_state;
+mod written_checks;
 
 pub use fault::ApplyFault;
 pub use laws::{

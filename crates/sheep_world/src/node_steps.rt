@@ -3,11 +3,14 @@
 ghost use Rattle.std.specs.Prelude.{◌≡◌, fold, IfOk};
 ghost use Rattle.std.specs.Option.{option_copied};
 ghost use Rattle.sheep_world.specs.StepsInParts.{with_outputs};
+ghost use Rattle.sheep_world.specs.RepliesInParts.{AreRepliesGrown};
 ghost use Rattle.sheep_world.specs.NodeSteps.{request_name, wire_with_request, reply_among, ask_after_replies, node_stepped};
 
 use crate::progress::ClientAsk;
+use crate::reply_history::replies_grown;
 use crate::world_state::WorldState;
 use cluster_script::Script;
+use disk_history::HistList;
 use message_wire::{MessageName, Packet, Wire};
 use object_id::{NoMemory, NodeId};
 use peer_proto::{GuestRsp, PeerReq, SendList, encode_ask};
@@ -112,23 +115,47 @@ impl WorldState {
         })
     }
 
-    /// A node steps on an input. Costs the step, and a look-up for each message and reply that it gives. An input on which the node may
-    /// not step is told as want of memory.
+    /// A node steps on an input; with what its replies add to the history, where the check of this request comes to a write by the step.
+    /// Costs the step, a look at each request without reply, and a look-up for each message and reply that it gives. An input on which
+    /// the node may not step is told as want of memory.
     #[tactic(auto, unfolding(crate::specs::NodeSteps::node_stepped))]
-    pub fn node_stepped(
+    pub fn stepped(
         mut self,
+        script: &Script,
+        node: u32,
+        input: Input,
+        write: Option<u32>,
+    ) -> Result<(WorldState, HistList), NoMemory>
+        ensures world { IfOk result (λ made. made.0 ≡ node_stepped script.now node input self) }
+        ensures grown { IfOk result (λ made. AreRepliesGrown script.now self write made.0 made.1) }
+    {
+        let alloc = self.alloc;
+        let written = self.written_checks(script)?;
+        let Some(host) = self.hosts.take(node) else {
+            // Where the node doesn't exist the world stays, with the replies of the step before.
+            let replies = &self.outputs.replies;
+            let earlier = replies_grown(alloc, script, &self.guests, &written, write, replies)?;
+            return Ok((self, earlier));
+        };
+        let kept = input.copy(alloc)?;
+        let (host, outputs) = host.step(input)?;
+        let replies = &outputs.replies;
+        let grown = replies_grown(alloc, script, &self.guests, &written, write, replies)?;
+        self.hosts.put(node, host)?;
+        let world = self.with_outputs(script, kept, outputs)?;
+        Ok((world, grown))
+    }
+
+    /// A node steps on an input, as by `stepped`; what its replies add to the history isn't told.
+    pub fn node_stepped(
+        self,
         script: &Script,
         node: u32,
         input: Input,
     ) -> Result<WorldState, NoMemory>
         ensures { IfOk result (λ after. after ≡ node_stepped script.now node input self) }
     {
-        let Some(host) = self.hosts.take(node) else {
-            return Ok(self);
-        };
-        let kept = input.copy(self.alloc)?;
-        let (host, outputs) = host.step(input)?;
-        self.hosts.put(node, host)?;
-        self.with_outputs(script, kept, outputs)
+        let (world, _) = self.stepped(script, node, input, None)?;
+        Ok(world)
     }
 }

@@ -31,6 +31,13 @@ impl Life {
         }
     }
 
+    /// The node that opened last.
+    pub fn node(&self) -> &Node
+        ensures { result.now ≡ self.now.node }
+    {
+        &self.node
+    }
+
     /// What a line of the list gives: nothing if a node opens, and otherwise the outputs of the node's step. A line that is refused
     /// for its words, or because the node may not make the step, leaves the node as it is; without memory the node may be spent, or
     /// have made a step that can't be told.

@@ -2,6 +2,9 @@
 
 use crate::fault::Fault;
 use crate::life::Life;
+use object_id::{Bytes, Epoch, NoMemory};
+use peer_proto::{PeerRsp, PeerSay};
+use sheep_node::Node;
 use std::alloc::Global;
 use std::collections::VecDeque;
 use std::fmt::Write;
@@ -136,5 +139,34 @@ fn a_disk_is_reserved_made_and_published(rt: HostRuntime) -> Result<(), Fail> {
     node.ask(1, "vdi create 61 512 1 22")?;
     assert_eq!(rt; node.kinds.as_str(), "guest put log request reply put log ");
     assert_eq!(rt; node.replies.as_str(), "1 done;");
+    Ok(())
+}
+
+/// Of which request the write is that a check comes to by a reply, over which object, and how long its value is.
+fn written(node: &Node, rsp: &PeerRsp) -> Result<Option<(u32, u32, usize)>, NoMemory> {
+    if node.spent() {
+        return Ok(None);
+    }
+    match node.check_write_on(rsp)? {
+        Some(write) => Ok(Some((write.req, write.index, write.value.len()))),
+        None => Ok(None),
+    }
+}
+
+// The node has sent five messages before the read that the check waits for.
+#[test]
+fn a_check_comes_to_its_write(rt: HostRuntime) -> Result<(), Fail> {
+    let alloc = rt.alloc();
+    let mut node = OneNode::new(alloc)?;
+    node.ask(1, "vdi create 61 4096 1 12")?;
+    node.ask(2, "vdi open 61 .")?;
+    node.ask(3, "disk write 0 07*512.")?;
+    node.life.step("guest 4 1 vdi check")?;
+    let rsp = PeerRsp {
+        number: 5,
+        epoch: Epoch(1),
+        say: PeerSay::Piece(Bytes::from_slice(alloc, &[7; 4_096])?),
+    };
+    assert_eq!(rt; written(node.life.node(), &rsp)?, Some((4, 0, 4_096)));
     Ok(())
 }
