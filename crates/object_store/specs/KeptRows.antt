@@ -15,4 +15,5 @@ RoomIn HasRoom (Some row) offset n = HasRoom row.bytes offset n
 
 -- the open row of each index has room for what it had room for
 abbrev pub KeepsRowRoom : {K : Type 0} → (K → ℕ → ℕ → Type 0) → List (Row K) → List (Row K) → Type 0
-KeepsRowRoom HasRoom old new = (index offset n : ℕ) → RoomIn HasRoom (open_at index old) offset n → RoomIn HasRoom (open_at index new) offset n
+KeepsRowRoom HasRoom old new =
+    (index offset n : ℕ) → RoomIn HasRoom (open_at index old) offset n → RoomIn HasRoom (open_at index new) offset n

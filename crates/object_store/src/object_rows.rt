@@ -264,7 +264,8 @@ fn write_in<B: RowBytes>(row: &mut Row<B>, index: u8, offset: u32, piece: &[u8])
     requires within { is_open_at index row.old ≡ true → offset + length piece.now ≤ length (B.bytes row.old.bytes) }
     requires room { is_open_at index row.old ≡ true → B.HasRoom row.old.bytes offset (length piece.now) }
     ensures row { seen_row B.bytes row.new ≡ (if is_open_at index row.old
-        then (record (seen_row B.bytes row.old) { bytes = laid_over (B.bytes row.old.bytes) offset piece.now }) else seen_row B.bytes row.old) }
+        then (record (seen_row B.bytes row.old) { bytes = laid_over (B.bytes row.old.bytes) offset piece.now })
+        else seen_row B.bytes row.old) }
     ensures room { KeepsPieces (B.HasRoom row.old.bytes) (B.HasRoom row.new.bytes) }
 {
     if is_open_row(row, index) {

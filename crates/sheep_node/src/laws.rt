@@ -314,8 +314,8 @@ pub fn a_begun_request_is_apart_from_earlier_ones()
     ensures stays { (input : Input) (node : Node) → RequestsAreInTurn node → RequestsAreInTurn (node_step input node).node }
 {}
 
-/// A node's recovery is in the node's name, and may make each step that the node tells it to: so a node opens, and so it stays at each step.
-/// It may begin where an entry or coming back begins it, and a reply that isn't the gateway's fits what it asked.
+/// A node's recovery is in the node's name, and may make each step that the node tells it to: so a node opens, and so it stays at each
+/// step. It may begin where an entry or coming back begins it, and a reply that isn't the gateway's fits what it asked.
 pub fn a_recovery_may_step()
     ensures opens { (me : NodeId) (tries : ℕ) → RecoveryMayStep (initial_node me tries) }
     ensures stays { (input : Input) (node : Node) → May input node → HasReadLog node → IsByTheLog node → HasValidDisks node

@@ -143,7 +143,7 @@ pub(crate) fn course(
 
 impl CommandCourse {
     /// What the command did, and what becomes of the open disk.
-    pub fn told(self) -> Result<String, NoMemory> {
+    pub(crate) fn told(self) -> Result<String, NoMemory> {
         let CommandCourse { op, mut told } = self;
         if op.closes() {
             told.push_str("closes")?;
