@@ -57,20 +57,32 @@ one-line (Reweight node) h = word (codes "reweight ") (decimal node.0) refl (num
 one-line (Back node) h = word (codes "back ") (decimal node.0) refl (number node.0 (first-fits node.0 [] h))
 one-line Phase h = word (codes "phase") [] refl (All-nil (λ (byte : ℕ). (byte == 10) ≡ false))
 
--- no event's text is empty
-goes-on : (event : Event) (lines : List (List ℕ)) → 0 < length lines → whole_lines (event_text event ∷ lines) ≡ event_text event ∷ whole_lines lines
-goes-on event [] lt = absurd (omega (arith, lt))
-goes-on event (line ∷ lines) lt = refl
+-- a line with more behind it
+goes-on : (line : List ℕ) (lines : List (List ℕ)) → 0 < length lines → whole_lines (line ∷ lines) ≡ line ∷ whole_lines lines
+goes-on line [] lt = absurd (omega (arith, lt))
+goes-on line (next ∷ lines) lt = refl
 
+-- the first line of a text
+pub first-line : (text line rest : List ℕ) → text ≡ line ++ 10 ∷ rest → IsLine line → lines_in text ≡ line ∷ lines_in rest
+first-line text line rest is plain =
+    ap lines_in is
+    ∙ ap whole_lines (slice_split_at (λ (byte : ℕ). byte == 10) line 10 rest plain refl)
+    ∙ goes-on line (lines_of rest) (omega (arith, length-slice_split (λ (byte : ℕ). byte == 10) rest))
+
+-- the only line of a text that doesn't end it
+pub only-line : (text : List ℕ) → (length text == 0) ≡ false → IsLine text → lines_in text ≡ text ∷ []
+only-line [] some plain = absurd (cc)
+only-line (byte ∷ bytes) some plain = ap whole_lines (slice_split_none (λ (byte : ℕ). byte == 10) (byte ∷ bytes) plain)
+
+-- no event's text is empty
 last_one : (event : Event) → whole_lines (event_text event ∷ []) ≡ event_text event ∷ []
 last_one (Guest session) = refl
 last_one event = refl
 
 line_more : (event : Event) (rest : List ℕ) → IsNamed event → lines_in (event_text event ++ codes "\n" ++ rest) ≡ event_text event ∷ lines_in rest
 line_more event rest h =
-    ap lines_in (append_assoc (event_text event) (codes "\n") rest)
-    ∙ ap whole_lines (slice_split_at (λ (byte : ℕ). byte == 10) (event_text event) 10 rest (one-line event h) refl)
-    ∙ goes-on event (lines_of rest) (omega (arith, length-slice_split (λ (byte : ℕ). byte == 10) rest))
+    first-line (event_text event ++ codes "\n" ++ rest) (event_text event) rest
+    (append_assoc (event_text event) (codes "\n") rest) (one-line event h)
 
 -- a line each
 pub lines-are-texts : (events : List Event) → AllByRecursion IsNamed events → lines_in (trace_text_of events) ≡ map event_text events
