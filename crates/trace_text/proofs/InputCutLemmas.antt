@@ -73,27 +73,33 @@ front-joined [] input rest text =
     ap (λ (n : ℕ). take n input) none
 front-joined (line ∷ lines) input rest text =
     let parts : input ≡ join_with_byte 10 (line ∷ lines) ++ (10 ∷ rest) =
-    text ∙ ap (λ (front : List ℕ). front ++ rest) (ended-joined line lines) ∙ append_assoc (join_with_byte 10 (line ∷ lines)) (10 ∷ []) rest in
+    text ∙ ap (λ (front : List ℕ). front ++ rest) (ended-joined line lines)
+    ∙ append_assoc (join_with_byte 10 (line ∷ lines)) (10 ∷ []) rest in
     let size : length (join_with_byte 10 (line ∷ lines)) ≡ length input - length rest - 1 =
     omega (arith, ap length parts, length-append (join_with_byte 10 (line ∷ lines)) (10 ∷ rest)) in
-    ap (take (length input - length rest - 1)) parts ∙ take_at (join_with_byte 10 (line ∷ lines)) (10 ∷ rest) (length input - length rest - 1) size
+    ap (take (length input - length rest - 1)) parts
+    ∙ take_at (join_with_byte 10 (line ∷ lines)) (10 ∷ rest) (length input - length rest - 1) size
 
 -- at the line `trace` the input is cut
-cut-lines : (input rest line : List ℕ) (later : List (List ℕ)) → IsPassed input rest → lines_of rest ≡ line ∷ later → is_trace_line line ≡ true
+cut-lines : (input rest line : List ℕ) (later : List (List ℕ)) → IsPassed input rest → lines_of rest ≡ line ∷ later
+    → is_trace_line line ≡ true
     → (take (length input - length rest - 1) input ≡ script_part input) × (join_with_byte 10 later ≡ trace_part input)
 cut-lines input rest line later passed lines is =
-    let all : lines_of input ≡ passed.before ++ line ∷ later = passed.lines ∙ ap (λ (more : List (List ℕ)). passed.before ++ more) lines in (
+    let all : lines_of input ≡ passed.before ++ line ∷ later =
+    passed.lines ∙ ap (λ (more : List (List ℕ)). passed.before ++ more) lines in (
       front-joined passed.before input rest passed.text
-      ∙ ap (join_with_byte 10)
-      (sym (ap (before_first is_trace_line) all ∙ before_first-at is_trace_line passed.before line later passed.none is)),
+          ∙ ap (join_with_byte 10)
+          (sym (ap (before_first is_trace_line) all ∙ before_first-at is_trace_line passed.before line later passed.none is)),
       ap (join_with_byte 10)
-      (sym (ap (after_first is_trace_line) all ∙ after_first-at is_trace_line passed.before line later passed.none is)),
+          (sym (ap (after_first is_trace_line) all ∙ after_first-at is_trace_line passed.before line later passed.none is)),
     )
 
-pub cut-at : (input rest line behind : List ℕ) → IsPassed input rest → rest ≡ line ++ 10 ∷ behind → IsLine line → is_trace_line line ≡ true
+pub cut-at : (input rest line behind : List ℕ) → IsPassed input rest → rest ≡ line ++ 10 ∷ behind → IsLine line
+    → is_trace_line line ≡ true
     → (take (length input - length rest - 1) input ≡ script_part input) × (behind ≡ trace_part input)
 cut-at input rest line behind passed parts plain is =
-    let lines : lines_of rest ≡ line ∷ lines_of behind = ap lines_of parts ∙ slice_split_at (λ (byte : ℕ). byte == 10) line 10 behind plain refl in
+    let lines : lines_of rest ≡ line ∷ lines_of behind =
+    ap lines_of parts ∙ slice_split_at (λ (byte : ℕ). byte == 10) line 10 behind plain refl in
     let cut = cut-lines input rest line (lines_of behind) passed lines is in
     (cut.0, sym (join_with_byte-slice_split 10 behind) ∙ cut.1)
 

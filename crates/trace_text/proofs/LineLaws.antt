@@ -1,14 +1,11 @@
 -- The lines of a trace are the texts of its events.
-use Rattle.std.proofs.Common.{◌≡◌, ℕ, ◌<◌, ◌^◌, ◌==◌, not, true, false, List, [], ◌∷◌, ◌++◌, length, get_or, map, codes, decimal, refl, sym, ap, subst, ◌∙◌, arith, All}
+use Rattle.std.proofs.Common.{◌≡◌, ℕ, ◌<◌, ◌^◌, ◌==◌, not, true, false, List, [], ◌∷◌, ◌++◌, length, map, codes, decimal, refl, sym, ap, subst, ◌∙◌, arith}
 use Rattle.std.specs.List.{list_all, AllByRecursion}
-use Rattle.std.specs.Int.{IsInRange}
-use Rattle.std.proofs.lemmas.Bool.{and_parts, not-true, ne_eqb}
 use Rattle.std.proofs.lemmas.List.{append_assoc}
-use Rattle.std.proofs.lemmas.List.Elements.{All-from_get_or, All-cons, All-nil, All-append}
+use Rattle.std.proofs.lemmas.List.Elements.{All-nil, All-append}
 use Rattle.std.proofs.lemmas.List.Splits.{slice_split_none, slice_split_at, length-slice_split}
-use Rattle.std.proofs.lemmas.Str.Parse.{digit_at}
-use Rattle.std.proofs.lemmas.Fmt.{decimal_is_IsNumeral}
 use Rattle.trace_text.proofs.NumberLemmas.{first-fits, second-fits}
+use Rattle.trace_text.proofs.SeparatorLemmas.{Lacks, lacks-seen, number-lacks}
 use Rattle.object_id.specs.declared.node.NodeId.{NodeId}
 use Rattle.sheep_node.specs.declared.event.Event.{Event}
 use Rattle.sheep_node.specs.declared.event.Event.TheVariants.{Guest, Deliver, LoseRequest, LoseReply, LogNext, Put, RecoverTick, RetryTick, Lost, Leave, Join, Reweight, Back, Phase}
@@ -17,23 +14,16 @@ use Rattle.trace_text.specs.Spelling.{name_text, event_text, trace_text_of}
 use Rattle.trace_text.specs.EventReading.{IsNamed}
 use Rattle.trace_text.specs.Lines.{whole_lines, lines_in}
 
+-- a line has no LF
 abbrev pub IsLine : List ℕ → Type 0
-IsLine bytes = All (λ byte. (byte == 10) ≡ false) bytes
+IsLine bytes = Lacks 10 bytes
 
 -- a written word with more behind it
 word : (bytes rest : List ℕ) → list_all (λ byte. not (byte == 10)) bytes ≡ true → IsLine rest → IsLine (bytes ++ rest)
-word [] rest h line = line
-word (byte ∷ bytes) rest h line =
-    let parts : (not (byte == 10) ≡ true) × (list_all (λ byte. not (byte == 10)) bytes ≡ true) = and_parts (not (byte == 10)) (list_all (λ byte. not (byte == 10)) bytes) h in
-    All-cons (λ (b : ℕ). (b == 10) ≡ false) byte (bytes ++ rest) (not-true (byte == 10) parts.0) (word bytes rest parts.1 line)
+word bytes rest seen line = All-append (λ (byte : ℕ). (byte == 10) ≡ false) bytes rest (lacks-seen 10 bytes seen) line
 
 number : (n : ℕ) → n < 2 ^ 32 → IsLine (decimal n)
-number n lt =
-    All-from_get_or (λ (byte : ℕ). (byte == 10) ≡ false) (decimal n) 0
-    (λ k k_lt. digit (get_or (decimal n) k 0) (digit_at (decimal n) k (decimal_is_IsNumeral n (omega (arith, lt))).0.1 k_lt))
-  where
-    digit : (byte : ℕ) → IsInRange 48 57 byte → (byte == 10) ≡ false
-    digit byte h = ne_eqb byte 10 (λ e. absurd (omega (arith, e, h.0)))
+number n lt = number-lacks 10 (omega arith) n lt
 
 name : (sender : NodeId) (n : ℕ) → sender.0 < 2 ^ 32 → n < 2 ^ 32 → IsLine (name_text sender n)
 name sender n s_lt n_lt =

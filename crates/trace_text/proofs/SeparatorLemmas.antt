@@ -44,7 +44,8 @@ module _ (separator : ℕ) where
       ∙ slice_split_at (λ byte. byte == separator) front separator back lacks_too (eq-eqb separator separator refl) in
       let later : slice_split (λ byte. byte == separator) behind ≡ slice_split (λ byte. byte == separator) back = cc in (
         cc,
-        sym (join_with_byte-slice_split separator behind) ∙ ap (join_with_byte separator) later ∙ join_with_byte-slice_split separator back,
+        sym (join_with_byte-slice_split separator behind) ∙ ap (join_with_byte separator) later
+            ∙ join_with_byte-slice_split separator back,
       )
 
   -- a number has no separator that isn't a digit

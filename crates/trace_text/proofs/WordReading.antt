@@ -3,9 +3,10 @@ use Rattle.std.proofs.Common.{◌≡◌, ◌≢◌, ℕ, ◌<◌, ◌≤◌, ◌
 use Rattle.std.proofs.lemmas.Slice.Eq.{bytes_eq-Decides}
 use Rattle.std.proofs.lemmas.Fmt.{decimal_injective}
 use Rattle.std.proofs.lemmas.List.Elements.{All-cons, All-nil}
+use Rattle.object_id.specs.declared.node.NodeId.{NodeId}
 use Rattle.sheep_node.specs.declared.event.Event.{Event}
 use Rattle.sheep_node.specs.declared.event.Event.TheVariants.{Deliver, LoseRequest, LoseReply, Phase}
-use Rattle.trace_text.specs.Spelling.{event_text}
+use Rattle.trace_text.specs.Spelling.{name_text, event_text}
 use Rattle.trace_text.specs.EventReading.{numbers_of, events_of, event_in, IsNamed}
 use Rattle.trace_text.specs.EventWords.{event_word, event_of}
 use Rattle.trace_text.proofs.NumberLemmas.{first-fits, second-fits}
@@ -18,13 +19,18 @@ numbers_text [] = []
 numbers_text (number ∷ []) = decimal number
 numbers_text (sender ∷ number ∷ rest) = decimal sender ++ 46 ∷ decimal number
 
+with_name : (before : List ℕ) (sender : NodeId) (number : ℕ)
+    → before ++ name_text sender number ≡ before ++ numbers_text (sender.0 ∷ number ∷ [])
+with_name before sender number =
+    ap (λ (name : List ℕ). before ++ name) (append_assoc (decimal sender.0) (codes ".") (decimal number))
+
 -- an event's text is its word and, where it has numbers, a space and these
 text-parts : (event : Event) → 0 < length (numbers_of event)
     → event_text event ≡ event_word event ++ 32 ∷ numbers_text (numbers_of event)
 text-parts Phase some = absurd (omega (arith, some))
-text-parts (Deliver sender number) some = ap (λ (name : List ℕ). codes "deliver " ++ name) (append_assoc (decimal sender.0) (codes ".") (decimal number))
-text-parts (LoseRequest sender number) some = ap (λ (name : List ℕ). codes "loserequest " ++ name) (append_assoc (decimal sender.0) (codes ".") (decimal number))
-text-parts (LoseReply sender number) some = ap (λ (name : List ℕ). codes "losereply " ++ name) (append_assoc (decimal sender.0) (codes ".") (decimal number))
+text-parts (Deliver sender number) some = with_name (codes "deliver ") sender number
+text-parts (LoseRequest sender number) some = with_name (codes "loserequest ") sender number
+text-parts (LoseReply sender number) some = with_name (codes "losereply ") sender number
 text-parts event some = refl
 
 -- no word has a space
@@ -58,7 +64,8 @@ named word name event lacks is =
     let read : (word ++ 32 ∷ name ≡ event_text event) × IsNamed event = read-text (word ++ 32 ∷ name) event is in
     let some : 0 < length (numbers_of event) = has-numbers word name event read.0 in
     let same : (word ≡ event_word event) × (name ≡ numbers_text (numbers_of event)) =
-    same-parts 32 word name (event_word event) (numbers_text (numbers_of event)) lacks (word-lacks event) (read.0 ∙ text-parts event some) in
+    same-parts 32 word name (event_word event) (numbers_text (numbers_of event)) lacks (word-lacks event)
+    (read.0 ∙ text-parts event some) in
     record { is_word = same.0; is_name = same.1; some = some; fits = read.1 }
 
 -- one number is spelled as no other numbers are
@@ -75,7 +82,8 @@ two-numbers : (sender number : ℕ) (others : List ℕ) → sender < 2 ^ 32 → 
     → All (λ n. n < 2 ^ 32) others → decimal sender ++ 46 ∷ decimal number ≡ numbers_text others → sender ∷ number ∷ [] ≡ others
 two-numbers sender number [] s_lt n_lt some few fits same = absurd (omega (arith, some))
 two-numbers sender number (other ∷ []) s_lt n_lt some few fits same =
-    absurd (has-one 46 (decimal sender) (decimal number) (subst (Lacks 46) (sym same) (number-lacks 46 (omega arith) other (first-fits other [] fits))))
+    absurd (has-one 46 (decimal sender) (decimal number)
+    (subst (Lacks 46) (sym same) (number-lacks 46 (omega arith) other (first-fits other [] fits))))
 two-numbers sender number (other ∷ last ∷ []) s_lt n_lt some few fits same =
     let o_lt : other < 2 ^ 32 = first-fits other (last ∷ []) fits in
     let l_lt : last < 2 ^ 32 = second-fits other last fits in
@@ -142,7 +150,8 @@ name-read word sender number lacks s_lt n_lt =
 -- what is named by no number, where it has no dot
 pub no-number : (word name : List ℕ) → Lacks 32 word → Lacks 46 name → ((number : ℕ) → number < 2 ^ 32 → name ≢ decimal number)
     → event_in (word ++ 32 ∷ name) ≡ None
-no-number word name lacks dotless never = none-if (event_in (word ++ 32 ∷ name)) (λ event is. by_event event (named word name event lacks is))
+no-number word name lacks dotless never =
+    none-if (event_in (word ++ 32 ∷ name)) (λ event is. by_event event (named word name event lacks is))
   where
     by_numbers : (numbers : List ℕ) → 0 < length numbers → All (λ n. n < 2 ^ 32) numbers → name ≡ numbers_text numbers → ⊥
     by_numbers [] some fits is = omega (arith, some)

@@ -6,7 +6,7 @@
 //! replay (`specs/Replay.antt`).
 //!
 //! The code prints events ([`print_events`]), reads a line as an event ([`event_in`]), goes through the lines of a trace ([`Lines`]) and
-//! cuts an input into its script and its trace ([`input_parts`]). Each call is exactly the definition of its name; only printing takes
+//! cuts an input into its script and its trace ([`input_parts`]). Each call gives exactly what is defined; only printing takes
 //! memory. Of a replay there are the faults as types, and the definitions.
 //!
 //! The laws of `laws.rt` say what these mean: reading undoes spelling, an event has one spelling, a script and its trace are read

@@ -53,12 +53,7 @@ fn push_number(text: &mut Vec<u8>, before: &[u8], number: u32) -> Result<(), NoM
 }
 
 /// Adds what stands before a message's name, and the name.
-fn push_name(
-    text: &mut Vec<u8>,
-    before: &[u8],
-    sender: NodeId,
-    number: u32,
-) -> Result<(), NoMemory>
+fn push_name(text: &mut Vec<u8>, before: &[u8], sender: NodeId, number: u32) -> Result<(), NoMemory>
     ensures { OnOk result (text.new.items ≡ text.old.items ++ (before.now ++ name_text sender number)) }
 {
     push_number(text, before, sender.0)?;
