@@ -1,5 +1,5 @@
 -- An input, gone through line by line up to its line `trace`.
-use Rattle.std.proofs.Common.{◌≡◌, ℕ, ◌+◌, ◌-◌, ◌≤◌, ◌==◌, ◌||◌, Bool, true, false, List, [], ◌∷◌, ◌++◌, length, take, refl, sym, ap, ◌∙◌, arith, append_assoc, append-nil, length-append}
+use Rattle.std.proofs.Common.{◌≡◌, ℕ, ◌-◌, ◌≤◌, ◌==◌, ◌||◌, Bool, true, false, List, [], ◌∷◌, ◌++◌, length, take, refl, sym, ap, ◌∙◌, arith, append_assoc, append-nil, length-append}
 use Rattle.std.specs.List.{list_any, flat_map, join_with_byte, before_first, after_first}
 use Rattle.std.proofs.lemmas.List.{take_at, flat_map_more}
 use Rattle.std.proofs.lemmas.List.Folds.{list_any-append}

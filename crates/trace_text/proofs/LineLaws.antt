@@ -1,9 +1,9 @@
 -- The lines of a trace are the texts of its events.
-use Rattle.std.proofs.Common.{◌≡◌, ℕ, ◌<◌, ◌^◌, ◌==◌, not, true, false, List, [], ◌∷◌, ◌++◌, length, map, codes, decimal, refl, sym, ap, subst, ◌∙◌, arith}
-use Rattle.std.specs.List.{list_all, AllByRecursion}
-use Rattle.std.proofs.lemmas.List.{append_assoc}
+use Rattle.std.proofs.Common.{◌≡◌, ℕ, ◌<◌, ◌≤◌, ◌^◌, ◌==◌, not, true, false, List, [], ◌∷◌, ◌++◌, length, map, codes, decimal, refl, sym, ap, subst, ◌∙◌, arith}
+use Rattle.std.specs.List.{list_all, AllByRecursion, join_with_byte}
+use Rattle.std.proofs.lemmas.List.{append_assoc, length-append}
 use Rattle.std.proofs.lemmas.List.Elements.{All-nil, All-append}
-use Rattle.std.proofs.lemmas.List.Splits.{slice_split_none, slice_split_at, length-slice_split}
+use Rattle.std.proofs.lemmas.List.Splits.{slice_split_none, slice_split_at, length-slice_split, join_with_byte-slice_split}
 use Rattle.trace_text.proofs.NumberLemmas.{first-fits, second-fits}
 use Rattle.trace_text.proofs.SeparatorLemmas.{Lacks, lacks-seen, number-lacks}
 use Rattle.object_id.specs.declared.node.NodeId.{NodeId}
@@ -63,6 +63,18 @@ first-line text line rest is plain =
 pub only-line : (text : List ℕ) → (length text == 0) ≡ false → IsLine text → lines_in text ≡ text ∷ []
 only-line [] some plain = absurd (cc)
 only-line (byte ∷ bytes) some plain = ap whole_lines (slice_split_none (λ (byte : ℕ). byte == 10) (byte ∷ bytes) plain)
+
+-- a text has no more lines than bytes
+parts-fit : (parts : List (List ℕ)) → length (whole_lines parts) ≤ length (join_with_byte 10 parts)
+parts-fit [] = omega arith
+parts-fit ([] ∷ []) = omega arith
+parts-fit ((byte ∷ bytes) ∷ []) = omega arith
+parts-fit (line ∷ next ∷ parts) =
+    omega (arith, parts-fit (next ∷ parts), length-append line (10 ∷ join_with_byte 10 (next ∷ parts)))
+
+pub lines-fit : (text : List ℕ) → length (lines_in text) ≤ length text
+lines-fit text =
+    subst (λ (bytes : List ℕ). length (lines_in text) ≤ length bytes) (join_with_byte-slice_split 10 text) (parts-fit (lines_of text))
 
 -- no event's text is empty
 last_one : (event : Event) → whole_lines (event_text event ∷ []) ≡ event_text event ∷ []

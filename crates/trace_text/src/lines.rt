@@ -1,6 +1,6 @@
 //! The lines of a trace, one after another.
 
-ghost use Rattle.std.specs.Prelude.{◌≡◌, [], ◌∷◌, MatchOption};
+ghost use Rattle.std.specs.Prelude.{◌≡◌, ◌≤◌, [], ◌∷◌, length, MatchOption};
 ghost use Rattle.trace_text.specs.Lines.{lines_in};
 
 use crate::split::split_once;
@@ -24,7 +24,8 @@ impl<'a> Model for Lines<'a> {
 impl<'a> Lines<'a> {
     /// All lines of a trace.
     pub fn new(text: &'a [u8]) -> Lines<'a>
-        ensures { result ≡ lines_in text.now }
+        ensures lines { result ≡ lines_in text.now }
+        ensures bound { length result ≤ length text.now }
     {
         Lines { rest: text }
     }
