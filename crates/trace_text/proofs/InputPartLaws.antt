@@ -18,14 +18,7 @@ use Rattle.trace_text.specs.EventReading.{IsNamed}
 use Rattle.trace_text.specs.Lines.{whole_lines, lines_in, is_trace_line, script_lines, trace_lines}
 use Rattle.trace_text.specs.InputParts.{script_part, trace_part}
 use Rattle.trace_text.proofs.LineLaws.{IsLine, lines-are-texts}
-use Rattle.trace_text.proofs.PartLemmas.{lines-plain, joined-lines, lines-append, before_first-none, after_first-none, before_first-at, after_first-at, All-before_first, All-after_first}
-
--- without a line `trace` the script is all
-pub alone : (input : List ℕ) → list_any is_trace_line (lines_of input) ≡ false → (script_part input ≡ input) × (trace_part input ≡ [])
-alone input none = (
-  ap (join_with_byte 10) (before_first-none is_trace_line (lines_of input) none) ∙ join_with_byte-slice_split 10 input,
-  ap (join_with_byte 10) (after_first-none is_trace_line (lines_of input) none),
-)
+use Rattle.trace_text.proofs.PartLemmas.{lines-plain, joined-lines, lines-append, before_first-at, after_first-at, All-before_first, All-after_first}
 
 -- a script, the line and a trace
 abbrev pub put_together : List ℕ → List ℕ → List ℕ

@@ -4,3 +4,8 @@ pub mod LineLaws
 pub mod PartLemmas
 pub mod InputPartLaws
 pub mod ReplayLaws
+pub mod SeparatorLemmas
+pub mod NumberReading
+pub mod SpellingLemmas
+pub mod WordReading
+pub mod InputCutLemmas

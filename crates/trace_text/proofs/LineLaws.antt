@@ -1,14 +1,11 @@
 -- The lines of a trace are the texts of its events.
-use Rattle.std.proofs.Common.{◌≡◌, ℕ, ◌<◌, ◌^◌, ◌==◌, not, true, false, List, [], ◌∷◌, ◌++◌, length, get_or, map, codes, decimal, refl, sym, ap, subst, ◌∙◌, arith, All}
-use Rattle.std.specs.List.{list_all, AllByRecursion}
-use Rattle.std.specs.Int.{IsInRange}
-use Rattle.std.proofs.lemmas.Bool.{and_parts, not-true, ne_eqb}
-use Rattle.std.proofs.lemmas.List.{append_assoc}
-use Rattle.std.proofs.lemmas.List.Elements.{All-from_get_or, All-cons, All-nil, All-append}
-use Rattle.std.proofs.lemmas.List.Splits.{slice_split_none, slice_split_at, length-slice_split}
-use Rattle.std.proofs.lemmas.Str.Parse.{digit_at}
-use Rattle.std.proofs.lemmas.Fmt.{decimal_is_IsNumeral}
+use Rattle.std.proofs.Common.{◌≡◌, ℕ, ◌<◌, ◌≤◌, ◌^◌, ◌==◌, not, true, false, List, [], ◌∷◌, ◌++◌, length, map, codes, decimal, refl, sym, ap, subst, ◌∙◌, arith}
+use Rattle.std.specs.List.{list_all, AllByRecursion, join_with_byte}
+use Rattle.std.proofs.lemmas.List.{append_assoc, length-append}
+use Rattle.std.proofs.lemmas.List.Elements.{All-nil, All-append}
+use Rattle.std.proofs.lemmas.List.Splits.{slice_split_none, slice_split_at, length-slice_split, join_with_byte-slice_split}
 use Rattle.trace_text.proofs.NumberLemmas.{first-fits, second-fits}
+use Rattle.trace_text.proofs.SeparatorLemmas.{Lacks, lacks-seen, number-lacks}
 use Rattle.object_id.specs.declared.node.NodeId.{NodeId}
 use Rattle.sheep_node.specs.declared.event.Event.{Event}
 use Rattle.sheep_node.specs.declared.event.Event.TheVariants.{Guest, Deliver, LoseRequest, LoseReply, LogNext, Put, RecoverTick, RetryTick, Lost, Leave, Join, Reweight, Back, Phase}
@@ -17,23 +14,16 @@ use Rattle.trace_text.specs.Spelling.{name_text, event_text, trace_text_of}
 use Rattle.trace_text.specs.EventReading.{IsNamed}
 use Rattle.trace_text.specs.Lines.{whole_lines, lines_in}
 
+-- a line has no LF
 abbrev pub IsLine : List ℕ → Type 0
-IsLine bytes = All (λ byte. (byte == 10) ≡ false) bytes
+IsLine bytes = Lacks 10 bytes
 
 -- a written word with more behind it
 word : (bytes rest : List ℕ) → list_all (λ byte. not (byte == 10)) bytes ≡ true → IsLine rest → IsLine (bytes ++ rest)
-word [] rest h line = line
-word (byte ∷ bytes) rest h line =
-    let parts : (not (byte == 10) ≡ true) × (list_all (λ byte. not (byte == 10)) bytes ≡ true) = and_parts (not (byte == 10)) (list_all (λ byte. not (byte == 10)) bytes) h in
-    All-cons (λ (b : ℕ). (b == 10) ≡ false) byte (bytes ++ rest) (not-true (byte == 10) parts.0) (word bytes rest parts.1 line)
+word bytes rest seen line = All-append (λ (byte : ℕ). (byte == 10) ≡ false) bytes rest (lacks-seen 10 bytes seen) line
 
 number : (n : ℕ) → n < 2 ^ 32 → IsLine (decimal n)
-number n lt =
-    All-from_get_or (λ (byte : ℕ). (byte == 10) ≡ false) (decimal n) 0
-    (λ k k_lt. digit (get_or (decimal n) k 0) (digit_at (decimal n) k (decimal_is_IsNumeral n (omega (arith, lt))).0.1 k_lt))
-  where
-    digit : (byte : ℕ) → IsInRange 48 57 byte → (byte == 10) ≡ false
-    digit byte h = ne_eqb byte 10 (λ e. absurd (omega (arith, e, h.0)))
+number n lt = number-lacks 10 (omega arith) n lt
 
 name : (sender : NodeId) (n : ℕ) → sender.0 < 2 ^ 32 → n < 2 ^ 32 → IsLine (name_text sender n)
 name sender n s_lt n_lt =
@@ -57,20 +47,44 @@ one-line (Reweight node) h = word (codes "reweight ") (decimal node.0) refl (num
 one-line (Back node) h = word (codes "back ") (decimal node.0) refl (number node.0 (first-fits node.0 [] h))
 one-line Phase h = word (codes "phase") [] refl (All-nil (λ (byte : ℕ). (byte == 10) ≡ false))
 
--- no event's text is empty
-goes-on : (event : Event) (lines : List (List ℕ)) → 0 < length lines → whole_lines (event_text event ∷ lines) ≡ event_text event ∷ whole_lines lines
-goes-on event [] lt = absurd (omega (arith, lt))
-goes-on event (line ∷ lines) lt = refl
+-- a line with more behind it
+goes-on : (line : List ℕ) (lines : List (List ℕ)) → 0 < length lines → whole_lines (line ∷ lines) ≡ line ∷ whole_lines lines
+goes-on line [] lt = absurd (omega (arith, lt))
+goes-on line (next ∷ lines) lt = refl
 
+-- the first line of a text
+pub first-line : (text line rest : List ℕ) → text ≡ line ++ 10 ∷ rest → IsLine line → lines_in text ≡ line ∷ lines_in rest
+first-line text line rest is plain =
+    ap lines_in is
+    ∙ ap whole_lines (slice_split_at (λ (byte : ℕ). byte == 10) line 10 rest plain refl)
+    ∙ goes-on line (lines_of rest) (omega (arith, length-slice_split (λ (byte : ℕ). byte == 10) rest))
+
+-- the only line of a text that doesn't end it
+pub only-line : (text : List ℕ) → (length text == 0) ≡ false → IsLine text → lines_in text ≡ text ∷ []
+only-line [] some plain = absurd (cc)
+only-line (byte ∷ bytes) some plain = ap whole_lines (slice_split_none (λ (byte : ℕ). byte == 10) (byte ∷ bytes) plain)
+
+-- a text has no more lines than bytes
+parts-fit : (parts : List (List ℕ)) → length (whole_lines parts) ≤ length (join_with_byte 10 parts)
+parts-fit [] = omega arith
+parts-fit ([] ∷ []) = omega arith
+parts-fit ((byte ∷ bytes) ∷ []) = omega arith
+parts-fit (line ∷ next ∷ parts) =
+    omega (arith, parts-fit (next ∷ parts), length-append line (10 ∷ join_with_byte 10 (next ∷ parts)))
+
+pub lines-fit : (text : List ℕ) → length (lines_in text) ≤ length text
+lines-fit text =
+    subst (λ (bytes : List ℕ). length (lines_in text) ≤ length bytes) (join_with_byte-slice_split 10 text) (parts-fit (lines_of text))
+
+-- no event's text is empty
 last_one : (event : Event) → whole_lines (event_text event ∷ []) ≡ event_text event ∷ []
 last_one (Guest session) = refl
 last_one event = refl
 
 line_more : (event : Event) (rest : List ℕ) → IsNamed event → lines_in (event_text event ++ codes "\n" ++ rest) ≡ event_text event ∷ lines_in rest
 line_more event rest h =
-    ap lines_in (append_assoc (event_text event) (codes "\n") rest)
-    ∙ ap whole_lines (slice_split_at (λ (byte : ℕ). byte == 10) (event_text event) 10 rest (one-line event h) refl)
-    ∙ goes-on event (lines_of rest) (omega (arith, length-slice_split (λ (byte : ℕ). byte == 10) rest))
+    first-line (event_text event ++ codes "\n" ++ rest) (event_text event) rest
+    (append_assoc (event_text event) (codes "\n") rest) (one-line event h)
 
 -- a line each
 pub lines-are-texts : (events : List Event) → AllByRecursion IsNamed events → lines_in (trace_text_of events) ≡ map event_text events

@@ -53,11 +53,11 @@ module _ {X : Type 0} (test : X → Bool) (P : X → Type 0) where
   found_if x y true later e p from is = subst (λ (z : X). P z × (test z ≡ true)) (same_Some x y is) (p, e)
   found_if x y false later e p from is = from is
 
-  found : (xs : List X) (y : X) → AllByRecursion P xs → find test xs ≡ Some y → P y × (test y ≡ true)
+  pub found : (xs : List X) (y : X) → AllByRecursion P xs → find test xs ≡ Some y → P y × (test y ≡ true)
   found [] y all is = absurd (cc)
   found (x ∷ xs) y all is = found_if x y (test x) (find test xs) refl all.0 (found xs y all.1) is
 
-events-named : (numbers : List ℕ) → AllByRecursion (λ event. numbers_of event ≡ numbers) (events_of numbers)
+pub events-named : (numbers : List ℕ) → AllByRecursion (λ event. numbers_of event ≡ numbers) (events_of numbers)
 events-named [] = (refl, tt)
 events-named (number ∷ []) = (refl, (refl, (refl, (refl, (refl, (refl, (refl, (refl, (refl, (refl, tt))))))))))
 events-named (sender ∷ number ∷ []) = (refl, (refl, (refl, tt)))

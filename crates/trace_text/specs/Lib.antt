@@ -1,5 +1,6 @@
 pub mod Spelling
 pub mod EventReading
+pub mod EventWords
 pub mod Lines
 pub mod InputParts
 pub mod Replay
