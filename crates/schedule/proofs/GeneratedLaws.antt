@@ -10,10 +10,11 @@ use Rattle.cluster_script.specs.Script.{script_in}
 use Rattle.cluster_script.specs.Writing.{text_for}
 use Rattle.cluster_script.proofs.WrittenLaws.{written-script}
 use Rattle.rand_xoshiro.specs.SplitMix64.{mix_u64}
-use Rattle.schedule.specs.Generated.{words_from, round_lines, generated_lines}
+use Rattle.schedule.specs.Generated.{words_from, round_lines, opening_lines}
 use Rattle.schedule.specs.GeneratedScript.{text_of_lines, generated_text, request_statement, round_statements, opening_statements, rounds_of_statements, generated_statements}
-use Rattle.schedule.proofs.GeneratedTextLemmas.{text-append, written-append, four-rounds}
-use Rattle.schedule.proofs.GeneratedOpening.{opening_lines, opening-stands, opening-read}
+use Rattle.schedule.proofs.GeneratedParts.{text-append, lines-in-parts}
+use Rattle.schedule.proofs.GeneratedTextLemmas.{written-append, four-rounds}
+use Rattle.schedule.proofs.GeneratedOpening.{opening-stands, opening-read}
 use Rattle.schedule.proofs.GeneratedStandLemmas.{Facts, facts-more, facts-same, Stands, one-stands, each-append, both-stand, fifty-stand}
 
 length-words_from : (count rng : ℕ) → length (words_from count rng) ≡ count
@@ -100,12 +101,6 @@ generated-script number = each-append [] opening_statements (rounds_of_statement
 
 pub generated-count : (number : ℕ) → count_by is_request (generated_statements number) ≡ 208
 generated-count number = (generated-stands number).facts.count
-
--- the lines before the rounds, and those of the rounds
-lines-in-parts : (number : ℕ)
-    → generated_lines number ≡ opening_lines ++ flat_map (round_lines (words_from 200 number)) (0 ∷ 1 ∷ 2 ∷ 3 ∷ [])
-unfolding generated_lines
-lines-in-parts number = refl
 
 pub generated-read : (number : ℕ) → script_in (generated_text number) ≡ Ok (generated_statements number)
 generated-read number =

@@ -1,9 +1,8 @@
 -- What stands before the rounds of a generated script: its lines are read as its statements, and so are the lines that these are
 -- written as.
 use Rattle.std.proofs.Common.{◌≡◌, ℕ, ◌+◌, true, false, List, [], ◌∷◌, ◌++◌, length, map, codes, Some, Ok, refl, sym, ap, ◌∙◌, append_assoc, arith}
-use Rattle.std.specs.Prelude.{flat_map}
 use Rattle.std.specs.Fmt.{digits}
-use Rattle.std.specs.List.{list_all, range_with_len, join_with_byte}
+use Rattle.std.specs.List.{list_all, join_with_byte}
 use Rattle.std.proofs.lemmas.Bool.{and_parts}
 use Rattle.std.proofs.lemmas.List.{append-nil}
 use Rattle.cluster_script.specs.declared.statement.Statement.{Statement}
@@ -17,7 +16,7 @@ use Rattle.cluster_script.specs.Language.{EachMayStand}
 use Rattle.cluster_script.proofs.LineSteps.{script_takes}
 use Rattle.cluster_script.proofs.ReadLemmas.{what-reads}
 use Rattle.cluster_script.proofs.WritingLemmas.{are_words, words-joined, joined-text, joined-line}
-use Rattle.schedule.specs.Generated.{session_line, disk_lines}
+use Rattle.schedule.specs.Generated.{opening_lines}
 use Rattle.schedule.specs.GeneratedScript.{text_of_lines, opening_statements}
 
 -- lines, as the words of each, are read as these statements, one after another
@@ -73,13 +72,7 @@ lines-stand before ((first ∷ words) ∷ lines) [] read = absurd read
 lines-stand before ((first ∷ words) ∷ lines) (s ∷ rest) read =
     ((what-reads before first words s read.1).1, lines-stand (before ++ s ∷ []) lines rest read.2)
 
--- the lines before the rounds
-abbrev pub opening_lines : List (List ℕ)
-opening_lines =
-    codes "cluster 6" ∷ codes "tries 1000" ∷ map session_line (range_with_len 1 4) ++ flat_map disk_lines (range_with_len 1 4)
-    ++ codes "settle" ∷ []
-
--- their words, line by line: those of a session, and of a disk's create and open
+-- the words of the lines before the rounds, line by line: those of a session, and of a disk's create and open
 abbrev session_words : Word → Word → List Word
 session_words session node = codes "session" ∷ session ∷ codes "node" ∷ node ∷ []
 

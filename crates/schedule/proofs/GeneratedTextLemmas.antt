@@ -10,6 +10,7 @@ use Rattle.cluster_script.specs.declared.statement.Statement.TheVariants.{Read, 
 use Rattle.cluster_script.specs.Writing.{words_for, line_for, text_for}
 use Rattle.schedule.specs.Generated.{piece_text, request_line, control_lines, round_lines}
 use Rattle.schedule.specs.GeneratedScript.{text_of_lines, request_statement, control_statements, round_statements}
+use Rattle.schedule.proofs.GeneratedParts.{text-append}
 
 piece-bytes : decimal 4096 ≡ codes "4096"
 unfolding digits
@@ -55,9 +56,6 @@ requests-text : (words : List ℕ) → text_of_lines (map request_line words) �
 requests-text [] = refl
 requests-text (word ∷ words) =
     ap₂ (λ (line rest : List ℕ). (line ++ codes "\n") ++ rest) (request-line word) (requests-text words)
-
-pub text-append : (first rest : List (List ℕ)) → text_of_lines (first ++ rest) ≡ text_of_lines first ++ text_of_lines rest
-text-append first rest = flat_map-append (λ (line : List ℕ). line ++ codes "\n") first rest
 
 pub written-append : (first rest : List Statement) → text_for (first ++ rest) ≡ text_for first ++ text_for rest
 written-append first rest = flat_map-append line_for first rest

@@ -6,6 +6,7 @@ pub mod KeptLaws
 pub mod PhaseLemmas
 pub mod WholeLaws
 pub mod WorkedCases
+pub mod GeneratedParts
 pub mod GeneratedTextLemmas
 pub mod GeneratedOpening
 pub mod GeneratedStandLemmas

@@ -10,6 +10,11 @@ unfoldable pub words_from : ℕ → ℕ → List ℕ
 words_from zero rng = []
 words_from (suc count) rng = (mix_u64 rng).0 ∷ words_from count (mix_u64 rng).1
 
+-- the generator's state behind so many words
+unfoldable pub rng_after : ℕ → ℕ → ℕ
+rng_after zero rng = rng
+rng_after (suc count) rng = rng_after count (mix_u64 rng).1
+
 -- a session's gateway
 abbrev pub session_line : ℕ → List ℕ
 session_line session = codes "session " ++ decimal session ++ codes " node " ++ decimal (session - 1)
@@ -18,11 +23,14 @@ session_line session = codes "session " ++ decimal session ++ codes " node " ++ 
 abbrev pub policy_text : ℕ → List ℕ
 policy_text session = if session % 2 == 1 then codes "3" else codes "2:2"
 
--- a session makes and opens its disk
+-- the line by which a session makes its disk
+abbrev pub create_line : ℕ → List ℕ
+create_line session =
+    decimal session ++ codes " vdi create -c " ++ policy_text session ++ codes " -z 20 g" ++ decimal session ++ codes " 64M"
+
+-- a session makes its disk, and then opens it
 abbrev pub disk_lines : ℕ → List (List ℕ)
-disk_lines session =
-    (decimal session ++ codes " vdi create -c " ++ policy_text session ++ codes " -z 20 g" ++ decimal session ++ codes " 64M")
-    ∷ (decimal session ++ codes " vdi open g" ++ decimal session) ∷ []
+disk_lines session = create_line session ∷ (decimal session ++ codes " vdi open g" ++ decimal session) ∷ []
 
 -- the piece that a word draws: its session, and where it lies
 abbrev pub piece_text : List ℕ → ℕ → List ℕ
@@ -43,8 +51,12 @@ control_lines round = if round == 1 then codes "fail 5" ∷ [] else (if round ==
 abbrev pub round_lines : List ℕ → ℕ → List (List ℕ)
 round_lines words round = control_lines round ++ map request_line (take 50 (drop (50 * round) words)) ++ codes "settle" ∷ []
 
+-- what stands before the rounds
+abbrev pub opening_lines : List (List ℕ)
+opening_lines =
+    codes "cluster 6" ∷ codes "tries 1000" ∷ map session_line (range_with_len 1 4) ++ flat_map disk_lines (range_with_len 1 4)
+    ++ codes "settle" ∷ []
+
 -- the lines of the script; the words are the first two hundred of the generator whose state is the number
 unfoldable pub generated_lines : ℕ → List (List ℕ)
-generated_lines number =
-    codes "cluster 6" ∷ codes "tries 1000" ∷ map session_line (range_with_len 1 4) ++ flat_map disk_lines (range_with_len 1 4)
-    ++ codes "settle" ∷ flat_map (round_lines (words_from 200 number)) (range_with_len 0 4)
+generated_lines number = opening_lines ++ flat_map (round_lines (words_from 200 number)) (range_with_len 0 4)
