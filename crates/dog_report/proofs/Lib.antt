@@ -1,3 +1,5 @@
+pub mod WordLemmas
+pub mod RunLemmas
 pub mod ReportLaws
 pub mod FateLaws
 pub mod ExampleLemmas

@@ -1,9 +1,10 @@
 use Rattle.std.proofs.Common.{refl}
 use Rattle.std.specs.Fmt.{digits}
+use Rattle.dog_report.specs.Words.{hex}
 use Rattle.dog_report.proofs.laws.requests_lines_spelled_out.Goals as goal
 
 pub returns : goal.returns
-unfolding digits
+unfolding digits hex
 returns c = record {
   done = refl;
   piece = refl;
