@@ -1,5 +1,8 @@
 pub mod WordLemmas
 pub mod RunLemmas
+pub mod ListLemmas
+pub mod RowOrderLemmas
+pub mod VdiLemmas
 pub mod ReportLaws
 pub mod FateLaws
 pub mod ExampleLemmas

@@ -4,5 +4,6 @@ pub mod Causes
 pub mod Fates
 pub mod Lists
 pub mod Report
+pub mod ListParts
 pub mod Counts
 pub mod Example

@@ -7,14 +7,23 @@
 //! `laws.rt` say that each request has exactly one line and which rows are listed, and spell lines out, of requests and of
 //! the lists of a small log (`specs/Example.antt`).
 //!
-//! Of the code there stand the lines of requests, each exactly by its definition, or out of memory. Each is added to the end of a text, in
-//! one pass and without a list of its words (`words.rt`, `causes.rt`, `runs.rt`, `fates.rt`).
+//! Of the code there stand the lines, each exactly by its definition, or out of memory. Each is added to the end of a text, in one pass and
+//! without a list of its words (`words.rt`): the line of a request (`fates.rt`, with `causes.rt` and `runs.rt`), and of the lists
+//! (`specs/ListParts.antt`) that of `cluster info` (`cluster_info.rt`), what `node list` tells of a node (`node_list.rt`), the lines of
+//! `vdi list` (`vdi_list.rt`), and the lines that `dump` has of a node (`dump.rt`, with `row_order.rt`). What asks a world for these parts
+//! is to come.
 #![tactic(auto)]
 
 mod causes;
+mod cluster_info;
+mod dump;
 mod fates;
 mod laws;
+mod node_list;
+mod places;
+mod row_order;
 mod runs;
+mod vdi_list;
 mod words;
 
 pub use laws::{
