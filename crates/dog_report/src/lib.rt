@@ -23,6 +23,8 @@ mod node_list;
 mod places;
 mod row_order;
 mod runs;
+#[cfg(test)]
+mod tests;
 mod vdi_list;
 mod words;
 
