@@ -85,12 +85,18 @@ impl OneNode {
     }
 }
 
-/// The replies to the requests of a session, one after the other.
-fn replies_to(alloc: Global, asks: &[(u32, &str)]) -> Result<String, Fault> {
+/// The node once it has been asked these requests, one after the other.
+fn asked(alloc: Global, asks: &[(u32, &str)]) -> Result<OneNode, Fault> {
     let mut node = OneNode::new(alloc)?;
     for (req, ask) in asks {
         node.ask(*req, ask)?;
     }
+    Ok(node)
+}
+
+/// What it replies to them.
+fn replies_to(alloc: Global, asks: &[(u32, &str)]) -> Result<String, Fault> {
+    let node = asked(alloc, asks)?;
     Ok(node.replies)
 }
 
@@ -153,20 +159,35 @@ fn written(node: &Node, rsp: &PeerRsp) -> Result<Option<(u32, u32, usize)>, NoMe
     }
 }
 
-// The node has sent five messages before the read that the check waits for.
-#[test]
-fn a_check_comes_to_its_write(rt: HostRuntime) -> Result<(), Fail> {
-    let alloc = rt.alloc();
-    let mut node = OneNode::new(alloc)?;
-    node.ask(1, "vdi create 61 4096 1 12")?;
-    node.ask(2, "vdi open 61 .")?;
-    node.ask(3, "disk write 0 07*512.")?;
-    node.life.step("guest 4 1 vdi check")?;
-    let rsp = PeerRsp {
+/// The node as request 4 checks a disk of one object. It has sent five messages before the read that the check waits for.
+fn checking(alloc: Global) -> Result<Life, Fault> {
+    let node = asked(
+        alloc,
+        &[
+            (1, "vdi create 61 4096 1 12"),
+            (2, "vdi open 61 ."),
+            (3, "disk write 0 07*512."),
+        ],
+    )?;
+    let mut life = node.life;
+    life.step("guest 4 1 vdi check")?;
+    Ok(life)
+}
+
+/// The reply to that read.
+fn object_read(alloc: Global) -> Result<PeerRsp, NoMemory> {
+    Ok(PeerRsp {
         number: 5,
         epoch: Epoch(1),
         say: PeerSay::Piece(Bytes::from_slice(alloc, &[7; 4_096])?),
-    };
-    assert_eq!(rt; written(node.life.node(), &rsp)?, Some((4, 0, 4_096)));
+    })
+}
+
+#[test]
+fn a_check_comes_to_its_write(rt: HostRuntime) -> Result<(), Fail> {
+    let life = checking(rt.alloc())?;
+    let rsp = object_read(rt.alloc())?;
+    let write = written(life.node(), &rsp)?;
+    assert_eq!(rt; write, Some((4, 0, 4_096)));
     Ok(())
 }
