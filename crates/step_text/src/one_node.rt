@@ -2,9 +2,6 @@
 
 use crate::fault::Fault;
 use crate::life::Life;
-use object_id::{Bytes, Epoch, NoMemory};
-use peer_proto::{PeerRsp, PeerSay};
-use sheep_node::Node;
 use std::alloc::Global;
 use std::collections::VecDeque;
 use std::fmt::Write;
@@ -85,18 +82,12 @@ impl OneNode {
     }
 }
 
-/// The node once it has been asked these requests, one after the other.
-fn asked(alloc: Global, asks: &[(u32, &str)]) -> Result<OneNode, Fault> {
+/// The replies to the requests of a session, one after the other.
+fn replies_to(alloc: Global, asks: &[(u32, &str)]) -> Result<String, Fault> {
     let mut node = OneNode::new(alloc)?;
     for (req, ask) in asks {
         node.ask(*req, ask)?;
     }
-    Ok(node)
-}
-
-/// What it replies to them.
-fn replies_to(alloc: Global, asks: &[(u32, &str)]) -> Result<String, Fault> {
-    let node = asked(alloc, asks)?;
     Ok(node.replies)
 }
 
@@ -145,49 +136,5 @@ fn a_disk_is_reserved_made_and_published(rt: HostRuntime) -> Result<(), Fail> {
     node.ask(1, "vdi create 61 512 1 22")?;
     assert_eq!(rt; node.kinds.as_str(), "guest put log request reply put log ");
     assert_eq!(rt; node.replies.as_str(), "1 done;");
-    Ok(())
-}
-
-/// Of which request the write is that a check comes to by a reply, over which object, and how long its value is.
-fn written(node: &Node, rsp: &PeerRsp) -> Result<Option<(u32, u32, usize)>, NoMemory> {
-    if node.spent() {
-        return Ok(None);
-    }
-    match node.check_write_on(rsp)? {
-        Some(write) => Ok(Some((write.req, write.index, write.value.len()))),
-        None => Ok(None),
-    }
-}
-
-/// The node as request 4 checks a disk of one object. It has sent five messages before the read that the check waits for.
-fn checking(alloc: Global) -> Result<Life, Fault> {
-    let node = asked(
-        alloc,
-        &[
-            (1, "vdi create 61 4096 1 12"),
-            (2, "vdi open 61 ."),
-            (3, "disk write 0 07*512."),
-        ],
-    )?;
-    let mut life = node.life;
-    life.step("guest 4 1 vdi check")?;
-    Ok(life)
-}
-
-/// The reply to that read.
-fn object_read(alloc: Global) -> Result<PeerRsp, NoMemory> {
-    Ok(PeerRsp {
-        number: 5,
-        epoch: Epoch(1),
-        say: PeerSay::Piece(Bytes::from_slice(alloc, &[7; 4_096])?),
-    })
-}
-
-#[test]
-fn a_check_comes_to_its_write(rt: HostRuntime) -> Result<(), Fail> {
-    let life = checking(rt.alloc())?;
-    let rsp = object_read(rt.alloc())?;
-    let write = written(life.node(), &rsp)?;
-    assert_eq!(rt; write, Some((4, 0, 4_096)));
     Ok(())
 }
