@@ -11,7 +11,9 @@ use crate::node_list::push_peer;
 use crate::vdi_list::push_vdis;
 use disk_lock::Locks;
 use epoch_log::Log;
-use object_id::{Bytes, Cause, Entry, Epoch, Member, NoMemory, NodeId, Oid, Origin, Policy, VdiSpec, Vid};
+use object_id::{
+    Bytes, Cause, Entry, Epoch, Member, NoMemory, NodeId, Oid, Origin, Policy, VdiSpec, Vid,
+};
 use object_store::{Key, OidList, PlainStore};
 use peer_proto::{Checked, GuestRsp};
 use peer_service::PeerState;
