@@ -212,9 +212,9 @@ fn fresh(alloc: Global) -> PeerState<PlainStore> {
 fn lists_a_node_and_its_rows(rt: HostRuntime) -> Result<(), Fail> {
     let alloc = rt.alloc();
     let mut peer = fresh(alloc);
-    let oid = Oid::object(Vid(0x01_ec8c), 0);
-    for index in [3, 0, 1] {
-        peer.put_row(Key { oid, index }, 512, b"a\0")?;
+    for number in [3, 0, 1] {
+        let oid = Oid::object(Vid(0x01_ec8c), u32::from(number));
+        peer.put_row(Key { oid, index: number }, 512, b"a\0")?;
     }
     let mut text = Vec::new(alloc);
     push_peer(&mut text, 64, &peer)?;
@@ -225,8 +225,8 @@ fn lists_a_node_and_its_rows(rt: HostRuntime) -> Result<(), Fail> {
     text.clear();
     push_stored(alloc, &mut text, NodeId(3), peer.store())?;
     let lines =
-        b"row 3 0001ec8c00000000 0 1 - af63dc4c8601ec8c\nrow 3 0001ec8c00000000 1 1 - af63dc4c8601ec8c\n\
-row 3 0001ec8c00000000 3 1 - af63dc4c8601ec8c\n";
+        b"row 3 0001ec8c00000000 0 1 - af63dc4c8601ec8c\nrow 3 0001ec8c00000001 1 1 - af63dc4c8601ec8c\n\
+row 3 0001ec8c00000003 3 1 - af63dc4c8601ec8c\n";
     assert_eq!(rt; text.as_slice(), lines.as_slice());
     Ok(())
 }
