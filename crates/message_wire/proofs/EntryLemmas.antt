@@ -1,5 +1,5 @@
 -- What a search finds among entries with ascending numbers, what an edit at its place makes of them, and the finite map that they are.
-use Rattle.std.proofs.Common.{◌≡◌, ℕ, zero, suc, ◌<◌, ◌≤◌, Bool, true, false, not, cond, T, Option, List, [], ◌∷◌, length, get_or, set, Some, None, Ordering, Less, Equal, Greater, Result, Ok, Err, MatchResult, refl, sym, ap, ◌∙◌, arith}
+use Rattle.std.proofs.Common.{◌≡◌, ℕ, zero, suc, ◌<◌, ◌≤◌, Bool, true, false, not, cond, T, Option, List, [], ◌∷◌, length, get_or, set, Some, None, Less, Equal, Greater, Result, Ok, Err, MatchResult, refl, sym, ap, ◌∙◌, arith}
 use Rattle.std.specs.Ordering.{nat_cmp, eq_by_cmp, is_eq, is_lt, ordering_index}
 use Rattle.std.specs.List.{insert, remove}
 use Rattle.std.specs.List.Sorted.{IsSearchInRange, IsBinarySearchResult, IsNonDecreasingBy}
@@ -65,7 +65,7 @@ module _ {V : Type 0} where
   abbrev without : ℕ → List (ℕ × V) → List (ℕ × V)
   without k es = where_key nat_cmp (λ other. not (eq_by_cmp nat_cmp k other)) es
 
-  without-beyond : (k x : ℕ) (es : List (ℕ × V)) → T (below_all nat_cmp x es) → k ≤ x → without k es ≡ es
+  pub without-beyond : (k x : ℕ) (es : List (ℕ × V)) → T (below_all nat_cmp x es) → k ≤ x → without k es ≡ es
   without-beyond k x [] below most = refl
   without-beyond k x (e ∷ es) below most =
       let above = first_below x e es below in

@@ -1,5 +1,5 @@
 -- The order of the names of messages.
-use Rattle.std.proofs.Common.{◌≡◌, ℕ, Bool, true, false, ◌&&◌, Ordering, Less, Equal, Greater, refl, ap}
+use Rattle.std.proofs.Common.{◌≡◌, ℕ, ◌&&◌, Ordering, Less, Equal, Greater, refl, ap}
 use Rattle.std.specs.Ordering.{ordering_then, nat_cmp, is_eq}
 use Rattle.std.specs.Cmp.{IsTotalOrder, then_total, on_total, nat_cmp_total}
 use Rattle.std.proofs.lemmas.Cmp.{tied_itself}

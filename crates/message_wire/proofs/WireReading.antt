@@ -1,17 +1,18 @@
 -- The messages of the wire by sender are the messages of each sender; and a test of the messages, sender by sender.
-use Rattle.std.proofs.Common.{◌≡◌, ℕ, ◌||◌, Bool, cond, T, List, [], ◌∷◌, ◌++◌, length, map, Option, Some, None, unwrap_or, refl, sym, ap, ◌∙◌, arith}
+use Rattle.std.proofs.Common.{◌≡◌, ℕ, zero, suc, ◌<◌, ◌==◌, ◌&&◌, ◌||◌, Bool, true, cond, T, List, [], ◌∷◌, ◌++◌, length, map, Option, Some, None, unwrap_or, refl, sym, ap, subst, ◌∙◌, arith}
 use Rattle.std.specs.Ordering.{nat_cmp}
-use Rattle.std.specs.List.{AllByRecursion, list_any, slice_get}
+use Rattle.std.specs.List.{AllByRecursion, list_any, list_all, slice_get}
 use Rattle.std.specs.Option.{option_map, option_and_then}
 use Rattle.std.specs.FinMap as tree
 use Rattle.std.specs.FinMap.Entries.{below_all, is_sorted}
 use Rattle.std.proofs.lemmas.Bool.{eq-eqb, ne_eqb}
 use Rattle.std.proofs.lemmas.List.{length-map}
-use Rattle.std.proofs.lemmas.List.Folds.{list_any-append}
+use Rattle.std.proofs.lemmas.List.Folds.{list_any-append, list_all-map}
 use Rattle.std.proofs.lemmas.Option.{slice_get-map}
+use Rattle.object_id.specs.declared.node.NodeId.{NodeId}
 use Rattle.message_wire.specs.declared.name.MessageName.{MessageName}
 use Rattle.message_wire.specs.declared.packet.Packet.{Packet}
-use Rattle.message_wire.specs.Message.{with_first_message, messages_by_sender}
+use Rattle.message_wire.specs.Message.{with_first_message, messages_by_sender, first_sender}
 use Rattle.message_wire.specs.Senders.{Messages, named_entries, all_entries, wire_of, AreSenders}
 use Rattle.message_wire.proofs.EntryLemmas.{sorted-first, sorted-rest, first_below}
 use Rattle.message_wire.proofs.WholeWire.{named, entries-wire}
@@ -115,3 +116,49 @@ pub message-none : (sender place : ℕ) (senders : List (ℕ × Messages)) → A
     → option_and_then (λ (part : List (MessageName × Packet)). slice_get part place) (slice_get (messages_by_sender (tree.entries (wire_of senders))) sender) ≡ None
 message-none sender place senders are is =
     ap (option_and_then (λ (part : List (MessageName × Packet)). slice_get part place)) (place-none sender senders are is)
+
+-- a test of all messages of the sender at a place
+module _ (test : MessageName × Packet → Bool) (place : ℕ) (senders : List (ℕ × Messages)) (are : AreSenders senders) where
+  pub all-some : (own : ℕ × Messages) → slice_get senders place ≡ Some own
+      → list_all test (unwrap_or (slice_get (messages_by_sender (tree.entries (wire_of senders))) place) [])
+      ≡ list_all (λ (e : ℕ × Packet). test (named own.0 e)) (tree.entries own.1)
+  all-some own is =
+      ap (λ (part : Option (List (MessageName × Packet))). list_all test (unwrap_or part [])) (place-some place own senders are is)
+      ∙ list_all-map test (named own.0) (tree.entries own.1)
+
+  pub all-none : slice_get senders place ≡ None
+      → list_all test (unwrap_or (slice_get (messages_by_sender (tree.entries (wire_of senders))) place) []) ≡ true
+  all-none is = ap (λ (part : Option (List (MessageName × Packet))). list_all test (unwrap_or part [])) (place-none place senders are is)
+
+-- the sender at a place has a message
+has-message : (place : ℕ) (own : ℕ × Messages) (senders : List (ℕ × Messages)) → AllByRecursion HasMessages senders
+    → slice_get senders place ≡ Some own → 0 < tree.len own.1
+has-message place own [] all is = absurd (cc (is))
+has-message zero own (first ∷ later) all is = subst (λ (o : Option (ℕ × Messages)). 0 < tree.len (unwrap_or o own).1) is all.0
+has-message (suc place) own (first ∷ later) all is = has-message place own later all.1 is
+
+-- the node of a number
+abbrev node_numbered : ℕ → NodeId
+node_numbered number = record { 0 = number }
+
+-- the sender at a place
+pub sender-some : (place : ℕ) (own : ℕ × Messages) (senders : List (ℕ × Messages)) → AreSenders senders → slice_get senders place ≡ Some own
+    → option_map first_sender (slice_get (messages_by_sender (tree.entries (wire_of senders))) place) ≡ Some (node_numbered own.0)
+sender-some place own senders are is =
+    ap (option_map first_sender) (place-some place own senders are is)
+    ∙ by_messages (tree.entries own.1) (sym (tree.len-entries own.1))
+  where
+    by_messages : (es : List (ℕ × Packet)) → length es ≡ tree.len own.1
+        → Some (first_sender (map (named own.0) es)) ≡ Some (node_numbered own.0)
+    by_messages [] none = absurd (let some = has-message place own senders are.1 is in omega (arith, none, some))
+    by_messages (e ∷ es) some = refl
+
+sender-own : (s : ℕ) (es : List (ℕ × Packet)) → list_all (λ (e : ℕ × Packet). (named s e).0.sender.0 == s) es ≡ true
+sender-own s [] = refl
+sender-own s (e ∷ es) = ap (λ (b : Bool). b && list_all (λ (f : ℕ × Packet). (named s f).0.sender.0 == s) es) (eq-eqb s s refl) ∙ sender-own s es
+
+pub sender-each : (place : ℕ) (own : ℕ × Messages) (senders : List (ℕ × Messages)) → AreSenders senders → slice_get senders place ≡ Some own
+    → list_all (λ (found : MessageName × Packet). found.0.sender.0 == own.0)
+    (unwrap_or (slice_get (messages_by_sender (tree.entries (wire_of senders))) place) []) ≡ true
+sender-each place own senders are is =
+    all-some (λ (found : MessageName × Packet). found.0.sender.0 == own.0) place senders are own is ∙ sender-own own.0 (tree.entries own.1)

@@ -1,3 +1,4 @@
 pub mod Message
 pub mod Entries
 pub mod Senders
+pub mod NodeSet

@@ -1,5 +1,5 @@
 -- The messages in the wire: the order of their names, their ends, and the wire by sender and without the replies to a node.
-use Rattle.std.specs.Prelude.{ℕ, ◌==◌, Bool, true, false, not, ◌&&◌, List, [], ◌∷◌, Option, Some, None, if◌then◌else◌}
+use Rattle.std.specs.Prelude.{ℕ, ◌==◌, Bool, true, false, not, List, [], ◌∷◌, Option, Some, None, if◌then◌else◌}
 use Rattle.std.specs.Ordering.{ordering_then, nat_cmp}
 use Rattle.std.specs.declared.cmp.Ordering.{Ordering}
 use Rattle.std.specs.List.{list_any}
@@ -61,3 +61,8 @@ with_first_message found ((next ∷ same) ∷ later) =
 abbrev pub messages_by_sender : List (MessageName × Packet) → List (List (MessageName × Packet))
 messages_by_sender [] = []
 messages_by_sender (found ∷ later) = with_first_message found (messages_by_sender later)
+
+-- the sender of a part's first message, and so of each
+abbrev pub first_sender : List (MessageName × Packet) → NodeId
+first_sender [] = record { 0 = 0 }
+first_sender (found ∷ later) = found.0.sender

@@ -1,22 +1,27 @@
-ghost use Rattle.std.specs.Prelude.{◌≡◌, ℕ, OnOk, OnErr, slice_get};
-ghost use Rattle.std.specs.List.{list_any};
-ghost use Rattle.std.specs.Option.{option_copied};
+ghost use Rattle.std.specs.Prelude.{◌≡◌, ℕ, T, OnOk, OnErr, slice_get};
+ghost use Rattle.std.specs.Ordering.{nat_cmp};
+ghost use Rattle.std.specs.List.{list_any, list_all};
+ghost use Rattle.std.specs.Option.{option_copied, option_map};
 ghost use Rattle.std.specs.FinMap as tree;
 ghost use Rattle.message_wire.specs.declared.packet.Packet.{Packet as ThePacket};
-ghost use Rattle.message_wire.specs.Message.{has_end, is_reply, message_name};
+ghost use Rattle.message_wire.specs.Message.{asked_node, has_end, is_reply, message_name};
+ghost use Rattle.message_wire.specs.NodeSet.{contains_node};
 ghost use Rattle.message_wire.specs.Senders.{requests_among};
 
+use crate::end_counts::{EndCounts, count_ends};
 use crate::entries::{entry_at, put, take, value_at};
 use crate::name::MessageName;
+use crate::node_set::NodeSet;
 use crate::packet::Packet;
 use object_id::{NoMemory, NodeId};
 use std::alloc::Global;
 use std::marker::Model;
 
-/// The messages of one sender, by number. Contracts see the finite map.
+/// The messages of one sender, by number, and how many of them ask each node. Contracts see the finite map.
 #[derive(Drop)]
 pub(crate) struct SenderMessages {
     messages: Vec<(u32, Packet)>,
+    ends: EndCounts,
 }
 
 impl Model for SenderMessages {
@@ -25,6 +30,7 @@ impl Model for SenderMessages {
     ghost use Rattle.std.specs.FinMap as tree;
     ghost use Rattle.std.specs.Ordering.{nat_cmp};
     ghost use Rattle.message_wire.specs.declared.packet.Packet.{Packet};
+    ghost use Rattle.message_wire.specs.NodeSet.{AreEndCounts};
 
     ghost Value = { tree.FinMap nat_cmp Packet };
 
@@ -32,7 +38,7 @@ impl Model for SenderMessages {
 
     ghost view = { λ own. tree.from_sorted own.messages.items };
 
-    ghost invariant = { λ own. T (tree.is_sorted nat_cmp own.messages.items) };
+    ghost invariant = { λ own. T (tree.is_sorted nat_cmp own.messages.items) × AreEndCounts own.messages.items own.ends };
 }
 
 impl SenderMessages {
@@ -41,6 +47,7 @@ impl SenderMessages {
     {
         SenderMessages {
             messages: Vec::new(alloc),
+            ends: EndCounts::new(),
         }
     }
 
@@ -67,14 +74,21 @@ impl SenderMessages {
         ensures ok { OnOk result (self.new ≡ tree.insert self.old number packet) }
         ensures err { OnErr result (self.new ≡ self.old) }
     {
-        put(&mut self.messages, number, packet)
+        let asked = packet.asked_node();
+        let replaced = asked_at(self.messages.as_slice(), number);
+        put(&mut self.messages, number, packet)?;
+        self.ends.subtract_if_any(replaced);
+        self.ends.add(asked);
+        Ok(())
     }
 
     pub fn take(&mut self, number: u32) -> Option<Packet>
         ensures value { result ≡ tree.get self.old number }
         ensures others { self.new ≡ tree.remove self.old number }
     {
-        take(&mut self.messages, number)
+        let packet = take(&mut self.messages, number)?;
+        self.ends.subtract(packet.asked_node());
+        Some(packet)
     }
 
     /// Drops the replies to the sender.
@@ -82,6 +96,14 @@ impl SenderMessages {
         ensures { self.new ≡ requests_among sender self.old }
     {
         self.messages.retain(|message| !message.1.is_reply());
+        self.ends = count_ends(self.messages.as_slice());
+    }
+
+    /// Whether all nodes that the messages ask are in a set. Costs nothing.
+    pub fn are_ends_within(&self, nodes: NodeSet) -> bool
+        ensures { result ≡ list_all (λ (message : ℕ × ThePacket). contains_node (asked_node message.1).0 nodes) (tree.entries self.now) }
+    {
+        self.ends.are_within(nodes)
     }
 
     /// Whether a node is an end of one of the messages of this sender.
@@ -90,6 +112,17 @@ impl SenderMessages {
             (tree.entries self.now) }
     {
         any_has_end(self.messages.as_slice(), sender, node)
+    }
+}
+
+/// The node that the message of a number asks.
+fn asked_at(messages: &[(u32, Packet)], number: u32) -> Option<NodeId>
+    requires { T (tree.is_sorted nat_cmp messages.now) }
+    ensures { result ≡ option_map asked_node (tree.find nat_cmp number messages.now) }
+{
+    match value_at(messages, number) {
+        Some(packet) => Some(packet.asked_node()),
+        None => None,
     }
 }
 

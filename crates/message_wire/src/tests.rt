@@ -61,3 +61,34 @@ fn keeps_messages_by_sender_and_number(rt: HostRuntime) -> Result<(), Fail> {
     assert_eq!(rt; (wire.sender_count(), wire.count_at(0)), (1, 1));
     Ok(())
 }
+
+// A set that takes 64 as 0, or a count that a message leaves behind, would meet a contract that only says what `true` means.
+#[test]
+fn knows_whether_the_ends_are_within_a_set(rt: HostRuntime) -> Result<(), Fail> {
+    let alloc = rt.alloc();
+    let mut wire = Wire::new(alloc);
+    for (number, to) in [(1, 0), (2, 63), (3, 0), (4, 64)] {
+        wire.put(name(5, number), request(alloc, to))?;
+    }
+    let mut nodes = NodeSet::new();
+    assert!(rt; nodes.insert(NodeId(0)) && nodes.insert(NodeId(63)) && !nodes.insert(NodeId(64)));
+    assert!(rt;
+        nodes.contains(NodeId(63)) && !nodes.contains(NodeId(64)) && !nodes.contains(NodeId(1))
+    );
+    assert!(rt; wire.sender_at(0) == Some(NodeId(5)) && wire.sender_at(1).is_none());
+    assert!(rt; !wire.are_ends_within(0, nodes) && wire.are_ends_within(1, nodes));
+
+    assert!(rt; wire.take(name(5, 4)).is_some() && wire.are_ends_within(0, nodes));
+    nodes.remove(NodeId(0));
+    assert!(rt; wire.take(name(5, 1)).is_some() && !wire.are_ends_within(0, nodes));
+    wire.put(name(5, 3), reply(alloc, 63))?;
+    assert!(rt; wire.are_ends_within(0, nodes));
+    nodes.remove(NodeId(63));
+    assert!(rt; !wire.are_ends_within(0, nodes));
+    wire.put(name(5, 2), reply(alloc, 0))?;
+    wire.put(name(5, 6), request(alloc, 9))?;
+    wire.drop_replies_to(NodeId(5));
+    nodes.insert(NodeId(9));
+    assert!(rt; wire.are_ends_within(0, nodes) && wire.count_at(0) == 1);
+    Ok(())
+}

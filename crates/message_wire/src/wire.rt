@@ -1,13 +1,15 @@
-ghost use Rattle.std.specs.Prelude.{◌≡◌, ℕ, List, [], length, unwrap_or, slice_get, OnOk, OnErr};
-ghost use Rattle.std.specs.List.{list_any};
-ghost use Rattle.std.specs.Option.{option_map, option_and_then, option_copied};
+ghost use Rattle.std.specs.Prelude.{◌≡◌, ◌==◌, ℕ, true, List, [], length, unwrap_or, slice_get, OnOk, OnErr};
+ghost use Rattle.std.specs.List.{list_any, list_all};
+ghost use Rattle.std.specs.Option.{option_map, option_and_then, option_copied, IfSome};
 ghost use Rattle.std.specs.FinMap as tree;
 ghost use Rattle.message_wire.specs.declared.name.MessageName.{MessageName as TheName};
 ghost use Rattle.message_wire.specs.declared.packet.Packet.{Packet as ThePacket};
-ghost use Rattle.message_wire.specs.Message.{has_end, without_replies, messages_by_sender};
+ghost use Rattle.message_wire.specs.Message.{asked_node, has_end, without_replies, messages_by_sender, first_sender};
+ghost use Rattle.message_wire.specs.NodeSet.{contains_node};
 
 use crate::entries::entry_at;
 use crate::name::MessageName;
+use crate::node_set::NodeSet;
 use crate::packet::Packet;
 use crate::sender_messages::{SenderMessages, message_name};
 use crate::senders;
@@ -55,7 +57,7 @@ impl Wire {
         senders::message_of(self.by_sender.as_slice(), name)
     }
 
-    /// A message enters the wire, in the place of one of the same name. Costs a look-up, and a move of the messages of its sender with
+    /// A message enters the wire, in the place of one of the same name. Costs a few look-ups, and a move of the messages of its sender with
     /// greater numbers. Without memory the wire stays.
     pub fn put(&mut self, name: MessageName, packet: Packet) -> Result<(), NoMemory>
         ensures ok { OnOk result (self.new ≡ tree.insert self.old name packet) }
@@ -100,6 +102,30 @@ impl Wire {
         match entry_at(self.by_sender.as_slice(), sender) {
             Some(own) => own.1.len(),
             None => 0,
+        }
+    }
+
+    /// The sender at a place, in the order of the senders: each of the messages there is its. Costs nothing.
+    pub fn sender_at(&self, sender: usize) -> Option<NodeId>
+        ensures first { result ≡ option_map first_sender (slice_get (messages_by_sender (tree.entries self.now)) sender) }
+        ensures each { IfSome result (λ node. list_all (λ (found : TheName × ThePacket). found.0.sender.0 == node.0)
+            (unwrap_or (slice_get (messages_by_sender (tree.entries self.now)) sender) []) ≡ true) }
+    {
+        match entry_at(self.by_sender.as_slice(), sender) {
+            Some(own) => Some(NodeId(own.0)),
+            None => None,
+        }
+    }
+
+    /// Whether all nodes that the messages of the sender at a place ask are in a set, which none of 64 or more is; so it is past the
+    /// last. Costs nothing.
+    pub fn are_ends_within(&self, sender: usize, nodes: NodeSet) -> bool
+        ensures { result ≡ list_all (λ (found : TheName × ThePacket). contains_node (asked_node found.1).0 nodes)
+            (unwrap_or (slice_get (messages_by_sender (tree.entries self.now)) sender) []) }
+    {
+        match entry_at(self.by_sender.as_slice(), sender) {
+            Some(own) => own.1.are_ends_within(nodes),
+            None => true,
         }
     }
 

@@ -1,5 +1,4 @@
 use Rattle.std.proofs.Common.{◌==◌, not, ap, sym, ◌∙◌}
-use Rattle.std.specs.Ordering.{nat_cmp}
 use Rattle.std.specs.Option.{option_copied}
 use Rattle.std.specs.FinMap as tree
 use Rattle.message_wire.proofs.SenderEdits.{messages-some, messages-none}

@@ -6,5 +6,5 @@ use Rattle.message_wire.proofs.sender_messages.SenderMessages.at.Goals as goal
 pub returns : goal.returns
 returns c =
     c.entry_at.ensures ∙ ap (λ es. slice_get es c.args.place) c.as_slice.ensures.value
-    ∙ ap (λ es. slice_get es c.args.place) (sym (tree.entries-from_sorted nat_cmp c.self.inside.messages.items c.self.invariant))
+    ∙ ap (λ es. slice_get es c.args.place) (sym (tree.entries-from_sorted nat_cmp c.self.inside.messages.items c.self.invariant.0))
     ∙ ap (λ own. slice_get (tree.entries own) c.args.place) c.self.view_is

@@ -1,4 +1,4 @@
-use Rattle.std.proofs.Common.{[], Some, None, length, slice_get, unwrap_or, ap, sym, ◌∙◌}
+use Rattle.std.proofs.Common.{[], length, slice_get, unwrap_or, ap, sym, ◌∙◌}
 use Rattle.std.specs.Option.{option_copied}
 use Rattle.std.specs.FinMap as tree
 use Rattle.message_wire.specs.Message.{messages_by_sender}

@@ -1,4 +1,4 @@
-use Rattle.std.proofs.Common.{ℕ, List, Some, slice_get, ap, sym, ◌∙◌}
+use Rattle.std.proofs.Common.{List, Some, slice_get, ap, sym, ◌∙◌}
 use Rattle.std.specs.Option.{option_copied, option_map, option_and_then}
 use Rattle.std.specs.FinMap as tree
 use Rattle.message_wire.specs.declared.name.MessageName.{MessageName}
