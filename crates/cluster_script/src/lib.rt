@@ -58,10 +58,3 @@ pub use laws::{
 pub use one_disk_script::{OneDiskScript, parse_one_disk};
 pub use script::{Script, parse};
 pub use statement::{Pattern, Statement};
-
-#[cfg(test)]
-mod index_tests;
-#[cfg(test)]
-mod one_disk_tests;
-#[cfg(test)]
-mod tests;

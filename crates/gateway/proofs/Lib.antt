@@ -13,7 +13,6 @@ pub mod PartLaws
 pub mod WorkedCases
 pub mod MapLaws
 pub mod FailureLaws
-mod WaitingWork
 pub mod DoneWorks
 mod BeginningLemmas
 pub mod LengthLaws

@@ -21,8 +21,6 @@ mod messages;
 mod open_work;
 mod outcome;
 mod stage;
-#[cfg(test)]
-mod tests;
 mod touched;
 mod works;
 

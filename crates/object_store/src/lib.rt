@@ -19,8 +19,6 @@ mod row;
 mod row_bytes;
 mod row_store;
 mod store;
-#[cfg(test)]
-mod tests;
 
 pub use fault::StoreFault;
 pub use key::Key;

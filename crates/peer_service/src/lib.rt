@@ -19,8 +19,6 @@ mod log_reading;
 mod peer_state;
 mod recovering;
 mod serving;
-#[cfg(test)]
-mod tests;
 
 pub use laws::{
     a_peer_worked_out, conditions_are_tests, entering_drops_no_row, lists_and_rows_are_always_told,

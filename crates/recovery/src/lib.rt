@@ -23,8 +23,6 @@ mod replies;
 mod rows;
 mod search;
 mod sends;
-#[cfg(test)]
-mod tests;
 mod ticks;
 
 pub use laws::{

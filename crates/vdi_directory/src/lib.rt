@@ -30,8 +30,6 @@ mod references;
 mod reservations;
 mod reserving;
 mod tags;
-#[cfg(test)]
-mod tests;
 mod used_ids;
 mod vid_range;
 

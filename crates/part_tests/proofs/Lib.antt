@@ -1,0 +1,2 @@
+mod TrialLemmas
+mod SoleWorkLemmas

@@ -1,0 +1,13 @@
+//! Tests of the parts of a node: of `recovery`, what recoveries come to that were worked out apart from this program; of `peer_service`,
+//! what a peer answers, and what the log and coming back make of its rows; and of `gateway`, how works begin, go on and end.
+//!
+//! A crate with tests is proved twice, once as a library and once more with them. These tests use public calls alone, so they stand
+//! here, above the crates that they test: the proofs of those are done once, and here only those of the test functions.
+#![tactic(auto)]
+
+#[cfg(test)]
+mod gateways;
+#[cfg(test)]
+mod peers;
+#[cfg(test)]
+mod recoveries;

@@ -1,5 +1,0 @@
-use Rattle.epoch_log.specs.Tally.{IsTally}
-use Rattle.peer_service.proofs.tests.entries.logged.Given as goal
-
-abbrev pub invariant-loop-next : goal.invariant-loop-next
-invariant-loop-next l = IsTally l.log l.tally

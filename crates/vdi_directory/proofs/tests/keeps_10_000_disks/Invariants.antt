@@ -1,6 +1,0 @@
-use Rattle.vdi_directory.specs.Decisions.{log_effects}
-use Rattle.vdi_directory.specs.DirectoryState.{AreLocks}
-use Rattle.vdi_directory.proofs.tests.keeps_10_000_disks.Given as goal
-
-abbrev pub invariant-loop-disk : goal.invariant-loop-disk
-invariant-loop-disk g l = AreLocks (log_effects l.directory) l.locks

@@ -1,6 +1,0 @@
-use Rattle.vdi_directory.specs.Decisions.{log_effects}
-use Rattle.vdi_directory.specs.DirectoryState.{AreLocks}
-use Rattle.vdi_directory.proofs.tests.read_words.Given as goal
-
-abbrev pub invariant-loop-word : goal.invariant-loop-word
-invariant-loop-word l = AreLocks (log_effects l.directory) l.locks
