@@ -20,7 +20,7 @@ abbrev pub joined : {X : Type 0} → List (List X) → List X
 joined {X} parts = flat_map (λ (part : List X). part) parts
 
 module _ {X Y : Type 0} (f : X → List Y) where
-  joined-map : (xs : List X) → joined (map f xs) ≡ flat_map f xs
+  pub joined-map : (xs : List X) → joined (map f xs) ≡ flat_map f xs
   joined-map [] = refl
   joined-map (x ∷ xs) = ap (λ (ys : List Y). f x ++ ys) (joined-map xs)
 
@@ -82,7 +82,7 @@ module _ (statements : List Statement) (world : World) where
   abbrev of_control : List Event
   of_control = option_map_or control_event (next_control world) []
 
-  messages-joined : joined of_messages ≡ flat_map message_events (tree.entries world.wire)
+  pub messages-joined : joined of_messages ≡ flat_map message_events (tree.entries world.wire)
   messages-joined =
       joined-map_flat message_events (messages_by_sender (tree.entries world.wire))
       ∙ ap (flat_map message_events) (joined-by_sender (tree.entries world.wire))

@@ -45,10 +45,17 @@ pub mod RangeBySteps
 pub mod RangeAtEvents
 pub mod TogetherInRuns
 pub mod EnabledParts
+pub mod EnabledPlaces
+pub mod SessionEvents
 pub mod EventEffects
 mod ClientLaws
 mod ScriptLookUps
 mod HistoryBlocks
+mod CheckHistory
+pub mod DeliveredHistory
+pub mod StepHistories
+pub mod GuestHistories
+pub mod LostMessages
 pub mod GrantedAdds
 pub mod StepsInParts
 pub mod RepliesInParts
@@ -58,3 +65,5 @@ pub mod TakenValues
 pub mod Deliveries
 pub mod MadeDeliveries
 pub mod GuestRequests
+pub mod OpeningNodes
+pub mod MadeWorlds

@@ -1,5 +1,5 @@
 -- The parts in which the code tells what the replies of a step add are what the definition says.
-use Rattle.std.proofs.Common.{◌≡◌, ℕ, ◌==◌, Bool, true, false, cond, ◌&&◌, ◌||◌, List, [], ◌∷◌, map, Contains, Option, Some, None}
+use Rattle.std.proofs.Common.{◌≡◌, ℕ, ◌==◌, Bool, true, false, cond, ◌&&◌, ◌||◌, List, [], ◌∷◌, ◌++◌, map, Contains, Option, Some, None}
 use Rattle.std.proofs.Common.{inl, inr, refl, sym, ap, ◌∙◌}
 use Rattle.std.specs.Prelude.{is_some, find, flat_map, unwrap_or}
 use Rattle.std.specs.List.{list_any}
@@ -26,7 +26,7 @@ use Rattle.sheep_world.specs.Asking.{session_asking}
 use Rattle.sheep_world.specs.HistoryAdditions.{is_started_request, started_at, disk_of, reply_adds, added_by, is_write_of}
 use Rattle.sheep_world.specs.HistoryAdditions.{has_begun_check_write, reply_grown}
 use Rattle.sheep_world.specs.RepliesInParts.{is_check_request, checks_among, checks_of_session, unanswered_checks, is_written_check}
-use Rattle.sheep_world.specs.RepliesInParts.{written_checks, is_writing_check, reply_events, AreRepliesGrown}
+use Rattle.sheep_world.specs.RepliesInParts.{written_checks, is_writing_check, reply_events, AreRepliesAdded}
 
 -- ---- the checks that have come to a write
 
@@ -157,17 +157,18 @@ reply-grown statements world made reply =
     ∙ ap (λ b. is_written_check statements world reply.0 || b) (write-request reply.0 made))
 
 -- what the replies of a step add, once it is known which checks had come to a write before it
-pub replies-grown : (statements : List Statement) (before after : World) (guests : tree.FinMap nat_cmp SessionProgress) (written : List ℕ)
-    (write : Option ℕ) (replies : List (ℕ × GuestRsp)) (events : List HistEvent)
+pub replies-added : (statements : List Statement) (before after : World) (guests : tree.FinMap nat_cmp SessionProgress) (written : List ℕ)
+    (write : Option ℕ) (replies : List (ℕ × GuestRsp)) (earlier events : List HistEvent)
     → guests ≡ before.guests → written ≡ written_checks statements before → replies ≡ after.outputs.replies
-    → events ≡ flat_map (reply_events statements guests written write) replies
-    → AreRepliesGrown statements before write after events
-replies-grown statements before after guests written write replies events asked checks given is made of =
+    → events ≡ earlier ++ flat_map (reply_events statements guests written write) replies
+    → AreRepliesAdded statements before write after earlier events
+replies-added statements before after guests written write replies earlier events asked checks given is made of =
     let told : tree.FinMap nat_cmp SessionProgress → List ℕ → Option ℕ → List (ℕ × GuestRsp) → List HistEvent =
-    λ guests written write replies. flat_map (reply_events statements guests written write) replies in
+    λ guests written write replies. earlier ++ flat_map (reply_events statements guests written write) replies in
     is
     ∙ ap (λ guests. told guests written write replies) asked
     ∙ ap (λ written. told before.guests written write replies) checks
     ∙ ap (λ write. told before.guests (written_checks statements before) write replies) (sym of)
     ∙ ap (told before.guests (written_checks statements before) (option_map (λ (made : CheckWrite). made.req) made)) given
-    ∙ ap (λ (f : ℕ × GuestRsp → List HistEvent). flat_map f after.outputs.replies) (λ i reply. reply-grown statements before made reply i)
+    ∙ ap (λ (f : ℕ × GuestRsp → List HistEvent). earlier ++ flat_map f after.outputs.replies)
+    (λ i reply. reply-grown statements before made reply i)

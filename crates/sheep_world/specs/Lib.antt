@@ -12,6 +12,7 @@ pub mod Granted
 pub mod Step
 pub mod Run
 pub mod Enabled
+pub mod EnabledPlaces
 pub mod ClientSteps
 pub mod RunsWithAsks
 pub mod Incarnations
@@ -32,6 +33,9 @@ pub mod LogHolds
 pub mod HoldsTogether
 pub mod Controls
 pub mod StepsInParts
+pub mod GuestInParts
 pub mod RepliesInParts
 pub mod LossInParts
 pub mod Deliveries
+pub mod SpentWorld
+pub mod MadeWorlds

@@ -1,6 +1,6 @@
 -- What the replies of a step add to the history, in the parts in which the code makes it. Which checks have come to a write is told
 -- before the step, since a step may end them.
-use Rattle.std.specs.Prelude.{◌≡◌, ℕ, ◌==◌, Bool, false, ◌||◌, List, map, flat_map, filter, find, Option, unwrap_or}
+use Rattle.std.specs.Prelude.{◌≡◌, ℕ, ◌==◌, Bool, false, ◌||◌, List, ◌++◌, map, flat_map, filter, find, Option, unwrap_or}
 use Rattle.std.specs.List.{list_any}
 use Rattle.std.specs.Option.{option_map, option_map_or, option_and_then}
 use Rattle.std.specs.Ordering.{nat_cmp}
@@ -62,8 +62,8 @@ abbrev pub reply_events : List Statement → tree.FinMap nat_cmp SessionProgress
 reply_events statements guests written write reply =
     added_by (is_writing_check written write reply.0) reply.0 reply.1 (disk_began statements reply.0 guests) (request_at statements reply.0)
 
--- these are what the replies of a step add, whichever write the check of this request comes to by it
-abbrev pub AreRepliesGrown : List Statement → World → Option ℕ → World → List HistEvent → Type 0
-AreRepliesGrown statements before write after events =
+-- these are the events before, and behind them what the replies of a step add, whichever write the check of this request comes to by it
+abbrev pub AreRepliesAdded : List Statement → World → Option ℕ → World → List HistEvent → List HistEvent → Type 0
+AreRepliesAdded statements before write after earlier events =
     (made : Option CheckWrite) → option_map (λ (made : CheckWrite). made.req) made ≡ write
-    → events ≡ replies_grown statements before made after
+    → events ≡ earlier ++ replies_grown statements before made after

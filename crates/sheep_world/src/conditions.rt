@@ -208,7 +208,8 @@ impl WorldState {
             && !self.wire.has_end(NodeId(node))
     }
 
-    fn may_end_phase(&self, script: &Script) -> bool
+    /// Whether a phase isn't ended.
+    pub fn may_end_phase(&self, script: &Script) -> bool
         ensures { result ≡ may_end_phase script.now self.now }
     {
         self.phase < script.phase_count()

@@ -66,7 +66,8 @@ pub(crate) fn with_controls_of(
     script: &Script,
     phase: usize,
 ) -> Result<VecDeque<Control>, NoMemory>
-    ensures { IfOk result (λ after. map control_statement after.items ≡ map control_statement controls.items ++ controls_at script.now phase) }
+    ensures { IfOk result (λ after.
+        map control_statement after.items ≡ map control_statement controls.items ++ controls_at script.now phase) }
 {
     let mut controls = controls;
     let Some(found) = script.phase(phase) else {

@@ -17,10 +17,10 @@ use peer_proto::GuestRsp;
 use std::alloc::Global;
 
 /// A block's length, as lengths of bytes are counted.
-const BLOCK: usize = BLOCK_BYTES as usize;
+pub(crate) const BLOCK: usize = BLOCK_BYTES as usize;
 
 /// A copy of a block's part of bytes, by its place among them.
-fn block_in(alloc: Global, bytes: &[u8], place: usize) -> Result<Bytes, NoMemory>
+pub(crate) fn block_in(alloc: Global, bytes: &[u8], place: usize) -> Result<Bytes, NoMemory>
     requires { place < length bytes.now / BLOCK_BYTES }
     ensures { IfOk result (λ block. block ≡ block_in bytes.now place) }
 {
@@ -28,7 +28,7 @@ fn block_in(alloc: Global, bytes: &[u8], place: usize) -> Result<Bytes, NoMemory
 }
 
 /// Whether the targets of a disk's data objects keep strips of them.
-fn is_in_strips(policy: Policy) -> bool
+pub(crate) fn is_in_strips(policy: Policy) -> bool
     ensures { result ≡ is_in_strips policy Block }
 {
     matches!(policy, Policy::Coded { .. })

@@ -1,6 +1,6 @@
 //! The hosts of the cluster.
 
-ghost use Rattle.std.specs.Prelude.{◌≡◌, OnOk};
+ghost use Rattle.std.specs.Prelude.{◌≡◌, slice_get, OnOk};
 ghost use Rattle.std.specs.Option.{option_copied};
 ghost use Rattle.std.specs.FinMap as tree;
 
@@ -8,6 +8,7 @@ use crate::host::Host;
 use object_id::NoMemory;
 use std::alloc::Global;
 use std::collections::BTreeMap;
+use std::collections::btree_map::Keys;
 use std::marker::Model;
 
 /// The hosts by the numbers of their nodes. Contracts see the finite map.
@@ -57,6 +58,27 @@ impl Hosts {
         ensures { option_copied result ≡ tree.get self.now node }
     {
         self.by_number.get(&node)
+    }
+
+    /// The numbers of the nodes that have hosts, ascending. Costs nothing.
+    pub fn numbers(&self) -> Keys<'_, u32, Host>
+        ensures { result ≡ tree.keys self.now }
+    {
+        self.by_number.keys()
+    }
+
+    /// The number at a place, from 0, ascending; none past the last. Passes over those before it.
+    pub fn number_at(&self, place: usize) -> Option<u32>
+        ensures { result ≡ slice_get (tree.keys self.now) place }
+    {
+        let mut left = place;
+        for number in self.numbers() {
+            if left == 0 {
+                return Some(*number);
+            }
+            left -= 1;
+        }
+        None
     }
 
     /// The host of a node, which is no more among the others. Costs a look-up.

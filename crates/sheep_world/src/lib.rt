@@ -1,7 +1,10 @@
 //! The cluster as a whole: nodes, log, wire, sessions and the phases of a script, and each event that may happen.
 //!
-//! The crate stands on `sheep_node`, `message_wire`, `cluster_script` and `disk_history`. Here stand the faults of applying
-//! an event as a type, and as definitions all that may happen to a cluster: what a world is (`specs/World.antt`) and which
+//! [`World`] is opened by a script, makes events one after another ([`World::apply`]), and says which may happen ([`World::enabled_count`],
+//! [`enabled`]); [`Run`] keeps the events that were made, with their history. The crate stands on `sheep_node`, `message_wire`,
+//! `cluster_script` and `disk_history`.
+//!
+//! All that may happen to a cluster stands as definitions: what a world is (`specs/World.antt`) and which
 //! one a script opens with (`specs/Opening.antt`); when each event may happen
 //! (`specs/Conditions.antt`); what it makes of the world (`specs/NodeSteps.antt`, `specs/Effects.antt`,
 //! `specs/Messages.antt`, `specs/MembershipChanges.antt`) and adds to the history (`specs/HistoryAdditions.antt`,
@@ -9,11 +12,12 @@
 //! runs reach (`specs/Began.antt`), the list of what may happen (`specs/Enabled.antt`), and the incarnations of nodes
 //! (`specs/Incarnations.antt`).
 //!
-//! Of the code there stand the parts of the type of worlds that is to come: what a world keeps (`world_state.rt`, with `host.rt` and
-//! `hosts.rt`, `cluster_log.rt`, `guests.rt`, `control.rt`), what is looked up in a script (`script_requests.rt`), when each event may happen
-//! (`conditions.rt`, with `request_conditions.rt`), what each makes of the world (`node_steps.rt`, `guest_event.rt`, `message_events.rt` with
-//! `delivery.rt`, `log_events.rt`, `membership_events.rt`), and of the history what entries, reads and writes add (`granted.rt`,
-//! `history_blocks.rt`). Each function is exactly the definition of its name, or out of memory.
+//! The code is in parts, each exactly the definition of its name, or out of memory: what a world keeps (`world_state.rt`, with `host.rt`
+//! and `hosts.rt`, `cluster_log.rt`, `guests.rt`, `control.rt`), how it opens (`opening.rt`), what is looked up in a script
+//! (`script_requests.rt`), when each event may happen (`conditions.rt`, with `request_conditions.rt`) and the list of these
+//! (`enabled_list.rt`), and what each makes (`made_worlds.rt`, over `node_steps.rt`, `guest_event.rt`, `message_events.rt` with
+//! `delivery.rt`, `log_events.rt`, `membership_events.rt`) and adds to the history (`granted.rt`, `history_blocks.rt`, `reply_history.rt`,
+//! `check_history.rt`, `lost_writers.rt`).
 //!
 //! The laws of `laws.rt` say what these mean. An event is made exactly if it may happen, and is of one of nine kinds
 //! (`specs/EventKinds.antt`), of which the step of a node has eight causes (`specs/NodeCauses.antt`); so a proof goes by
@@ -25,10 +29,12 @@
 //! together (`specs/WireMatch.antt`, `specs/HoldsTogether.antt`), and works go with their requests (`specs/OneWork.antt`).
 #![tactic(auto)]
 
+mod check_history;
 mod cluster_log;
 mod conditions;
 mod control;
 mod delivery;
+mod enabled_list;
 mod fault;
 mod granted;
 mod guest_event;
@@ -39,13 +45,18 @@ mod hosts;
 mod laws;
 mod log_events;
 mod lost_writers;
+mod made_worlds;
 mod membership_events;
 mod message_events;
 mod node_steps;
+mod opening;
 mod progress;
 mod reply_history;
 mod request_conditions;
+mod run;
 mod script_requests;
+mod world;
+mod world_readers;
 mod world_state;
 mod written_checks;
 
@@ -62,3 +73,7 @@ pub use laws::{
     what_is_in_the_wire_was_spelled, what_may_happen_is_made,
 };
 pub use progress::{ClientAsk, SessionProgress, StartedRequest};
+pub use run::Run;
+pub use script_requests::input_of;
+pub use world::World;
+pub use world_readers::enabled;

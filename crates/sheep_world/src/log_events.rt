@@ -1,8 +1,9 @@
 //! What the steps of nodes that no message brings make of the world, and what stands at the log's end.
 
-ghost use Rattle.std.specs.Prelude.{◌≡◌, ◌∷◌, [], IfOk};
+ghost use Rattle.std.specs.Prelude.{◌≡◌, ◌∷◌, [], None, IfOk};
 ghost use Rattle.sheep_world.specs.World.{node_at};
 ghost use Rattle.sheep_world.specs.Granted.{put_adds};
+ghost use Rattle.sheep_world.specs.HistoryAdditions.{replies_grown};
 ghost use Rattle.sheep_world.specs.Effects.{with_entries, next_entry, log_next_effect, put_done, put_effect, recover_tick_effect, retry_tick_effect};
 
 use crate::granted::GrownLog;
@@ -26,16 +27,19 @@ impl WorldState {
         }
     }
 
-    /// LogNext: a node reads the next entry of the log.
+    /// LogNext: a node reads the next entry of the log; with what the replies of its step add to the history.
     #[tactic(auto, unfolding(crate::specs::Effects::log_next_effect))]
-    pub fn log_next(self, script: &Script, node: u32) -> Result<WorldState, NoMemory>
-        ensures { IfOk result (λ after. after ≡ log_next_effect script.now node self) }
+    pub fn log_next(self, script: &Script, node: u32) -> Result<(WorldState, HistList), NoMemory>
+        ensures world { IfOk result (λ made. made.0 ≡ log_next_effect script.now node self) }
+        ensures grown { IfOk result (λ made. made.1 ≡ replies_grown script.now self None made.0) }
     {
+        let none = HistList::new(self.alloc);
         match self.next_entry(node)? {
-            Some(entry) => self
-                .at_rest()
-                .node_stepped(script, node, Input::LogEntry(entry)),
-            None => Ok(self.at_rest()),
+            Some(entry) => {
+                self.at_rest()
+                    .replied(script, node, Input::LogEntry(entry), none)
+            }
+            None => Ok((self.at_rest(), none)),
         }
     }
 
@@ -82,20 +86,28 @@ impl WorldState {
             .put_done()
     }
 
-    /// RecoverTick: a node's recovery makes a step.
+    /// RecoverTick: a node's recovery makes a step; with what its replies add to the history.
     #[tactic(auto, unfolding(crate::specs::Effects::recover_tick_effect))]
-    pub fn recover_tick(self, script: &Script, node: u32) -> Result<WorldState, NoMemory>
-        ensures { IfOk result (λ after. after ≡ recover_tick_effect script.now node self) }
+    pub fn recover_tick(
+        self,
+        script: &Script,
+        node: u32,
+    ) -> Result<(WorldState, HistList), NoMemory>
+        ensures world { IfOk result (λ made. made.0 ≡ recover_tick_effect script.now node self) }
+        ensures grown { IfOk result (λ made. made.1 ≡ replies_grown script.now self None made.0) }
     {
+        let none = HistList::new(self.alloc);
         self.at_rest()
-            .node_stepped(script, node, Input::RecoverTick)
+            .replied(script, node, Input::RecoverTick, none)
     }
 
-    /// RetryTick: a work of a node is tried again.
+    /// RetryTick: a work of a node is tried again; with what the replies of the step add to the history.
     #[tactic(auto, unfolding(crate::specs::Effects::retry_tick_effect))]
-    pub fn retry_tick(self, script: &Script, node: u32) -> Result<WorldState, NoMemory>
-        ensures { IfOk result (λ after. after ≡ retry_tick_effect script.now node self) }
+    pub fn retry_tick(self, script: &Script, node: u32) -> Result<(WorldState, HistList), NoMemory>
+        ensures world { IfOk result (λ made. made.0 ≡ retry_tick_effect script.now node self) }
+        ensures grown { IfOk result (λ made. made.1 ≡ replies_grown script.now self None made.0) }
     {
-        self.at_rest().node_stepped(script, node, Input::RetryTick)
+        let none = HistList::new(self.alloc);
+        self.at_rest().replied(script, node, Input::RetryTick, none)
     }
 }

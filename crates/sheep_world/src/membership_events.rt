@@ -1,8 +1,7 @@
 //! What becomes of the members, the incarnations and the phases: the events that a script's controls make, Leave, and Phase.
 
-ghost use Rattle.std.specs.Prelude.{◌≡◌, ◌<◌, IfOk};
+ghost use Rattle.std.specs.Prelude.{◌≡◌, IfOk};
 ghost use Rattle.std.specs.Option.{option_map_or};
-ghost use Rattle.object_id.specs.declared.limits.TheConstants.{NODES_MAX};
 ghost use Rattle.sheep_world.specs.MembershipChanges.{control_taken, host_changed, lost_host, revived_host, node_lost, node_left, join_of, node_joined, node_reweighted};
 ghost use Rattle.sheep_world.specs.MembershipChanges.{node_rejoined, log_handed, came_back, phase_ended, weight_in};
 ghost use Rattle.sheep_world.specs.Opening.{with_phase};
@@ -13,7 +12,7 @@ use crate::host::Host;
 use crate::world_state::WorldState;
 use cluster_script::Script;
 use epoch_log::EntryList;
-use object_id::{Entry, NoMemory, NodeId};
+use object_id::{Entry, NODES_MAX, NoMemory, NodeId};
 use sheep_node::{Input, Node};
 use std::alloc::Global;
 
@@ -28,16 +27,18 @@ fn copied(alloc: Global, entries: &[Entry]) -> Result<EntryList, NoMemory>
     Ok(copy)
 }
 
-/// The entry by which a node joins.
-fn join_of(script: &Script, node: u32, vnodes: u16) -> Entry
-    requires { node < NODES_MAX }
-    ensures { result ≡ join_of script.now node vnodes }
+/// The entry by which a node joins. A number that no node may have is told as want of memory: a script has none.
+fn join_of(script: &Script, node: u32, vnodes: u16) -> Result<Entry, NoMemory>
+    ensures { IfOk result (λ entry. entry ≡ join_of script.now node vnodes) }
 {
-    Entry::Join {
+    if NODES_MAX <= node {
+        return Err(NoMemory);
+    }
+    Ok(Entry::Join {
         node: NodeId(node),
         zone: script.zone(node),
         vnodes,
-    }
+    })
 }
 
 impl WorldState {
@@ -93,13 +94,13 @@ impl WorldState {
     /// Join: the node's join stands at the log's end; the node exists, in its first incarnation, and has read nothing.
     #[tactic(auto, unfolding(crate::specs::MembershipChanges::node_joined))]
     pub fn node_joined(self, script: &Script, node: u32) -> Result<WorldState, NoMemory>
-        requires { node < NODES_MAX }
         ensures { IfOk result (λ after. after ≡ node_joined script.now node self) }
     {
         let mut world = self.at_rest().control_taken();
         let host = Host::new(Node::new(world.alloc, NodeId(node), script.tries()));
         world.hosts.put(node, host)?;
-        world.with_entry(&join_of(script, node, script.vnodes()))
+        let entry = join_of(script, node, script.vnodes())?;
+        world.with_entry(&entry)
     }
 
     /// The weight that the next control gives; none if it gives none.
@@ -127,10 +128,9 @@ impl WorldState {
     /// A node's join, with its zone and its last weight, stands at the log's end, and the node begins its next incarnation. Passes over
     /// the log for the weight.
     fn node_rejoined(self, script: &Script, node: u32) -> Result<WorldState, NoMemory>
-        requires { node < NODES_MAX }
         ensures { IfOk result (λ after. after ≡ node_rejoined script.now node self) }
     {
-        let entry = join_of(script, node, self.log.last_weight(node));
+        let entry = join_of(script, node, self.log.last_weight(node))?;
         self.at_rest()
             .control_taken()
             .with_entry(&entry)?
@@ -148,7 +148,6 @@ impl WorldState {
     /// Back: the node joins again in its next incarnation, and steps on coming back.
     #[tactic(auto, unfolding(crate::specs::MembershipChanges::came_back))]
     pub fn came_back(self, script: &Script, node: u32) -> Result<WorldState, NoMemory>
-        requires { node < NODES_MAX }
         ensures { IfOk result (λ after. after ≡ came_back script.now node self) }
     {
         self.node_rejoined(script, node)?.log_handed(script, node)

@@ -1,17 +1,23 @@
 //! What becomes of the messages in the wire: they are delivered or lost.
 
-ghost use Rattle.std.specs.Prelude.{◌≡◌, IfOk};
-ghost use Rattle.std.specs.Option.{option_copied};
-ghost use Rattle.sheep_world.specs.World.{message_at};
-ghost use Rattle.sheep_world.specs.Messages.{without_message, wire_with_reply, reply_sent, message_delivered, loss_used, loss_told, message_lost};
+ghost use Rattle.std.specs.Prelude.{◌≡◌, None, IfOk};
+ghost use Rattle.std.specs.Option.{option_copied, option_and_then};
+ghost use Rattle.sheep_node.specs.declared.input.Input.TheVariants as inputs;
+ghost use Rattle.sheep_node.specs.CheckWrites.{check_write_on};
+ghost use Rattle.sheep_world.specs.World.{node_at, message_at};
+ghost use Rattle.sheep_world.specs.NodeSteps.{node_stepped, at_rest};
+ghost use Rattle.sheep_world.specs.HistoryAdditions.{replies_grown, delivery_grown};
+ghost use Rattle.sheep_world.specs.Messages.{without_message, wire_with_reply, reply_sent, message_delivered, loss_used, message_lost};
 
+use crate::check_history::{check_write_grown, request_of};
 use crate::delivery::{Delivery, delivery_of};
 use crate::world_state::WorldState;
 use cluster_script::Script;
+use disk_history::HistList;
 use message_wire::{MessageName, Packet, Wire};
 use object_id::{NoMemory, NodeId};
-use peer_proto::{PeerRsp, encode_say};
-use sheep_node::Input;
+use peer_proto::{PeerReq, PeerRsp, encode_say};
+use sheep_node::{CheckWrite, Input};
 use std::alloc::Global;
 
 /// The wire once a request was served: what was said takes the place of the request, on its way back, if the sender is up; else the
@@ -69,27 +75,84 @@ impl WorldState {
         })
     }
 
-    /// Deliver: the receiver steps on the message. Bytes that are no message's change nothing.
+    /// The receiver of a request serves it, and what it says is on its way back.
+    fn request_served(
+        self,
+        script: &Script,
+        name: MessageName,
+        to: NodeId,
+        request: PeerReq,
+    ) -> Result<(WorldState, HistList), NoMemory>
+        ensures world { IfOk result (λ made. made.0
+            ≡ reply_sent name to (node_stepped script.now to.0 (inputs.Request request) (at_rest self))) }
+        ensures grown { IfOk result (λ made. made.1 ≡ delivery_grown script.now name self made.0) }
+    {
+        let none = HistList::new(self.alloc);
+        let input = Input::Request(request);
+        let (served, grown) = self.at_rest().replied(script, to.0, input, none)?;
+        let world = served.reply_sent(name, to)?;
+        Ok((world, grown))
+    }
+
+    /// The write that a check of a node comes to by a reply.
+    fn check_write_on(&self, node: u32, rsp: &PeerRsp) -> Result<Option<CheckWrite>, NoMemory>
+        ensures { IfOk result (λ write. write ≡ option_and_then (check_write_on (inputs.Reply rsp.now)) (node_at node self.now)) }
+    {
+        match self.hosts.get(node) {
+            Some(host) => host.node().check_write_on(rsp),
+            None => Ok(None),
+        }
+    }
+
+    /// The sender of a request steps on the reply, which leaves the wire.
+    fn reply_brought(
+        self,
+        script: &Script,
+        name: MessageName,
+        rsp: PeerRsp,
+    ) -> Result<(WorldState, HistList), NoMemory>
+        ensures world { IfOk result (λ made. made.0
+            ≡ node_stepped script.now name.sender.0 (inputs.Reply rsp) (without_message name (at_rest self))) }
+        ensures grown { IfOk result (λ made. made.1 ≡ delivery_grown script.now name self made.0) }
+    {
+        let node = name.sender.0;
+        let write = self.check_write_on(node, &rsp)?;
+        let begun = check_write_grown(self.alloc, script, &write)?;
+        let (world, grown) = self
+            .at_rest()
+            .without_message(name)
+            .stepped(script, node, Input::Reply(rsp), request_of(&write), begun)?;
+        Ok((world, grown))
+    }
+
+    /// Deliver: the receiver steps on the message; with the write that a check comes to by it, and behind that what the replies of the
+    /// step add to the history. Bytes that are no message's change nothing. A message that isn't there is told as want of memory: it
+    /// can't be delivered.
     #[tactic(auto, unfolding(crate::specs::Messages::request_delivered, crate::specs::Messages::reply_delivered))]
     pub fn message_delivered(
         self,
         script: &Script,
         name: MessageName,
-    ) -> Result<WorldState, NoMemory>
-        ensures { IfOk result (λ after. after ≡ message_delivered script.now name self) }
+    ) -> Result<(WorldState, HistList), NoMemory>
+        ensures world { IfOk result (λ made. made.0 ≡ message_delivered script.now name self) }
+        ensures grown { IfOk result (λ made. made.1 ≡ delivery_grown script.now name self made.0) }
     {
         match delivery_of(self.alloc, self.wire.get(name))? {
-            Delivery::NoMessage => Ok(self),
-            Delivery::Unreadable => Ok(self.at_rest()),
-            Delivery::Request { to, request } => self
-                .at_rest()
-                .node_stepped(script, to.0, Input::Request(request))?
-                .reply_sent(name, to),
-            Delivery::Reply(rsp) => self
-                .at_rest()
-                .without_message(name)
-                .node_stepped(script, name.sender.0, Input::Reply(rsp)),
+            Delivery::NoMessage => Err(NoMemory),
+            Delivery::Unreadable => {
+                let none = HistList::new(self.alloc);
+                Ok((self.at_rest(), none))
+            }
+            Delivery::Request { to, request } => self.request_served(script, name, to, request),
+            Delivery::Reply(rsp) => self.reply_brought(script, name, rsp),
         }
+    }
+
+    /// So many messages may still be lost. Takes no memory.
+    fn with_losses(self, losses: u32) -> WorldState
+        ensures { result ≡ record self { losses = losses } }
+    {
+        WorldState { losses, ..self }
     }
 
     /// How many losses are left once a message is lost: one less if both its ends are up. Takes no memory.
@@ -102,30 +165,24 @@ impl WorldState {
         }
     }
 
-    /// The sender of the request is told of the loss, if it is up.
-    fn loss_told(self, script: &Script, name: MessageName) -> Result<WorldState, NoMemory>
-        ensures { IfOk result (λ after. after ≡ loss_told script.now name self) }
-    {
-        if !self.is_up(name.sender.0) {
-            return Ok(self);
-        }
-        self.node_stepped(
-            script,
-            name.sender.0,
-            Input::Lost {
-                number: name.number,
-            },
-        )
-    }
-
-    /// LoseRequest and LoseReply: the message leaves the wire, and the sender of the request steps on the loss.
+    /// LoseRequest and LoseReply: the message leaves the wire, and the sender of the request steps on the loss, if it is up; with what the
+    /// replies of the step add to the history.
     #[tactic(auto, unfolding(crate::specs::Messages::message_lost))]
-    pub fn message_lost(self, script: &Script, name: MessageName) -> Result<WorldState, NoMemory>
-        ensures { IfOk result (λ after. after ≡ message_lost script.now name self) }
+    pub fn message_lost(
+        self,
+        script: &Script,
+        name: MessageName,
+    ) -> Result<(WorldState, HistList), NoMemory>
+        ensures world { IfOk result (λ made. made.0 ≡ message_lost script.now name self) }
+        ensures grown { IfOk result (λ made. made.1 ≡ replies_grown script.now self None made.0) }
     {
+        let none = HistList::new(self.alloc);
+        let MessageName { sender, number } = name;
         let losses = self.losses_after(name);
-        let mut world = self.at_rest();
-        world.losses = losses;
-        world.without_message(name).loss_told(script, name)
+        let world = self.at_rest().with_losses(losses).without_message(name);
+        if !world.is_up(sender.0) {
+            return Ok((world, none));
+        }
+        world.replied(script, sender.0, Input::Lost { number }, none)
     }
 }

@@ -1,13 +1,14 @@
 //! One node's step in the world: what it sends enters the wire, and what it replied to is answered.
 
-ghost use Rattle.std.specs.Prelude.{◌≡◌, fold, IfOk};
+ghost use Rattle.std.specs.Prelude.{◌≡◌, ◌++◌, fold, None, IfOk};
 ghost use Rattle.std.specs.Option.{option_copied};
 ghost use Rattle.sheep_world.specs.StepsInParts.{with_outputs};
-ghost use Rattle.sheep_world.specs.RepliesInParts.{AreRepliesGrown};
+ghost use Rattle.sheep_world.specs.HistoryAdditions.{replies_grown};
+ghost use Rattle.sheep_world.specs.RepliesInParts.{AreRepliesAdded};
 ghost use Rattle.sheep_world.specs.NodeSteps.{request_name, wire_with_request, reply_among, ask_after_replies, node_stepped};
 
 use crate::progress::ClientAsk;
-use crate::reply_history::replies_grown;
+use crate::reply_history::with_replies;
 use crate::world_state::WorldState;
 use cluster_script::Script;
 use disk_history::HistList;
@@ -115,9 +116,9 @@ impl WorldState {
         })
     }
 
-    /// A node steps on an input; with what its replies add to the history, where the check of this request comes to a write by the step.
-    /// Costs the step, a look at each request without reply, and a look-up for each message and reply that it gives. An input on which
-    /// the node may not step is told as want of memory.
+    /// A node steps on an input; behind the earlier events of the history stands what its replies add, where the check of this request
+    /// comes to a write by the step. Costs the step, a look at each request without reply, and a look-up for each message and reply that
+    /// it gives. An input on which the node may not step is told as want of memory.
     #[tactic(auto, unfolding(crate::specs::NodeSteps::node_stepped))]
     pub fn stepped(
         mut self,
@@ -125,24 +126,56 @@ impl WorldState {
         node: u32,
         input: Input,
         write: Option<u32>,
+        earlier: HistList,
     ) -> Result<(WorldState, HistList), NoMemory>
         ensures world { IfOk result (λ made. made.0 ≡ node_stepped script.now node input self) }
-        ensures grown { IfOk result (λ made. AreRepliesGrown script.now self write made.0 made.1) }
+        ensures grown { IfOk result (λ made. AreRepliesAdded script.now self write made.0 earlier made.1) }
     {
         let alloc = self.alloc;
         let written = self.written_checks(script)?;
         let Some(host) = self.hosts.take(node) else {
             // Where the node doesn't exist the world stays, with the replies of the step before.
             let replies = &self.outputs.replies;
-            let earlier = replies_grown(alloc, script, &self.guests, &written, write, replies)?;
-            return Ok((self, earlier));
+            let events = with_replies(
+                alloc,
+                earlier,
+                script,
+                &self.guests,
+                &written,
+                write,
+                replies,
+            )?;
+            return Ok((self, events));
         };
         let kept = input.copy(alloc)?;
         let (host, outputs) = host.step(input)?;
         let replies = &outputs.replies;
-        let grown = replies_grown(alloc, script, &self.guests, &written, write, replies)?;
+        let grown = with_replies(
+            alloc,
+            earlier,
+            script,
+            &self.guests,
+            &written,
+            write,
+            replies,
+        )?;
         self.hosts.put(node, host)?;
         let world = self.with_outputs(script, kept, outputs)?;
+        Ok((world, grown))
+    }
+
+    /// A node steps on an input by which no check comes to a write; what its replies add stands behind the earlier events.
+    pub fn replied(
+        self,
+        script: &Script,
+        node: u32,
+        input: Input,
+        earlier: HistList,
+    ) -> Result<(WorldState, HistList), NoMemory>
+        ensures world { IfOk result (λ made. made.0 ≡ node_stepped script.now node input self) }
+        ensures grown { IfOk result (λ made. made.1 ≡ earlier ++ replies_grown script.now self None made.0) }
+    {
+        let (world, grown) = self.stepped(script, node, input, None, earlier)?;
         Ok((world, grown))
     }
 
@@ -155,7 +188,8 @@ impl WorldState {
     ) -> Result<WorldState, NoMemory>
         ensures { IfOk result (λ after. after ≡ node_stepped script.now node input self) }
     {
-        let (world, _) = self.stepped(script, node, input, None)?;
+        let none = HistList::new(self.alloc);
+        let (world, _) = self.stepped(script, node, input, None, none)?;
         Ok(world)
     }
 }

@@ -74,19 +74,20 @@ fn add_reply_to(
     )
 }
 
-/// What the replies of a step add, by the sessions as they were before it, the checks that had come to a write then, and the request of
-/// the check that comes to one by the step.
-pub(crate) fn replies_grown(
+/// What the replies of a step add behind the events before, by the sessions as they were before it, the checks that had come to a write
+/// then, and the request of the check that comes to one by the step.
+pub(crate) fn with_replies(
     alloc: Global,
+    earlier: HistList,
     script: &Script,
     guests: &Guests,
     written: &Items<u32>,
     write: Option<u32>,
     replies: &ReplyList,
 ) -> Result<HistList, NoMemory>
-    ensures { IfOk result (λ events. events ≡ flat_map (reply_events script.now guests.now written.now write) replies.now) }
+    ensures { IfOk result (λ events. events ≡ earlier ++ flat_map (reply_events script.now guests.now written.now write) replies.now) }
 {
-    let mut events = HistList::new(alloc);
+    let mut events = earlier;
     for (req, rsp) in replies.as_slice() {
         let writing = is_writing_check(written, write, *req);
         add_reply_to(alloc, &mut events, script, guests, writing, *req, rsp)?;

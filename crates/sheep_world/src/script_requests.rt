@@ -187,7 +187,7 @@ fn input_by(
 }
 
 /// The input of the request of a number; none where the script has no such request. Takes the bytes of a write.
-pub(crate) fn input_of(alloc: Global, script: &Script, req: u32) -> Result<Option<Input>, NoMemory>
+pub fn input_of(alloc: Global, script: &Script, req: u32) -> Result<Option<Input>, NoMemory>
     ensures { IfOk result (λ input. input ≡ input_of script.now req) }
 {
     match script.request(req) {

@@ -4,7 +4,7 @@ use Rattle.std.specs.FinMap as tree
 use Rattle.sheep_world.specs.World.{Host, World}
 use Rattle.sheep_world.specs.StepsInParts.{with_outputs}
 use Rattle.sheep_world.proofs.StepsInParts.{node_stepped-none, node_stepped-some}
-use Rattle.sheep_world.proofs.RepliesInParts.{replies-grown}
+use Rattle.sheep_world.proofs.RepliesInParts.{replies-added}
 use Rattle.sheep_world.proofs.world_state.WorldState.stepped.Goals as goal
 
 pub returns-in_default-clause-world : goal.returns-in_default-clause-world
@@ -18,9 +18,9 @@ returns-in_default-clause-world c =
 
 pub returns-in_default-clause-grown : goal.returns-in_default-clause-grown
 returns-in_default-clause-grown c =
-    replies-grown c.args.script.now c.args.self (record c.args.self { outputs = c.self.inside.outputs }) c.self.inside.guests
-    c.in_ok-written.written c.args.write c.self.inside.outputs.replies c.in_ok-earlier.earlier
-    (ap (λ (world : World). world.guests) c.self.view_is) c.in_ok-written.ensures refl c.in_ok-earlier.ensures
+    replies-added c.args.script.now c.args.self (record c.args.self { outputs = c.self.inside.outputs }) c.self.inside.guests
+    c.in_ok-written.written c.args.write c.self.inside.outputs.replies c.args.earlier c.in_ok-events.events
+    (ap (λ (world : World). world.guests) c.self.view_is) c.in_ok-written.ensures refl c.in_ok-events.ensures
 
 pub returns-clause-world : goal.returns-clause-world
 returns-clause-world c =
@@ -36,6 +36,6 @@ returns-clause-world c =
 
 pub returns-clause-grown : goal.returns-clause-grown
 returns-clause-grown c =
-    replies-grown c.args.script.now c.args.self c.in_ok-world.world c.self.inside.guests c.in_ok-written.written c.args.write
-    c.in_ok-host.outputs.replies c.in_ok-grown.grown (ap (λ (world : World). world.guests) c.self.view_is) c.in_ok-written.ensures
+    replies-added c.args.script.now c.args.self c.in_ok-world.world c.self.inside.guests c.in_ok-written.written c.args.write
+    c.in_ok-host.outputs.replies c.args.earlier c.in_ok-grown.grown (ap (λ (world : World). world.guests) c.self.view_is) c.in_ok-written.ensures
     (sym (ap (λ (world : World). world.outputs.replies) c.in_ok-world.ensures)) c.in_ok-grown.ensures

@@ -1,7 +1,0 @@
-use Rattle.std.proofs.Common.{◌≡◌, take, flat_map}
-use Rattle.sheep_world.specs.RepliesInParts.{reply_events}
-use Rattle.sheep_world.proofs.reply_history.replies_grown.Given as goal
-
--- what the replies so far add
-abbrev pub invariant-loop-req : goal.invariant-loop-req
-invariant-loop-req l = l.events ≡ flat_map (reply_events l.script l.guests l.written l.write) (take l.req-index l.replies)

@@ -1,0 +1,9 @@
+use Rattle.std.proofs.Common.{None}
+use Rattle.sheep_world.specs.Opening.{no_outputs}
+use Rattle.sheep_world.proofs.StepHistories.{replies-before}
+use Rattle.sheep_world.proofs.world_state.WorldState.retry_tick.Goals as goal
+
+pub returns-clause-grown : goal.returns-clause-grown
+returns-clause-grown c =
+    replies-before c.args.script.now c.args.self c.args.self.wire c.args.self.losses None no_outputs c.replied.result c.at_rest.result
+    c.new-none.result c.at_rest.ensures c.new-none.ensures c.replied.ensures.grown
