@@ -1,7 +1,11 @@
 //! What no clause says: that a trace is printed with ample memory, and what the rules mean on small inputs.
-use crate::{Lines, event_in, input_parts, print_events};
-use object_id::NodeId;
+use crate::{
+    BadEvent, Lines, TraceFault, event_in, input_parts, print_events, print_trace, replay,
+};
+use cluster_script::parse;
+use object_id::{Bytes, NodeId};
 use sheep_node::Event;
+use std::alloc::Global;
 use std::test::Fail;
 
 const EVENTS: [Event; 5] = [
@@ -79,4 +83,70 @@ fn cuts_an_input_at_its_line_trace(rt: HostRuntime) {
         assert_eq!(rt; parts.0, *script);
         assert_eq!(rt; parts.1, *trace);
     }
+}
+
+const ONE_DISK: &[u8] = b"cluster 1\nsession 1 node 0\n1 vdi create -c 1 a 512\n";
+
+// The only order in which the disk can be made.
+const ONE_DISK_TRACE: &[u8] =
+    b"guest 1\nput 0\nlog 0\ndeliver 0.0\ndeliver 0.0\nput 0\nlog 0\nphase\n";
+
+/// The trace of the run that a trace spells.
+fn trace_again(alloc: Global, script: &[u8], trace: &[u8]) -> Result<Bytes, TraceFault> {
+    let Ok(script) = parse(alloc, script) else {
+        return Err(TraceFault::NoMemory);
+    };
+    let run = replay(alloc, &script, trace)?;
+    Ok(print_trace(alloc, &run)?)
+}
+
+#[test]
+fn replays_a_whole_run(rt: HostRuntime) -> Result<(), Fail> {
+    match trace_again(rt.alloc(), ONE_DISK, ONE_DISK_TRACE) {
+        Ok(text) => assert_eq!(rt; text.as_slice(), ONE_DISK_TRACE),
+        Err(fault) => assert!(rt; false, "{fault:?}"),
+    }
+    Ok(())
+}
+
+// A trace, and the place of its first bad line.
+const BAD_TRACES: [(&[u8], u32); 6] = [
+    (
+        b"guest 1\nguest 1\nput 0\nlog 0\ndeliver 0.0\ndeliver 0.0\nput 0\nlog 0\nphase\n",
+        2,
+    ),
+    (
+        b"guest 1\nput 0\nlog 0\ndeliver 0.0\ndeliver 0.0\nput 0\nlog 0\n",
+        8,
+    ),
+    (
+        b"guest 01\nput 0\nlog 0\ndeliver 0.0\ndeliver 0.0\nput 0\nlog 0\nphase\n",
+        1,
+    ),
+    (
+        b"guest 1\nput 0\nlog 0\ndeliver 0.0\ndeliver 0.0\nput 0\nlog 0\nphase\nphase\n",
+        9,
+    ),
+    (b"guest 1\nput 0\nlog 0\ndeliver 0.1\n", 4),
+    (b"", 1),
+];
+
+#[test]
+fn names_the_first_bad_line(rt: HostRuntime) {
+    for (trace, place) in BAD_TRACES {
+        match trace_again(rt.alloc(), ONE_DISK, trace) {
+            Ok(_) => assert!(rt; false, "{place}"),
+            Err(fault) => assert_eq!(rt; fault, TraceFault::Bad(BadEvent { place })),
+        }
+    }
+}
+
+// Without a phase the empty trace is a whole run.
+#[test]
+fn replays_no_event(rt: HostRuntime) -> Result<(), Fail> {
+    match trace_again(rt.alloc(), b"", b"") {
+        Ok(text) => assert_eq!(rt; text.as_slice(), b"".as_slice()),
+        Err(fault) => assert!(rt; false, "{fault:?}"),
+    }
+    Ok(())
 }
