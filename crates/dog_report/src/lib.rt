@@ -30,24 +30,25 @@ mod laws;
 mod list;
 mod node_list;
 mod places;
-#[cfg(test)]
-mod report_tests;
 mod reporter;
 mod requests;
 mod row_order;
 mod runs;
 mod settling;
-#[cfg(test)]
-mod tests;
 mod told_part;
 mod vdi_list;
 mod words;
 
+pub use cluster_info::push_cluster;
 pub use counts::Counts;
+pub use dump::push_stored;
+pub use fates::{push_answered, push_gone, push_pending, push_unsent};
 pub use kept_run::{finished_report, report};
 pub use laws::{
     dump_has_the_rows_of_nodes_that_are_up, each_request_has_one_line, lists_spelled_out,
     requests_lines_spelled_out, the_counts_add_up, what_became_of_a_request,
 };
 pub use list::list_text;
+pub use node_list::push_peer;
 pub use reporter::{FinishedReport, Reporter};
+pub use vdi_list::push_vdis;

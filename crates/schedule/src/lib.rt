@@ -20,8 +20,6 @@ mod generator;
 mod laws;
 mod seeded;
 mod stops;
-#[cfg(test)]
-mod tests;
 
 pub use fault::RunFault;
 pub use generated::generated_text;

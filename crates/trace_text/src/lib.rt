@@ -34,6 +34,3 @@ pub use laws::{
 pub use lines::Lines;
 pub use spelling::{print_events, print_trace};
 pub use trace_replay::{TraceReplay, replay};
-
-#[cfg(test)]
-mod tests;

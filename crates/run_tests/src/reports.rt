@@ -3,9 +3,8 @@
 
 ghost use Rattle.std.specs.Prelude.{◌≡◌, false, OnOk};
 
-use crate::counts::Counts;
-use crate::kept_run::{finished_report, report};
 use cluster_script::{Script, parse};
+use dog_report::{Counts, finished_report, report};
 use object_id::INPUT_BYTES_MAX;
 use sheep_node::Event;
 use sheep_world::{Run, World, enabled};

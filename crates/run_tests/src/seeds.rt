@@ -1,11 +1,11 @@
 //! Generated scripts, and runs of a small script, with ample memory. The hashes are those of the texts that a program in Python made,
 //! which was written apart from this one, from the rules alone.
 
-use super::*;
 use cluster_script::{Script, parse};
 use object_id::{NodeId, fnv1a};
 use rand_core::SeedableRng;
 use rand_xoshiro::SplitMix64;
+use schedule::{RunFault, generated_text, run_seeded, run_to, step_seeded};
 use sheep_node::Event;
 use sheep_world::{Run, World};
 use std::alloc::Global;

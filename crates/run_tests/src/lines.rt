@@ -4,12 +4,11 @@ ghost use Rattle.std.specs.Prelude.{OnOk};
 ghost use Rattle.vdi_directory.specs.Decisions.{log_effects};
 ghost use Rattle.vdi_directory.specs.DirectoryState.{AreLocks};
 
-use crate::cluster_info::push_cluster;
-use crate::dump::push_stored;
-use crate::fates::{push_answered, push_gone, push_pending, push_unsent};
-use crate::node_list::push_peer;
-use crate::vdi_list::push_vdis;
 use disk_lock::Locks;
+use dog_report::{
+    push_answered, push_cluster, push_gone, push_peer, push_pending, push_stored, push_unsent,
+    push_vdis,
+};
 use epoch_log::Log;
 use object_id::{
     Bytes, Cause, Entry, Epoch, Member, NoMemory, NodeId, Oid, Origin, Policy, VdiSpec, Vid,

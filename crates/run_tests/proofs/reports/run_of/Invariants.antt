@@ -1,5 +1,5 @@
 use Rattle.std.proofs.Common.{◌≡◌, false}
-use Rattle.dog_report.proofs.report_tests.run_of.Given as goal
+use Rattle.run_tests.proofs.reports.run_of.Given as goal
 
 -- the world isn't spent
 abbrev pub invariant-loop-place : goal.invariant-loop-place

@@ -1,5 +1,5 @@
 //! What no clause says: that a trace is printed with ample memory, and what the rules mean on small inputs.
-use crate::{
+use trace_text::{
     BadEvent, Lines, TraceFault, event_in, input_parts, print_events, print_trace, replay,
 };
 use cluster_script::parse;
