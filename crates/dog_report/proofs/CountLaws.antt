@@ -1,8 +1,8 @@
 -- Each line of a request tells of it in one way.
 use Rattle.std.proofs.Common.{◌≡◌, ℕ, suc, ◌+◌, Bool, cond, List, [], ◌∷◌, length, refl, arith}
 use Rattle.std.proofs.lemmas.List.Sums.{sum_by-cons}
-use Rattle.peer_proto.specs.declared.guest.GuestRsp.TheVariants.{Done, Piece, Refused, Granted, Checked}
-use Rattle.dog_report.specs.Fates.{RequestFate, Answered, Gone, Pending, Unsent, ReportLine, Told, Listed, numbers_told}
+use Rattle.peer_proto.specs.declared.guest.GuestRsp.TheVariants.{Done}
+use Rattle.dog_report.specs.Fates.{RequestFate, Answered, ReportLine, Told, Listed, numbers_told}
 use Rattle.dog_report.specs.Counts.{tells, count_of, is_ok, is_refused, is_gone_fate, is_pending, is_unsent}
 
 abbrev sum_of : List ReportLine → ℕ

@@ -3,8 +3,14 @@ pub mod RunLemmas
 pub mod ListLemmas
 pub mod RowOrderLemmas
 pub mod VdiLemmas
+pub mod WorldLists
 pub mod ReportLaws
 pub mod FateLaws
 pub mod ExampleLemmas
 pub mod CountLaws
 pub mod DumpLaws
+pub mod RequestLaws
+pub mod RangeLemmas
+pub mod ToldLaws
+pub mod SettlingLaws
+pub mod ReporterLaws

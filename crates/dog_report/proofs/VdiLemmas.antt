@@ -1,12 +1,11 @@
 -- A live id's line, by its header.
-use Rattle.std.proofs.Common.{◌≡◌, ◌≢◌, ◌⊎◌, ℕ, ◌+◌, ◌≤◌, ◌==◌, Bool, true, false, List, [], ◌∷◌, ◌++◌, length, drop, map, Option, Some, None, slice_get, refl, sym, ap, ap₂, ◌∙◌, append-nil, arith, rules}
+use Rattle.std.proofs.Common.{◌≡◌, ℕ, ◌+◌, ◌==◌, true, List, [], ◌∷◌, ◌++◌, drop, map, Option, Some, None, slice_get, refl, sym, ap, ap₂, ◌∙◌, append-nil, arith}
 use Rattle.std.specs.Prelude.{codes, decimal}
 use Rattle.std.specs.List.{list_any}
 use Rattle.std.specs.Option.{option_map, option_map_or}
 use Rattle.std.proofs.lemmas.Option.{none-some}
 use Rattle.object_id.specs.declared.oid.Vid.{Vid}
 use Rattle.object_id.specs.declared.entry.Entry.{Entry}
-use Rattle.object_id.specs.Spec.{IsName}
 use Rattle.disk_lock.specs.declared.holder.Holder.{Holder}
 use Rattle.vdi_directory.specs.declared.header.Header.{Header}
 use Rattle.vdi_directory.specs.declared.effect.Effect.{Effect}
@@ -17,7 +16,7 @@ use Rattle.vdi_directory.specs.States.{VdiState, Unused, Reserved, Working, Snap
 use Rattle.cluster_script.specs.Writing.{policy_word}
 use Rattle.vdi_directory.proofs.DecisionLaws.{live-is}
 use Rattle.dog_report.specs.Words.{Words, hex, spaced_words}
-use Rattle.dog_report.specs.Lists.{tag_word, state_words, vdi_words, vdis_words}
+use Rattle.dog_report.specs.Lists.{tag_word, state_words, vdi_words}
 use Rattle.dog_report.specs.ListParts.{lines_text, header_tag_word, header_state_words, header_details}
 use Rattle.dog_report.proofs.ListLemmas.{drop-at, drop-past, is-in, line-step}
 

@@ -7,3 +7,6 @@ pub mod Report
 pub mod ListParts
 pub mod Counts
 pub mod Example
+pub mod ToldPart
+pub mod Settling
+pub mod Reporter

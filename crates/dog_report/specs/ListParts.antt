@@ -2,7 +2,6 @@
 use Rattle.std.specs.Prelude.{ℕ, ◌==◌, nat_lt, Bool, ◌&&◌, ◌||◌, List, [], ◌∷◌, map, flat_map, fold, codes, decimal, Option, if◌then◌else◌}
 use Rattle.std.specs.Option.{option_map_or}
 use Rattle.std.specs.FinMap as tree
-use Rattle.object_id.specs.declared.node.Epoch.{Epoch}
 use Rattle.object_id.specs.declared.oid.Vid.{Vid}
 use Rattle.object_id.specs.declared.entry.Member.{Member}
 use Rattle.object_store.specs.declared.row.RowSummary.{RowSummary}
@@ -14,7 +13,8 @@ use Rattle.peer_service.specs.State.{Peer}
 use Rattle.cluster_script.specs.Writing.{policy_word}
 use Rattle.dog_report.specs.Words.{Words, hex}
 use Rattle.dog_report.specs.Fates.{Listed}
-use Rattle.dog_report.specs.Lists.{pending_word, holder_words, to_word, row_words, ordered_rows}
+use Rattle.sheep_world.specs.World.{Host, is_host_up}
+use Rattle.dog_report.specs.Lists.{pending_word, holder_words, to_word, row_words, ordered_rows, node_rows}
 use Rattle.dog_report.specs.Report.{report_text}
 
 -- the text of a list: each line's words, and its end
@@ -79,3 +79,11 @@ object_rows node oid rows = map (row_words node oid) (ordered_rows rows)
 -- the rows of a store, by object
 abbrev pub stored_rows : ℕ → AllRows → List Words
 stored_rows node all = flat_map (λ (rows : ℕ × List SeenRow). object_rows node rows.0 rows.1) (tree.entries all)
+
+-- what is told of a member behind its number: that its node is lost, or what it has
+abbrev pub member_words : Bool → ℕ → Peer → Words
+member_words lost vnodes peer = if lost then codes "lost" ∷ [] else peer_words vnodes peer
+
+-- the rows of a host's node, if it is up
+abbrev pub rows_if_up : ℕ → Host → List Words
+rows_if_up number host = if is_host_up host then node_rows number host.node else []

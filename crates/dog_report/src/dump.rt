@@ -1,17 +1,21 @@
 //! `dump`: a line for each row of each node that is up.
 
-ghost use Rattle.std.specs.Prelude.{◌≡◌, [], ◌∷◌, ◌++◌, codes, map, OnOk};
+ghost use Rattle.std.specs.Prelude.{◌≡◌, false, [], ◌∷◌, ◌++◌, codes, map, OnOk};
+ghost use Rattle.std.specs.Option.{option_map_or};
 ghost use Rattle.object_store.specs.Store.{rows_of};
+ghost use Rattle.sheep_world.specs.World.{host_at};
 ghost use Rattle.dog_report.specs.Words.{spaced_words, following_words};
-ghost use Rattle.dog_report.specs.Lists.{to_word};
-ghost use Rattle.dog_report.specs.ListParts.{lines_text, summary_details, summary_words, object_rows, stored_rows};
+ghost use Rattle.dog_report.specs.Lists.{to_word, dump};
+ghost use Rattle.dog_report.specs.ListParts.{lines_text, summary_details, summary_words, object_rows, stored_rows, rows_if_up};
 
+use crate::places::next_place;
 use crate::row_order::rows_in_order;
 use crate::words::{
     HASH_DIGITS, OID_DIGITS, end_line, push_decimal_word, push_hex_word, push_word,
 };
 use object_id::{Epoch, NoMemory, NodeId, Oid};
 use object_store::{ObjStore, RowSummary};
+use sheep_world::World;
 use std::alloc::Global;
 
 /// Adds the last epoch of a row behind another word: a dash for an open one.
@@ -95,6 +99,41 @@ pub fn push_stored<O: ObjStore>(
     let oids = objects.as_slice();
     for oid in oids {
         push_object(alloc, text, node, store, *oid)?;
+    }
+    Ok(())
+}
+
+/// Adds a line for each row of a node, if it is up.
+fn push_host(
+    alloc: Global,
+    text: &mut Vec<u8>,
+    world: &World,
+    number: NodeId,
+) -> Result<(), NoMemory>
+    requires { world.now.spent ≡ false }
+    ensures { OnOk result (text.new.items ≡ text.old.items
+        ++ lines_text (option_map_or (rows_if_up number.0) (host_at number.0 world.now.world) [])) }
+{
+    let Some(node) = world.node(number) else {
+        return Ok(());
+    };
+    if !world.up(number) {
+        return Ok(());
+    }
+    push_stored(alloc, text, number, node.peer().store())?;
+    Ok(())
+}
+
+/// Adds a line for each row of each node that is up. Takes memory for the ids of a node's objects and for one object's rows besides the
+/// text; costs the logarithm of the objects for each row, and a look at its bytes.
+pub fn push_dump(alloc: Global, text: &mut Vec<u8>, world: &World) -> Result<(), NoMemory>
+    requires { world.now.spent ≡ false }
+    ensures { OnOk result (text.new.items ≡ text.old.items ++ lines_text (dump world.now.world)) }
+{
+    let mut place = 0_usize;
+    while let Some(number) = world.node_at(place) {
+        push_host(alloc, text, world, number)?;
+        place = next_place(place)?;
     }
     Ok(())
 }

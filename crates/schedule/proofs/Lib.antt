@@ -11,3 +11,6 @@ pub mod GeneratedTextLemmas
 pub mod GeneratedOpening
 pub mod GeneratedStandLemmas
 pub mod GeneratedLaws
+pub mod SeededRuns
+pub mod MadeRuns
+pub mod NextEvent

@@ -32,14 +32,14 @@ next_choice-goes limit draft (first ∷ later) = by_limit (nat_le limit draft.ta
 
 module _ (statements : List Statement) where
   -- how many events may still come
-  abbrev left : Draft → ℕ
+  abbrev pub left : Draft → ℕ
   left draft = (limit_of statements - draft.taken) + (length (phases_of statements) - draft.world.phase)
 
   choice-goes : (draft : Draft) → Goes (limit_of statements) draft (choice statements draft)
   unfolding choice
   choice-goes draft = next_choice-goes (limit_of statements) draft _
 
-  fewer_left : (draft : Draft) → may_end_phase statements draft.world ≡ true → left (draft_after_event statements draft) + 1 ≤ left draft
+  pub fewer_left : (draft : Draft) → may_end_phase statements draft.world ≡ true → left (draft_after_event statements draft) + 1 ≤ left draft
   fewer_left draft may = by_goes (choice-goes draft)
     where
       one : (made : EventOutcome) × (step statements (choice statements draft).event draft.world ≡ Some made)

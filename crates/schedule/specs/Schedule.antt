@@ -19,6 +19,15 @@ pub record Draft : Type 0 where
   pub rng : ℕ
   pub taken : ℕ
 
+-- a schedule as it is made: the state of the generator, and how many events but Phase were taken
+pub record Schedule : Type 0 where
+  pub rng : ℕ
+  pub taken : ℕ
+
+-- with the world so far
+abbrev pub draft_in : World → Schedule → Draft
+draft_in world schedule = record { world = world; rng = schedule.rng; taken = schedule.taken }
+
 -- before the first event; the generator's state is the seed
 abbrev pub empty_draft : List Statement → ℕ → Draft
 empty_draft statements seed = record { world = initial_world statements; rng = seed; taken = 0 }
@@ -46,6 +55,12 @@ abbrev pub next_choice : ℕ → Draft → List Event → Choice
 next_choice limit draft [] = phase_chosen draft
 next_choice limit draft (first ∷ later) =
     if nat_le limit draft.taken then phase_chosen draft else drawn_choice draft (first ∷ later)
+
+-- the choice of the event at a place of the list, or of Phase where there is none, with the generator's state after it
+abbrev pub choice_at : Draft → List Event → Option ℕ → ℕ → Choice
+choice_at draft events None rng = record { event = Phase; rng = rng; taken = draft.taken }
+choice_at draft events (Some place) rng =
+    record { event = unwrap_or (slice_get events place) Phase; rng = rng; taken = draft.taken + 1 }
 
 -- the next event of a draft
 unfoldable pub choice : List Statement → Draft → Choice

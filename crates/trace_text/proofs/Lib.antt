@@ -9,3 +9,4 @@ pub mod NumberReading
 pub mod SpellingLemmas
 pub mod WordReading
 pub mod InputCutLemmas
+pub mod ReplayedRuns

@@ -1,9 +1,12 @@
 -- How a trace is replayed: the events that its lines spell, made one after another.
-use Rattle.std.specs.Prelude.{◌≡◌, ℕ, suc, ◌+◌, false, List, [], ◌∷◌, ◌++◌, length, map, Option, Some, None, if◌then◌else◌}
+use Rattle.std.specs.Prelude.{◌≡◌, ℕ, suc, ◌+◌, true, false, List, [], ◌∷◌, ◌++◌, length, map, Option, Some, None, if◌then◌else◌}
 use Rattle.std.specs.List.{filter_map}
 use Rattle.std.specs.Option.{option_map, option_and_then}
 use Rattle.cluster_script.specs.declared.statement.Statement.{Statement}
+use Rattle.disk_history.specs.declared.event.HistEvent.{HistEvent}
 use Rattle.sheep_node.specs.declared.event.Event.{Event}
+use Rattle.sheep_world.specs.World.{World}
+use Rattle.sheep_world.specs.Enabled.{is_enabled}
 use Rattle.sheep_world.specs.Run.{Moment, initial_moment, next, run, is_whole}
 use Rattle.trace_text.specs.Spelling.{event_text}
 use Rattle.trace_text.specs.EventReading.{event_in}
@@ -45,3 +48,24 @@ pub record IsBadAt (statements : List Statement) (lines : List (List ℕ)) (plac
   pub made : run statements before ≡ Some moment
   pub stops : Stops statements rest moment
   pub counted : place ≡ length before + 1
+
+-- a trace as it is replayed: the lines that are still to come, and how many were taken
+pub record TraceReplay : Type 0 where
+  pub rest : List (List ℕ)
+  pub taken : ℕ
+
+-- the next line is taken: it spells an event that is enabled in the world
+pub record Takes (statements : List Statement) (world : World) (old : TraceReplay) (event : Event) (new : TraceReplay) : Type 0 where
+  pub line : List ℕ
+  pub first : old.rest ≡ line ∷ new.rest
+  pub spelled : event_in line ≡ Some event
+  pub enabled : is_enabled statements world event ≡ true
+  pub counted : new.taken ≡ old.taken + 1
+
+-- a line spells no event that is enabled in a world, whatever happened before
+abbrev pub IsBadIn : List Statement → World → List ℕ → Type 0
+IsBadIn statements world line = (history : List HistEvent) → line_made statements line (record { world = world; history = history }) ≡ None
+
+-- no line is taken: the lines that are left can't go on in the world, whatever happened before
+abbrev pub StopsIn : List Statement → World → List (List ℕ) → Type 0
+StopsIn statements world lines = (history : List HistEvent) → Stops statements lines (record { world = world; history = history })

@@ -5,9 +5,10 @@
 //! (`specs/Lines.antt`), into which parts an input is cut (`specs/InputParts.antt`), and which line is the first bad one in a
 //! replay (`specs/Replay.antt`).
 //!
-//! The code prints events ([`print_events`]), reads a line as an event ([`event_in`]), goes through the lines of a trace ([`Lines`]) and
-//! cuts an input into its script and its trace ([`input_parts`]). Each call gives exactly what is defined; only printing takes
-//! memory. Of a replay there are the faults as types, and the definitions.
+//! The code prints events ([`print_events`], and of a run [`print_trace`]), reads a line as an event ([`event_in`]), goes through
+//! the lines of a trace ([`Lines`]) and cuts an input into its script and its trace ([`input_parts`]). A trace is replayed line by
+//! line in a world that the caller keeps ([`TraceReplay`]), or as a whole ([`replay`]). Each call gives exactly what is defined; only
+//! printing and runs take memory.
 //!
 //! The laws of `laws.rt` say what these mean: reading undoes spelling, an event has one spelling, a script and its trace are read
 //! again from one input, and a replay takes a trace exactly where it spells a whole run.
@@ -20,6 +21,7 @@ mod laws;
 mod lines;
 mod spelling;
 mod split;
+mod trace_replay;
 
 pub use event_reading::event_in;
 pub use fault::{BadEvent, TraceFault};
@@ -30,7 +32,5 @@ pub use laws::{
     lines_read, reading_undoes_spelling,
 };
 pub use lines::Lines;
-pub use spelling::print_events;
-
-#[cfg(test)]
-mod tests;
+pub use spelling::{print_events, print_trace};
+pub use trace_replay::{TraceReplay, replay};

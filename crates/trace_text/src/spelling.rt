@@ -6,6 +6,7 @@ ghost use Rattle.trace_text.specs.Spelling.{name_text, event_text, trace_text_of
 use itoa::Buffer;
 use object_id::{Bytes, NoMemory, NodeId};
 use sheep_node::Event;
+use sheep_world::Run;
 use std::alloc::Global;
 
 /// A line for each event.
@@ -18,6 +19,13 @@ pub fn print_events(alloc: Global, events: &[Event]) -> Result<Bytes, NoMemory>
         text.push(b'\n')?;
     }
     Ok(Bytes::from_vec(text))
+}
+
+/// The trace of a run.
+pub fn print_trace(alloc: Global, run: &Run) -> Result<Bytes, NoMemory>
+    ensures { IfOk result (λ text. text ≡ trace_text_of run.now.events) }
+{
+    print_events(alloc, run.events())
 }
 
 /// Adds an event's text.

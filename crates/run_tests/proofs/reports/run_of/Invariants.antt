@@ -1,0 +1,6 @@
+use Rattle.std.proofs.Common.{◌≡◌, false}
+use Rattle.run_tests.proofs.reports.run_of.Given as goal
+
+-- the world isn't spent
+abbrev pub invariant-loop-place : goal.invariant-loop-place
+invariant-loop-place l = l.world.spent ≡ false
