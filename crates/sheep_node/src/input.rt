@@ -7,7 +7,7 @@ use peer_proto::{PeerReq, PeerRsp};
 use std::alloc::Global;
 
 /// What a node steps on. Each step is one of these, taken whole.
-#[derive(Debug, Drop)]
+#[derive(Debug)]
 pub enum Input {
     /// A session's request, by its number.
     Guest { req: u32, session: u32, ask: Ask },
@@ -24,6 +24,27 @@ pub enum Input {
     RetryTick,
     /// A lost node comes back with its store. These are all entries of the log.
     Back { entries: EntryList },
+}
+
+/// Written out, so that letting an input go is one call wherever it is done, and no case for each kind of input there.
+impl Drop for Input {
+    fn drop(self) {
+        match self {
+            Input::Guest {
+                req: _,
+                session: _,
+                ask: _,
+            } => {}
+            Input::Request(_) => {}
+            Input::Reply(_) => {}
+            Input::Lost { number: _ } => {}
+            Input::LogEntry(_) => {}
+            Input::Put => {}
+            Input::RecoverTick => {}
+            Input::RetryTick => {}
+            Input::Back { entries: _ } => {}
+        }
+    }
 }
 
 impl Input {

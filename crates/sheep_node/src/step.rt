@@ -243,30 +243,6 @@ impl StepState {
         self.node.back(entries)
     }
 
-    /// What an input does.
-    #[tactic(auto, unfolding(crate::specs::Step::on_input))]
-    fn on_input(&mut self, input: Input) -> Result<(), NoMemory>
-        requires start { self.old ≡ at_first self.old.node }
-        requires may { May input self.old.node }
-        requires sound { IsSoundNode self.old.node }
-        ensures { OnOk result (self.new ≡ on_input input self.old) }
-    {
-        match input {
-            Input::Guest { req, session, ask } => self.on_guest(req, session, ask),
-            Input::Request(request) => self.on_request(&request),
-            Input::Reply(rsp) => self.on_reply(&rsp),
-            Input::Lost { number } => self.on_loss(number),
-            Input::LogEntry(entry) => self.on_log_entry(&entry),
-            Input::Put => {
-                self.on_put();
-                Ok(())
-            }
-            Input::RecoverTick => self.on_recover_tick(),
-            Input::RetryTick => self.on_retry_tick(),
-            Input::Back { entries } => self.on_back(entries.as_slice()),
-        }
-    }
-
     /// `Recovered` of the epoch that is recovered stands in the outbox, where it is due.
     #[tactic(auto, unfolding(crate::specs::Step::recovered_put))]
     fn put_recovered(&mut self) -> Result<(), NoMemory>
@@ -291,7 +267,33 @@ impl StepState {
         requires sound { IsSoundNode self.old.node }
         ensures { OnOk result (self.new ≡ node_step input self.old.node) }
     {
-        self.on_input(input)?;
+        input.act_on(self)?;
         self.put_recovered()
+    }
+}
+
+impl Input {
+    /// What the input does.
+    #[tactic(auto, unfolding(crate::specs::Step::on_input))]
+    fn act_on(self, state: &mut StepState) -> Result<(), NoMemory>
+        requires start { state.old ≡ at_first state.old.node }
+        requires may { May self state.old.node }
+        requires sound { IsSoundNode state.old.node }
+        ensures { OnOk result (state.new ≡ on_input self state.old) }
+    {
+        match self {
+            Input::Guest { req, session, ask } => state.on_guest(req, session, ask),
+            Input::Request(request) => state.on_request(&request),
+            Input::Reply(rsp) => state.on_reply(&rsp),
+            Input::Lost { number } => state.on_loss(number),
+            Input::LogEntry(entry) => state.on_log_entry(&entry),
+            Input::Put => {
+                state.on_put();
+                Ok(())
+            }
+            Input::RecoverTick => state.on_recover_tick(),
+            Input::RetryTick => state.on_retry_tick(),
+            Input::Back { entries } => state.on_back(entries.as_slice()),
+        }
     }
 }

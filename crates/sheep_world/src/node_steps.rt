@@ -64,23 +64,21 @@ fn reply_among(req: u32, replies: &ReplyList) -> Option<&GuestRsp>
     }
 }
 
-/// A client's ask, once these replies were given.
-fn ask_after_replies(
-    alloc: Global,
-    replies: &ReplyList,
-    ask: ClientAsk,
-) -> Result<ClientAsk, NoMemory>
-    ensures { IfOk result (λ after. after ≡ ask_after_replies replies.now ask) }
-{
-    let ClientAsk { req, reply } = ask;
-    let reply = match reply {
-        Some(rsp) => Some(rsp),
-        None => match reply_among(req, replies) {
-            Some(rsp) => Some(rsp.copy(alloc)?),
-            None => None,
-        },
-    };
-    Ok(ClientAsk { req, reply })
+impl ClientAsk {
+    /// The ask, once these replies were given.
+    fn after_replies(self, alloc: Global, replies: &ReplyList) -> Result<ClientAsk, NoMemory>
+        ensures { IfOk result (λ after. after ≡ ask_after_replies replies.now self) }
+    {
+        let ClientAsk { req, reply } = self;
+        let reply = match reply {
+            Some(rsp) => Some(rsp),
+            None => match reply_among(req, replies) {
+                Some(rsp) => Some(rsp.copy(alloc)?),
+                None => None,
+            },
+        };
+        Ok(ClientAsk { req, reply })
+    }
 }
 
 impl WorldState {
@@ -102,7 +100,7 @@ impl WorldState {
         } = self;
         guests.after_replies(alloc, script, &outputs.replies)?;
         let asked = match asked {
-            Some(ask) => Some(ask_after_replies(alloc, &outputs.replies, ask)?),
+            Some(ask) => Some(ask.after_replies(alloc, &outputs.replies)?),
             None => None,
         };
         let wire = wire_with_sends(alloc, wire, &outputs.sends)?;

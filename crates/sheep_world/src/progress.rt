@@ -18,8 +18,16 @@ pub struct SessionProgress {
 }
 
 /// What a client without a script asked last: the number of its request, and the reply, once there is one.
-#[derive(Debug, Drop)]
+#[derive(Debug)]
 pub struct ClientAsk {
     pub req: u32,
     pub reply: Option<GuestRsp>,
+}
+
+/// Written out, so that letting an ask go is one call wherever a world is let go.
+impl Drop for ClientAsk {
+    fn drop(self) {
+        let ClientAsk { req: _, reply } = self;
+        drop(reply);
+    }
 }
