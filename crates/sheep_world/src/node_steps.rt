@@ -1,21 +1,19 @@
 //! One node's step in the world: what it sends enters the wire, and what it replied to is answered.
 
 ghost use Rattle.std.specs.Prelude.{◌≡◌, ◌++◌, fold, None, IfOk};
-ghost use Rattle.std.specs.Option.{option_copied};
 ghost use Rattle.sheep_world.specs.StepsInParts.{with_outputs};
 ghost use Rattle.sheep_world.specs.HistoryAdditions.{replies_grown};
 ghost use Rattle.sheep_world.specs.RepliesInParts.{AreRepliesAdded};
-ghost use Rattle.sheep_world.specs.NodeSteps.{request_name, wire_with_request, reply_among, ask_after_replies, node_stepped};
+ghost use Rattle.sheep_world.specs.NodeSteps.{request_name, wire_with_request, node_stepped};
 
-use crate::progress::ClientAsk;
 use crate::reply_history::with_replies;
 use crate::world_state::WorldState;
 use cluster_script::Script;
 use disk_history::HistList;
 use message_wire::{MessageName, Packet, Wire};
 use object_id::{NoMemory, NodeId};
-use peer_proto::{GuestRsp, PeerReq, SendList, encode_ask};
-use sheep_node::{Input, Outputs, ReplyList};
+use peer_proto::{PeerReq, SendList, encode_ask};
+use sheep_node::{Input, Outputs};
 use std::alloc::Global;
 
 /// The name of a request.
@@ -52,33 +50,6 @@ fn wire_with_sends(alloc: Global, wire: Wire, sends: &SendList) -> Result<Wire, 
         wire = wire_with_request(alloc, wire, *to, request)?;
     }
     Ok(wire)
-}
-
-/// The reply to the request of a number among some.
-fn reply_among(req: u32, replies: &ReplyList) -> Option<&GuestRsp>
-    ensures { option_copied result ≡ reply_among req replies.now }
-{
-    match replies.as_slice().iter().find(|reply| reply.0 == req) {
-        Some((_, rsp)) => Some(rsp),
-        None => None,
-    }
-}
-
-impl ClientAsk {
-    /// The ask, once these replies were given.
-    fn after_replies(self, alloc: Global, replies: &ReplyList) -> Result<ClientAsk, NoMemory>
-        ensures { IfOk result (λ after. after ≡ ask_after_replies replies.now self) }
-    {
-        let ClientAsk { req, reply } = self;
-        let reply = match reply {
-            Some(rsp) => Some(rsp),
-            None => match reply_among(req, replies) {
-                Some(rsp) => Some(rsp.copy(alloc)?),
-                None => None,
-            },
-        };
-        Ok(ClientAsk { req, reply })
-    }
 }
 
 impl WorldState {
