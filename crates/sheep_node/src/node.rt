@@ -29,10 +29,17 @@ use std::marker::Model;
 /// A node of the cluster. A call of `step` that answers out of memory spends it; no other call does, and a spent node makes no other call.
 /// Contracts see whether it is spent, and the record `Node` of `specs/State.antt`; a node that isn't spent is sound, as
 /// `specs/NodeInvariant.antt` has it.
-#[derive(Drop)]
 pub struct Node {
     spent: bool,
     step: StepState,
+}
+
+/// Written out, so that letting a node go is one call wherever it is done, and not a case for each of its parts there.
+impl Drop for Node {
+    fn drop(self) {
+        let Node { spent: _, step } = self;
+        drop(step);
+    }
 }
 
 impl Model for Node {

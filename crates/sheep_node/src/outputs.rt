@@ -6,7 +6,7 @@ use peer_proto::{PeerRsp, SendList};
 use std::alloc::Global;
 
 /// What a step gives.
-#[derive(Debug, Drop)]
+#[derive(Debug)]
 pub struct Outputs {
     /// The requests that the step sends, in the order of their numbers.
     pub sends: SendList,
@@ -16,6 +16,22 @@ pub struct Outputs {
     pub replies: ReplyList,
     /// What goes into the log.
     pub put: Option<Entry>,
+}
+
+/// Written out, so that letting outputs go is one call wherever it is done.
+impl Drop for Outputs {
+    fn drop(self) {
+        let Outputs {
+            sends,
+            say,
+            replies,
+            put,
+        } = self;
+        drop(sends);
+        drop(say);
+        drop(replies);
+        drop(put);
+    }
 }
 
 impl Outputs {

@@ -125,7 +125,7 @@ impl NodeState {
 
 impl StepState {
     /// Another node's request is served.
-    fn on_request(&mut self, request: &PeerReq) -> Result<(), NoMemory>
+    pub fn on_request(&mut self, request: &PeerReq) -> Result<(), NoMemory>
         requires { MayServe self.old.node.peer request.now.ask }
         ensures { OnOk result (self.new ≡ on_request request.now self.old) }
     {
@@ -147,7 +147,7 @@ impl StepState {
 
     /// A reply goes to what waits for its number: the gateway, or else the recovery.
     #[tactic(auto, unfolding(crate::specs::Step::on_reply))]
-    fn on_reply(&mut self, rsp: &PeerRsp) -> Result<(), NoMemory>
+    pub fn on_reply(&mut self, rsp: &PeerRsp) -> Result<(), NoMemory>
         requires start { self.old ≡ at_first self.old.node }
         requires may { May (inputs.Reply rsp.now) self.old.node }
         requires sound { IsSoundNode self.old.node }
@@ -174,7 +174,7 @@ impl StepState {
 
     /// A loss goes there too.
     #[tactic(auto, unfolding(crate::specs::Step::on_loss))]
-    fn on_loss(&mut self, number: u32) -> Result<(), NoMemory>
+    pub fn on_loss(&mut self, number: u32) -> Result<(), NoMemory>
         requires start { self.old ≡ at_first self.old.node }
         requires may { May (inputs.Lost number) self.old.node }
         requires sound { IsSoundNode self.old.node }
@@ -205,7 +205,7 @@ impl StepState {
     }
 
     /// The first entry of the outbox goes into the log.
-    fn on_put(&mut self)
+    pub fn on_put(&mut self)
         requires { self.old ≡ at_first self.old.node }
         ensures { self.new ≡ on_put self.old.node.outbox self.old }
     {
@@ -213,7 +213,7 @@ impl StepState {
     }
 
     /// A tick of the recovery sends its messages.
-    fn on_recover_tick(&mut self) -> Result<(), NoMemory>
+    pub fn on_recover_tick(&mut self) -> Result<(), NoMemory>
         requires may { May inputs.RecoverTick self.old.node }
         requires sound { IsSoundNode self.old.node }
         ensures { OnOk result (self.new ≡ on_recover_tick self.old) }
@@ -223,7 +223,7 @@ impl StepState {
     }
 
     /// Of the works that wait for their next attempt that of the smallest request is tried again.
-    fn on_retry_tick(&mut self) -> Result<(), NoMemory>
+    pub fn on_retry_tick(&mut self) -> Result<(), NoMemory>
         requires start { self.old ≡ at_first self.old.node }
         requires may { May inputs.RetryTick self.old.node }
         requires sound { IsSoundNode self.old.node }
@@ -235,36 +235,12 @@ impl StepState {
 
     /// A lost node comes back, and has read all these entries.
     #[tactic(auto, unfolding(crate::specs::Step::on_input))]
-    fn on_back(&mut self, entries: &[Entry]) -> Result<(), NoMemory>
+    pub fn on_back(&mut self, entries: &[Entry]) -> Result<(), NoMemory>
         requires may { May (inputs.Back entries.now) self.old.node }
         requires sound { IsSoundNode self.old.node }
         ensures { OnOk result (self.new ≡ on_input (inputs.Back entries.now) self.old) }
     {
         self.node.back(entries)
-    }
-
-    /// What an input does.
-    #[tactic(auto, unfolding(crate::specs::Step::on_input))]
-    fn on_input(&mut self, input: Input) -> Result<(), NoMemory>
-        requires start { self.old ≡ at_first self.old.node }
-        requires may { May input self.old.node }
-        requires sound { IsSoundNode self.old.node }
-        ensures { OnOk result (self.new ≡ on_input input self.old) }
-    {
-        match input {
-            Input::Guest { req, session, ask } => self.on_guest(req, session, ask),
-            Input::Request(request) => self.on_request(&request),
-            Input::Reply(rsp) => self.on_reply(&rsp),
-            Input::Lost { number } => self.on_loss(number),
-            Input::LogEntry(entry) => self.on_log_entry(&entry),
-            Input::Put => {
-                self.on_put();
-                Ok(())
-            }
-            Input::RecoverTick => self.on_recover_tick(),
-            Input::RetryTick => self.on_retry_tick(),
-            Input::Back { entries } => self.on_back(entries.as_slice()),
-        }
     }
 
     /// `Recovered` of the epoch that is recovered stands in the outbox, where it is due.
@@ -291,7 +267,7 @@ impl StepState {
         requires sound { IsSoundNode self.old.node }
         ensures { OnOk result (self.new ≡ node_step input self.old.node) }
     {
-        self.on_input(input)?;
+        input.act_on(self)?;
         self.put_recovered()
     }
 }

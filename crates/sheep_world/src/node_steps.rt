@@ -1,21 +1,19 @@
 //! One node's step in the world: what it sends enters the wire, and what it replied to is answered.
 
 ghost use Rattle.std.specs.Prelude.{◌≡◌, ◌++◌, fold, None, IfOk};
-ghost use Rattle.std.specs.Option.{option_copied};
 ghost use Rattle.sheep_world.specs.StepsInParts.{with_outputs};
 ghost use Rattle.sheep_world.specs.HistoryAdditions.{replies_grown};
 ghost use Rattle.sheep_world.specs.RepliesInParts.{AreRepliesAdded};
-ghost use Rattle.sheep_world.specs.NodeSteps.{request_name, wire_with_request, reply_among, ask_after_replies, node_stepped};
+ghost use Rattle.sheep_world.specs.NodeSteps.{request_name, wire_with_request, node_stepped};
 
-use crate::progress::ClientAsk;
 use crate::reply_history::with_replies;
 use crate::world_state::WorldState;
 use cluster_script::Script;
 use disk_history::HistList;
 use message_wire::{MessageName, Packet, Wire};
 use object_id::{NoMemory, NodeId};
-use peer_proto::{GuestRsp, PeerReq, SendList, encode_ask};
-use sheep_node::{Input, Outputs, ReplyList};
+use peer_proto::{PeerReq, SendList, encode_ask};
+use sheep_node::{Input, Outputs};
 use std::alloc::Global;
 
 /// The name of a request.
@@ -54,35 +52,6 @@ fn wire_with_sends(alloc: Global, wire: Wire, sends: &SendList) -> Result<Wire, 
     Ok(wire)
 }
 
-/// The reply to the request of a number among some.
-fn reply_among(req: u32, replies: &ReplyList) -> Option<&GuestRsp>
-    ensures { option_copied result ≡ reply_among req replies.now }
-{
-    match replies.as_slice().iter().find(|reply| reply.0 == req) {
-        Some((_, rsp)) => Some(rsp),
-        None => None,
-    }
-}
-
-/// A client's ask, once these replies were given.
-fn ask_after_replies(
-    alloc: Global,
-    replies: &ReplyList,
-    ask: ClientAsk,
-) -> Result<ClientAsk, NoMemory>
-    ensures { IfOk result (λ after. after ≡ ask_after_replies replies.now ask) }
-{
-    let ClientAsk { req, reply } = ask;
-    let reply = match reply {
-        Some(rsp) => Some(rsp),
-        None => match reply_among(req, replies) {
-            Some(rsp) => Some(rsp.copy(alloc)?),
-            None => None,
-        },
-    };
-    Ok(ClientAsk { req, reply })
-}
-
 impl WorldState {
     /// What a step has given is told: its requests enter the wire, and what it replied to is answered.
     fn with_outputs(
@@ -102,7 +71,7 @@ impl WorldState {
         } = self;
         guests.after_replies(alloc, script, &outputs.replies)?;
         let asked = match asked {
-            Some(ask) => Some(ask_after_replies(alloc, &outputs.replies, ask)?),
+            Some(ask) => Some(ask.after_replies(alloc, &outputs.replies)?),
             None => None,
         };
         let wire = wire_with_sends(alloc, wire, &outputs.sends)?;

@@ -17,9 +17,16 @@ use std::marker::Model;
 
 /// The cluster as a whole. A call that answers out of memory spends it, and then nothing is left of it; a spent world makes no other
 /// call. Contracts see whether it is spent, and the record `World` of `specs/World.antt`. No reader takes memory.
-#[derive(Drop)]
 pub struct World {
     state: Option<WorldState>,
+}
+
+/// Written out, so that letting a world go is one call in the crates above, and not a case for each of its parts there.
+impl Drop for World {
+    fn drop(self) {
+        let World { state } = self;
+        drop(state);
+    }
 }
 
 impl Model for World {
