@@ -15,7 +15,7 @@ use std::alloc::Global;
 
 /// A phase: its controls and its requests by how many stand before the first one, and how many there are, how many
 /// messages may be lost in it, and the barrier that ends it.
-#[derive(Debug, Drop)]
+#[derive(Debug)]
 pub struct PhaseEntry {
     pub controls_before: u32,
     pub controls: u32,
@@ -23,6 +23,21 @@ pub struct PhaseEntry {
     pub requests_before: u32,
     pub requests: u32,
     pub barrier: Statement,
+}
+
+/// Written out, so that letting one go is one call wherever it is done, and no cases there.
+impl Drop for PhaseEntry {
+    fn drop(self) {
+        let PhaseEntry {
+            controls_before: _,
+            controls: _,
+            losses: _,
+            requests_before: _,
+            requests: _,
+            barrier,
+        } = self;
+        drop(barrier);
+    }
 }
 
 /// The phases of a script, in order.

@@ -22,10 +22,19 @@ use std::marker::Model;
 
 /// The statements of a text that is a script, in order, and next to them what is looked up in them. No reader takes memory,
 /// and none but [`Script::statements`] gives more than one thing: each costs the same for scripts of any length.
-#[derive(Debug, Drop)]
+#[derive(Debug)]
 pub struct Script {
     statements: Items<Statement>,
     index: Index,
+}
+
+/// Written out, so that letting one go is one call wherever it is done, and no cases there.
+impl Drop for Script {
+    fn drop(self) {
+        let Script { statements, index } = self;
+        drop(statements);
+        drop(index);
+    }
 }
 
 impl Model for Script {

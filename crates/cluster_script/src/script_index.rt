@@ -12,7 +12,7 @@ use object_id::{INPUT_BYTES_MAX, Items, NODES_MAX, NoMemory};
 use std::alloc::Global;
 
 /// What is looked up in a script, made once of its statements.
-#[derive(Debug, Drop)]
+#[derive(Debug)]
 pub struct Index {
     pub nodes: u32,
     pub vnodes: u16,
@@ -27,6 +27,30 @@ pub struct Index {
     /// The places of the controls.
     pub controls: Items<u32>,
     pub phases: Items<PhaseEntry>,
+}
+
+/// Written out, so that letting one go is one call wherever it is done, and no cases there.
+impl Drop for Index {
+    fn drop(self) {
+        let Index {
+            nodes: _,
+            vnodes: _,
+            tries: _,
+            limit: _,
+            zones,
+            sessions,
+            requests,
+            numbers,
+            controls,
+            phases,
+        } = self;
+        drop(zones);
+        drop(sessions);
+        drop(requests);
+        drop(numbers);
+        drop(controls);
+        drop(phases);
+    }
 }
 
 impl Index {

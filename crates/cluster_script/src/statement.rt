@@ -10,7 +10,7 @@ pub enum Pattern {
 }
 
 /// A line of a script. Sizes, offsets and lengths are in bytes.
-#[derive(Debug, Drop)]
+#[derive(Debug)]
 pub enum Statement {
     /// Nodes 0 to `nodes` - 1 are the opening members.
     Cluster {
@@ -122,4 +122,78 @@ pub enum Statement {
     Check {
         session: u32,
     },
+}
+
+/// Written out, so that letting one go is one call wherever it is done, and no cases there.
+impl Drop for Statement {
+    fn drop(self) {
+        match self {
+            Statement::Cluster { nodes: _ } => {}
+            Statement::Vnodes { vnodes: _ } => {}
+            Statement::Tries { tries: _ } => {}
+            Statement::Limit { limit: _ } => {}
+            Statement::Session {
+                session: _,
+                node: _,
+            } => {}
+            Statement::Create {
+                session: _,
+                policy: _,
+                shift: _,
+                name,
+                size: _,
+            } => drop(name),
+            Statement::OpenDisk {
+                session: _,
+                name,
+                tag,
+            } => {
+                drop(name);
+                drop(tag);
+            }
+            Statement::Close { session: _ } => {}
+            Statement::Read {
+                session: _,
+                offset: _,
+                length: _,
+            } => {}
+            Statement::Write {
+                session: _,
+                offset: _,
+                length: _,
+                pattern,
+            } => drop(pattern),
+            Statement::Snapshot { session: _, tag } => drop(tag),
+            Statement::Clone {
+                session: _,
+                base,
+                tag,
+                name,
+            } => {
+                drop(base);
+                drop(tag);
+                drop(name);
+            }
+            Statement::Delete {
+                session: _,
+                name,
+                tag,
+            } => {
+                drop(name);
+                drop(tag);
+            }
+            Statement::Fail { node: _ } => {}
+            Statement::Join { node: _ } => {}
+            Statement::Lose { count: _ } => {}
+            Statement::Settle => {}
+            Statement::ListNodes => {}
+            Statement::ListVdis => {}
+            Statement::ClusterInfo => {}
+            Statement::Dump => {}
+            Statement::Zone { node: _, zone: _ } => {}
+            Statement::Reweight { node: _, vnodes: _ } => {}
+            Statement::Back { node: _ } => {}
+            Statement::Check { session: _ } => {}
+        }
+    }
 }

@@ -18,7 +18,7 @@ use std::alloc::Global;
 use std::marker::Model;
 
 /// A check of a disk.
-#[derive(Debug, Drop)]
+#[derive(Debug)]
 pub struct CheckOp {
     vid: Vid,
     spec: VdiSpec,
@@ -29,6 +29,23 @@ pub struct CheckOp {
     /// How many of them were begun.
     begun: usize,
     stage: Stage,
+}
+
+/// Written out, so that letting one go is one call wherever it is done, and no cases there.
+impl Drop for CheckOp {
+    fn drop(self) {
+        let CheckOp {
+            vid: _,
+            spec: _,
+            found,
+            own,
+            begun: _,
+            stage,
+        } = self;
+        drop(found);
+        drop(own);
+        drop(stage);
+    }
 }
 
 impl Model for CheckOp {

@@ -11,11 +11,22 @@ use std::alloc::Global;
 use std::collections::BTreeMap;
 
 /// A disk: how many blocks it has, whether it was deleted, and the place of the newest write of each block that has one.
-#[derive(Drop)]
 pub struct DiskState {
     pub blocks: u64,
     pub deleted: bool,
     pub newest: BTreeMap<u64, usize>,
+}
+
+/// Written out, so that letting one go is one call wherever it is done, and no cases there.
+impl Drop for DiskState {
+    fn drop(self) {
+        let DiskState {
+            blocks: _,
+            deleted: _,
+            newest,
+        } = self;
+        drop(newest);
+    }
 }
 
 pub type Disks = BTreeMap<u32, DiskState>;

@@ -4,7 +4,7 @@ use object_id::{Bytes, Duplicate, Items, NoMemory};
 use std::alloc::Global;
 
 /// One event of a history. A block is its number in units of 512 bytes; requests and disks go by number.
-#[derive(Debug, Drop)]
+#[derive(Debug)]
 pub enum HistEvent {
     /// A new disk of so many blocks, all zeros.
     Create {
@@ -45,6 +45,32 @@ pub enum HistEvent {
         block: u64,
         bytes: Bytes,
     },
+}
+
+/// Written out, so that letting one go is one call wherever it is done, and no cases there.
+impl Drop for HistEvent {
+    fn drop(self) {
+        match self {
+            HistEvent::Create { disk: _, blocks: _ } => {}
+            HistEvent::Copy { old: _, new: _ } => {}
+            HistEvent::Delete { disk: _ } => {}
+            HistEvent::WriteStart {
+                req: _,
+                disk: _,
+                block: _,
+                coded: _,
+                bytes,
+            } => drop(bytes),
+            HistEvent::WriteDone { req: _ } => {}
+            HistEvent::WriteRefused { req: _ } => {}
+            HistEvent::WriterLost { req: _ } => {}
+            HistEvent::Read {
+                disk: _,
+                block: _,
+                bytes,
+            } => drop(bytes),
+        }
+    }
 }
 
 pub type HistList = Items<HistEvent>;

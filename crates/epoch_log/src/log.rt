@@ -16,13 +16,27 @@ use std::marker::Model;
 pub type EntryList = Items<Entry>;
 
 /// The membership log.
-#[derive(Drop)]
 pub struct Log {
     alloc: Global,
     entries: Vec<Entry>,
     /// What holds after each entry.
     marks: Vec<Mark>,
     tally: Tally,
+}
+
+/// Written out, so that letting one go is one call wherever it is done, and no cases there.
+impl Drop for Log {
+    fn drop(self) {
+        let Log {
+            alloc: _,
+            entries,
+            marks,
+            tally,
+        } = self;
+        drop(entries);
+        drop(marks);
+        drop(tally);
+    }
 }
 
 impl Model for Log {

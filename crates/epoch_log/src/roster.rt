@@ -6,9 +6,17 @@ use std::alloc::Global;
 use std::marker::Model;
 
 /// Members of an epoch, ascending by number.
-#[derive(Debug, Drop)]
+#[derive(Debug)]
 pub struct Roster {
     members: Vec<Member>,
+}
+
+/// Written out, so that letting one go is one call wherever it is done, and no cases there.
+impl Drop for Roster {
+    fn drop(self) {
+        let Roster { members } = self;
+        drop(members);
+    }
 }
 
 impl Model for Roster {

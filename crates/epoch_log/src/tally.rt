@@ -16,13 +16,25 @@ use std::collections::BTreeSet;
 
 /// What the entries of a log come to: the newest epoch, the settled one and the members of each, without the entries. A [`crate::Log`]
 /// keeps both; who has the entries elsewhere counts each here before it is put to the others.
-#[derive(Drop)]
 pub struct Tally {
     /// The epochs that have begun, in order.
     terms: Vec<EpochRecord>,
     /// Each `Recovered` whose epoch had not begun.
     early: BTreeSet<(Epoch, NodeId)>,
     settled: Epoch,
+}
+
+/// Written out, so that letting one go is one call wherever it is done, and no cases there.
+impl Drop for Tally {
+    fn drop(self) {
+        let Tally {
+            terms,
+            early,
+            settled: _,
+        } = self;
+        drop(terms);
+        drop(early);
+    }
 }
 
 /// The node and the epoch of a `Recovered`.

@@ -10,9 +10,16 @@ use std::collections::BTreeMap;
 use std::marker::Model;
 
 /// Of which request a message is, by its number. Contracts see the finite map.
-#[derive(Drop)]
 pub(crate) struct Askers {
     requests: BTreeMap<u32, u32>,
+}
+
+/// Written out, so that letting one go is one call wherever it is done, and no cases there.
+impl Drop for Askers {
+    fn drop(self) {
+        let Askers { requests } = self;
+        drop(requests);
+    }
 }
 
 impl Model for Askers {

@@ -26,7 +26,6 @@ use std::marker::Model;
 use vnode_table::Placement;
 
 /// The works of a node's requests on single objects, and which requests are touched.
-#[derive(Drop)]
 pub struct Gateway {
     pub(crate) alloc: Global,
     pub(crate) me: NodeId,
@@ -35,6 +34,23 @@ pub struct Gateway {
     pub(crate) touched: Touched,
     /// Of which request each unanswered message is. It may have numbers of messages that were never sent, since memory was wanted.
     pub(crate) askers: Askers,
+}
+
+/// Written out, so that letting one go is one call wherever it is done, and no cases there.
+impl Drop for Gateway {
+    fn drop(self) {
+        let Gateway {
+            alloc: _,
+            me: _,
+            tries: _,
+            works,
+            touched,
+            askers,
+        } = self;
+        drop(works);
+        drop(touched);
+        drop(askers);
+    }
 }
 
 impl Model for Gateway {

@@ -67,12 +67,25 @@ impl Status {
 }
 
 /// A message of an attempt: its number, the node that it goes to, and the index of the part that it asks for.
-#[derive(Debug, Drop)]
+#[derive(Debug)]
 pub struct Message {
     pub number: u32,
     pub node: NodeId,
     pub index: u8,
     pub status: Status,
+}
+
+/// Written out, so that letting one go is one call wherever it is done, and no cases there.
+impl Drop for Message {
+    fn drop(self) {
+        let Message {
+            number: _,
+            node: _,
+            index: _,
+            status,
+        } = self;
+        drop(status);
+    }
 }
 
 impl Message {

@@ -15,9 +15,17 @@ use std::alloc::Global;
 use std::marker::Model;
 
 /// The messages of an attempt, in the order of its targets. Contracts see the list.
-#[derive(Debug, Drop)]
+#[derive(Debug)]
 pub(crate) struct Messages {
     items: Vec<Message>,
+}
+
+/// Written out, so that letting one go is one call wherever it is done, and no cases there.
+impl Drop for Messages {
+    fn drop(self) {
+        let Messages { items } = self;
+        drop(items);
+    }
 }
 
 impl Model for Messages {

@@ -19,12 +19,25 @@ use std::alloc::Global;
 use std::marker::Model;
 
 /// A work that isn't done.
-#[derive(Debug, Drop)]
+#[derive(Debug)]
 pub(crate) struct OpenWork {
     work: ObjWork,
     /// How many of its attempts have ended.
     ended: u64,
     stage: Stage,
+}
+
+/// Written out, so that letting one go is one call wherever it is done, and no cases there.
+impl Drop for OpenWork {
+    fn drop(self) {
+        let OpenWork {
+            work,
+            ended: _,
+            stage,
+        } = self;
+        drop(work);
+        drop(stage);
+    }
 }
 
 impl Model for OpenWork {
@@ -69,7 +82,12 @@ impl OpenWork {
     pub fn into_work(self) -> ObjWork
         ensures { result ≡ self.work }
     {
-        let OpenWork { work, .. } = self;
+        let OpenWork {
+            work,
+            ended: _,
+            stage,
+        } = self;
+        drop(stage);
         work
     }
 

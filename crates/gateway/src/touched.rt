@@ -7,9 +7,16 @@ use std::collections::BTreeSet;
 use std::marker::Model;
 
 /// The requests of which something may have been made. Contracts see the finite set.
-#[derive(Drop)]
 pub(crate) struct Touched {
     requests: BTreeSet<u32>,
+}
+
+/// Written out, so that letting one go is one call wherever it is done, and no cases there.
+impl Drop for Touched {
+    fn drop(self) {
+        let Touched { requests } = self;
+        drop(requests);
+    }
 }
 
 impl Model for Touched {

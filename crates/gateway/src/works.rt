@@ -21,9 +21,16 @@ use std::collections::BTreeMap;
 use std::marker::Model;
 
 /// The works that aren't done, by the numbers of their requests. Contracts see the finite map.
-#[derive(Drop)]
 pub(crate) struct Works {
     by_request: BTreeMap<u32, OpenWork>,
+}
+
+/// Written out, so that letting one go is one call wherever it is done, and no cases there.
+impl Drop for Works {
+    fn drop(self) {
+        let Works { by_request } = self;
+        drop(by_request);
+    }
 }
 
 impl Model for Works {

@@ -23,9 +23,17 @@ impl Queued {
 }
 
 /// The requests of a session that aren't done, in the order in which they were pushed.
-#[derive(Debug, Drop)]
+#[derive(Debug)]
 pub struct Queue {
     queued: Vec<Queued>,
+}
+
+/// Written out, so that letting one go is one call wherever it is done, and no cases there.
+impl Drop for Queue {
+    fn drop(self) {
+        let Queue { queued } = self;
+        drop(queued);
+    }
 }
 
 impl Model for Queue {

@@ -10,10 +10,18 @@ use std::marker::Model;
 
 /// The disk that a session has open: its inode, whose table says where each object is, and whether it is a snapshot,
 /// which is only read. Its id is one, and each entry of its table is 0 or an id.
-#[derive(Debug, Drop)]
+#[derive(Debug)]
 pub struct Disk {
     inode: Inode,
     snapshot: bool,
+}
+
+/// Written out, so that letting one go is one call wherever it is done, and no cases there.
+impl Drop for Disk {
+    fn drop(self) {
+        let Disk { inode, snapshot: _ } = self;
+        drop(inode);
+    }
 }
 
 impl Model for Disk {

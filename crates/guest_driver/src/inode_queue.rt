@@ -21,10 +21,21 @@ fn is_on_inode(work: &ObjWork) -> bool
 
 /// The request whose work on the inode is open, and the works that wait, the first to come in front. Each is one that a gateway
 /// takes.
-#[derive(Debug, Drop)]
+#[derive(Debug)]
 pub struct InodeQueue {
     current: Option<u32>,
     waiting: Vec<WaitingWork>,
+}
+
+/// Written out, so that letting one go is one call wherever it is done, and no cases there.
+impl Drop for InodeQueue {
+    fn drop(self) {
+        let InodeQueue {
+            current: _,
+            waiting,
+        } = self;
+        drop(waiting);
+    }
 }
 
 impl Model for InodeQueue {

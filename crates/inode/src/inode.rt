@@ -13,7 +13,7 @@ use std::alloc::Global;
 use std::marker::Model;
 
 /// The inode of a disk.
-#[derive(Debug, Drop)]
+#[derive(Debug)]
 pub struct Inode {
     pub(crate) name: Bytes,
     pub(crate) tag: Bytes,
@@ -23,6 +23,24 @@ pub struct Inode {
     /// 0 for none.
     pub(crate) parent: u32,
     pub(crate) table: Vec<u32>,
+}
+
+/// Written out, so that letting one go is one call wherever it is done, and no cases there.
+impl Drop for Inode {
+    fn drop(self) {
+        let Inode {
+            name,
+            tag,
+            spec: _,
+            snap_id: _,
+            vid: _,
+            parent: _,
+            table,
+        } = self;
+        drop(name);
+        drop(tag);
+        drop(table);
+    }
 }
 
 impl Model for Inode {

@@ -18,10 +18,18 @@ use std::alloc::Global;
 use std::marker::Model;
 
 /// The messages of one sender, by number, and how many of them ask each node. Contracts see the finite map.
-#[derive(Drop)]
 pub(crate) struct SenderMessages {
     messages: Vec<(u32, Packet)>,
     ends: EndCounts,
+}
+
+/// Written out, so that letting one go is one call wherever it is done, and no cases there.
+impl Drop for SenderMessages {
+    fn drop(self) {
+        let SenderMessages { messages, ends } = self;
+        drop(messages);
+        drop(ends);
+    }
 }
 
 impl Model for SenderMessages {

@@ -19,9 +19,16 @@ use std::marker::Model;
 
 /// The messages that are on their way, by name. Contracts see the finite map. Each sender's messages stand together, in the order of
 /// their numbers: a look-up costs two searches, by sender and by number.
-#[derive(Drop)]
 pub struct Wire {
     by_sender: Vec<(u32, SenderMessages)>,
+}
+
+/// Written out, so that letting one go is one call wherever it is done, and no cases there.
+impl Drop for Wire {
+    fn drop(self) {
+        let Wire { by_sender } = self;
+        drop(by_sender);
+    }
 }
 
 impl Model for Wire {

@@ -62,11 +62,25 @@ impl Duplicate for Member {
 }
 
 /// What a new disk is made from.
-#[derive(Debug, Drop)]
+#[derive(Debug)]
 pub enum Origin {
     Fresh { spec: VdiSpec },
     SnapshotOf { tag: Bytes },
     CloneOf { base: Bytes, tag: Bytes },
+}
+
+/// Written out, so that letting one go is one call wherever it is done, and no cases there.
+impl Drop for Origin {
+    fn drop(self) {
+        match self {
+            Origin::Fresh { spec: _ } => {}
+            Origin::SnapshotOf { tag } => drop(tag),
+            Origin::CloneOf { base, tag } => {
+                drop(base);
+                drop(tag);
+            }
+        }
+    }
 }
 
 impl Origin {
@@ -98,7 +112,7 @@ impl Origin {
 }
 
 /// An entry of the membership log. `by` is the node that put it.
-#[derive(Debug, Drop)]
+#[derive(Debug)]
 pub enum Entry {
     /// The opening members; the log's first entry and no other.
     Format {
@@ -157,6 +171,62 @@ pub enum Entry {
         session: u32,
         vid: Vid,
     },
+}
+
+/// Written out, so that letting one go is one call wherever it is done, and no cases there.
+impl Drop for Entry {
+    fn drop(self) {
+        match self {
+            Entry::Format { members } => drop(members),
+            Entry::Join {
+                node: _,
+                zone: _,
+                vnodes: _,
+            } => {}
+            Entry::Leave { node: _ } => {}
+            Entry::Reweight { node: _, vnodes: _ } => {}
+            Entry::Recovered { node: _, epoch: _ } => {}
+            Entry::Reserve {
+                by: _,
+                session: _,
+                name,
+                origin,
+            } => {
+                drop(name);
+                drop(origin);
+            }
+            Entry::Publish { by: _, vid: _ } => {}
+            Entry::Clone { by: _, vid: _ } => {}
+            Entry::Snapshot {
+                by: _,
+                old: _,
+                vid: _,
+            } => {}
+            Entry::Delete {
+                by: _,
+                session: _,
+                name,
+                tag,
+            } => {
+                drop(name);
+                drop(tag);
+            }
+            Entry::Lock {
+                by: _,
+                session: _,
+                name,
+                tag,
+            } => {
+                drop(name);
+                drop(tag);
+            }
+            Entry::Unlock {
+                by: _,
+                session: _,
+                vid: _,
+            } => {}
+        }
+    }
 }
 
 impl Entry {

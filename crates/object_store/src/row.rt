@@ -24,13 +24,27 @@ pub struct RowSummary {
 }
 
 /// A copy of a row. It has `length` bytes: those of `bytes`, which end at the last one that isn't 0, and zeros.
-#[derive(Debug, Drop)]
+#[derive(Debug)]
 pub struct RowCopy {
     pub index: u8,
     pub from: Epoch,
     pub to: Option<Epoch>,
     pub length: u32,
     pub bytes: Bytes,
+}
+
+/// Written out, so that letting one go is one call wherever it is done, and no cases there.
+impl Drop for RowCopy {
+    fn drop(self) {
+        let RowCopy {
+            index: _,
+            from: _,
+            to: _,
+            length: _,
+            bytes,
+        } = self;
+        drop(bytes);
+    }
 }
 
 impl RowCopy {

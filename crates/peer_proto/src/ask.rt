@@ -5,7 +5,7 @@ use object_store::Key;
 use std::alloc::Global;
 
 /// What a node asks of another one.
-#[derive(Debug, Drop)]
+#[derive(Debug)]
 pub enum PeerAsk {
     /// Make the open row of the key: `length` bytes, the piece from `offset` on and else zeros.
     Create {
@@ -33,6 +33,32 @@ pub enum PeerAsk {
         oid: Oid,
         level: Epoch,
     },
+}
+
+/// Written out, so that letting one go is one call wherever it is done, and no cases there.
+impl Drop for PeerAsk {
+    fn drop(self) {
+        match self {
+            PeerAsk::Create {
+                key: _,
+                length: _,
+                offset: _,
+                bytes,
+            } => drop(bytes),
+            PeerAsk::Write {
+                key: _,
+                offset: _,
+                bytes,
+            } => drop(bytes),
+            PeerAsk::Read {
+                key: _,
+                offset: _,
+                length: _,
+            } => {}
+            PeerAsk::List => {}
+            PeerAsk::RecoverRead { oid: _, level: _ } => {}
+        }
+    }
 }
 
 impl PeerAsk {
@@ -76,12 +102,25 @@ impl PeerAsk {
 
 /// A request from node to node. A message is named by its sender and number; its epoch is that of the attempt or
 /// recovery which it belongs to.
-#[derive(Debug, Drop)]
+#[derive(Debug)]
 pub struct PeerReq {
     pub from: NodeId,
     pub number: u32,
     pub epoch: Epoch,
     pub ask: PeerAsk,
+}
+
+/// Written out, so that letting one go is one call wherever it is done, and no cases there.
+impl Drop for PeerReq {
+    fn drop(self) {
+        let PeerReq {
+            from: _,
+            number: _,
+            epoch: _,
+            ask,
+        } = self;
+        drop(ask);
+    }
 }
 
 impl PeerReq {

@@ -89,7 +89,7 @@ impl VdiAsk {
 }
 
 /// What the check of a disk found.
-#[derive(Debug, Drop)]
+#[derive(Debug)]
 pub struct Checked {
     /// How many objects are the disk's own; each was read at every target, and written back.
     pub objects: u32,
@@ -97,6 +97,18 @@ pub struct Checked {
     pub inherited: u32,
     /// The own objects whose copies differed, ascending.
     pub differed: OidList,
+}
+
+/// Written out, so that letting one go is one call wherever it is done, and no cases there.
+impl Drop for Checked {
+    fn drop(self) {
+        let Checked {
+            objects: _,
+            inherited: _,
+            differed,
+        } = self;
+        drop(differed);
+    }
 }
 
 impl Checked {
@@ -112,7 +124,7 @@ impl Checked {
 }
 
 /// The reply to a guest.
-#[derive(Debug, Drop)]
+#[derive(Debug)]
 pub enum GuestRsp {
     Done,
     /// What a read gives.
@@ -121,6 +133,19 @@ pub enum GuestRsp {
     /// The disk that a lock was granted on.
     Granted { vid: Vid },
     Checked(Checked),
+}
+
+/// Written out, so that letting one go is one call wherever it is done, and no cases there.
+impl Drop for GuestRsp {
+    fn drop(self) {
+        match self {
+            GuestRsp::Done => {}
+            GuestRsp::Piece(value) => drop(value),
+            GuestRsp::Refused(_) => {}
+            GuestRsp::Granted { vid: _ } => {}
+            GuestRsp::Checked(value) => drop(value),
+        }
+    }
 }
 
 impl GuestRsp {

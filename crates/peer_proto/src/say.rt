@@ -18,7 +18,7 @@ pub enum Refusal {
 }
 
 /// What a node answers.
-#[derive(Debug, Drop)]
+#[derive(Debug)]
 pub enum PeerSay {
     /// A create or write was made.
     Success,
@@ -29,6 +29,20 @@ pub enum PeerSay {
     /// No row holds the level.
     NoRow,
     Refused(Refusal),
+}
+
+/// Written out, so that letting one go is one call wherever it is done, and no cases there.
+impl Drop for PeerSay {
+    fn drop(self) {
+        match self {
+            PeerSay::Success => {}
+            PeerSay::Piece(value) => drop(value),
+            PeerSay::Objects(value) => drop(value),
+            PeerSay::Row(value) => drop(value),
+            PeerSay::NoRow => {}
+            PeerSay::Refused(_) => {}
+        }
+    }
 }
 
 impl PeerSay {
@@ -47,11 +61,23 @@ impl PeerSay {
 }
 
 /// The reply to a request: the request's number, and the epoch of the node that replies.
-#[derive(Debug, Drop)]
+#[derive(Debug)]
 pub struct PeerRsp {
     pub number: u32,
     pub epoch: Epoch,
     pub say: PeerSay,
+}
+
+/// Written out, so that letting one go is one call wherever it is done, and no cases there.
+impl Drop for PeerRsp {
+    fn drop(self) {
+        let PeerRsp {
+            number: _,
+            epoch: _,
+            say,
+        } = self;
+        drop(say);
+    }
 }
 
 impl PeerRsp {

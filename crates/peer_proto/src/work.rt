@@ -5,7 +5,7 @@ use object_id::{Bytes, NoMemory, Oid, Policy};
 use std::alloc::Global;
 
 /// One work on one object, which a gateway does by attempts.
-#[derive(Debug, Drop)]
+#[derive(Debug)]
 pub enum ObjWork {
     /// Make the object: `length` bytes, the piece from `offset` on and else zeros.
     Create {
@@ -34,6 +34,38 @@ pub enum ObjWork {
         policy: Policy,
         length: u32,
     },
+}
+
+/// Written out, so that letting one go is one call wherever it is done, and no cases there.
+impl Drop for ObjWork {
+    fn drop(self) {
+        match self {
+            ObjWork::Create {
+                oid: _,
+                policy: _,
+                length: _,
+                offset: _,
+                bytes,
+            } => drop(bytes),
+            ObjWork::Write {
+                oid: _,
+                policy: _,
+                offset: _,
+                bytes,
+            } => drop(bytes),
+            ObjWork::Read {
+                oid: _,
+                policy: _,
+                offset: _,
+                length: _,
+            } => {}
+            ObjWork::ReadAll {
+                oid: _,
+                policy: _,
+                length: _,
+            } => {}
+        }
+    }
 }
 
 impl ObjWork {

@@ -26,13 +26,26 @@ pub enum Asked {
 }
 
 /// The messages that aren't answered. Contracts see a record.
-#[derive(Drop)]
 pub(crate) struct InFlight {
     asked: Asked,
     epoch: Epoch,
     is_older: bool,
     /// The number of each message with the node that it goes to, by ascending numbers.
     nodes: Vec<(u32, NodeId)>,
+}
+
+/// Written out, so that letting one go is one call wherever it is done, and no cases there.
+impl Drop for InFlight {
+    fn drop(self) {
+        let InFlight {
+            asked,
+            epoch: _,
+            is_older: _,
+            nodes,
+        } = self;
+        drop(asked);
+        drop(nodes);
+    }
 }
 
 impl Model for InFlight {

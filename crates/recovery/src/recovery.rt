@@ -14,7 +14,6 @@ use std::alloc::Global;
 use std::marker::Model;
 
 /// The recovery of a node: in each epoch that it enters it makes what rows it is to keep there and hasn't. Contracts see a record.
-#[derive(Drop)]
 pub struct Recovery {
     pub(crate) alloc: Global,
     pub(crate) me: NodeId,
@@ -25,6 +24,27 @@ pub struct Recovery {
     pub(crate) missing: Vec<Oid>,
     pub(crate) search: Option<Search>,
     pub(crate) flight: InFlight,
+}
+
+/// Written out, so that letting one go is one call wherever it is done, and no cases there.
+impl Drop for Recovery {
+    fn drop(self) {
+        let Recovery {
+            alloc: _,
+            me: _,
+            epoch: _,
+            members,
+            lists,
+            missing,
+            search,
+            flight,
+        } = self;
+        drop(members);
+        drop(lists);
+        drop(missing);
+        drop(search);
+        drop(flight);
+    }
 }
 
 impl Model for Recovery {

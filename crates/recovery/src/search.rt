@@ -12,14 +12,21 @@ use std::alloc::Global;
 use std::marker::Model;
 
 /// What a node answered of a level: its row, or that it has none.
-#[derive(Debug, Drop)]
+#[derive(Debug)]
 pub struct RowAnswer {
     pub from: NodeId,
     pub row: Option<RowCopy>,
 }
 
+/// Written out, so that letting one go is one call wherever it is done, and no cases there.
+impl Drop for RowAnswer {
+    fn drop(self) {
+        let RowAnswer { from: _, row } = self;
+        drop(row);
+    }
+}
+
 /// A search at one of its levels. Contracts see a record.
-#[derive(Drop)]
 pub(crate) struct Search {
     oid: Oid,
     level: Epoch,
@@ -27,6 +34,19 @@ pub(crate) struct Search {
     answers: Vec<RowAnswer>,
     /// Whether a message was refused or lost since.
     again: bool,
+}
+
+/// Written out, so that letting one go is one call wherever it is done, and no cases there.
+impl Drop for Search {
+    fn drop(self) {
+        let Search {
+            oid: _,
+            level: _,
+            answers,
+            again: _,
+        } = self;
+        drop(answers);
+    }
 }
 
 impl Model for Search {

@@ -17,13 +17,27 @@ use peer_proto::{PeerRsp, WorkDone};
 use std::alloc::Global;
 
 /// A check, of the request of a number, writes a value over its disk's object of an index.
-#[derive(Debug, Drop)]
+#[derive(Debug)]
 pub struct CheckWrite {
     pub req: u32,
     pub vid: Vid,
     pub spec: VdiSpec,
     pub index: u32,
     pub value: Bytes,
+}
+
+/// Written out, so that letting one go is one call wherever it is done, and no cases there.
+impl Drop for CheckWrite {
+    fn drop(self) {
+        let CheckWrite {
+            req: _,
+            vid: _,
+            spec: _,
+            index: _,
+            value,
+        } = self;
+        drop(value);
+    }
 }
 
 /// The write that a check comes to with what its work gave. Takes the value's bytes.

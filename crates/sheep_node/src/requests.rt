@@ -13,11 +13,20 @@ use std::marker::Model;
 use vdi_ops::subject_number;
 
 /// The requests that have no reply, by their numbers. Contracts see the finite map.
-#[derive(Debug, Drop)]
+#[derive(Debug)]
 pub(crate) struct Requests {
     by_number: BTreeMap<u32, Request>,
     /// Of each request that waits for an entry the number that this is about, and the request's.
     marks: BTreeSet<(u32, u32)>,
+}
+
+/// Written out, so that letting one go is one call wherever it is done, and no cases there.
+impl Drop for Requests {
+    fn drop(self) {
+        let Requests { by_number, marks } = self;
+        drop(by_number);
+        drop(marks);
+    }
 }
 
 impl Model for Requests {

@@ -12,12 +12,27 @@ use vdi_ops::VdiOp;
 
 /// A session: the disk that it has open, its reads and writes without reply with their objects, or its one other request without reply,
 /// which is alone in it, and the works on its disk's inode.
-#[derive(Debug, Drop)]
+#[derive(Debug)]
 pub struct Session {
     pub disk: Option<Disk>,
     pub queue: Queue,
     pub command: Option<u32>,
     pub inode_queue: InodeQueue,
+}
+
+/// Written out, so that letting one go is one call wherever it is done, and no cases there.
+impl Drop for Session {
+    fn drop(self) {
+        let Session {
+            disk,
+            queue,
+            command: _,
+            inode_queue,
+        } = self;
+        drop(disk);
+        drop(queue);
+        drop(inode_queue);
+    }
 }
 
 impl Session {

@@ -10,9 +10,17 @@ use std::collections::BTreeMap;
 use std::marker::Model;
 
 /// The sessions that have asked something, by their numbers. Contracts see the finite map.
-#[derive(Debug, Drop)]
+#[derive(Debug)]
 pub(crate) struct Sessions {
     by_number: BTreeMap<u32, Session>,
+}
+
+/// Written out, so that letting one go is one call wherever it is done, and no cases there.
+impl Drop for Sessions {
+    fn drop(self) {
+        let Sessions { by_number } = self;
+        drop(by_number);
+    }
 }
 
 impl Model for Sessions {

@@ -21,7 +21,6 @@ use vnode_table::Placement;
 pub type NodeStore = PageStore;
 
 /// What a node is as long as it isn't spent. Contracts see the record `Node` of `specs/State.antt`.
-#[derive(Drop)]
 pub(crate) struct NodeState {
     pub alloc: Global,
     pub me: NodeId,
@@ -37,6 +36,30 @@ pub(crate) struct NodeState {
     pub outbox: VecDeque<Entry>,
     /// How many requests were sent.
     pub sends: u32,
+}
+
+/// Written out, so that letting one go is one call wherever it is done, and no cases there.
+impl Drop for NodeState {
+    fn drop(self) {
+        let NodeState {
+            alloc: _,
+            me: _,
+            rows,
+            gateway,
+            recovery,
+            recovered: _,
+            sessions,
+            requests,
+            outbox,
+            sends: _,
+        } = self;
+        drop(rows);
+        drop(gateway);
+        drop(recovery);
+        drop(sessions);
+        drop(requests);
+        drop(outbox);
+    }
 }
 
 impl Model for NodeState {

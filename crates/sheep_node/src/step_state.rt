@@ -20,13 +20,30 @@ use std::marker::Model;
 use std::mem;
 
 /// A node in the middle of a step, with what the step gives. A call that answers `NoMemory` leaves nothing to rely on: the node is spent.
-#[derive(Drop)]
 pub(crate) struct StepState {
     pub node: NodeState,
     pub sends: Vec<(NodeId, PeerReq)>,
     pub say: Option<PeerRsp>,
     pub replies: Vec<(u32, GuestRsp)>,
     pub put: Option<Entry>,
+}
+
+/// Written out, so that letting one go is one call wherever it is done, and no cases there.
+impl Drop for StepState {
+    fn drop(self) {
+        let StepState {
+            node,
+            sends,
+            say,
+            replies,
+            put,
+        } = self;
+        drop(node);
+        drop(sends);
+        drop(say);
+        drop(replies);
+        drop(put);
+    }
 }
 
 impl Model for StepState {

@@ -18,7 +18,6 @@ use std::marker::Model;
 use vdi_directory::{Decision, Directory};
 
 /// The entries of the log, and beside them what is looked up in them.
-#[derive(Drop)]
 pub(crate) struct ClusterLog {
     pub(crate) alloc: Global,
     /// The entries, read.
@@ -27,6 +26,21 @@ pub(crate) struct ClusterLog {
     locks: Locks,
     /// The entries, counted.
     tally: Tally,
+}
+
+/// Written out, so that letting one go is one call wherever it is done, and no cases there.
+impl Drop for ClusterLog {
+    fn drop(self) {
+        let ClusterLog {
+            alloc: _,
+            directory,
+            locks,
+            tally,
+        } = self;
+        drop(directory);
+        drop(locks);
+        drop(tally);
+    }
 }
 
 impl Model for ClusterLog {

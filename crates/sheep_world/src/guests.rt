@@ -19,9 +19,17 @@ use std::collections::BTreeMap;
 use std::marker::Model;
 
 /// How far the sessions that have asked something are, by their numbers. Contracts see the finite map.
-#[derive(Debug, Drop)]
+#[derive(Debug)]
 pub(crate) struct Guests {
     by_number: BTreeMap<u32, SessionProgress>,
+}
+
+/// Written out, so that letting one go is one call wherever it is done, and no cases there.
+impl Drop for Guests {
+    fn drop(self) {
+        let Guests { by_number } = self;
+        drop(by_number);
+    }
 }
 
 impl Model for Guests {

@@ -12,11 +12,22 @@ use std::marker::Model;
 
 /// A node of the cluster: the node, whether it is lost, and which of its incarnations it is in, from 1 on. Contracts see the record
 /// `Host` of `specs/World.antt`; the node is never spent: a step that is out of memory takes its host with it.
-#[derive(Drop)]
 pub(crate) struct Host {
     node: Node,
     is_lost: bool,
     incarnation: u32,
+}
+
+/// Written out, so that letting one go is one call wherever it is done, and no cases there.
+impl Drop for Host {
+    fn drop(self) {
+        let Host {
+            node,
+            is_lost: _,
+            incarnation: _,
+        } = self;
+        drop(node);
+    }
 }
 
 impl Model for Host {
@@ -89,9 +100,15 @@ impl Host {
     pub fn lose(self) -> Host
         ensures { result ≡ lost_host self }
     {
+        let Host {
+            node,
+            is_lost: _,
+            incarnation,
+        } = self;
         Host {
+            node,
             is_lost: true,
-            ..self
+            incarnation,
         }
     }
 
@@ -99,11 +116,16 @@ impl Host {
     pub fn revive(self) -> Result<Host, NoMemory>
         ensures { IfOk result (λ host. host ≡ revived_host self) }
     {
-        let Some(incarnation) = self.incarnation.checked_add(1) else {
+        let Host {
+            node,
+            is_lost: _,
+            incarnation,
+        } = self;
+        let Some(incarnation) = incarnation.checked_add(1) else {
             return Err(NoMemory);
         };
         Ok(Host {
-            node: self.node,
+            node,
             is_lost: false,
             incarnation,
         })

@@ -12,9 +12,16 @@ use std::collections::btree_map::Keys;
 use std::marker::Model;
 
 /// The hosts by the numbers of their nodes. Contracts see the finite map.
-#[derive(Drop)]
 pub(crate) struct Hosts {
     by_number: BTreeMap<u32, Host>,
+}
+
+/// Written out, so that letting one go is one call wherever it is done, and no cases there.
+impl Drop for Hosts {
+    fn drop(self) {
+        let Hosts { by_number } = self;
+        drop(by_number);
+    }
 }
 
 impl Model for Hosts {

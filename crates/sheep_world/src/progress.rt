@@ -50,7 +50,11 @@ fn reply_among(req: u32, replies: &ReplyList) -> Option<&GuestRsp>
 
 impl ClientAsk {
     /// The ask, once these replies were given.
-    pub(crate) fn after_replies(self, alloc: Global, replies: &ReplyList) -> Result<ClientAsk, NoMemory>
+    pub(crate) fn after_replies(
+        self,
+        alloc: Global,
+        replies: &ReplyList,
+    ) -> Result<ClientAsk, NoMemory>
         ensures { IfOk result (λ after. after ≡ ask_after_replies replies.now self) }
     {
         let ClientAsk { req, reply } = self;

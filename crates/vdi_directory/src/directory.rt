@@ -25,11 +25,23 @@ use std::alloc::Global;
 use std::marker::Model;
 
 /// The disks, snapshots and clones that the entries read so far have made.
-#[derive(Drop)]
 pub struct Directory {
     pub(crate) alloc: Global,
     entries: Vec<Entry>,
     pub(crate) state: DirectoryState,
+}
+
+/// Written out, so that letting one go is one call wherever it is done, and no cases there.
+impl Drop for Directory {
+    fn drop(self) {
+        let Directory {
+            alloc: _,
+            entries,
+            state,
+        } = self;
+        drop(entries);
+        drop(state);
+    }
 }
 
 impl Model for Directory {

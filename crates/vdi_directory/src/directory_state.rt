@@ -21,7 +21,6 @@ use std::alloc::Global;
 use std::collections::BTreeMap;
 
 /// What the entries so far come to.
-#[derive(Drop)]
 pub struct DirectoryState {
     pub headers: BTreeMap<u32, Header>,
     pub names: Names,
@@ -32,6 +31,26 @@ pub struct DirectoryState {
     pub used: Vec<VidRange>,
     /// How many bear each id.
     pub references: BTreeMap<u32, usize>,
+}
+
+/// Written out, so that letting one go is one call wherever it is done, and no cases there.
+impl Drop for DirectoryState {
+    fn drop(self) {
+        let DirectoryState {
+            headers,
+            names,
+            reservations,
+            live,
+            used,
+            references,
+        } = self;
+        drop(headers);
+        drop(names);
+        drop(reservations);
+        drop(live);
+        drop(used);
+        drop(references);
+    }
 }
 
 impl DirectoryState {

@@ -16,12 +16,23 @@ use std::collections::BTreeMap;
 /// What a name stands for: its published working disk, and its live snapshots by tag. The definitions list these in order, and a tag
 /// finds the first that has it. It is the only one: a tag has to be free when an id is reserved for a snapshot with it, and until
 /// the working disk of the name becomes that snapshot no other can (`proofs/TagLemmas.antt`).
-#[derive(Drop)]
 pub struct Named {
     pub working: Option<Vid>,
     pub tags: BTreeMap<Vec<u8>, Vid>,
     /// How many snapshots were ever taken.
     pub taken: u32,
+}
+
+/// Written out, so that letting one go is one call wherever it is done, and no cases there.
+impl Drop for Named {
+    fn drop(self) {
+        let Named {
+            working: _,
+            tags,
+            taken: _,
+        } = self;
+        drop(tags);
+    }
 }
 
 /// What is left of a working disk where this one goes.

@@ -13,9 +13,16 @@ use std::alloc::Global;
 use std::collections::BTreeMap;
 
 /// What each name stands for. A name that isn't there stands for no disk.
-#[derive(Drop)]
 pub struct Names {
     pub rows: BTreeMap<Vec<u8>, Named>,
+}
+
+/// Written out, so that letting one go is one call wherever it is done, and no cases there.
+impl Drop for Names {
+    fn drop(self) {
+        let Names { rows } = self;
+        drop(rows);
+    }
 }
 
 impl Names {

@@ -29,11 +29,23 @@ use std::mem;
 use vdi_directory::{Decision, Directory};
 
 /// A command on disks.
-#[derive(Debug, Drop)]
+#[derive(Debug)]
 pub struct VdiOp {
     by: NodeId,
     session: u32,
     stage: Stage,
+}
+
+/// Written out, so that letting one go is one call wherever it is done, and no cases there.
+impl Drop for VdiOp {
+    fn drop(self) {
+        let VdiOp {
+            by: _,
+            session: _,
+            stage,
+        } = self;
+        drop(stage);
+    }
 }
 
 impl Model for VdiOp {
@@ -252,7 +264,12 @@ impl VdiOp {
         // A session may have it open: its id is one, and each entry of its table is 0 or an id.
         ensures ids { IfSome result HasIds }
     {
-        match self.stage {
+        let VdiOp {
+            by: _,
+            session: _,
+            stage,
+        } = self;
+        match stage {
             Stage::Answered(Change::Opens { inode, .. }) => Some(inode),
             _ => None,
         }

@@ -7,11 +7,23 @@ use std::alloc::Global;
 use std::marker::Model;
 
 /// An epoch with its members, and the ring of their points. Contracts see the epoch and the members.
-#[derive(Drop)]
 pub struct EpochRing {
     epoch: Epoch,
     members: MemberList,
     ring: Ring,
+}
+
+/// Written out, so that letting one go is one call wherever it is done, and no cases there.
+impl Drop for EpochRing {
+    fn drop(self) {
+        let EpochRing {
+            epoch: _,
+            members,
+            ring,
+        } = self;
+        drop(members);
+        drop(ring);
+    }
 }
 
 impl Model for EpochRing {

@@ -13,11 +13,19 @@ use std::collections::BTreeMap;
 use std::marker::Model;
 
 /// The epochs that were entered, each with its members. Contracts see them in a list, the last entered first.
-#[derive(Drop)]
 pub struct Placement {
     terms: Vec<EpochRing>,
     /// At which place of `terms` an epoch stands.
     places: BTreeMap<u32, usize>,
+}
+
+/// Written out, so that letting one go is one call wherever it is done, and no cases there.
+impl Drop for Placement {
+    fn drop(self) {
+        let Placement { terms, places } = self;
+        drop(terms);
+        drop(places);
+    }
 }
 
 impl Model for Placement {
