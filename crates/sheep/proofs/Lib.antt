@@ -1,7 +1,2 @@
-pub mod RunLemmas
-pub mod BlockLemmas
-pub mod StatementsSoFar
-pub mod ReportLemmas
-pub mod LedgerLemmas
-pub mod LegalityLemmas
+pub mod ToldRuns
 pub mod AnswerLemmas
