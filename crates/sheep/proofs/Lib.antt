@@ -1,2 +1,3 @@
 pub mod ToldRuns
+pub mod MakingRuns
 pub mod AnswerLemmas
