@@ -1,85 +1,190 @@
 -- What a status tells of the answer that the call came to.
-use Rattle.std.proofs.Common.{◌≡◌, ℕ, ◌<◌, ◌≤◌, List, [], length, refl, ap, ◌∙◌, subst, rules, arith, Bool, true, false}
-use Rattle.std.specs.Prelude.{Option, Some, None, IsSome, Result, Ok, Err, nat_lt}
+use Rattle.std.proofs.Common.{◌≡◌, ◌⊎◌, inl, inr, ℕ, ◌<◌, ◌≤◌, List, [], length, map, refl, sym, ap, ◌∙◌, subst, arith, Bool, true, false}
+use Rattle.std.specs.Prelude.{Option, Some, None, Result, Ok, Err, nat_lt}
+use Rattle.std.specs.Option.{option_map}
 use Rattle.std.proofs.lemmas.Bool.{ltb-true, ltb-false}
+use Rattle.object_id.specs.declared.limits.TheConstants.{INPUT_BYTES_MAX}
 use Rattle.cluster_script.specs.declared.fault.LineCause.{LineCause}
 use Rattle.cluster_script.specs.declared.statement.Statement.{Statement}
-use Rattle.cluster_script.specs.OneDisk.{IsOneDiskScript}
-use Rattle.cluster_script.specs.OneDiskLines.{one_disk_script_in}
+use Rattle.cluster_script.specs.Script.{script_in}
+use Rattle.disk_history.specs.declared.event.HistEvent.{HistEvent}
+use Rattle.sheep_node.specs.declared.event.Event.{Event}
+use Rattle.sheep_world.specs.Run.{Moment, IsWholeRun}
+use Rattle.schedule.specs.Schedule.{schedule_of}
+use Rattle.schedule.specs.GeneratedScript.{generated_statements}
+use Rattle.schedule.proofs.WholeLaws.{schedule-is-whole}
+use Rattle.trace_text.specs.Lines.{trace_lines}
+use Rattle.trace_text.specs.InputParts.{script_part}
+use Rattle.trace_text.specs.Replay.{events_in, bad_place}
+use Rattle.trace_text.proofs.ReplayLaws.{whole-run}
+use Rattle.sheep_words.specs.declared.mode.Mode.{Mode}
+use Rattle.sheep_words.specs.declared.mode.Mode.TheVariants.{Run, Replay, Gen, Live}
 use Rattle.sheep.specs.declared.answer.Answer.{Answer}
-use Rattle.object_id.specs.declared.limits.TheConstants.{INPUT_BYTES_MAX}
-use Rattle.sheep.specs.declared.mode.Mode.{Mode}
+use Rattle.sheep.specs.declared.answer.Work.{Work}
+use Rattle.sheep.specs.declared.answer.Work.TheVariants as works
+use Rattle.sheep.specs.declared.status.Status.{Status}
 use Rattle.sheep.specs.declared.status.Status.TheVariants as statuses
-use Rattle.sheep.specs.Answer.{AnswersCall, Reads, ReadsAll, RunsScript, NamesBadLine, ReadsTooMuch, MakesLegalHistory, answer_to, script_answer, bad_words_text, too_long_text}
-use Rattle.sheep.proofs.LegalityLemmas.{history_is_legal}
+use Rattle.sheep.specs.Reading.{Reads, ReadsAll, ReadsTooMuch}
+use Rattle.sheep.specs.Answer.{run_answer, replayed_answer, bad_script_answer, too_long_text, bad_words_text, answer_to, AnswersInput, AnswersMode, AnswersCall}
+use Rattle.sheep.specs.Outcome.{reads_input, takes_words, MakesRun, IsDone, IsBadScript, NamesBadEvent}
 
--- a text that was read as a script makes a legal history
-pub makes_legal_history : (input : List ℕ) (statements : List Statement) → one_disk_script_in input ≡ Ok statements → IsOneDiskScript statements
-    → MakesLegalHistory input
-makes_legal_history input statements read script = λ other is.
-    let same : statements ≡ other = cc in
-    history_is_legal other (subst IsOneDiskScript same script)
+-- a whole run has a history
+pub makes_run : (statements : List Statement) (events : List Event) → IsWholeRun statements events
+    → (history : List HistEvent) × MakesRun statements events history
+makes_run statements events whole = (
+  whole.0.history,
+  record {
+    whole = whole;
+    kept = ap (option_map (λ (moment : Moment). moment.history)) whole.1;
+  },
+)
+
+-- the part of an input that is to be a script
+abbrev pub script_of_input : Work → List ℕ → List ℕ
+script_of_input (works.Run seed trace) input = input
+script_of_input works.Replay input = script_part input
+
+-- the answer, where it is one
+abbrev pub script_done : Work → List ℕ → List Statement → Answer
+script_done (works.Run seed trace) input statements = run_answer seed trace (Ok statements)
+script_done works.Replay input statements = replayed_answer statements (trace_lines input) (bad_place statements (trace_lines input))
 
 -- the three kinds of input
-pub data InputIs (input : List ℕ) (answer : Answer) : Type 0 where
-  TooLong : INPUT_BYTES_MAX < length input → answer ≡ record { status = statuses.TooLong; text = too_long_text } → InputIs input answer
-  Script : (statements : List Statement) → length input ≤ INPUT_BYTES_MAX → one_disk_script_in input ≡ Ok statements
-      → answer ≡ script_answer (Ok statements) → InputIs input answer
-  BadLine : (bad : ℕ × LineCause) → length input ≤ INPUT_BYTES_MAX → one_disk_script_in input ≡ Err bad
-      → answer ≡ script_answer (Err bad) → InputIs input answer
+pub data InputIs (work : Work) (input : List ℕ) (answer : Answer) : Type 0 where
+  TooLong : INPUT_BYTES_MAX < length input → answer ≡ record { status = statuses.TooLong; text = too_long_text } → InputIs work input answer
+  Script : (statements : List Statement) → length input ≤ INPUT_BYTES_MAX → script_in (script_of_input work input) ≡ Ok statements
+      → answer ≡ script_done work input statements → InputIs work input answer
+  BadLine : (bad : ℕ × LineCause) → length input ≤ INPUT_BYTES_MAX → script_in (script_of_input work input) ≡ Err bad
+      → answer ≡ bad_script_answer bad → InputIs work input answer
 
-pub input_is : (input : List ℕ) (answer : Answer) → answer ≡ answer_to input → InputIs input answer
-input_is input answer is = go (nat_lt INPUT_BYTES_MAX (length input)) refl (one_disk_script_in input) refl
+pub input_is : (work : Work) (input : List ℕ) (answer : Answer) → answer ≡ answer_to work input → InputIs work input answer
+input_is (works.Run seed trace) input answer is = by_kind (nat_lt INPUT_BYTES_MAX (length input)) refl (script_in input) refl
   where
-    go : (long : Bool) → nat_lt INPUT_BYTES_MAX (length input) ≡ long → (read : Result (List Statement) (ℕ × LineCause)) → one_disk_script_in input ≡ read → InputIs input answer
-    go true h read r = TooLong (ltb-true INPUT_BYTES_MAX (length input) h) (is ∙ rw h refl)
-    go false h (Ok statements) r = Script statements (ltb-false INPUT_BYTES_MAX (length input) h) r (is ∙ rw (h, r) refl)
-    go false h (Err bad) r = BadLine bad (ltb-false INPUT_BYTES_MAX (length input) h) r (is ∙ rw (h, r) refl)
+    by_kind : (long : Bool) → nat_lt INPUT_BYTES_MAX (length input) ≡ long → (read : Result (List Statement) (ℕ × LineCause)) → script_in input ≡ read
+        → InputIs (works.Run seed trace) input answer
+    by_kind true h read r = TooLong (ltb-true INPUT_BYTES_MAX (length input) h) (is ∙ rw h refl)
+    by_kind false h (Ok statements) r = Script statements (ltb-false INPUT_BYTES_MAX (length input) h) r (is ∙ rw (h, r) refl)
+    by_kind false h (Err bad) r = BadLine bad (ltb-false INPUT_BYTES_MAX (length input) h) r (is ∙ rw (h, r) refl)
+input_is works.Replay input answer is = by_kind (nat_lt INPUT_BYTES_MAX (length input)) refl (script_in (script_part input)) refl
+  where
+    by_kind : (long : Bool) → nat_lt INPUT_BYTES_MAX (length input) ≡ long → (read : Result (List Statement) (ℕ × LineCause))
+        → script_in (script_part input) ≡ read → InputIs works.Replay input answer
+    by_kind true h read r = TooLong (ltb-true INPUT_BYTES_MAX (length input) h) (is ∙ rw h refl)
+    by_kind false h (Ok statements) r = Script statements (ltb-false INPUT_BYTES_MAX (length input) h) r (is ∙ rw (h, r) refl)
+    by_kind false h (Err bad) r = BadLine bad (ltb-false INPUT_BYTES_MAX (length input) h) r (is ∙ rw (h, r) refl)
 
 -- what was read, where it isn't too long
 reads_all : (old new : Option (List ℕ)) (input : List ℕ) → Reads old new input → length input ≤ INPUT_BYTES_MAX → ReadsAll old new input
 reads_all old new input reads short = record { consumed = reads.consumed; ended = reads.ended short; short = short }
 
--- Done: the input was a script, and its text is the answer's
-pub done_is : (Given : List ℕ → Type 0) (mode : Option Mode) (old new : Option (List ℕ)) (answer : Answer) → AnswersCall mode old new answer
-    → Given answer.text → statuses.Done ≡ answer.status → IsSome mode × RunsScript Given old new
-done_is Given None old new answer call given is = let status = ap (λ (a : Answer). a.status) call.0 in absurd (cc)
-done_is Given (Some mode) old new answer call given is = (search rules, go (input_is call.0 answer call.2))
-  where
-    go : InputIs call.0 answer → RunsScript Given old new
-    go (TooLong long same) = let status = ap (λ (a : Answer). a.status) same in absurd (cc)
-    go (Script statements short read same) = (call.0, statements, reads_all old new call.0 call.1 short, read, subst Given (ap (λ (a : Answer). a.text) same) given, call.3 short statements read)
-    go (BadLine bad short read same) = let status = ap (λ (a : Answer). a.status) same in absurd (cc)
+status_is : (answer other : Answer) (status : Status) → status ≡ answer.status → answer ≡ other → status ≡ other.status
+status_is answer other status is same = is ∙ ap (λ (a : Answer). a.status) same
 
--- BadScript: it wasn't one
-pub bad_script_is : (Given : List ℕ → Type 0) (mode : Option Mode) (old new : Option (List ℕ)) (answer : Answer) → AnswersCall mode old new answer
-    → Given answer.text → statuses.BadScript ≡ answer.status → IsSome mode × NamesBadLine Given old new
-bad_script_is Given None old new answer call given is = let status = ap (λ (a : Answer). a.status) call.0 in absurd (cc)
-bad_script_is Given (Some mode) old new answer call given is = (search rules, go (input_is call.0 answer call.2))
-  where
-    go : InputIs call.0 answer → NamesBadLine Given old new
-    go (TooLong long same) = let status = ap (λ (a : Answer). a.status) same in absurd (cc)
-    go (Script statements short read same) = let status = ap (λ (a : Answer). a.status) same in absurd (cc)
-    go (BadLine bad short read same) = (call.0, bad.0, bad.1, reads_all old new call.0 call.1 short, read, subst Given (ap (λ (a : Answer). a.text) same) given)
+module _ (Given : List ℕ → Type 0) (old new : Option (List ℕ)) (answer : Answer) (given : Given answer.text) where
+  given_as : (other : Answer) → answer ≡ other → Given other.text
+  given_as other same = subst Given (ap (λ (a : Answer). a.text) same) given
 
--- TooLong: one byte too much was taken
-pub too_long_is : (Given : List ℕ → Type 0) (mode : Option Mode) (old new : Option (List ℕ)) (answer : Answer) → AnswersCall mode old new answer
-    → Given answer.text → statuses.TooLong ≡ answer.status → IsSome mode × ReadsTooMuch old new × Given too_long_text
-too_long_is Given None old new answer call given is = let status = ap (λ (a : Answer). a.status) call.0 in absurd (cc)
-too_long_is Given (Some mode) old new answer call given is = go (input_is call.0 answer call.2)
-  where
-    go : InputIs call.0 answer → IsSome (Some mode) × ReadsTooMuch old new × Given too_long_text
-    go (TooLong long same) = (search rules, (call.0, call.1.consumed, omega (arith, call.1.bounded)), subst Given (ap (λ (a : Answer). a.text) same) given)
-    go (Script statements short read same) = let status = ap (λ (a : Answer). a.status) same in absurd (cc)
-    go (BadLine bad short read same) = let status = ap (λ (a : Answer). a.status) same in absurd (cc)
+  -- Done: what the words ask for was done
+  pub done_is : (mode : Option Mode) → AnswersCall mode old new answer → statuses.Done ≡ answer.status → IsDone Given old new mode
+  done_is None call is = let status = status_is answer _ _ is call.0 in absurd (cc)
+  done_is (Some (Run seed trace)) call is = by_kind (input_is (works.Run seed trace) call.0 answer call.2)
+    where
+      by_kind : InputIs (works.Run seed trace) call.0 answer → IsDone Given old new (Some (Run seed trace))
+      by_kind (TooLong long same) = let status = status_is answer _ _ is same in absurd (cc)
+      by_kind (Script statements short read same) =
+          let one = makes_run statements (schedule_of statements seed) (schedule-is-whole statements seed) in
+          (call.0, statements, one.0, reads_all old new call.0 call.1 short, read, one.1, given_as _ same)
+      by_kind (BadLine bad short read same) = let status = status_is answer _ _ is same in absurd (cc)
+  done_is (Some Replay) call is = by_kind (input_is works.Replay call.0 answer call.2)
+    where
+      by_place : (statements : List Statement) → length call.0 ≤ INPUT_BYTES_MAX → script_in (script_part call.0) ≡ Ok statements
+          → (place : Option ℕ) → bad_place statements (trace_lines call.0) ≡ place
+          → answer ≡ replayed_answer statements (trace_lines call.0) place → IsDone Given old new (Some Replay)
+      by_place statements short read None good same =
+          let whole = whole-run statements (trace_lines call.0) good in
+          let one = makes_run statements (events_in (trace_lines call.0)) whole.0 in
+          (call.0, statements, events_in (trace_lines call.0), one.0, reads_all old new call.0 call.1 short, read, whole.1, one.1, given_as _ same)
+      by_place statements short read (Some place) bad same = let status = status_is answer _ _ is same in absurd (cc)
 
--- BadWords: the words ask for nothing, and nothing was read
-pub bad_words_is : (Given : List ℕ → Type 0) (mode : Option Mode) (old new : Option (List ℕ)) (answer : Answer) → AnswersCall mode old new answer
-    → Given answer.text → statuses.BadWords ≡ answer.status → (mode ≡ None) × (new ≡ old) × Given bad_words_text
-bad_words_is Given None old new answer call given is = (refl, call.1, subst Given (ap (λ (a : Answer). a.text) call.0) given)
-bad_words_is Given (Some mode) old new answer call given is = go (input_is call.0 answer call.2)
-  where
-    go : InputIs call.0 answer → (Some mode ≡ None) × (new ≡ old) × Given bad_words_text
-    go (TooLong long same) = let status = ap (λ (a : Answer). a.status) same in absurd (cc)
-    go (Script statements short read same) = let status = ap (λ (a : Answer). a.status) same in absurd (cc)
-    go (BadLine bad short read same) = let status = ap (λ (a : Answer). a.status) same in absurd (cc)
+      by_kind : InputIs works.Replay call.0 answer → IsDone Given old new (Some Replay)
+      by_kind (TooLong long same) = let status = status_is answer _ _ is same in absurd (cc)
+      by_kind (Script statements short read same) = by_place statements short read (bad_place statements (trace_lines call.0)) refl same
+      by_kind (BadLine bad short read same) = let status = status_is answer _ _ is same in absurd (cc)
+  done_is (Some (Gen number)) call is =
+      let one = makes_run (generated_statements number) (schedule_of (generated_statements number) number)
+      (schedule-is-whole (generated_statements number) number) in
+      (one.0, call.1, one.1, given_as _ call.0)
+  done_is (Some (Live trace)) call is = let status = status_is answer _ _ is call.0 in absurd (cc)
+
+  -- BadWords: the words aren't this call's
+  pub bad_words_is : (mode : Option Mode) → AnswersCall mode old new answer → statuses.BadWords ≡ answer.status
+      → (takes_words mode ≡ false) × Given bad_words_text
+  bad_words_is None call is = (refl, given_as _ call.0)
+  bad_words_is (Some (Run seed trace)) call is = by_kind (input_is (works.Run seed trace) call.0 answer call.2)
+    where
+      by_kind : InputIs (works.Run seed trace) call.0 answer → (takes_words (Some (Run seed trace)) ≡ false) × Given bad_words_text
+      by_kind (TooLong long same) = let status = status_is answer _ _ is same in absurd (cc)
+      by_kind (Script statements short read same) = let status = status_is answer _ _ is same in absurd (cc)
+      by_kind (BadLine bad short read same) = let status = status_is answer _ _ is same in absurd (cc)
+  bad_words_is (Some Replay) call is = by_kind (input_is works.Replay call.0 answer call.2)
+    where
+      by_place : (statements : List Statement) (place : Option ℕ) → answer ≡ replayed_answer statements (trace_lines call.0) place
+          → (takes_words (Some Replay) ≡ false) × Given bad_words_text
+      by_place statements None same = let status = status_is answer _ _ is same in absurd (cc)
+      by_place statements (Some place) same = let status = status_is answer _ _ is same in absurd (cc)
+
+      by_kind : InputIs works.Replay call.0 answer → (takes_words (Some Replay) ≡ false) × Given bad_words_text
+      by_kind (TooLong long same) = let status = status_is answer _ _ is same in absurd (cc)
+      by_kind (Script statements short read same) = by_place statements (bad_place statements (trace_lines call.0)) same
+      by_kind (BadLine bad short read same) = let status = status_is answer _ _ is same in absurd (cc)
+  bad_words_is (Some (Gen number)) call is = let status = status_is answer _ _ is call.0 in absurd (cc)
+  bad_words_is (Some (Live trace)) call is = (refl, given_as _ call.0)
+
+  -- BadScript: what should be a script isn't one
+  pub bad_script_is : (mode : Option Mode) → AnswersCall mode old new answer → statuses.BadScript ≡ answer.status → IsBadScript Given old new mode
+  bad_script_is None call is = let status = status_is answer _ _ is call.0 in absurd (cc)
+  bad_script_is (Some (Run seed trace)) call is = by_kind (input_is (works.Run seed trace) call.0 answer call.2)
+    where
+      by_kind : InputIs (works.Run seed trace) call.0 answer → IsBadScript Given old new (Some (Run seed trace))
+      by_kind (TooLong long same) = let status = status_is answer _ _ is same in absurd (cc)
+      by_kind (Script statements short read same) = let status = status_is answer _ _ is same in absurd (cc)
+      by_kind (BadLine bad short read same) = (call.0, bad.0, bad.1, reads_all old new call.0 call.1 short, read, given_as _ same)
+  bad_script_is (Some Replay) call is = by_kind (input_is works.Replay call.0 answer call.2)
+    where
+      by_place : (statements : List Statement) (place : Option ℕ) → answer ≡ replayed_answer statements (trace_lines call.0) place
+          → IsBadScript Given old new (Some Replay)
+      by_place statements None same = let status = status_is answer _ _ is same in absurd (cc)
+      by_place statements (Some place) same = let status = status_is answer _ _ is same in absurd (cc)
+
+      by_kind : InputIs works.Replay call.0 answer → IsBadScript Given old new (Some Replay)
+      by_kind (TooLong long same) = let status = status_is answer _ _ is same in absurd (cc)
+      by_kind (Script statements short read same) = by_place statements (bad_place statements (trace_lines call.0)) same
+      by_kind (BadLine bad short read same) = (call.0, bad.0, bad.1, reads_all old new call.0 call.1 short, read, given_as _ same)
+  bad_script_is (Some (Gen number)) call is = let status = status_is answer _ _ is call.0 in absurd (cc)
+  bad_script_is (Some (Live trace)) call is = let status = status_is answer _ _ is call.0 in absurd (cc)
+
+  -- BadTrace: the trace is no whole run
+  pub bad_trace_is : (mode : Option Mode) → AnswersCall mode old new answer → statuses.BadTrace ≡ answer.status
+      → (mode ≡ Some Replay) × NamesBadEvent Given old new
+  bad_trace_is None call is = let status = status_is answer _ _ is call.0 in absurd (cc)
+  bad_trace_is (Some (Run seed trace)) call is = by_kind (input_is (works.Run seed trace) call.0 answer call.2)
+    where
+      by_kind : InputIs (works.Run seed trace) call.0 answer → (Some (Run seed trace) ≡ Some Replay) × NamesBadEvent Given old new
+      by_kind (TooLong long same) = let status = status_is answer _ _ is same in absurd (cc)
+      by_kind (Script statements short read same) = let status = status_is answer _ _ is same in absurd (cc)
+      by_kind (BadLine bad short read same) = let status = status_is answer _ _ is same in absurd (cc)
+  bad_trace_is (Some Replay) call is = by_kind (input_is works.Replay call.0 answer call.2)
+    where
+      by_place : (statements : List Statement) → length call.0 ≤ INPUT_BYTES_MAX → script_in (script_part call.0) ≡ Ok statements
+          → (place : Option ℕ) → bad_place statements (trace_lines call.0) ≡ place
+          → answer ≡ replayed_answer statements (trace_lines call.0) place → (Some Replay ≡ Some Replay) × NamesBadEvent Given old new
+      by_place statements short read None good same = let status = status_is answer _ _ is same in absurd (cc)
+      by_place statements short read (Some place) bad same =
+          (refl, (call.0, statements, place, reads_all old new call.0 call.1 short, read, bad, given_as _ same))
+
+      by_kind : InputIs works.Replay call.0 answer → (Some Replay ≡ Some Replay) × NamesBadEvent Given old new
+      by_kind (TooLong long same) = let status = status_is answer _ _ is same in absurd (cc)
+      by_kind (Script statements short read same) = by_place statements short read (bad_place statements (trace_lines call.0)) refl same
+      by_kind (BadLine bad short read same) = let status = status_is answer _ _ is same in absurd (cc)
+  bad_trace_is (Some (Gen number)) call is = let status = status_is answer _ _ is call.0 in absurd (cc)
+  bad_trace_is (Some (Live trace)) call is = let status = status_is answer _ _ is call.0 in absurd (cc)

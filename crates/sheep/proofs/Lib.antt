@@ -1,7 +1,3 @@
-pub mod RunLemmas
-pub mod BlockLemmas
-pub mod StatementsSoFar
-pub mod ReportLemmas
-pub mod LedgerLemmas
-pub mod LegalityLemmas
+pub mod ToldRuns
+pub mod MakingRuns
 pub mod AnswerLemmas

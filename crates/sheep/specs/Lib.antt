@@ -1,7 +1,5 @@
 pub mod Status
-pub mod Mode
-pub mod Blocks
-pub mod Stored
-pub mod Report
-pub mod History
+pub mod Reading
+pub mod ToldRun
 pub mod Answer
+pub mod Outcome

@@ -1,20 +1,21 @@
-//! The program's top call: words and a script in, a report out.
+//! The program's top call: words and an input in, a text out.
 //!
-//! [`sheep`] reads a cluster script from any source, runs it, and writes a line for each request to any sink. Its
-//! contract says what is written for every script, with which status each other input ends, and that the
-//! history of the run is legal: each block read is its last acknowledged write, or a later one.
-//! The crate stands on `cluster_script` for the script, `disk_history` for histories and `sheep_base` for the outside.
+//! [`sheep`] reads a cluster script from any source, runs it on the cluster, and writes its report to any sink: in the order that a seed
+//! gives, or that a trace gives, and for a script that a number generates one line. Its contract says what is written for every input,
+//! with each status, over the definitions of `schedule`, `trace_text` and `dog_report`.
+//!
+//! The words are those of `sheep_words`. A run is made and told event by event (`told_run.rt`), so that no run is made twice; `making.rt`
+//! has the two orders. `answer.rt` has the answer to each input, with its status.
 #![tactic(auto)]
 
 mod answer;
-mod disk;
-mod mode;
-mod report;
-mod runs;
+mod lines;
+mod making;
 mod status;
+mod told_run;
 mod top;
 
-pub use mode::{Mode, mode_of};
+pub use sheep_words::{Mode, mode_of};
 pub use status::Status;
 pub use top::sheep;
 

@@ -16,6 +16,8 @@ pub enum Status {
     WriteFault,
     /// No memory could be had. Nothing was written.
     NoMemory,
+    /// The trace isn't a whole run of its script.
+    BadTrace,
     /// The input has more than 16,777,216 bytes.
     TooLong,
 }
@@ -31,6 +33,7 @@ impl Status {
             Status::ReadFault => 4,
             Status::WriteFault => 5,
             Status::NoMemory => 6,
+            Status::BadTrace => 7,
             Status::TooLong => 9,
         }
     }
