@@ -1,8 +1,9 @@
 -- What a status tells of the answer that the call came to.
-use Rattle.std.proofs.Common.{◌≡◌, ◌⊎◌, inl, inr, ℕ, ◌<◌, ◌≤◌, List, [], length, map, refl, sym, ap, ◌∙◌, subst, arith, Bool, true, false}
+use Rattle.std.proofs.Common.{◌≡◌, ◌⊎◌, inl, inr, ℕ, ◌<◌, ◌≤◌, List, [], ◌++◌, length, map, refl, sym, ap, ◌∙◌, subst, arith, Bool, true, false}
 use Rattle.std.specs.Prelude.{Option, Some, None, Result, Ok, Err, nat_lt}
 use Rattle.std.specs.Option.{option_map}
-use Rattle.std.proofs.lemmas.Bool.{ltb-true, ltb-false}
+use Rattle.std.proofs.lemmas.Bool.{ltb-true, ltb-false, le-ltb}
+use Rattle.std.proofs.lemmas.List.{append-nil, length-append}
 use Rattle.object_id.specs.declared.limits.TheConstants.{INPUT_BYTES_MAX}
 use Rattle.cluster_script.specs.declared.fault.LineCause.{LineCause}
 use Rattle.cluster_script.specs.declared.statement.Statement.{Statement}
@@ -26,7 +27,7 @@ use Rattle.sheep.specs.declared.status.Status.{Status}
 use Rattle.sheep.specs.declared.status.Status.TheVariants as statuses
 use Rattle.sheep.specs.Reading.{Reads, ReadsAll, ReadsTooMuch}
 use Rattle.sheep.specs.Answer.{run_answer, replayed_answer, bad_script_answer, too_long_text, bad_words_text, answer_to, AnswersInput, AnswersMode, AnswersCall}
-use Rattle.sheep.specs.Outcome.{reads_input, takes_words, MakesRun, IsDone, IsBadScript, NamesBadEvent}
+use Rattle.sheep.specs.Outcome.{reads_input, takes_words, MakesRun, IsDone, IsBadScript, NamesBadEvent, Has, CanBeDone}
 
 -- a whole run has a history
 pub makes_run : (statements : List Statement) (events : List Event) → IsWholeRun statements events
@@ -188,3 +189,58 @@ module _ (Given : List ℕ → Type 0) (old new : Option (List ℕ)) (answer : A
       by_kind (BadLine bad short read same) = let status = status_is answer _ _ is same in absurd (cc)
   bad_trace_is (Some (Gen number)) call is = let status = status_is answer _ _ is call.0 in absurd (cc)
   bad_trace_is (Some (Live trace)) call is = let status = status_is answer _ _ is call.0 in absurd (cc)
+
+  -- TooLong: one byte too much was taken
+  pub too_long_is : (mode : Option Mode) → AnswersCall mode old new answer → statuses.TooLong ≡ answer.status
+      → (reads_input mode ≡ true) × ReadsTooMuch old new × Given too_long_text
+  too_long_is None call is = let status = status_is answer _ _ is call.0 in absurd (cc)
+  too_long_is (Some (Run seed trace)) call is = by_kind (input_is (works.Run seed trace) call.0 answer call.2)
+    where
+      by_kind : InputIs (works.Run seed trace) call.0 answer
+          → (reads_input (Some (Run seed trace)) ≡ true) × ReadsTooMuch old new × Given too_long_text
+      by_kind (TooLong long same) = (refl, (call.0, call.1.consumed, omega (arith, call.1.bounded)), given_as _ same)
+      by_kind (Script statements short read same) = let status = status_is answer _ _ is same in absurd (cc)
+      by_kind (BadLine bad short read same) = let status = status_is answer _ _ is same in absurd (cc)
+  too_long_is (Some Replay) call is = by_kind (input_is works.Replay call.0 answer call.2)
+    where
+      by_place : (statements : List Statement) (place : Option ℕ) → answer ≡ replayed_answer statements (trace_lines call.0) place
+          → (reads_input (Some Replay) ≡ true) × ReadsTooMuch old new × Given too_long_text
+      by_place statements None same = let status = status_is answer _ _ is same in absurd (cc)
+      by_place statements (Some place) same = let status = status_is answer _ _ is same in absurd (cc)
+
+      by_kind : InputIs works.Replay call.0 answer → (reads_input (Some Replay) ≡ true) × ReadsTooMuch old new × Given too_long_text
+      by_kind (TooLong long same) = (refl, (call.0, call.1.consumed, omega (arith, call.1.bounded)), given_as _ same)
+      by_kind (Script statements short read same) = by_place statements (bad_place statements (trace_lines call.0)) same
+      by_kind (BadLine bad short read same) = let status = status_is answer _ _ is same in absurd (cc)
+  too_long_is (Some (Gen number)) call is = let status = status_is answer _ _ is call.0 in absurd (cc)
+  too_long_is (Some (Live trace)) call is = let status = status_is answer _ _ is call.0 in absurd (cc)
+
+-- what a source has is taken whole, where it isn't too long
+taken_whole : (old new : Option (List ℕ)) (input taken : List ℕ) → Reads old new taken → Has old input → taken ≡ input
+taken_whole None new input taken reads has = let none = has.whole in absurd (cc)
+taken_whole (Some xs) None input taken reads has = absurd reads.consumed
+taken_whole (Some xs) (Some ys) input taken reads has = whole (reads.ended (omega (arith, fits, has.short)))
+  where
+    same : input ≡ taken ++ ys
+    same = let is = has.whole in let consumed = reads.consumed in cc
+
+    fits : length taken ≤ length input
+    fits = subst (λ (all : List ℕ). length taken ≤ length all) (sym same) (omega (arith, length-append taken ys))
+
+    whole : ys ≡ [] → taken ≡ input
+    whole none = sym (append-nil taken) ∙ ap (λ (rest : List ℕ). taken ++ rest) (sym none) ∙ sym same
+
+-- what can be done has the status Done
+pub can_is_done : (mode : Option Mode) (old new : Option (List ℕ)) (answer : Answer) → AnswersCall mode old new answer → CanBeDone mode old
+    → answer.status ≡ statuses.Done
+can_is_done None old new answer call can = absurd can
+can_is_done (Some (Run seed trace)) old new answer call can =
+    let taken = taken_whole old new can.0 call.0 call.1 can.2 in
+    let long = le-ltb INPUT_BYTES_MAX (length can.0) can.2.short in
+    ap (λ (a : Answer). a.status) (call.2 ∙ ap (answer_to (works.Run seed trace)) taken ∙ rw (long, can.3) refl)
+can_is_done (Some Replay) old new answer call can =
+    let taken = taken_whole old new can.0 call.0 call.1 can.2 in
+    let long = le-ltb INPUT_BYTES_MAX (length can.0) can.2.short in
+    ap (λ (a : Answer). a.status) (call.2 ∙ ap (answer_to works.Replay) taken ∙ rw (long, can.3, can.4) refl)
+can_is_done (Some (Gen number)) old new answer call can = ap (λ (a : Answer). a.status) call.0
+can_is_done (Some (Live trace)) old new answer call can = absurd can

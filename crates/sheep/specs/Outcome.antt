@@ -1,5 +1,6 @@
 -- What a call did, by the status that it ended with.
-use Rattle.std.specs.Prelude.{◌≡◌, ⊤, ⊥, ℕ, Bool, true, false, List, map, Option, None, Some, Ok, Err}
+use Rattle.std.specs.Prelude.{◌≡◌, ⊤, ⊥, ℕ, ◌≤◌, Bool, true, false, List, length, map, Option, None, Some, Ok, Err}
+use Rattle.object_id.specs.declared.limits.TheConstants.{INPUT_BYTES_MAX}
 use Rattle.cluster_script.specs.declared.fault.LineCause.{LineCause}
 use Rattle.cluster_script.specs.declared.statement.Statement.{Statement}
 use Rattle.cluster_script.specs.Script.{script_in}
@@ -83,11 +84,16 @@ module _ (Given : List ℕ → Type 0) (old new : Option (List ℕ)) where
       × (script_in (script_part input) ≡ Ok statements) × (bad_place statements (trace_lines input) ≡ Some place)
       × Given (bad_event_text place)
 
--- what can be done with an input: it is a script; or a script with the trace of a whole run behind it
-abbrev pub CanBeDone : Option Mode → List ℕ → Type 0
-CanBeDone None input = ⊥
-CanBeDone (Some (Run seed trace)) input = (statements : List Statement) × (script_in input ≡ Ok statements)
-CanBeDone (Some Replay) input = (statements : List Statement) × (script_in (script_part input) ≡ Ok statements)
-    × (bad_place statements (trace_lines input) ≡ None)
-CanBeDone (Some (Gen number)) input = ⊤
-CanBeDone (Some (Live trace)) input = ⊥
+-- a source has this input, which isn't too long
+pub record Has (left : Option (List ℕ)) (input : List ℕ) : Type 0 where
+  pub whole : left ≡ Some input
+  pub short : length input ≤ INPUT_BYTES_MAX
+
+-- what the words ask for can be done: the source has a script; or a script with the trace of a whole run behind it; or nothing is read
+abbrev pub CanBeDone : Option Mode → Option (List ℕ) → Type 0
+CanBeDone None left = ⊥
+CanBeDone (Some (Run seed trace)) left = (input : List ℕ) × (statements : List Statement) × Has left input × (script_in input ≡ Ok statements)
+CanBeDone (Some Replay) left = (input : List ℕ) × (statements : List Statement) × Has left input
+    × (script_in (script_part input) ≡ Ok statements) × (bad_place statements (trace_lines input) ≡ None)
+CanBeDone (Some (Gen number)) left = ⊤
+CanBeDone (Some (Live trace)) left = ⊥

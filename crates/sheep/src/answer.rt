@@ -1,6 +1,6 @@
 //! What a call is to write, and with which status it ends.
 
-ghost use Rattle.std.specs.Prelude.{◌≡◌, ◌+◌, ◌≤◌, ◌++◌, length, codes, IsSome, IfOk, IsErrOf};
+ghost use Rattle.std.specs.Prelude.{◌≡◌, ◌+◌, ◌≤◌, ◌++◌, length, codes, true, false, IfOk, IsErrOf};
 ghost use Rattle.cluster_script.specs.Script.{script_in};
 ghost use Rattle.schedule.specs.Schedule.{schedule_of};
 ghost use Rattle.trace_text.specs.Lines.{lines_in};
@@ -11,6 +11,7 @@ ghost use Rattle.sheep_words.specs.Mode.{mode_asked_for};
 ghost use Rattle.sheep.specs.Reading.{TakesAtMost};
 ghost use Rattle.sheep.specs.Answer.{printed_text, bad_script_answer, run_answer, replayed_answer, replay_answer, generated_answer};
 ghost use Rattle.sheep.specs.Answer.{input_answer, AnswersInput, AnswersCall};
+ghost use Rattle.sheep.specs.Outcome.{reads_input};
 
 use crate::lines::{bad_event, bad_line};
 use crate::making::{replayed_run, seeded_run};
@@ -202,9 +203,10 @@ pub fn answer_call<S: Source>(
     source: &mut S,
 ) -> Result<Answer, Stop>
     ensures answered { IfOk result (λ answer. AnswersCall (mode_asked_for words.now) (S.left source.old) (S.left source.new) answer) }
-    ensures accepted { IsErrOf result Stop.ReadFault → IsSome (mode_asked_for words.now) }
+    ensures reading { IsErrOf result Stop.ReadFault → reads_input (mode_asked_for words.now) ≡ true }
     ensures failed { IsErrOf result Stop.ReadFault → Rose (S.faults source.old) (S.faults source.new) }
 
+    ensures untouched { reads_input (mode_asked_for words.now) ≡ false → source.new ≡ source.old }
     ensures takes { TakesAtMost (INPUT_BYTES_MAX + 1) (S.left source.old) (S.left source.new) }
     ensures count { S.faults source.old ≤ S.faults source.new }
 {

@@ -57,8 +57,7 @@ pub fn sheep<S: Source, K: Sink>(
     ensures sink_count { K.faults sink.old ≤ K.faults sink.new }
 
     // What can be done is done, unless memory runs out or a count rises.
-    ensures complete { (input : List ℕ) → S.left source.old ≡ Some input → length input ≤ INPUT_BYTES_MAX
-        → CanBeDone (mode_asked_for words.now) input
+    ensures complete { CanBeDone (mode_asked_for words.now) (S.left source.old)
         → ¬ Rose (S.faults source.old) (S.faults source.new) → ¬ Rose (K.faults sink.old) (K.faults sink.new)
         → (result ≡ Status.Done) ⊎ (result ≡ Status.NoMemory) }
 {
