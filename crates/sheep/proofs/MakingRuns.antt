@@ -1,19 +1,26 @@
 -- The two orders in which runs are made and told: that of a seed, and that of a trace. What is told stands beside a run as it is kept, of
 -- which the laws of schedules and replays speak.
-use Rattle.std.proofs.Common.{◌≡◌, ℕ, ◌+◌, ◌<◌, false, true, List, [], ◌∷◌, ◌++◌, Option, Some, None, refl, sym, ap, subst, ◌∙◌}
+use Rattle.std.proofs.Common.{◌≡◌, ℕ, ◌+◌, ◌<◌, false, true, List, [], ◌∷◌, ◌++◌, Option, Some, None, is_some, refl, sym, ap, subst, ◌∙◌}
 use Rattle.std.specs.Option.{option_map}
 use Rattle.cluster_script.specs.declared.statement.Statement.{Statement}
 use Rattle.disk_history.specs.declared.event.HistEvent.{HistEvent}
 use Rattle.sheep_node.specs.declared.event.Event.{Event}
 use Rattle.sheep_world.specs.Conditions.{may_end_phase}
+use Rattle.sheep_world.specs.Enabled.{is_enabled}
 use Rattle.sheep_world.specs.Opening.{initial_world}
 use Rattle.sheep_world.specs.Run.{Run, moment_with_made, is_whole}
 use Rattle.sheep_world.specs.SpentWorld.{WorldOrSpent}
 use Rattle.sheep_world.specs.Step.{step}
-use Rattle.schedule.specs.Schedule.{Schedule, draft_in, choice, schedule_of}
+use Rattle.sheep_world.proofs.EnabledLaws.{is_some-step}
+use Rattle.schedule.specs.Schedule.{Choice, Schedule, draft_in, choice, schedule_of}
+use Rattle.schedule.proofs.ChoiceLaws.{choice-may}
 use Rattle.schedule.proofs.WholeLaws.{left}
 use Rattle.schedule.proofs.SeededRuns.{IsFront, front-whole}
 use Rattle.schedule.proofs.NextEvent.{front-opening, front-grown, less-next}
+use Rattle.std.specs.Prelude.{Result, Err, IsErrAnd}
+use Rattle.trace_text.specs.declared.fault.BadEvent.{BadEvent}
+use Rattle.trace_text.specs.declared.fault.TraceFault.{TraceFault}
+use Rattle.trace_text.specs.declared.fault.TraceFault.TheVariants as faults
 use Rattle.trace_text.specs.Replay.{TraceReplay, Takes, StopsIn, events_in, bad_place}
 use Rattle.trace_text.proofs.ReplayedRuns.{IsReplayed, replayed-opening, replayed-next, replayed-whole, replayed-bad}
 use Rattle.sheep.specs.declared.told_run.ToldRun.{ToldRun}
@@ -71,13 +78,20 @@ module _ (statements : List Statement) where
       (record { world = grown.world.world; history = so_far.kept.history ++ history }) may chosen
       (ap (option_map (moment_with_made so_far.kept.history)) steps)
 
-  pub seeded-last : (seed : ℕ) (told : ToldRun) (schedule : Schedule) (finished : FinishedRun) → IsSeeded seed told schedule
-      → may_end_phase statements told.world.world ≡ false → TellsRun statements told.events finished
-      → TellsRun statements (schedule_of statements seed) finished
-  seeded-last seed told schedule finished so_far whole tells =
-      subst (λ (events : List Event). TellsRun statements events finished)
-      (sym so_far.same
-      ∙ (front-whole statements seed so_far.kept (draft_in told.world.world schedule) so_far.front whole).0) tells
+  -- what is chosen may happen
+  pub seeded-enabled : (told : ToldRun) (schedule : Schedule) (event : Event) (rng taken : ℕ) → may_end_phase statements told.world.world ≡ true
+      → choice statements (draft_in told.world.world schedule) ≡ record { event = event; rng = rng; taken = taken }
+      → is_enabled statements told.world.world event ≡ true
+  seeded-enabled told schedule event rng taken may chosen =
+      let made = choice-may statements (draft_in told.world.world schedule) may in
+      sym (is_some-step statements told.world.world event)
+      ∙ ap is_some (subst (λ (one : Choice). step statements one.event told.world.world ≡ Some made.0) chosen made.1)
+
+  -- where every phase is ended, the events are the schedule
+  pub seeded-last : (seed : ℕ) (told : ToldRun) (schedule : Schedule) → IsSeeded seed told schedule
+      → may_end_phase statements told.world.world ≡ false → told.events ≡ schedule_of statements seed
+  seeded-last seed told schedule so_far whole =
+      sym so_far.same ∙ (front-whole statements seed so_far.kept (draft_in told.world.world schedule) so_far.front whole).0
 
   -- ---- by a trace
 
@@ -135,3 +149,14 @@ module _ (statements : List Statement) where
       → StopsIn statements told.world.world replay.rest → place ≡ replay.taken + 1 → bad_place statements lines ≡ Some place
   retold-bad lines told replay place so_far stops is =
       replayed-bad statements lines told.world.world so_far.kept replay place so_far.replayed stops is
+
+-- a fault of a bad line names its place
+pub told-bad_place : (told : Result FinishedRun TraceFault) (bad : BadEvent) (place : ℕ) → IsErrAnd told (λ fault. fault ≡ faults.Bad bad)
+    → told ≡ Err (faults.Bad (record { place = place })) → place ≡ bad.place
+told-bad_place told bad place gives is =
+    let same : faults.Bad (record { place = place }) ≡ faults.Bad bad =
+    subst (λ (r : Result FinishedRun TraceFault). IsErrAnd r (λ fault. fault ≡ faults.Bad bad)) is gives in
+    ap (λ (one : BadEvent). one.place) (bad_same (record { place = place }) bad same)
+  where
+    bad_same : (one other : BadEvent) → faults.Bad one ≡ faults.Bad other → one ≡ other
+    bad_same one other is = cc

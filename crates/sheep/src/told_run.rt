@@ -3,6 +3,7 @@
 ghost use Rattle.std.specs.Prelude.{◌≡◌, true, [], ◌∷◌, ◌++◌, List, Some, IfOk, OnOk};
 ghost use Rattle.disk_history.specs.declared.event.HistEvent.{HistEvent};
 ghost use Rattle.sheep_world.specs.Enabled.{is_enabled};
+ghost use Rattle.sheep_world.specs.Opening.{initial_world};
 ghost use Rattle.sheep_world.specs.Step.{step};
 ghost use Rattle.sheep.specs.ToldRun.{IsToldRun, TellsRun};
 
@@ -34,6 +35,7 @@ impl ToldRun {
     pub fn new(alloc: Global, script: &Script) -> Result<ToldRun, NoMemory>
         ensures told { IfOk result (IsToldRun script.now) }
         ensures events { IfOk result (λ told. told.events ≡ []) }
+        ensures world { IfOk result (λ told. told.world.world ≡ initial_world script.now) }
     {
         let world = World::new(alloc, script)?;
         let reporter = Reporter::new(alloc);
