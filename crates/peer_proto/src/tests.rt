@@ -131,7 +131,8 @@ fn copies_what_guests_say(rt: HostRuntime) -> Result<(), Fail> {
         matches!(&copy, VdiAsk::Attach { name, tag: Some(tag) } if name.as_slice() == b"vm".as_slice() && tag.as_slice() == b"old".as_slice())
     );
     let granted = GuestRsp::Granted { vid: Vid(7) };
-    assert!(rt; matches!(granted.copy(alloc)?, GuestRsp::Granted { vid: Vid(7) }));
+    let copy = granted.copy(alloc)?;
+    assert!(rt; matches!(&copy, GuestRsp::Granted { vid: Vid(7) }));
     Ok(())
 }
 

@@ -38,10 +38,11 @@ fn reads_each_statement(rt: HostRuntime) -> Result<(), Fail> {
         matches!(
             script.statements(),
             [
-                Statement::Cluster { nodes: 1 },
+                Statement::Cluster { nodes: 1, .. },
                 Statement::Session {
                     session: 1,
-                    node: 0
+                    node: 0,
+                    ..
                 },
                 Statement::Create {
                     session: 1,
@@ -59,14 +60,16 @@ fn reads_each_statement(rt: HostRuntime) -> Result<(), Fail> {
                     session: 1,
                     offset: 1024,
                     length: 512,
-                    pattern: Pattern::Fill(7)
+                    pattern: Pattern::Fill(7),
+                    ..
                 },
                 Statement::Read {
                     session: 1,
                     offset: 0,
-                    length: 1024
+                    length: 1024,
+                    ..
                 },
-                Statement::Close { session: 1 },
+                Statement::Close { session: 1, .. },
             ]
         )
     );

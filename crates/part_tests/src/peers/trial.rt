@@ -97,12 +97,12 @@ fn served(peer: &mut PlainPeer, req: &PeerReq) -> Result<PeerRsp, NoMemory> {
     }
 }
 
-/// What is said to a request of an epoch. The reply has the request's number and the peer's epoch.
-fn said(
+/// The reply to a request of an epoch. It has the request's number and the peer's epoch.
+fn reply_to(
     peer: &mut PlainPeer,
     epoch: u32,
     ask: Result<PeerAsk, NoMemory>,
-) -> Result<PeerSay, NoMemory> {
+) -> Result<PeerRsp, NoMemory> {
     let ask = ask?;
     let req = PeerReq {
         from: NodeId(1),
@@ -112,7 +112,7 @@ fn said(
     };
     let rsp = served(peer, &req)?;
     if rsp.number == 9 && rsp.epoch == peer.epoch() {
-        Ok(rsp.say)
+        Ok(rsp)
     } else {
         Err(NoMemory)
     }
@@ -148,8 +148,8 @@ fn is_told(say: &PeerSay) -> bool {
 
 /// Whether a create or write is made.
 pub(super) fn makes(peer: &mut PlainPeer, epoch: u32, ask: Result<PeerAsk, NoMemory>) -> bool {
-    match said(peer, epoch, ask) {
-        Ok(say) => matches!(&say, PeerSay::Success),
+    match reply_to(peer, epoch, ask) {
+        Ok(rsp) => matches!(&rsp.say, PeerSay::Success),
         Err(NoMemory) => false,
     }
 }
@@ -160,48 +160,48 @@ pub(super) fn refuses(
     ask: Result<PeerAsk, NoMemory>,
     refusal: Refusal,
 ) -> bool {
-    match said(peer, epoch, ask) {
-        Ok(say) => is_refusal(&say, refusal),
+    match reply_to(peer, epoch, ask) {
+        Ok(rsp) => is_refusal(&rsp.say, refusal),
         Err(NoMemory) => false,
     }
 }
 
 /// Whether the first row of disk `a` has these bytes, by a Read of five.
 pub(super) fn gives(peer: &mut PlainPeer, epoch: u32, bytes: &[u8]) -> bool {
-    match said(peer, epoch, read(5)) {
-        Ok(say) => is_piece(&say, bytes),
+    match reply_to(peer, epoch, read(5)) {
+        Ok(rsp) => is_piece(&rsp.say, bytes),
         Err(NoMemory) => false,
     }
 }
 
 /// Whether a List has this object alone.
 pub(super) fn lists(peer: &mut PlainPeer, epoch: u32, oid: Oid) -> bool {
-    match said(peer, epoch, Ok(PeerAsk::List)) {
-        Ok(say) => is_list(&say, oid),
+    match reply_to(peer, epoch, Ok(PeerAsk::List)) {
+        Ok(rsp) => is_list(&rsp.say, oid),
         Err(NoMemory) => false,
     }
 }
 
 /// What a RecoverRead of the first object of disk `a` is told in epoch 1.
-fn told(peer: &mut PlainPeer, level: u32) -> Result<PeerSay, NoMemory> {
+fn told(peer: &mut PlainPeer, level: u32) -> Result<PeerRsp, NoMemory> {
     let ask = PeerAsk::RecoverRead {
         oid: object(),
         level: Epoch(level),
     };
-    said(peer, 1, Ok(ask))
+    reply_to(peer, 1, Ok(ask))
 }
 
 /// Whether a RecoverRead is told the open row that `peer_with_row` made.
 pub(super) fn tells_row(peer: &mut PlainPeer, level: u32) -> bool {
     match told(peer, level) {
-        Ok(say) => is_told(&say),
+        Ok(rsp) => is_told(&rsp.say),
         Err(NoMemory) => false,
     }
 }
 
 pub(super) fn tells_no_row(peer: &mut PlainPeer, level: u32) -> bool {
     match told(peer, level) {
-        Ok(say) => matches!(&say, PeerSay::NoRow),
+        Ok(rsp) => matches!(&rsp.say, PeerSay::NoRow),
         Err(NoMemory) => false,
     }
 }
