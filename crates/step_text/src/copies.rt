@@ -6,7 +6,7 @@ use crate::input_words::{input_of, write_input};
 use crate::output_words::outputs_line;
 use guest_driver::DriverAct;
 use object_id::{Bytes, Cause, Entry, NodeId, Oid, Policy, Vid};
-use peer_proto::{GuestRsp, ObjWork, SendList};
+use peer_proto::{GuestRsp, ObjWork, PeerRsp, SendList};
 use sheep_node::{Input, Outputs, ReplyList};
 use std::alloc::Global;
 use std::test::Fail;
@@ -73,16 +73,27 @@ fn an_entry() -> Entry {
     }
 }
 
+/// The request, to be sent to node 1.
+fn a_send(alloc: Global) -> Result<SendList, Fault> {
+    let mut sends = SendList::new(alloc);
+    if let Input::Request(request) = &input_of(alloc, REQUEST)? {
+        sends.push((NodeId(1), request.copy(alloc)?))?;
+    }
+    Ok(sends)
+}
+
+/// The reply.
+fn a_reply(alloc: Global) -> Result<Option<PeerRsp>, Fault> {
+    match &input_of(alloc, REPLY)? {
+        Input::Reply(reply) => Ok(Some(reply.copy(alloc)?)),
+        _ => Ok(None),
+    }
+}
+
 /// What the copy of outputs says that have one of each kind.
 fn copied_outputs(alloc: Global) -> Result<String, Fault> {
-    let mut sends = SendList::new(alloc);
-    if let Input::Request(request) = input_of(alloc, REQUEST)? {
-        sends.push((NodeId(1), request))?;
-    }
-    let say = match input_of(alloc, REPLY)? {
-        Input::Reply(reply) => Some(reply),
-        _ => None,
-    };
+    let sends = a_send(alloc)?;
+    let say = a_reply(alloc)?;
     let mut replies = ReplyList::new(alloc);
     replies.push((4, GuestRsp::Refused(Cause::Readonly)))?;
     let outputs = Outputs {
