@@ -14,3 +14,4 @@ pub mod RangeLemmas
 pub mod ToldLaws
 pub mod SettlingLaws
 pub mod ReporterLaws
+pub mod GeneratedLine

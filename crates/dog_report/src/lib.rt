@@ -23,7 +23,7 @@ mod cluster_info;
 mod counts;
 mod dump;
 mod fates;
-mod generated_line;
+mod generated;
 mod held_line;
 mod held_lines;
 mod kept_run;
@@ -44,7 +44,7 @@ pub use cluster_info::push_cluster;
 pub use counts::Counts;
 pub use dump::push_stored;
 pub use fates::{push_answered, push_gone, push_pending, push_unsent};
-pub use generated_line::generated_line;
+pub use generated::generated_line;
 pub use kept_run::{finished_report, report};
 pub use laws::{
     dump_has_the_rows_of_nodes_that_are_up, each_request_has_one_line, lists_spelled_out,

@@ -28,7 +28,7 @@ fn sum_of(counts: Counts) -> Option<u64>
 }
 
 /// Adds the counts of requests, each behind what it is called.
-fn push_counts(text: &mut Vec<u8>, counts: Counts) -> Result<(), NoMemory>
+fn push_ways(text: &mut Vec<u8>, counts: Counts) -> Result<(), NoMemory>
     ensures { OnOk result (text.new.items ≡ text.old.items ++ following_words (codes "ok" ∷ decimal counts.ok
         ∷ codes "refused" ∷ decimal counts.refused ∷ codes "gone" ∷ decimal counts.gone
         ∷ codes "pending" ∷ decimal counts.pending ∷ codes "unsent" ∷ decimal counts.unsent ∷ [])) }
@@ -56,7 +56,7 @@ pub fn generated_line(
     let mut text = Vec::from_slice(alloc, b"gen")?;
     push_decimal_word(&mut text, number)?;
     push_named(&mut text, b"requests", requests)?;
-    push_counts(&mut text, report.counts)?;
+    push_ways(&mut text, report.counts)?;
     push_word(&mut text, b"hash")?;
     push_hex_word(&mut text, HASH_DIGITS, fnv1a(report.text.as_slice()))?;
     end_line(&mut text)?;
