@@ -6,34 +6,34 @@ use Rattle.schedule.proofs.SeededRuns.{front-whole}
 use Rattle.schedule.proofs.NextEvent.{not-true, not-false, less-next, front-opening, front-grown}
 use Rattle.schedule.proofs.seeded.run_seeded.Goals as goal
 
-pub loop-world-init : goal.loop-world-init
-loop-world-init c = (
+pub loop-schedule-init : goal.loop-schedule-init
+loop-schedule-init c = (
   ap (λ (w : WorldOrSpent). w.spent) c.in_ok-world.ensures,
   front-opening c.args.script.now c.args.seed c.new-run.result (draft_in c.in_ok-world.world.world c.new-schedule.result) c.new-run.ensures
       (ap (λ (w : WorldOrSpent). draft_in w.world c.new-schedule.result) c.in_ok-world.ensures
       ∙ ap (λ (s : Schedule). draft_in (initial_world c.args.script.now) s) c.new-schedule.ensures),
 )
 
-pub loop-world-smaller : goal.loop-world-smaller
-loop-world-smaller c =
-    less-next c.args.script.now (draft_in c.loop-world.world.world c.loop-world.schedule) c.in_ok-event.event c.next_event.new.self.rng
-    c.next_event.new.self.taken c.loop-world.run (record { world = c.go_on.new.world.world; history = c.go_on.new.self.history })
-    (not-false _ (sym c.loop-world-test.ensures)) c.in_ok-event.ensures c.in-Ok.ensures.made
+pub loop-schedule-smaller : goal.loop-schedule-smaller
+loop-schedule-smaller c =
+    less-next c.args.script.now (draft_in c.loop-schedule.world.world c.loop-schedule.schedule) c.in_ok-event.event c.next_event.new.self.rng
+    c.next_event.new.self.taken c.loop-schedule.run (record { world = c.go_on.new.world.world; history = c.go_on.new.self.history })
+    (not-false _ (sym c.loop-schedule-test.ensures)) c.in_ok-event.ensures c.in-Ok.ensures.made
 
-pub loop-world-preserved : goal.loop-world-preserved
-loop-world-preserved c = (
+pub loop-schedule-preserved : goal.loop-schedule-preserved
+loop-schedule-preserved c = (
   c.in-Ok.ensures.live,
-  front-grown c.args.script.now c.args.seed (draft_in c.loop-world.world.world c.loop-world.schedule) c.in_ok-event.event
-      c.next_event.new.self.rng c.next_event.new.self.taken c.loop-world.run c.go_on.new.self c.go_on.new.world.world c.loop-world.invariant.1
-      (not-false _ (sym c.loop-world-test.ensures)) c.in_ok-event.ensures c.in-Ok.ensures.events c.in-Ok.ensures.made,
+  front-grown c.args.script.now c.args.seed (draft_in c.loop-schedule.world.world c.loop-schedule.schedule) c.in_ok-event.event
+      c.next_event.new.self.rng c.next_event.new.self.taken c.loop-schedule.run c.go_on.new.self c.go_on.new.world.world c.loop-schedule.invariant.1
+      (not-false _ (sym c.loop-schedule-test.ensures)) c.in_ok-event.ensures c.in-Ok.ensures.events c.in-Ok.ensures.made,
 )
 
 pub returns-clause-events : goal.returns-clause-events
 returns-clause-events c =
-    (front-whole c.args.script.now c.args.seed c.loop-world.run (draft_in c.loop-world.world.world c.loop-world.schedule) c.loop-world.invariant.1
-    (not-true _ (sym c.loop-world-test.ensures))).0
+    (front-whole c.args.script.now c.args.seed c.loop-schedule.run (draft_in c.loop-schedule.world.world c.loop-schedule.schedule) c.loop-schedule.invariant.1
+    (not-true _ (sym c.loop-schedule-test.ensures))).0
 
 pub returns-clause-kept : goal.returns-clause-kept
 returns-clause-kept c =
-    (front-whole c.args.script.now c.args.seed c.loop-world.run (draft_in c.loop-world.world.world c.loop-world.schedule) c.loop-world.invariant.1
-    (not-true _ (sym c.loop-world-test.ensures))).1
+    (front-whole c.args.script.now c.args.seed c.loop-schedule.run (draft_in c.loop-schedule.world.world c.loop-schedule.schedule) c.loop-schedule.invariant.1
+    (not-true _ (sym c.loop-schedule-test.ensures))).1

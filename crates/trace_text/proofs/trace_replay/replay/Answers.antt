@@ -34,3 +34,8 @@ pub returns-clause-good : goal.returns-clause-good
 returns-clause-good c =
     (replayed-whole c.args.script.now (lines_in c.args.text.now) c.loop-run.world.world c.loop-run.run c.loop-run.rest
     c.loop-run.invariant.1 (search rules) (search rules)).good
+
+pub returns-clause-whole : goal.returns-clause-whole
+returns-clause-whole c =
+    (replayed-whole c.args.script.now (lines_in c.args.text.now) c.loop-run.world.world c.loop-run.run c.loop-run.rest
+    c.loop-run.invariant.1 (search rules) (search rules)).whole
