@@ -1,12 +1,12 @@
 //! What no clause says: that a trace is printed with ample memory, and what the rules mean on small inputs.
-use trace_text::{
-    BadEvent, Lines, TraceFault, event_in, input_parts, print_events, print_trace, replay,
-};
 use cluster_script::parse;
 use object_id::{Bytes, NodeId};
 use sheep_node::Event;
 use std::alloc::Global;
 use std::test::Fail;
+use trace_text::{
+    BadEvent, Lines, TraceFault, event_in, input_parts, print_events, print_trace, replay,
+};
 
 const EVENTS: [Event; 5] = [
     Event::Guest { session: 1 },

@@ -237,10 +237,13 @@ can_is_done None old new answer call can = absurd can
 can_is_done (Some (Run seed trace)) old new answer call can =
     let taken = taken_whole old new can.0 call.0 call.1 can.2 in
     let long = le-ltb INPUT_BYTES_MAX (length can.0) can.2.short in
-    ap (λ (a : Answer). a.status) (call.2 ∙ ap (answer_to (works.Run seed trace)) taken ∙ rw (long, can.3) refl)
+    let same : answer ≡ run_answer seed trace (Ok can.1) = call.2 ∙ ap (answer_to (works.Run seed trace)) taken ∙ rw (long, can.3) refl in
+    ap (λ (a : Answer). a.status) same
 can_is_done (Some Replay) old new answer call can =
     let taken = taken_whole old new can.0 call.0 call.1 can.2 in
     let long = le-ltb INPUT_BYTES_MAX (length can.0) can.2.short in
-    ap (λ (a : Answer). a.status) (call.2 ∙ ap (answer_to works.Replay) taken ∙ rw (long, can.3, can.4) refl)
+    let same : answer ≡ replayed_answer can.1 (trace_lines can.0) None =
+    call.2 ∙ ap (answer_to works.Replay) taken ∙ rw (long, can.3, can.4) refl in
+    ap (λ (a : Answer). a.status) same
 can_is_done (Some (Gen number)) old new answer call can = ap (λ (a : Answer). a.status) call.0
 can_is_done (Some (Live trace)) old new answer call can = absurd can

@@ -1,3 +1,4 @@
 pub mod ToldRuns
 pub mod MakingRuns
 pub mod AnswerLemmas
+pub mod AnswerParts

@@ -32,7 +32,7 @@ module _ (statements : List Statement) where
 
   -- what is told is the first part of a seed's schedule, which goes on from here
   pub record IsSeeded (seed : ℕ) (told : ToldRun) (schedule : Schedule) : Type 0 where
-    pub told : IsToldRun statements told
+    pub tells : IsToldRun statements told
     pub kept : Run
     pub same : kept.events ≡ told.events
     pub front : IsFront statements seed kept (draft_in told.world.world schedule)
@@ -41,7 +41,7 @@ module _ (statements : List Statement) where
       → told.world.world ≡ initial_world statements → told.events ≡ [] → schedule ≡ record { rng = seed; taken = 0 }
       → IsSeeded seed told schedule
   seeded-first seed told schedule so_far at none first = record {
-    told = so_far;
+    tells = so_far;
     kept = record { events = []; history = [] };
     same = sym none;
     front =
@@ -56,7 +56,7 @@ module _ (statements : List Statement) where
       → step statements event told.world.world ≡ Some (record { world = grown.world.world; grown = history })
       → IsSeeded seed grown later
   seeded-next seed told grown schedule later event history so_far may chosen goes events steps = record {
-    told = goes;
+    tells = goes;
     kept = after;
     same = ap (λ (all : List Event). all ++ event ∷ []) so_far.same ∙ sym events;
     front =
@@ -97,7 +97,7 @@ module _ (statements : List Statement) where
 
   -- what is told is what the lines taken spell, and those that are left are judged from its end
   pub record IsRetold (lines : List (List ℕ)) (told : ToldRun) (replay : TraceReplay) : Type 0 where
-    pub told : IsToldRun statements told
+    pub tells : IsToldRun statements told
     pub kept : Run
     pub same : kept.events ≡ told.events
     pub replayed : IsReplayed statements lines told.world.world kept replay
@@ -106,7 +106,7 @@ module _ (statements : List Statement) where
       → told.world.world ≡ initial_world statements → told.events ≡ [] → replay ≡ record { rest = lines; taken = 0 }
       → IsRetold lines told replay
   retold-first lines told replay so_far at none all = record {
-    told = so_far;
+    tells = so_far;
     kept = record { events = []; history = [] };
     same = sym none;
     replayed = replayed-opening statements lines told.world.world (record { events = []; history = [] }) replay at refl all;
@@ -118,7 +118,7 @@ module _ (statements : List Statement) where
       → step statements event told.world.world ≡ Some (record { world = grown.world.world; grown = history })
       → IsRetold lines grown rest
   retold-next lines told grown replay rest event history so_far takes goes events steps = record {
-    told = goes;
+    tells = goes;
     kept = after;
     same = ap (λ (all : List Event). all ++ event ∷ []) so_far.same ∙ sym events;
     replayed =

@@ -89,4 +89,4 @@ module _ (statements : List Statement) where
   unfolding report_of
   told-last told report so_far finishes =
       let both = finishes (report_so_far statements told.events) so_far.same so_far.reporter in
-      record { events = refl; text = both.0; counts = both.1 }
+      record { same = refl; text = both.0; counts = both.1 }

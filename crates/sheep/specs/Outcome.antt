@@ -1,5 +1,5 @@
 -- What a call did, by the status that it ended with.
-use Rattle.std.specs.Prelude.{◌≡◌, ⊤, ⊥, ℕ, ◌≤◌, Bool, true, false, List, length, map, Option, None, Some, Ok, Err}
+use Rattle.std.specs.Prelude.{◌≡◌, ⊤, ℕ, ◌≤◌, Bool, true, false, List, length, map, Option, None, Some, Ok, Err}
 use Rattle.object_id.specs.declared.limits.TheConstants.{INPUT_BYTES_MAX}
 use Rattle.cluster_script.specs.declared.fault.LineCause.{LineCause}
 use Rattle.cluster_script.specs.declared.statement.Statement.{Statement}

@@ -24,6 +24,6 @@ pub record IsToldRun (statements : List Statement) (told : ToldRun) : Type 0 whe
 
 -- what was made is the run of these events, and the report is its whole report
 pub record TellsRun (statements : List Statement) (events : List Event) (finished : FinishedRun) : Type 0 where
-  pub events : finished.events ≡ events
+  pub same : finished.events ≡ events
   pub text : finished.report.text ≡ report_text (report_of statements events)
   pub counts : finished.report.counts ≡ counts_of (report_of statements events)

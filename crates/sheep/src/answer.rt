@@ -3,6 +3,7 @@
 ghost use Rattle.std.specs.Prelude.{◌≡◌, ◌+◌, ◌≤◌, ◌++◌, length, codes, true, false, IfOk, IsErrOf};
 ghost use Rattle.cluster_script.specs.Script.{script_in};
 ghost use Rattle.schedule.specs.Schedule.{schedule_of};
+ghost use Rattle.schedule.specs.GeneratedScript.{generated_statements};
 ghost use Rattle.trace_text.specs.Lines.{lines_in};
 ghost use Rattle.trace_text.specs.Replay.{bad_place};
 ghost use Rattle.trace_text.specs.Spelling.{trace_text_of};
@@ -153,19 +154,29 @@ fn answer_replay(alloc: Global, input: &[u8]) -> Result<Answer, NoMemory>
     }
 }
 
+/// The script that a number generates.
+fn generated_script(alloc: Global, number: u64) -> Result<Script, NoMemory>
+    ensures { IfOk result (λ script. script ≡ generated_statements number) }
+{
+    let text = generated_text(alloc, number)?;
+    // It has 221 short lines; a text that is too long to be read would be told as want of memory.
+    if text.len() > INPUT_BYTES_MAX {
+        return Err(NoMemory);
+    }
+    match parse(alloc, text.as_slice()) {
+        Ok(script) => Ok(script),
+        // What is generated is a script, so the fault is want of memory.
+        Err(_) => Err(NoMemory),
+    }
+}
+
 /// The answer of `gen`.
 fn answer_generated(alloc: Global, number: u64) -> Result<Answer, NoMemory>
     ensures { IfOk result (λ answer. answer ≡ generated_answer number) }
 {
-    let text = generated_text(alloc, number)?;
-    match parse(alloc, text.as_slice()) {
-        Ok(script) => {
-            let made = seeded_run(alloc, &script, number)?;
-            Ok(done(generated_line(alloc, number, &made.report)?))
-        }
-        // What is generated is a script, so the fault is want of memory.
-        Err(_) => Err(NoMemory),
-    }
+    let script = generated_script(alloc, number)?;
+    let FinishedRun { report, events: _ } = seeded_run(alloc, &script, number)?;
+    Ok(done(generated_line(alloc, number, &report)?))
 }
 
 /// The answer to an input that was read to its end, by what is done with it.

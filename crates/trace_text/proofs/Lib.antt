@@ -10,3 +10,4 @@ pub mod SpellingLemmas
 pub mod WordReading
 pub mod InputCutLemmas
 pub mod ReplayedRuns
+pub mod PartLengths

@@ -56,18 +56,18 @@ one-each n = omega arith
 
 module _ {X : Type 0} (test : X → Bool) where
   -- where the first is found, and where it is looked for further on
-  before_first-here : (x : X) (xs : List X) → test x ≡ true → before_first test (x ∷ xs) ≡ []
+  pub before_first-here : (x : X) (xs : List X) → test x ≡ true → before_first test (x ∷ xs) ≡ []
   before_first-here x xs e = ap (λ b. take (cond (not b) (1 + position_or_len test xs) 0) (x ∷ xs)) e
 
-  before_first-later : (x : X) (xs : List X) → test x ≡ false → before_first test (x ∷ xs) ≡ x ∷ before_first test xs
+  pub before_first-later : (x : X) (xs : List X) → test x ≡ false → before_first test (x ∷ xs) ≡ x ∷ before_first test xs
   before_first-later x xs e =
       ap (λ b. take (cond (not b) (1 + position_or_len test xs) 0) (x ∷ xs)) e
       ∙ ap (λ n. take n (x ∷ xs)) (one-more (position_or_len test xs))
 
-  after_first-here : (x : X) (xs : List X) → test x ≡ true → after_first test (x ∷ xs) ≡ xs
+  pub after_first-here : (x : X) (xs : List X) → test x ≡ true → after_first test (x ∷ xs) ≡ xs
   after_first-here x xs e = ap (λ b. drop (cond (not b) (1 + position_or_len test xs) 0 + 1) (x ∷ xs)) e
 
-  after_first-later : (x : X) (xs : List X) → test x ≡ false → after_first test (x ∷ xs) ≡ after_first test xs
+  pub after_first-later : (x : X) (xs : List X) → test x ≡ false → after_first test (x ∷ xs) ≡ after_first test xs
   after_first-later x xs e =
       ap (λ b. drop (cond (not b) (1 + position_or_len test xs) 0 + 1) (x ∷ xs)) e
       ∙ ap (λ n. drop n (x ∷ xs)) (one-each (position_or_len test xs))

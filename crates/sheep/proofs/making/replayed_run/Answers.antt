@@ -11,13 +11,13 @@ loop-told-init c =
     c.in_ok-told.ensures.world c.in_ok-told.ensures.events c.new-replay.ensures
 
 pub next_event-requires : goal.next_event-requires
-next_event-requires c = c.loop-told.invariant.told.live
+next_event-requires c = c.loop-told.invariant.tells.live
 
-pub go_on-requires-told : goal.go_on-requires-told
-go_on-requires-told c = c.loop-told.invariant.told
+pub go_on-requires-clause-told : goal.go_on-requires-clause-told
+go_on-requires-clause-told c = c.loop-told.invariant.tells
 
-pub go_on-requires-enabled : goal.go_on-requires-enabled
-go_on-requires-enabled c =
+pub go_on-requires-clause-enabled : goal.go_on-requires-clause-enabled
+go_on-requires-clause-enabled c =
     let found = c.in-Some.is in
     let is : c.in_ok-event.field-0 ≡ Some c.in-Some.event = cc in
     (taken-found _ (λ event. Takes c.args.script.now c.loop-told.told.world.world c.loop-told.replay event c.next_event.new.self)
@@ -41,14 +41,14 @@ returns-in_err-event-clause-bad c = λ place is.
     ∙ c.in_err-event.ensures.bad.0)
 
 pub finish-requires : goal.finish-requires
-finish-requires c = c.loop-told.invariant.told
+finish-requires c = c.loop-told.invariant.tells
 
 pub returns-clause-told : goal.returns-clause-told
 returns-clause-told c =
-    (retold-last c.args.script.now (lines_in c.args.trace.now) c.loop-told.told c.loop-told.replay c.in_ok-finish.value c.loop-told.invariant
+    (retold-last c.args.script.now (lines_in c.args.trace.now) c.loop-told.told c.loop-told.replay c.in_ok-finish.field-0 c.loop-told.invariant
     (search rules) (search rules) c.in_ok-finish.ensures).tells
 
 pub returns-clause-good : goal.returns-clause-good
 returns-clause-good c =
-    (retold-last c.args.script.now (lines_in c.args.trace.now) c.loop-told.told c.loop-told.replay c.in_ok-finish.value c.loop-told.invariant
+    (retold-last c.args.script.now (lines_in c.args.trace.now) c.loop-told.told c.loop-told.replay c.in_ok-finish.field-0 c.loop-told.invariant
     (search rules) (search rules) c.in_ok-finish.ensures).good
