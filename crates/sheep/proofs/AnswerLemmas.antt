@@ -1,5 +1,5 @@
 -- What a status tells of the answer that the call came to.
-use Rattle.std.proofs.Common.{◌≡◌, ◌⊎◌, inl, inr, ℕ, ◌<◌, ◌≤◌, List, [], ◌++◌, length, map, refl, sym, ap, ◌∙◌, subst, arith, Bool, true, false}
+use Rattle.std.proofs.Common.{◌≡◌, ◌≢◌, ◌⊎◌, inl, inr, ℕ, ◌<◌, ◌≤◌, List, [], ◌++◌, length, map, refl, sym, ap, ◌∙◌, subst, arith, Bool, true, false}
 use Rattle.std.specs.Prelude.{Option, Some, None, Result, Ok, Err, nat_lt}
 use Rattle.std.specs.Option.{option_map}
 use Rattle.std.proofs.lemmas.Bool.{ltb-true, ltb-false, le-ltb}
@@ -247,3 +247,51 @@ can_is_done (Some Replay) old new answer call can =
     ap (λ (a : Answer). a.status) same
 can_is_done (Some (Gen number)) old new answer call can = ap (λ (a : Answer). a.status) call.0
 can_is_done (Some (Live trace)) old new answer call can = absurd can
+
+-- whether an answer may have this status: the others come of faults and of want of memory
+abbrev is_told : Status → Bool
+is_told statuses.Done = true
+is_told statuses.BadWords = true
+is_told statuses.BadScript = true
+is_told statuses.ReadFault = false
+is_told statuses.WriteFault = false
+is_told statuses.NoMemory = false
+is_told statuses.BadTrace = true
+is_told statuses.TooLong = true
+
+told_status : (mode : Option Mode) (old new : Option (List ℕ)) (answer : Answer) → AnswersCall mode old new answer → is_told answer.status ≡ true
+told_status None old new answer call = ap (λ (a : Answer). is_told a.status) call.0
+told_status (Some (Run seed trace)) old new answer call = by_kind (input_is (works.Run seed trace) call.0 answer call.2)
+  where
+    by_kind : InputIs (works.Run seed trace) call.0 answer → is_told answer.status ≡ true
+    by_kind (TooLong long same) = ap (λ (a : Answer). is_told a.status) same
+    by_kind (Script statements short read same) = ap (λ (a : Answer). is_told a.status) same
+    by_kind (BadLine bad short read same) = ap (λ (a : Answer). is_told a.status) same
+told_status (Some Replay) old new answer call = by_kind (input_is works.Replay call.0 answer call.2)
+  where
+    by_place : (statements : List Statement) (place : Option ℕ) → answer ≡ replayed_answer statements (trace_lines call.0) place
+        → is_told answer.status ≡ true
+    by_place statements None same = ap (λ (a : Answer). is_told a.status) same
+    by_place statements (Some place) same = ap (λ (a : Answer). is_told a.status) same
+
+    by_kind : InputIs works.Replay call.0 answer → is_told answer.status ≡ true
+    by_kind (TooLong long same) = ap (λ (a : Answer). is_told a.status) same
+    by_kind (Script statements short read same) = by_place statements (bad_place statements (trace_lines call.0)) same
+    by_kind (BadLine bad short read same) = ap (λ (a : Answer). is_told a.status) same
+told_status (Some (Gen number)) old new answer call = ap (λ (a : Answer). is_told a.status) call.0
+told_status (Some (Live trace)) old new answer call = ap (λ (a : Answer). is_told a.status) call.0
+
+pub no_read_fault : (mode : Option Mode) (old new : Option (List ℕ)) (answer : Answer) → AnswersCall mode old new answer
+    → answer.status ≢ statuses.ReadFault
+no_read_fault mode old new answer call is =
+    let told : true ≡ false = sym (told_status mode old new answer call) ∙ ap is_told is in absurd (cc)
+
+pub no_write_fault : (mode : Option Mode) (old new : Option (List ℕ)) (answer : Answer) → AnswersCall mode old new answer
+    → answer.status ≢ statuses.WriteFault
+no_write_fault mode old new answer call is =
+    let told : true ≡ false = sym (told_status mode old new answer call) ∙ ap is_told is in absurd (cc)
+
+pub no_want : (mode : Option Mode) (old new : Option (List ℕ)) (answer : Answer) → AnswersCall mode old new answer
+    → answer.status ≢ statuses.NoMemory
+no_want mode old new answer call is =
+    let told : true ≡ false = sym (told_status mode old new answer call) ∙ ap is_told is in absurd (cc)

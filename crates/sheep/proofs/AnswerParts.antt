@@ -1,6 +1,7 @@
 -- Parts of what the program answers.
-use Rattle.std.proofs.Common.{◌≡◌, ℕ, List, ◌++◌, sym, ap, ◌∙◌}
-use Rattle.std.specs.Prelude.{codes, Result, Ok}
+use Rattle.std.proofs.Common.{◌≡◌, ℕ, List, [], ◌++◌, refl, sym, ap, ◌∙◌, arith}
+use Rattle.std.specs.Prelude.{codes, Option, Some, None, Result, Ok}
+use Rattle.sheep.specs.Reading.{TakesAtMost}
 use Rattle.cluster_script.specs.declared.fault.LineCause.{LineCause}
 use Rattle.cluster_script.specs.Script.{script_in}
 use Rattle.cluster_script.specs.declared.statement.Statement.{Statement}
@@ -48,3 +49,8 @@ pub replayed-parts : (input text trace : List ℕ) (statements : List Statement)
 replayed-parts input text trace statements script behind read =
     ap (λ (lines : List (List ℕ)). replayed_answer statements lines (bad_place statements lines)) (ap lines_in behind ∙ trace-part-lines input)
     ∙ ap (trace_answer (trace_lines input)) (sym read ∙ ap script_in script)
+
+-- where nothing is read, nothing is taken
+pub takes-none : (left : Option (List ℕ)) (most : ℕ) → TakesAtMost most left left
+takes-none None most = ([], tt, omega arith)
+takes-none (Some bytes) most = ([], refl, omega arith)
