@@ -27,7 +27,7 @@ use Rattle.sheep.specs.declared.status.Status.{Status}
 use Rattle.sheep.specs.declared.status.Status.TheVariants as statuses
 use Rattle.sheep.specs.Reading.{Reads, ReadsAll, ReadsTooMuch}
 use Rattle.sheep.specs.Answer.{run_answer, replayed_answer, bad_script_answer, too_long_text, bad_words_text, answer_to, AnswersInput, AnswersMode, AnswersCall}
-use Rattle.sheep.specs.Outcome.{reads_input, takes_words, MakesRun, IsDone, IsBadScript, NamesBadEvent, Has, CanBeDone}
+use Rattle.sheep.specs.Outcome.{reads_input, takes_words, MakesRun, IsDone, IsBadScript, NamesBadEvent, HasInput, CanBeDone}
 
 -- a whole run has a history
 pub makes_run : (statements : List Statement) (events : List Event) → IsWholeRun statements events
@@ -216,7 +216,7 @@ module _ (Given : List ℕ → Type 0) (old new : Option (List ℕ)) (answer : A
   too_long_is (Some (Live trace)) call is = let status = status_is answer _ _ is call.0 in absurd (cc)
 
 -- what a source has is taken whole, where it isn't too long
-taken_whole : (old new : Option (List ℕ)) (input taken : List ℕ) → Reads old new taken → Has old input → taken ≡ input
+taken_whole : (old new : Option (List ℕ)) (input taken : List ℕ) → Reads old new taken → HasInput old input → taken ≡ input
 taken_whole None new input taken reads has = let none = has.whole in absurd (cc)
 taken_whole (Some xs) None input taken reads has = absurd reads.consumed
 taken_whole (Some xs) (Some ys) input taken reads has = whole (reads.ended (omega (arith, fits, has.short)))

@@ -85,15 +85,16 @@ module _ (Given : List ℕ → Type 0) (old new : Option (List ℕ)) where
       × Given (bad_event_text place)
 
 -- a source has this input, which isn't too long
-pub record Has (left : Option (List ℕ)) (input : List ℕ) : Type 0 where
+pub record HasInput (left : Option (List ℕ)) (input : List ℕ) : Type 0 where
   pub whole : left ≡ Some input
   pub short : length input ≤ INPUT_BYTES_MAX
 
 -- what the words ask for can be done: the source has a script; or a script with the trace of a whole run behind it; or nothing is read
 abbrev pub CanBeDone : Option Mode → Option (List ℕ) → Type 0
 CanBeDone None left = ⊥
-CanBeDone (Some (Run seed trace)) left = (input : List ℕ) × (statements : List Statement) × Has left input × (script_in input ≡ Ok statements)
-CanBeDone (Some Replay) left = (input : List ℕ) × (statements : List Statement) × Has left input
+CanBeDone (Some (Run seed trace)) left = (input : List ℕ) × (statements : List Statement) × HasInput left input
+    × (script_in input ≡ Ok statements)
+CanBeDone (Some Replay) left = (input : List ℕ) × (statements : List Statement) × HasInput left input
     × (script_in (script_part input) ≡ Ok statements) × (bad_place statements (trace_lines input) ≡ None)
 CanBeDone (Some (Gen number)) left = ⊤
 CanBeDone (Some (Live trace)) left = ⊥
