@@ -1,5 +1,5 @@
 -- What a status tells of the answer that the call came to.
-use Rattle.std.proofs.Common.{◌≡◌, ◌≢◌, ◌⊎◌, inl, inr, ℕ, ◌<◌, ◌≤◌, List, [], ◌++◌, length, map, refl, sym, ap, ◌∙◌, subst, arith, Bool, true, false}
+use Rattle.std.proofs.Common.{◌≡◌, ◌≢◌, ℕ, ◌<◌, ◌≤◌, List, [], ◌++◌, length, refl, sym, ap, ◌∙◌, subst, arith, Bool, true, false}
 use Rattle.std.specs.Prelude.{Option, Some, None, Result, Ok, Err, nat_lt}
 use Rattle.std.specs.Option.{option_map}
 use Rattle.std.proofs.lemmas.Bool.{ltb-true, ltb-false, le-ltb}
@@ -26,7 +26,7 @@ use Rattle.sheep.specs.declared.answer.Work.TheVariants as works
 use Rattle.sheep.specs.declared.status.Status.{Status}
 use Rattle.sheep.specs.declared.status.Status.TheVariants as statuses
 use Rattle.sheep.specs.Reading.{Reads, ReadsAll, ReadsTooMuch}
-use Rattle.sheep.specs.Answer.{run_answer, replayed_answer, bad_script_answer, too_long_text, bad_words_text, answer_to, AnswersInput, AnswersMode, AnswersCall}
+use Rattle.sheep.specs.Answer.{run_answer, replayed_answer, bad_script_answer, too_long_text, bad_words_text, answer_to, AnswersCall}
 use Rattle.sheep.specs.Outcome.{reads_input, takes_words, MakesRun, IsDone, IsBadScript, NamesBadEvent, HasInput, CanBeDone}
 
 -- a whole run has a history

@@ -1,6 +1,6 @@
 -- The two orders in which runs are made and told: that of a seed, and that of a trace. What is told stands beside a run as it is kept, of
 -- which the laws of schedules and replays speak.
-use Rattle.std.proofs.Common.{◌≡◌, ℕ, ◌+◌, ◌<◌, false, true, List, [], ◌∷◌, ◌++◌, Option, Some, None, is_some, refl, sym, ap, subst, ◌∙◌}
+use Rattle.std.proofs.Common.{◌≡◌, ℕ, ◌+◌, ◌<◌, false, true, List, [], ◌∷◌, ◌++◌, Some, None, is_some, refl, sym, ap, subst, ◌∙◌}
 use Rattle.std.specs.Option.{option_map}
 use Rattle.cluster_script.specs.declared.statement.Statement.{Statement}
 use Rattle.disk_history.specs.declared.event.HistEvent.{HistEvent}
@@ -9,7 +9,6 @@ use Rattle.sheep_world.specs.Conditions.{may_end_phase}
 use Rattle.sheep_world.specs.Enabled.{is_enabled}
 use Rattle.sheep_world.specs.Opening.{initial_world}
 use Rattle.sheep_world.specs.Run.{Run, moment_with_made, is_whole}
-use Rattle.sheep_world.specs.SpentWorld.{WorldOrSpent}
 use Rattle.sheep_world.specs.Step.{step}
 use Rattle.sheep_world.proofs.EnabledLaws.{is_some-step}
 use Rattle.schedule.specs.Schedule.{Choice, Schedule, draft_in, choice, schedule_of}

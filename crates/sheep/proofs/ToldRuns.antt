@@ -1,9 +1,8 @@
 -- A run as it is made and told: before the first event, one event more, and behind the last.
-use Rattle.std.proofs.Common.{◌≡◌, ℕ, false, List, [], ◌∷◌, ◌++◌, Option, Some, fold, refl, sym, ap, subst, ◌∙◌}
+use Rattle.std.proofs.Common.{◌≡◌, false, List, [], ◌∷◌, ◌++◌, Option, Some, refl, sym, ap, subst, ◌∙◌}
 use Rattle.std.specs.Option.{option_and_then}
 use Rattle.std.proofs.lemmas.List.Sums.{fold-append}
 use Rattle.cluster_script.specs.declared.statement.Statement.{Statement}
-use Rattle.disk_history.specs.declared.event.HistEvent.{HistEvent}
 use Rattle.sheep_node.specs.declared.event.Event.{Event}
 use Rattle.sheep_world.specs.World.{World}
 use Rattle.sheep_world.specs.Opening.{initial_world}
@@ -17,7 +16,6 @@ use Rattle.dog_report.specs.ToldPart.{counts_of}
 use Rattle.dog_report.specs.Reporter.{Reporter, IsReporterOf}
 use Rattle.dog_report.specs.declared.reporter.FinishedReport.{FinishedReport}
 use Rattle.sheep.specs.declared.told_run.ToldRun.{ToldRun}
-use Rattle.sheep.specs.declared.told_run.FinishedRun.{FinishedRun}
 use Rattle.sheep.specs.ToldRun.{report_so_far, IsToldRun, TellsRun}
 
 module _ (statements : List Statement) where

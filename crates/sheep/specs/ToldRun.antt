@@ -1,5 +1,5 @@
 -- A run as it is made and told.
-use Rattle.std.specs.Prelude.{◌≡◌, ℕ, false, List, fold, Some}
+use Rattle.std.specs.Prelude.{◌≡◌, false, List, fold, Some}
 use Rattle.cluster_script.specs.declared.statement.Statement.{Statement}
 use Rattle.disk_history.specs.declared.event.HistEvent.{HistEvent}
 use Rattle.sheep_node.specs.declared.event.Event.{Event}

@@ -1,4 +1,4 @@
-use Rattle.std.proofs.Common.{◌≡◌, Some, rules, sym, ◌∙◌}
+use Rattle.std.proofs.Common.{◌≡◌, Some, rules, ◌∙◌}
 use Rattle.trace_text.specs.Lines.{lines_in}
 use Rattle.trace_text.specs.Replay.{Takes}
 use Rattle.trace_text.proofs.ReplayedRuns.{taken-found}
