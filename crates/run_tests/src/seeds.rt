@@ -2,7 +2,7 @@
 //! which was written apart from this one, from the rules alone.
 
 use cluster_script::{Script, parse};
-use object_id::{NodeId, fnv1a};
+use object_id::{INPUT_BYTES_MAX, NodeId, fnv1a};
 use rand_core::SeedableRng;
 use rand_xoshiro::SplitMix64;
 use schedule::{RunFault, generated_text, run_seeded, run_to, step_seeded};
@@ -67,6 +67,9 @@ const ONE_DISK_EVENTS: [Event; 8] = [
 
 /// The script of a text that is one.
 fn script_of(alloc: Global, text: &[u8]) -> Result<Script, RunFault> {
+    if text.len() > INPUT_BYTES_MAX {
+        return Err(RunFault::NoMemory);
+    }
     match parse(alloc, text) {
         Ok(script) => Ok(script),
         Err(_) => Err(RunFault::NoMemory),
@@ -89,8 +92,11 @@ fn makes_the_only_run(rt: HostRuntime) {
     }
 }
 
-/// The place of the first event that stops, if one does.
+/// The place of the first of some few events that stops, if one does.
 fn stop_of(alloc: Global, text: &[u8], events: &[Event]) -> Result<Option<u32>, RunFault> {
+    if events.len() > ONE_DISK_EVENTS.len() {
+        return Err(RunFault::NoMemory);
+    }
     let script = script_of(alloc, text)?;
     match run_to(alloc, &script, events) {
         Ok(_) => Ok(None),

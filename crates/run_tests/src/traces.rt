@@ -1,6 +1,6 @@
 //! What no clause says: that a trace is printed with ample memory, and what the rules mean on small inputs.
 use cluster_script::parse;
-use object_id::{Bytes, NodeId};
+use object_id::{Bytes, INPUT_BYTES_MAX, NodeId};
 use sheep_node::Event;
 use std::alloc::Global;
 use std::test::Fail;
@@ -35,7 +35,11 @@ fn prints_a_line_for_each_event(rt: HostRuntime) -> Result<(), Fail> {
 fn reads_what_was_printed(rt: HostRuntime) {
     let mut lines = Lines::new(TRACE);
     for event in &EVENTS {
-        assert_eq!(rt; lines.next().and_then(event_in), Some(*event));
+        let read = match lines.next() {
+            Some(line) => event_in(line),
+            None => None,
+        };
+        assert_eq!(rt; read, Some(*event));
     }
     assert_eq!(rt; lines.next(), None);
 }
@@ -93,6 +97,9 @@ const ONE_DISK_TRACE: &[u8] =
 
 /// The trace of the run that a trace spells.
 fn trace_again(alloc: Global, script: &[u8], trace: &[u8]) -> Result<Bytes, TraceFault> {
+    if script.len() > INPUT_BYTES_MAX || trace.len() > INPUT_BYTES_MAX {
+        return Err(TraceFault::NoMemory);
+    }
     let Ok(script) = parse(alloc, script) else {
         return Err(TraceFault::NoMemory);
     };
