@@ -45,6 +45,18 @@ fn has_the_defaults_where_nothing_is_said(rt: HostRuntime) -> Result<(), Fail> {
     let script = parse(rt.alloc(), b"").ok().ok_or("nothing is a script")?;
     assert_eq!(rt; (script.nodes(), script.vnodes()), (1, 64));
     assert_eq!(rt; (script.tries(), script.limit()), (8, 1_000_000));
+    assert_eq!(rt; (script.zone(0), script.zone(63)), (0, 63));
+    assert_eq!(rt; script.statements().len(), 0);
+    assert_eq!(rt; script.phase_count(), 0);
+    assert!(rt; script.session(1).is_none());
+    Ok(())
+}
+
+#[test]
+fn has_no_phase_without_a_session(rt: HostRuntime) -> Result<(), Fail> {
+    let script = parse(rt.alloc(), b"cluster 1\n")
+        .ok()
+        .ok_or("a setting is a script")?;
     assert_eq!(rt; script.phase_count(), 0);
     assert!(rt; script.session(1).is_none());
     Ok(())
@@ -188,5 +200,25 @@ fn finds_what_is_in_a_phase(rt: HostRuntime) -> Result<(), Fail> {
     for (phase, place) in [(0, 0), (1, 2), (2, 1), (3, 0)] {
         assert!(rt; script.control(phase, place).is_none());
     }
+    Ok(())
+}
+
+/// One disk and one phase, without a barrier, behind a line that says nothing.
+const ONE_DISK: &[u8] =
+    b"# one disk\ncluster 1\nsession 1 node 0\n1 vdi create -c 1 a 1M\n1 vdi open a\n1 vdi read 0 512\n";
+
+#[test]
+fn has_one_phase_without_a_barrier(rt: HostRuntime) -> Result<(), Fail> {
+    let script = parse(rt.alloc(), ONE_DISK)
+        .ok()
+        .ok_or("the text is a script")?;
+    assert_eq!(rt; script.phase_count(), 1);
+    assert_eq!(rt; counts_of(&script, 0), Some((0, 0, 3)));
+    assert_eq!(rt; barrier_of(&script, 0), Some(Barrier::Settling));
+    assert_eq!(rt; script.request_of_phase(0, 2), Some(3));
+    assert_eq!(rt; script.request_of_session(1, 2), Some(3));
+    assert_eq!(rt; places_of(&script, 3), Some((1, 0)));
+    assert!(rt; is_read(&script, 3));
+    assert!(rt; script.control(0, 0).is_none());
     Ok(())
 }

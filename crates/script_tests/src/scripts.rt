@@ -1,5 +1,5 @@
-use cluster_script::{LineCause, Script, ScriptFault, Statement, parse};
-use object_id::{INPUT_BYTES_MAX, NoMemory};
+use cluster_script::{LineCause, Pattern, Script, ScriptFault, Statement, parse};
+use object_id::{INPUT_BYTES_MAX, NoMemory, Policy};
 use std::alloc::Global;
 use std::test::*;
 
@@ -141,6 +141,54 @@ fn reads_each_statement(rt: HostRuntime) -> Result<(), Fail> {
     Ok(())
 }
 
+/// A script of one disk, with lines that say nothing, and no line feed behind its last line.
+#[test]
+fn reads_a_script_of_one_disk(rt: HostRuntime) -> Result<(), Fail> {
+    let text =
+        b"cluster 1\n\n# a comment\n session  1 node 0\n1 vdi create -c 1 a 1M\n1 vdi open a\n1 vdi write 1K 512 fill 7\n1 vdi read 0 1024\n1 vdi close";
+    let script = parse(rt.alloc(), text).ok().ok_or("the text is a script")?;
+    assert!(rt;
+        matches!(
+            script.statements(),
+            [
+                Statement::Cluster { nodes: 1, .. },
+                Statement::Session {
+                    session: 1,
+                    node: 0,
+                    ..
+                },
+                Statement::Create {
+                    session: 1,
+                    policy: Policy::Copies(1),
+                    shift: 22,
+                    size: 1_048_576,
+                    ..
+                },
+                Statement::OpenDisk {
+                    session: 1,
+                    tag: None,
+                    ..
+                },
+                Statement::Write {
+                    session: 1,
+                    offset: 1024,
+                    length: 512,
+                    pattern: Pattern::Fill(7),
+                    ..
+                },
+                Statement::Read {
+                    session: 1,
+                    offset: 0,
+                    length: 1024,
+                    ..
+                },
+                Statement::Close { session: 1, .. },
+            ]
+        )
+    );
+    Ok(())
+}
+
 /// Three nodes, of which one is failed, a fourth that joins, a session, and 9,000 losses of the phase: six lines.
 const SO_FAR: &[u8] = b"cluster 3\nsession 1 node 0\nfail 1\njoin 3\nlose 9000\n\n";
 
@@ -202,7 +250,7 @@ fn names_what_is_wrong_with_a_line_of_a_cluster(rt: HostRuntime) -> Result<(), F
 /// Requests behind them, each with the cause for which it is refused.
 #[test]
 fn names_what_is_wrong_with_a_request(rt: HostRuntime) -> Result<(), Fail> {
-    let cases: [(&[u8], u8); 58] = [
+    let cases: [(&[u8], u8); 60] = [
         (b"0 vdi close", 3),
         (b"65 vdi close", 3),
         (b"2 vdi close", 6),
@@ -243,6 +291,7 @@ fn names_what_is_wrong_with_a_request(rt: HostRuntime) -> Result<(), Fail> {
         (b"1 vdi read 0 0", 3),
         (b"1 vdi read 100 0", 4),
         (b"1 vdi read 0 1048577", 3),
+        (b"1 vdi read 0 1049088", 3),
         (b"1 vdi read 0 513", 4),
         (b"1 vdi read 0 1k", 2),
         (b"1 vdi read 17179869184G 512", 2),
@@ -250,6 +299,7 @@ fn names_what_is_wrong_with_a_request(rt: HostRuntime) -> Result<(), Fail> {
         (b"1 vdi write 0 512", 1),
         (b"1 vdi write 0 512 full 256", 1),
         (b"1 vdi write 0 512 fill x", 2),
+        (b"1 vdi write 0 512 fill 256", 3),
         (b"1 vdi write 0 512 step 256", 3),
         (b"1 vdi write 0 512 fill 1 1", 1),
         (b"1 vdi snapshot t", 1),
@@ -272,7 +322,7 @@ fn names_what_is_wrong_with_a_request(rt: HostRuntime) -> Result<(), Fail> {
 /// Texts, each with its first bad line and the cause.
 #[test]
 fn names_the_first_bad_line(rt: HostRuntime) -> Result<(), Fail> {
-    let cases: [(&[u8], u32, u8); 28] = [
+    let cases: [(&[u8], u32, u8); 31] = [
         (b"cluster info", 1, 1),
         (b"settle", 1, 1),
         (b"1 vdi close", 1, 1),
@@ -296,6 +346,9 @@ fn names_the_first_bad_line(rt: HostRuntime) -> Result<(), Fail> {
         (b"cluster 1\n# \xff", 2, 8),
         (b"x\xff", 1, 8),
         (b"cluster 1\n\n#\nx\ny", 4, 1),
+        (b"cluster 1\ncluster 1", 2, 1),
+        (b"cluster 1\nsession 1 node 1", 2, 6),
+        (b"cluster 1\n1 vdi close", 2, 6),
         (b"cluster 1\nsession 1 node 0\nlimit 5", 3, 1),
         (b"cluster 1\nsettle\nvnodes 8", 3, 1),
         (b"cluster 1\njoin 1\nfail 1\nback 1\nfail 1\nfail 1", 6, 6),
@@ -331,6 +384,29 @@ fn counts_to_the_limits(rt: HostRuntime) -> Result<(), Fail> {
             Some((most + 3, 7))
         );
     }
+    Ok(())
+}
+
+/// The lines up to an open disk: two of its requests.
+const OPENED: &[u8] = b"cluster 1\nsession 1 node 0\n1 vdi create -c 1 a 1M\n1 vdi open a\n";
+
+/// All requests count, of whatever kind.
+#[test]
+fn counts_the_requests_of_each_kind(rt: HostRuntime) -> Result<(), Fail> {
+    let read = b"1 vdi read 0 512\n";
+    assert_eq!(rt; bad_line(rt.alloc(), OPENED, read, 9_998)?, None);
+    assert_eq!(rt;
+        bad_line(rt.alloc(), OPENED, read, 9_999)?,
+        Some((10_003, 7))
+    );
+    Ok(())
+}
+
+/// Which requests are refused when they are made isn't asked of a line.
+#[test]
+fn reads_requests_in_any_order(rt: HostRuntime) -> Result<(), Fail> {
+    let twice = b"1 vdi close\n1 vdi close\nx";
+    assert_eq!(rt; bad_line(rt.alloc(), OPENED, twice, 1)?, Some((7, 1)));
     Ok(())
 }
 
