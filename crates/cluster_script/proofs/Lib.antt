@@ -1,13 +1,11 @@
-pub mod Follows
+pub mod PrintedNames
 pub mod Counting
-pub mod OneDiskCounting
 pub mod Pieces
 pub mod DigitLemmas
 pub mod LineSteps
 pub mod SettingLemmas
 pub mod WorkedCases
 pub mod WorkedLines
-pub mod Shape
 pub mod IndexLemmas
 pub mod PhaseLaws
 pub mod SessionLaws
@@ -17,7 +15,6 @@ pub mod ReadLemmas
 pub mod ScriptFacts
 pub mod SpelledLemmas
 pub mod TextLaws
-pub mod PartLaws
 pub mod WritingLemmas
 pub mod WrittenLaws
 pub mod Noted

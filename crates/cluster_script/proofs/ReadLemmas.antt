@@ -19,8 +19,7 @@ use Rattle.cluster_script.specs.Settings.{is_set, nodes_set, vnodes_set, tries_s
 use Rattle.cluster_script.specs.Phases.{losses_from}
 use Rattle.cluster_script.specs.Nodes.{is_node_used, is_failed, is_node_there, IsNodeThere}
 use Rattle.object_id.specs.Span.{IsSpan}
-use Rattle.cluster_script.specs.OneDisk.{IsPrintedName}
-use Rattle.cluster_script.specs.Language.{MaySet, HasCluster, MayAsk, IsPrintedTag, IsByte, MayStand}
+use Rattle.cluster_script.specs.Language.{MaySet, HasCluster, MayAsk, IsPrintedName, IsPrintedTag, IsByte, MayStand}
 use Rattle.cluster_script.specs.Words.{Word, is_next_word, option_at}
 use Rattle.cluster_script.specs.Numbers.{is_digits, number_of}
 use Rattle.cluster_script.specs.Requests.{has_room, request_within_limits, is_colon, strips_in, copies_in, policy_of_word, policy_option_at, shift_option_at, tag_at, create_request_at, disk_words_at, open_request_at, close_request_at, span_at, read_request_at, pattern_byte_at, named_pattern_at, pattern_at, write_request_at, snapshot_request_at, clone_request_at, delete_request_at, check_request_at, copy_verb_at, verb_at, vdi_request_at}

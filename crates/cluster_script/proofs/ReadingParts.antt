@@ -6,11 +6,11 @@ use Rattle.std.proofs.lemmas.Slice.Eq.{bytes_eq-Decides}
 use Rattle.cluster_script.specs.declared.fault.LineCause.{LineCause}
 use Rattle.cluster_script.specs.declared.fault.LineCause.TheVariants as causes
 use Rattle.object_id.specs.declared.limits.TheConstants.{BLOCK_BYTES}
-use Rattle.cluster_script.specs.OneDisk.{IsPrintedName}
+use Rattle.cluster_script.specs.Language.{IsPrintedName}
 use Rattle.cluster_script.specs.ReadResults.{◌>>=◌}
 use Rattle.cluster_script.specs.Words.{Word, word_at, keyword_at, is_next_word, option_at, end_of_words, is_printed_name, name_word_at}
 use Rattle.cluster_script.specs.Numbers.{number_of, size_of_word, number_in_range, aligned_number, plain_number_at, blocks_at}
-use Rattle.cluster_script.proofs.Follows.{name_of_test}
+use Rattle.cluster_script.proofs.PrintedNames.{name_of_test}
 
 -- what has a value where reading went on behind it
 pub read-on : {A B P : Type 0} (r : Result A LineCause) (f : A → Result B LineCause) (y : B) → (r >>= f) ≡ Ok y

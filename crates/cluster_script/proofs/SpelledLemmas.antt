@@ -19,8 +19,7 @@ use Rattle.cluster_script.specs.Statements.{is_session_declared, is_request, rea
 use Rattle.cluster_script.specs.Settings.{nodes_set, vnodes_set, tries_set, limit_set}
 use Rattle.cluster_script.specs.Nodes.{IsNodeThere}
 use Rattle.object_id.specs.Span.{IsSpan}
-use Rattle.cluster_script.specs.OneDisk.{IsPrintedName}
-use Rattle.cluster_script.specs.Language.{MaySet, HasCluster, MayAsk, IsPrintedTag, IsByte, MayStand, IsScript}
+use Rattle.cluster_script.specs.Language.{MaySet, HasCluster, MayAsk, IsPrintedName, IsPrintedTag, IsByte, MayStand, IsScript}
 use Rattle.cluster_script.specs.Words.{Word, keyword_at, is_next_word, option_at, is_name_byte, is_printed_name, name_word_at}
 use Rattle.cluster_script.specs.Numbers.{is_digits, digits_value, scaled_number, number_in_range, aligned_number, plain_number_at, blocks_at}
 use Rattle.cluster_script.specs.Requests.{request_within_limits, policy_option_at, shift_option_at, tag_at, create_request_at, disk_words_at, open_request_at, close_request_at, check_request_at, span_at, read_request_at, pattern_byte_at, named_pattern_at, pattern_at, write_request_at, snapshot_request_at, clone_request_at, delete_request_at, copy_verb_at, verb_at, vdi_request_at}
@@ -46,13 +45,13 @@ number-digits word number is = go (is_digits word) is
     go false read = absurd cc
 
 -- a number is no keyword
-pub number-no-keyword : (word keyword : Word) (number : ℕ) → IsNumber number word → is_digits keyword ≡ false → bytes_eq word keyword ≡ false
+number-no-keyword : (word keyword : Word) (number : ℕ) → IsNumber number word → is_digits keyword ≡ false → bytes_eq word keyword ≡ false
 number-no-keyword word keyword number is other =
     other-bytes word keyword
     (λ same. both_ways (is_digits keyword) other (subst (λ (w : Word). is_digits w ≡ true) same (number-digits word number is)))
 
 -- a name is no option, which begins with `-` (45)
-pub name-no-option : (name option : Word) → IsPrintedName name → slice_get option 0 ≡ Some 45 → bytes_eq name option ≡ false
+name-no-option : (name option : Word) → IsPrintedName name → slice_get option 0 ≡ Some 45 → bytes_eq name option ≡ false
 name-no-option name option named dash =
     other-bytes name option (λ same. named.no_option (ap (λ (w : Word). slice_get w 0) same ∙ dash))
 
@@ -81,18 +80,18 @@ name_word_at-spelled : (name : Word) (rest : List Word) → IsPrintedName name �
 unfolding name_word_at
 name_word_at-spelled name rest named = rw (name-passes name named) refl
 
-pub number_in_range-request_within_limits : (low high number : ℕ) → low ≤ number → number ≤ high → number_in_range low high number ≡ Ok number
+number_in_range-request_within_limits : (low high number : ℕ) → low ≤ number → number ≤ high → number_in_range low high number ≡ Ok number
 number_in_range-request_within_limits low high number above below = rw (le-leb low number above, le-leb number high below) refl
 
 aligned_number-whole : (number : ℕ) → number % BLOCK_BYTES ≡ 0 → aligned_number number ≡ Ok number
 aligned_number-whole number whole = rw (eq-eqb (number % BLOCK_BYTES) 0 whole) refl
 
-pub plain_number_at-spelled : (low high number : ℕ) (word : Word) (rest : List Word) → IsNumber number word → low ≤ number → number ≤ high
+plain_number_at-spelled : (low high number : ℕ) (word : Word) (rest : List Word) → IsNumber number word → low ≤ number → number ≤ high
     → plain_number_at low high (word ∷ rest) ≡ Ok (number, rest)
 unfolding plain_number_at
 plain_number_at-spelled low high number word rest is above below = rw (is, number_in_range-request_within_limits low high number above below) refl
 
-pub blocks_at-spelled : (low high number : ℕ) (word : Word) (rest : List Word) → IsSize number word → low ≤ number → number ≤ high
+blocks_at-spelled : (low high number : ℕ) (word : Word) (rest : List Word) → IsSize number word → low ≤ number → number ≤ high
     → number % BLOCK_BYTES ≡ 0 → blocks_at low high (word ∷ rest) ≡ Ok (number, rest)
 unfolding blocks_at
 blocks_at-spelled low high number word rest is above below whole =

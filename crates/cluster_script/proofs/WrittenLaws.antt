@@ -8,8 +8,7 @@ use Rattle.cluster_script.specs.declared.statement.Pattern.TheVariants as patter
 use Rattle.cluster_script.specs.declared.statement.Statement.{Statement}
 use Rattle.cluster_script.specs.declared.statement.Statement.TheVariants.{Cluster, Vnodes, Tries, Limit, Session, Create, OpenDisk, Close, Read, Write, Snapshot, Clone, Delete, Fail, Join, Lose, Zone, Reweight, Back, Check}
 use Rattle.object_id.specs.Span.{IsSpan}
-use Rattle.cluster_script.specs.OneDisk.{IsPrintedName}
-use Rattle.cluster_script.specs.Language.{MayAsk, IsPrintedTag, MayStand, EachMayStand, IsScript}
+use Rattle.cluster_script.specs.Language.{MayAsk, IsPrintedName, IsPrintedTag, MayStand, EachMayStand, IsScript}
 use Rattle.cluster_script.specs.Words.{Word, lines_of}
 use Rattle.cluster_script.specs.Script.{script_in}
 use Rattle.cluster_script.specs.Spelling.{IsNumber, IsOneNumber, IsTwoNumbers, IsRequestWords, IsAskedOfDisk, IsPatternWords, IsSpelled, IsLine, AreLines, statements_said}

@@ -1,5 +1,5 @@
 -- The index of a script: what a cluster looks up in it, so that no look-up goes through the statements.
-use Rattle.std.specs.Prelude.{ℕ, zero, suc, ◌+◌, List, [], ◌∷◌, map, length, Option, None, unwrap_or, if◌then◌else◌}
+use Rattle.std.specs.Prelude.{ℕ, zero, suc, List, [], map, length, Option, None, unwrap_or}
 use Rattle.std.specs.List.{slice_get, range_with_len}
 use Rattle.std.specs.Option.{option_map, option_and_then}
 use Rattle.object_id.specs.declared.limits.TheConstants.{NODES_MAX, SESSIONS_MAX}
@@ -7,7 +7,6 @@ use Rattle.cluster_script.specs.declared.statement.Statement.{Statement}
 use Rattle.cluster_script.specs.declared.index.RequestOfScript.{RequestOfScript}
 use Rattle.cluster_script.specs.declared.index.SessionOfScript.{SessionOfScript}
 use Rattle.cluster_script.specs.declared.index.PhaseOfScript.{PhaseOfScript}
-use Rattle.cluster_script.specs.Statements.{is_request}
 use Rattle.cluster_script.specs.Settings.{nodes_of, vnodes_of, tries_of, limit_of, zone_of}
 use Rattle.cluster_script.specs.NumberedRequests.{session_of, numbered_requests, numbers_of_session}
 use Rattle.cluster_script.specs.Phases.{Phase, phases_of, phase_of_request}
@@ -99,13 +98,3 @@ request_seen request = record { statement = request.statement.now; session = req
 -- a session as a reader gives it
 abbrev pub session_seen : SessionOfScript → ScriptSession
 session_seen session = record { number = session.number; node = session.node; incarnation = session.incarnation }
-
--- the places at which the requests stand among the statements, of which the first has this place
-abbrev pub request_places : ℕ → List Statement → List ℕ
-request_places place [] = []
-request_places place (s ∷ rest) = if is_request s then place ∷ request_places (place + 1) rest else request_places (place + 1) rest
-
--- the place of a request by its number
-abbrev pub place_numbered : List ℕ → ℕ → Option ℕ
-place_numbered places zero = None
-place_numbered places (suc place) = slice_get places place

@@ -1,5 +1,6 @@
--- Which lists of statements are scripts of the whole language.
-use Rattle.std.specs.Prelude.{◌≡◌, ℕ, ◌+◌, ◌^◌, ◌<◌, ◌≤◌, true, false, List, [], ◌∷◌, ◌++◌, Option, Some, None, count_by, sum_by}
+-- Which lists of statements are scripts.
+use Rattle.std.specs.Prelude.{◌≡◌, ◌≢◌, ℕ, ◌+◌, ◌^◌, ◌<◌, ◌≤◌, true, false, List, [], ◌∷◌, ◌++◌, length, All, Option, Some, None, count_by, sum_by}
+use Rattle.std.specs.Prelude.{slice_get}
 use Rattle.std.specs.List.{list_all}
 use Rattle.object_id.specs.Node.{IsNode, IsZone}
 use Rattle.object_id.specs.Spec.{IsSpec}
@@ -10,12 +11,11 @@ use Rattle.cluster_script.specs.declared.statement.Statement.TheVariants.{Cluste
 use Rattle.cluster_script.specs.declared.statement.Statement.TheVariants.{Read, Write, Snapshot, Clone, Delete, Fail, Join, Lose, Settle}
 use Rattle.cluster_script.specs.declared.statement.Statement.TheVariants.{ListNodes, ListVdis, ClusterInfo, Dump, Zone, Reweight, Back}
 use Rattle.cluster_script.specs.declared.statement.Statement.TheVariants.{Check}
-use Rattle.object_id.specs.declared.limits.TheConstants.{NODES_MAX, VNODES_MAX, TRIES_MAX, LIMIT_MAX, SESSIONS_MAX, LOSSES_MAX}
+use Rattle.object_id.specs.declared.limits.TheConstants.{NAME_BYTES_MAX, NODES_MAX, VNODES_MAX, TRIES_MAX, LIMIT_MAX, SESSIONS_MAX, LOSSES_MAX}
 use Rattle.object_id.specs.declared.limits.TheConstants.{REQUESTS_MAX, READ_BYTES_MAX, WRITE_BYTES_MAX}
 use Rattle.object_id.specs.declared.limits.TheConstants.{CHECKS_MAX}
 use Rattle.cluster_script.specs.Statements.{is_setting, is_cluster, is_session_declared, is_check, is_request, read_bytes, write_bytes, has}
 use Rattle.object_id.specs.Span.{IsSpan}
-use Rattle.cluster_script.specs.OneDisk.{IsPrintedName}
 use Rattle.cluster_script.specs.Settings.{is_set, nodes_set, vnodes_set, tries_set, limit_set, zone_set}
 use Rattle.cluster_script.specs.Phases.{losses_from}
 use Rattle.cluster_script.specs.Nodes.{is_node_used, is_failed, IsNodeThere}
@@ -33,6 +33,13 @@ HasCluster before = has is_cluster before ≡ true
 pub record MayAsk (before : List Statement) (session : ℕ) : Type 0 where
   pub declared : is_session_declared session before ≡ true
   pub room : count_by is_request before < REQUESTS_MAX
+
+-- 1 to 255 printed bytes without a blank, of which the first isn't `-` (45)
+pub record IsPrintedName (name : List ℕ) : Type 0 where
+  pub some : 1 ≤ length name
+  pub short : length name ≤ NAME_BYTES_MAX
+  pub printed : All (λ byte. (33 ≤ byte) × (byte ≤ 126)) name
+  pub no_option : slice_get name 0 ≢ Some 45
 
 -- a tag, where one is given, is printed like a name
 abbrev pub IsPrintedTag : Option (List ℕ) → Type 0

@@ -5,7 +5,6 @@ pub mod Phases
 pub mod Sessions
 pub mod Index
 pub mod Nodes
-pub mod OneDisk
 pub mod Language
 pub mod ReadResults
 pub mod Words
@@ -15,11 +14,7 @@ pub mod ClusterLines
 pub mod Script
 pub mod Spelling
 pub mod Writing
-pub mod OneDiskRequests
-pub mod OneDiskLines
-pub mod OneDiskTotals
 pub mod Totals
 pub mod Marks
 pub mod KeptIndex
-pub mod OneDiskIndex
 pub mod Causes

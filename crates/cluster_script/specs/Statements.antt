@@ -1,7 +1,6 @@
--- Words over lists of statements: what kinds there are among them, and what they make, read and write.
-use Rattle.std.specs.Prelude.{ℕ, ◌==◌, Bool, true, false, List, [], ◌∷◌, Option, Some, None, filter}
+-- Words over lists of statements: what kinds there are among them, and what they read and write.
+use Rattle.std.specs.Prelude.{ℕ, ◌==◌, Bool, true, false, List, filter}
 use Rattle.std.specs.List.{list_any}
-use Rattle.std.specs.Option.{option_or}
 use Rattle.cluster_script.specs.declared.statement.Statement.{Statement}
 use Rattle.cluster_script.specs.declared.statement.Statement.TheVariants.{Cluster, Vnodes, Tries, Limit, Session, Create, OpenDisk, Close}
 use Rattle.cluster_script.specs.declared.statement.Statement.TheVariants.{Read, Write, Snapshot, Clone, Delete, Fail, Join, Lose, Settle}
@@ -26,21 +25,6 @@ is_setting s = false
 abbrev pub declares : ℕ → Statement → Bool
 declares number (Session session node) = session == number
 declares number s = false
-
--- a statement makes a disk
-abbrev pub is_create : Statement → Bool
-is_create (Create session policy shift name size) = true
-is_create s = false
-
--- a statement opens a disk
-abbrev pub is_open : Statement → Bool
-is_open (OpenDisk session name tag) = true
-is_open s = false
-
--- a statement closes the disk that its session has open
-abbrev pub is_close : Statement → Bool
-is_close (Close session) = true
-is_close s = false
 
 -- a statement checks the disk that its session has open
 abbrev pub is_check : Statement → Bool
@@ -85,16 +69,6 @@ abbrev pub write_bytes : Statement → ℕ
 write_bytes (Write session offset length pattern) = length
 write_bytes s = 0
 
--- the name of the disk that a statement makes
-abbrev pub name_made : Statement → Option (List ℕ)
-name_made (Create session policy shift name size) = Some name
-name_made s = None
-
--- the size in bytes of the disk that a statement makes
-abbrev pub size_made : Statement → Option ℕ
-size_made (Create session policy shift name size) = Some size
-size_made s = None
-
 -- whether a statement of a kind is among them
 abbrev pub has : (Statement → Bool) → List Statement → Bool
 has kind statements = list_any kind statements
@@ -106,13 +80,3 @@ is_session_declared number statements = list_any (declares number) statements
 -- the requests among them, in order
 abbrev pub requests_of : List Statement → List Statement
 requests_of statements = filter is_request statements
-
--- the name of the first disk that they make
-abbrev pub disk_name : List Statement → Option (List ℕ)
-disk_name [] = None
-disk_name (s ∷ rest) = option_or (name_made s) (disk_name rest)
-
--- the size of the first disk that they make
-abbrev pub disk_size : List Statement → Option ℕ
-disk_size [] = None
-disk_size (s ∷ rest) = option_or (size_made s) (disk_size rest)

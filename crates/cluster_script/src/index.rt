@@ -1,14 +1,10 @@
-ghost use Rattle.std.specs.Prelude.{◌≡◌, ◌≤◌, ◌++◌, ◌∷◌, [], length, IfOk, OnOk, unwrap_or, if◌then◌else◌};
+ghost use Rattle.std.specs.Prelude.{◌≡◌, unwrap_or};
 ghost use Rattle.cluster_script.specs.Statements.{is_request};
 ghost use Rattle.cluster_script.specs.Settings.{nodes_set, vnodes_set, tries_set, limit_set, nodes_of, vnodes_of, tries_of, limit_of};
 ghost use Rattle.cluster_script.specs.NumberedRequests.{session_of};
-ghost use Rattle.cluster_script.specs.Index.{request_places};
 
 use crate::statement::Statement;
-use object_id::{
-    INPUT_BYTES_MAX, Items, LIMIT_DEFAULT, NODES_DEFAULT, NoMemory, TRIES_DEFAULT, VNODES_DEFAULT,
-};
-use std::alloc::Global;
+use object_id::{LIMIT_DEFAULT, NODES_DEFAULT, TRIES_DEFAULT, VNODES_DEFAULT};
 
 /// A request of a script: its statement, the session that asks, and the place of its phase, from 0.
 #[derive(Clone, Copy, Debug)]
@@ -32,30 +28,6 @@ pub struct PhaseOfScript {
     pub controls: u32,
     pub losses: u32,
     pub requests: u32,
-}
-
-/// The places of the requests among statements, in order.
-pub fn request_places(alloc: Global, statements: &[Statement]) -> Result<Items<u32>, NoMemory>
-    requires { length statements.now ≤ INPUT_BYTES_MAX }
-    ensures { IfOk result (λ places. places ≡ request_places 0 statements.now) }
-{
-    let mut places = Items::new(alloc);
-    let mut place = 0;
-    for s in statements {
-        add_place(&mut places, place, s)?;
-        place += 1;
-    }
-    Ok(places)
-}
-
-/// Adds the place of a statement, if it is a request.
-fn add_place(places: &mut Items<u32>, place: u32, s: &Statement) -> Result<(), NoMemory>
-    ensures { OnOk result (places.new ≡ places.old ++ (if is_request s.now then place ∷ [] else [])) }
-{
-    if is_request(s) {
-        places.push(place)?;
-    }
-    Ok(())
 }
 
 /// Whether a statement is what a session asks for.

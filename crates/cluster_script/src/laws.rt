@@ -6,13 +6,11 @@ ghost use Rattle.cluster_script.specs.declared.statement.Pattern.{Pattern};
 ghost use Rattle.cluster_script.specs.declared.statement.Statement.{Statement as Line};
 ghost use Rattle.cluster_script.specs.declared.statement.Statement.TheVariants as lines;
 ghost use Rattle.cluster_script.specs.Statements.{is_request, requests_of, is_session_declared};
-ghost use Rattle.cluster_script.specs.OneDisk.{IsOneDiskScript};
 ghost use Rattle.cluster_script.specs.Nodes.{is_node_used};
 ghost use Rattle.cluster_script.specs.Language.{MayStand, IsScript};
 ghost use Rattle.cluster_script.specs.declared.fault.LineCause.{LineCause};
 ghost use Rattle.cluster_script.specs.Words.{Word};
 ghost use Rattle.cluster_script.specs.Script.{statement_at, script_in};
-ghost use Rattle.cluster_script.specs.OneDiskLines as one_disk;
 ghost use Rattle.cluster_script.specs.Spelling.{IsSpelled, IsScriptText, IsBadLine};
 ghost use Rattle.cluster_script.specs.Writing.{text_for};
 ghost use Rattle.cluster_script.specs.NumberedRequests.{session_of, payload_of, request_at, numbers_of_session};
@@ -52,11 +50,6 @@ pub fn the_index_is_of_the_statements()
         → slice_get (script_index statements).zones node ≡ Some (zone_of statements node) }
 {}
 
-/// A script of one disk is a script of the whole language.
-pub fn one_disk_scripts_are_scripts()
-    ensures { (statements : List Line) → IsOneDiskScript statements → IsScript statements }
-{}
-
 /// In a script each statement may stand after those before it: so the number of a join is new, and no session is declared twice.
 pub fn each_statement_stands()
     ensures stands { (before rest : List Line) (s : Line) → IsScript (before ++ s ∷ rest) → MayStand before s }
@@ -83,9 +76,4 @@ pub fn a_text_reads_as_its_script()
 /// Each script has a text, which is read as it.
 pub fn every_script_can_be_written()
     ensures { (statements : List Line) → IsScript statements → script_in (text_for statements) ≡ Ok statements }
-{}
-
-/// What is taken today as a script of one disk is read so in the whole language.
-pub fn one_disk_texts_read_the_same()
-    ensures { (text : List ℕ) (statements : List Line) → one_disk.one_disk_script_in text ≡ Ok statements → script_in text ≡ Ok statements }
 {}

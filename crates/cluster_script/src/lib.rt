@@ -12,10 +12,7 @@
 //! What a cluster takes from a script is defined over its statements: its settings and opening members, its requests by
 //! number and by session, its phases, and its sessions with the incarnations of their gateways. These are the index of a
 //! script. A [`Script`] looks them up without memory, by what was noted once, and no look-up goes through the statements.
-//!
-//! [`parse_one_disk`] takes a part of the language: scripts of one node, one session, and one disk with one copy. A
-//! definition apart from the grammar says which lists of statements these are, and a [`OneDiskScript`] keeps it. What is
-//! taken there is read the same in the whole language. Of the workspace the crate stands on `object_id` alone.
+//! Of the workspace the crate stands on `object_id` alone.
 #![tactic(auto)]
 
 mod disk_request;
@@ -24,15 +21,9 @@ mod fault;
 mod happening;
 mod index;
 mod laws;
-mod limits;
 mod line;
 mod marks;
 mod number;
-mod one_disk_draft;
-mod one_disk_index;
-mod one_disk_line;
-mod one_disk_request;
-mod one_disk_script;
 mod phase_entry;
 mod piece;
 mod policy;
@@ -52,9 +43,7 @@ pub use index::{PhaseOfScript, RequestOfScript, SessionOfScript};
 pub use laws::{
     a_line_reads_as_it_is_spelled, a_text_reads_as_its_script, each_request_is_of_a_phase,
     each_session_is_declared, each_statement_stands, every_script_can_be_written,
-    one_disk_scripts_are_scripts, one_disk_texts_read_the_same, the_index_is_of_the_statements,
-    what_is_asked,
+    the_index_is_of_the_statements, what_is_asked,
 };
-pub use one_disk_script::{OneDiskScript, parse_one_disk};
 pub use script::{Script, parse};
 pub use statement::{Pattern, Statement};

@@ -44,7 +44,7 @@ fn statement_in(alloc: Global, before: &Draft, line: &[u8]) -> Result<Option<Sta
     Ok(Some(s))
 }
 
-pub fn is_text(line: &[u8]) -> bool
+fn is_text(line: &[u8]) -> bool
     ensures { result ≡ is_utf8 line.now }
 {
     from_utf8(line).is_ok()

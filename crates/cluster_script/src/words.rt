@@ -1,6 +1,5 @@
-ghost use Rattle.std.specs.Prelude.{◌≡◌, ◌<◌, ◌==◌, ◌∷◌, [], length, nat_eq, bytes_eq, codes, position, IsTrue, IfOk, MatchOption};
+ghost use Rattle.std.specs.Prelude.{◌≡◌, ◌<◌, ◌==◌, ◌∷◌, [], length, nat_eq, bytes_eq, codes, position, MatchOption};
 ghost use Rattle.std.specs.List.{before_first, after_first, list_all};
-ghost use Rattle.cluster_script.specs.OneDisk.{IsPrintedName};
 ghost use Rattle.cluster_script.specs.ReadResults.{GivesLine};
 ghost use Rattle.cluster_script.specs.Words.{words_of, says_nothing, word_at, keyword_at, is_next_word, end_of_words, is_name_byte, is_printed_name};
 ghost use Rattle.cluster_script.specs.Words.{name_word_at};
@@ -103,10 +102,8 @@ pub fn end(line: &[u8]) -> Result<(), LineCause>
 }
 
 /// Whether a word may be a disk's name: printed bytes without a blank, not like an option.
-#[tactic(auto, using(crate::proofs::Follows::name_of_test))]
-pub fn may_be_name(word: &[u8]) -> bool
-    ensures name { result ≡ is_printed_name word.now }
-    ensures is_name { IsTrue result → IsPrintedName word.now }
+fn may_be_name(word: &[u8]) -> bool
+    ensures { result ≡ is_printed_name word.now }
 {
     if word.is_empty() || word.len() > NAME_BYTES_MAX || !is_printed(word) {
         return false;
@@ -123,8 +120,7 @@ fn is_printed(word: &[u8]) -> bool
 /// A disk's name, and what follows it.
 #[tactic(auto, unfolding(crate::specs::Words::name_word_at))]
 pub fn name(line: &[u8]) -> Result<(&[u8], &[u8]), LineCause>
-    ensures name { GivesLine (λ x. (x.0.now, words_of x.1.now)) result (name_word_at (words_of line.now)) }
-    ensures is_name { IfOk result (λ x. IsPrintedName x.0.now) }
+    ensures { GivesLine (λ x. (x.0.now, words_of x.1.now)) result (name_word_at (words_of line.now)) }
 {
     let (found, rest) = word(line)?;
     if may_be_name(found) {

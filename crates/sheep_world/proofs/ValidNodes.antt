@@ -10,11 +10,10 @@ use Rattle.epoch_log.specs.Appending.{IsReservable, AreAppended, IsLog}
 use Rattle.epoch_log.proofs.MembersLemmas.{IsLog-prefix}
 use Rattle.cluster_script.specs.declared.statement.Statement.{Statement}
 use Rattle.cluster_script.specs.declared.statement.Statement.TheVariants as lines
-use Rattle.cluster_script.specs.OneDisk.{IsPrintedName}
 use Rattle.cluster_script.specs.Statements.{is_request, requests_of}
 use Rattle.cluster_script.specs.NumberedRequests.{request_at}
 use Rattle.cluster_script.specs.Settings.{tries_of}
-use Rattle.cluster_script.specs.Language.{IsPrintedTag, MayStand, EachMayStand, IsScript}
+use Rattle.cluster_script.specs.Language.{IsPrintedName, IsPrintedTag, MayStand, EachMayStand, IsScript}
 use Rattle.sheep_node.specs.declared.ask.Ask.{Ask}
 use Rattle.sheep_node.specs.declared.input.Input.TheVariants as inputs
 use Rattle.sheep_node.specs.State as nodes
