@@ -44,6 +44,7 @@ pub mod NodesByTheLog
 pub mod RangeBySteps
 pub mod RangeAtEvents
 pub mod TogetherInRuns
+pub mod HostSummaryLemmas
 pub mod EnabledParts
 pub mod EnabledPlaces
 pub mod SessionEvents

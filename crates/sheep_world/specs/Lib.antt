@@ -1,6 +1,7 @@
 pub mod World
 pub mod Opening
 pub mod Conditions
+pub mod HostSummaries
 pub mod Asking
 pub mod ClientAsks
 pub mod NodeSteps

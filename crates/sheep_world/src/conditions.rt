@@ -1,22 +1,20 @@
 //! When each event may happen.
 
 ghost use Rattle.std.specs.Prelude.{◌≡◌};
-ghost use Rattle.sheep_node.specs.MayTests.{meets};
-ghost use Rattle.sheep_world.specs.World.{is_up, is_up_with, is_lost, has_lost_end, are_ends_up};
-ghost use Rattle.sheep_world.specs.Conditions.{serves, has_gateway, may_ask, may_guest, may_deliver, may_go, may_lose_request};
+ghost use Rattle.sheep_world.specs.World.{is_up, is_lost, has_lost_end, are_ends_up};
+ghost use Rattle.sheep_world.specs.Conditions.{has_gateway, may_ask, may_guest, may_deliver, may_go, may_lose_request};
 ghost use Rattle.sheep_world.specs.Conditions.{may_lose_reply, may_log_next, may_put, may_recover, may_retry, may_lose_node, may_leave};
 ghost use Rattle.sheep_world.specs.Conditions.{may_join, may_reweight, may_come_back, may_end_phase};
 ghost use Rattle.sheep_world.specs.Enabled.{is_enabled};
 ghost use Rattle.cluster_script.specs.Index.{session_seen};
 
 use crate::control::Control;
-use crate::host::Host;
 use crate::request_conditions::{may_begin_request, next_request};
 use crate::world_state::WorldState;
 use cluster_script::{Script, SessionOfScript};
 use message_wire::{MessageName, Packet};
 use object_id::NodeId;
-use sheep_node::{Event, Input};
+use sheep_node::Event;
 
 /// The name of a message.
 pub(crate) fn name_of(sender: NodeId, number: u32) -> MessageName
@@ -25,34 +23,19 @@ pub(crate) fn name_of(sender: NodeId, number: u32) -> MessageName
     MessageName { sender, number }
 }
 
-impl Host {
-    /// Whether the node is up in the incarnation that a session belongs to, and a member by what it has read.
-    fn serves(&self, session: SessionOfScript) -> bool
-        ensures { result ≡ serves (session_seen session) self.now }
-    {
-        self.is_up() && self.incarnation() == session.incarnation && self.node().is_member()
-    }
-}
-
 impl WorldState {
     /// Whether a node is up.
     pub fn is_up(&self, node: u32) -> bool
         ensures { result ≡ is_up node self.now }
     {
-        match self.hosts.get(node) {
-            Some(host) => host.is_up(),
-            None => false,
-        }
+        self.hosts.summary(node).is_up
     }
 
     /// Whether a node is lost.
     pub fn is_lost(&self, node: u32) -> bool
         ensures { result ≡ is_lost node self.now }
     {
-        match self.hosts.get(node) {
-            Some(host) => host.is_lost(),
-            None => false,
-        }
+        self.hosts.summary(node).is_lost
     }
 
     /// Whether both ends of a message are up.
@@ -73,10 +56,7 @@ impl WorldState {
     fn has_gateway(&self, session: SessionOfScript) -> bool
         ensures { result ≡ has_gateway (session_seen session) self.now }
     {
-        match self.hosts.get(session.node) {
-            Some(host) => host.serves(session),
-            None => false,
-        }
+        self.hosts.summary(session.node).serves(session)
     }
 
     /// Whether a session's next request may begin.
@@ -140,38 +120,25 @@ impl WorldState {
     fn may_log_next(&self, node: u32) -> bool
         ensures { result ≡ may_log_next node self.now }
     {
-        match self.hosts.get(node) {
-            Some(host) => host.is_up() && host.node().read_len() < self.log.len(),
-            None => false,
-        }
+        self.hosts.summary(node).is_behind(self.log.len())
     }
 
     fn may_put(&self, node: u32) -> bool
         ensures { result ≡ may_put node self.now }
     {
-        self.is_up_for(node, &Input::Put)
+        self.hosts.summary(node).may_put
     }
 
     fn may_recover(&self, node: u32) -> bool
         ensures { result ≡ may_recover node self.now }
     {
-        self.is_up_for(node, &Input::RecoverTick)
+        self.hosts.summary(node).may_recover
     }
 
     fn may_retry(&self, node: u32) -> bool
         ensures { result ≡ may_retry node self.now }
     {
-        self.is_up_for(node, &Input::RetryTick)
-    }
-
-    /// Whether a node is up, and an input meets its condition there.
-    fn is_up_for(&self, node: u32, input: &Input) -> bool
-        ensures { result ≡ is_up_with (meets input.now) node self.now }
-    {
-        match self.hosts.get(node) {
-            Some(host) => host.is_up() && host.node().may(input),
-            None => false,
-        }
+        self.hosts.summary(node).may_retry
     }
 
     fn may_lose_node(&self, node: u32) -> bool
@@ -215,8 +182,8 @@ impl WorldState {
         self.phase < script.phase_count()
     }
 
-    /// Whether an event may happen. Takes no memory. Costs look-ups, but for Back, which passes over the wire, and for events of a node
-    /// whose gateway is asked for a work to try again.
+    /// Whether an event may happen. Takes no memory. Costs look-ups and a look at the log's members, but for Back, which passes over the
+    /// wire. Looks into no node.
     #[tactic(auto, unfolding(crate::specs::Enabled::is_enabled))]
     pub fn is_enabled(&self, script: &Script, event: Event) -> bool
         ensures { result ≡ is_enabled script.now self.now event }

@@ -1,6 +1,7 @@
 //! The host of a node.
 
-ghost use Rattle.std.specs.Prelude.{◌≡◌, false, IfOk};
+ghost use Rattle.std.specs.Prelude.{◌≡◌, false, ◌&&◌, IfOk};
+ghost use Rattle.sheep_node.specs.MayTests.{meets};
 ghost use Rattle.sheep_node.specs.Step.{node_step};
 ghost use Rattle.sheep_world.specs.World.{is_host_up};
 ghost use Rattle.sheep_world.specs.Opening.{initial_host};
@@ -94,6 +95,13 @@ impl Host {
         ensures { result ≡ is_host_up self.now }
     {
         !self.is_lost && self.node.has_numbers()
+    }
+
+    /// Whether the node is up, and an input meets its condition there.
+    pub fn may(&self, input: &Input) -> bool
+        ensures { result ≡ (is_host_up self.now && meets input.now self.now.node) }
+    {
+        self.is_up() && self.node().may(input)
     }
 
     /// The node is lost.

@@ -13,7 +13,8 @@
 //! (`specs/Incarnations.antt`).
 //!
 //! The code is in parts, each exactly the definition of its name, or out of memory: what a world keeps (`world_state.rt`, with `host.rt`
-//! and `hosts.rt`, `cluster_log.rt`, `guests.rt`, `control.rt`), how it opens (`opening.rt`), what is looked up in a script
+//! and `hosts.rt` over `host_table.rt` and `host_summary.rt`, `cluster_log.rt`, `guests.rt`, `control.rt`), how it opens (`opening.rt`),
+//! what is looked up in a script
 //! (`script_requests.rt`), when each event may happen (`conditions.rt`, with `request_conditions.rt`) and the list of these
 //! (`enabled_list.rt`), and what each makes (`made_worlds.rt`, over `node_steps.rt`, `guest_event.rt`, `message_events.rt` with
 //! `delivery.rt`, `log_events.rt`, `membership_events.rt`) and adds to the history (`granted.rt`, `history_blocks.rt`, `reply_history.rt`,
@@ -41,6 +42,8 @@ mod guest_event;
 mod guests;
 mod history_blocks;
 mod host;
+mod host_summary;
+mod host_table;
 mod hosts;
 mod laws;
 mod log_events;

@@ -68,7 +68,7 @@ fn opening_hosts(alloc: Global, script: &Script, format: &Entry) -> Result<Hosts
     ensures { IfOk result (λ hosts. hosts ≡ tree.from_entries (map (initial_member_host script.now) (opening_members script.now))) }
 {
     let count = opening_count(script);
-    let mut hosts = Hosts::new(alloc);
+    let mut hosts = Hosts::new(alloc)?;
     // The last member first: each is put before those that are there.
     for placed in 0..count {
         let node = count - 1 - placed;
