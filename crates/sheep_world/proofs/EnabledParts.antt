@@ -54,7 +54,7 @@ joined-with_first found ((next ∷ same) ∷ later) = by_sender (found.0.sender.
     by_sender true = refl
     by_sender false = refl
 
-joined-by_sender : (messages : List (MessageName × Packet)) → joined (messages_by_sender messages) ≡ messages
+pub joined-by_sender : (messages : List (MessageName × Packet)) → joined (messages_by_sender messages) ≡ messages
 joined-by_sender [] = refl
 joined-by_sender (found ∷ later) = joined-with_first found (messages_by_sender later) ∙ ap (λ (rest : List (MessageName × Packet)). found ∷ rest) (joined-by_sender later)
 

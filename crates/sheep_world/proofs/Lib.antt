@@ -47,6 +47,7 @@ pub mod TogetherInRuns
 pub mod HostSummaryLemmas
 pub mod EnabledParts
 pub mod EnabledPlaces
+pub mod SenderEvents
 pub mod SessionEvents
 pub mod EventEffects
 mod ClientLaws

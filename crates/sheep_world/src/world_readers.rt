@@ -215,6 +215,8 @@ impl World {
     }
 
     /// How many events may happen, but for Phase. A count that doesn't fit is told as want of memory: so many messages aren't in a wire.
+    /// Takes no memory. Costs a few steps for each session, each sender with messages and each node, and the messages of a sender where an
+    /// end of one isn't up; no look into a node.
     pub fn enabled_count(&self, script: &Script) -> Result<usize, NoMemory>
         requires { self.now.spent ≡ false }
         ensures ok { IfOk result (λ count. count ≡ enabled_count script.now self.now.world) }
@@ -225,7 +227,8 @@ impl World {
 }
 
 /// The event at a place, from 0, among those that may happen, in their order: the sessions' requests, the deliveries and losses by
-/// message, what each node may do, the next control; none past the last. Phase isn't among them. Takes no memory.
+/// message, what each node may do, the next control; none past the last. Phase isn't among them. Takes no memory. Costs what
+/// [`World::enabled_count`] costs.
 pub fn enabled(script: &Script, world: &World, place: usize) -> Option<Event>
     requires { world.now.spent ≡ false }
     ensures { result ≡ enabled_at script.now world.now.world place }
