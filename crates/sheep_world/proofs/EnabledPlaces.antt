@@ -1,5 +1,5 @@
 -- Going over events to a place, part by part: what goes on behind some is what goes over the next.
-use Rattle.std.proofs.Common.{◌≡◌, arith, ℕ, zero, suc, ◌+◌, ◌-◌, ◌<◌, ◌≤◌, Bool, true, false, cond, List, [], ◌∷◌, ◌++◌, length, map}
+use Rattle.std.proofs.Common.{◌≡◌, arith, ℕ, zero, suc, ◌+◌, ◌-◌, ◌<◌, ◌≤◌, Bool, true, false, ◌&&◌, ◌||◌, cond, List, [], ◌∷◌, ◌++◌, length, map}
 use Rattle.std.proofs.Common.{flat_map, filter, drop, Option, Some, None, refl, sym, ap, ◌∙◌, append_assoc, get_or}
 use Rattle.std.specs.Prelude.{unwrap_or}
 use Rattle.std.specs.List.{slice_get}
@@ -8,15 +8,19 @@ use Rattle.std.specs.FinMap as tree
 use Rattle.std.specs.declared.ops.ControlFlow.{ControlFlow}
 use Rattle.std.specs.declared.ops.ControlFlow.TheVariants.{Continue, Break}
 use Rattle.std.specs.ControlFlow.{break_value, continue_value}
+use Rattle.std.proofs.lemmas.Bool.{or_parts}
 use Rattle.std.proofs.lemmas.List.Elements.{filter-append}
 use Rattle.std.proofs.lemmas.Option.{same_Some}
 use Rattle.std.proofs.Math.Seq.{drop-cons}
 use Rattle.cluster_script.specs.declared.statement.Statement.{Statement}
+use Rattle.object_id.specs.declared.node_id.NodeId.{NodeId}
 use Rattle.sheep_node.specs.declared.event.Event.{Event}
+use Rattle.sheep_node.specs.declared.event.Event.TheVariants as events
 use Rattle.message_wire.specs.declared.name.MessageName.{MessageName}
 use Rattle.message_wire.specs.declared.packet.Packet.{Packet}
 use Rattle.message_wire.specs.Message.{messages_by_sender}
-use Rattle.sheep_world.specs.World.{World, next_control}
+use Rattle.sheep_world.specs.World.{World, is_lost, is_newest_member, next_control}
+use Rattle.sheep_world.specs.Conditions.{may_log_next, may_put, may_recover, may_retry}
 use Rattle.sheep_world.specs.Enabled.{is_enabled, guest_events, message_events, node_events, control_event, looked_at, enabled_events}
 use Rattle.sheep_world.specs.EnabledPlaces.{place_behind, place_behind_enabled, messages_of_sender}
 use Rattle.sheep_world.proofs.EnabledParts.{joined-map, messages-joined}
@@ -176,3 +180,33 @@ left-none [] zero past = refl
 left-none [] (suc i) past = refl
 left-none (x ∷ xs) zero past = absurd (omega (arith, past))
 left-none (x ∷ xs) (suc i) past = left-none xs i (omega (arith, past))
+
+-- ---- a node that may do nothing has no place
+
+off : (test : Event → Bool) (event : Event) (rest : List Event) → test event ≡ false → filter test (event ∷ rest) ≡ filter test rest
+off test event rest no = ap (λ (b : Bool). cond b (event ∷ filter test rest) (filter test rest)) no
+
+module _ (statements : List Statement) (world : World) (node : ℕ) where
+  number : NodeId
+  number = record { 0 = node }
+
+  none-may : (may_log_next node world || (may_put node world || (may_recover node world || (may_retry node world || is_lost node world)))) ≡ false
+      → filter (is_enabled statements world) (node_events node) ≡ []
+  unfolding is_enabled
+  none-may none =
+      let log = or_parts (may_log_next node world) (may_put node world || (may_recover node world || (may_retry node world || is_lost node world))) none in
+      let put = or_parts (may_put node world) (may_recover node world || (may_retry node world || is_lost node world)) log.1 in
+      let recover = or_parts (may_recover node world) (may_retry node world || is_lost node world) put.1 in
+      let retry = or_parts (may_retry node world) (is_lost node world) recover.1 in
+      off (is_enabled statements world) (events.LogNext number)
+      (events.Put number ∷ events.RecoverTick number ∷ events.RetryTick number ∷ events.Leave number ∷ []) log.0
+      ∙ off (is_enabled statements world) (events.Put number)
+      (events.RecoverTick number ∷ events.RetryTick number ∷ events.Leave number ∷ []) put.0
+      ∙ off (is_enabled statements world) (events.RecoverTick number) (events.RetryTick number ∷ events.Leave number ∷ []) recover.0
+      ∙ off (is_enabled statements world) (events.RetryTick number) (events.Leave number ∷ []) retry.0
+      ∙ off (is_enabled statements world) (events.Leave number) [] (ap (λ (b : Bool). b && is_newest_member node world) retry.1)
+
+  pub idle-passed : (place : ℕ)
+      → (may_log_next node world || (may_put node world || (may_recover node world || (may_retry node world || is_lost node world)))) ≡ false
+      → Continue place ≡ place_behind_enabled statements world (node_events node) place
+  idle-passed place none = ap (λ (found : List Event). place_behind found place) (sym (none-may none))

@@ -117,25 +117,25 @@ impl WorldState {
         }
     }
 
-    fn may_log_next(&self, node: u32) -> bool
+    pub fn may_log_next(&self, node: u32) -> bool
         ensures { result ≡ may_log_next node self.now }
     {
         self.hosts.summary(node).is_behind(self.log.len())
     }
 
-    fn may_put(&self, node: u32) -> bool
+    pub fn may_put(&self, node: u32) -> bool
         ensures { result ≡ may_put node self.now }
     {
         self.hosts.summary(node).may_put
     }
 
-    fn may_recover(&self, node: u32) -> bool
+    pub fn may_recover(&self, node: u32) -> bool
         ensures { result ≡ may_recover node self.now }
     {
         self.hosts.summary(node).may_recover
     }
 
-    fn may_retry(&self, node: u32) -> bool
+    pub fn may_retry(&self, node: u32) -> bool
         ensures { result ≡ may_retry node self.now }
     {
         self.hosts.summary(node).may_retry

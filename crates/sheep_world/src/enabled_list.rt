@@ -5,7 +5,7 @@
 //! is passed without a look at its messages where all their ends are up: each may be delivered then, and each or none lost. Nothing here
 //! takes memory.
 
-ghost use Rattle.std.specs.Prelude.{◌≡◌, ◌&&◌, ◌≤◌, ◌^◌, true, [], ◌∷◌, ◌++◌, length, map, flat_map, slice_get, if◌then◌else◌};
+ghost use Rattle.std.specs.Prelude.{◌≡◌, ◌&&◌, ◌||◌, ◌≤◌, ◌^◌, true, [], ◌∷◌, ◌++◌, length, map, flat_map, slice_get, if◌then◌else◌};
 ghost use Rattle.std.specs.Prelude.{IfOk, IfErr};
 ghost use Rattle.std.specs.List.{list_all};
 ghost use Rattle.std.specs.Option.{option_map, option_map_or};
@@ -15,7 +15,8 @@ ghost use Rattle.message_wire.specs.declared.packet.Packet.{Packet as ThePacket}
 ghost use Rattle.message_wire.specs.Message.{asked_node};
 ghost use Rattle.message_wire.specs.NodeSet.{contains_node};
 ghost use Rattle.sheep_world.specs.Controls.{control_statement};
-ghost use Rattle.sheep_world.specs.World.{next_control};
+ghost use Rattle.sheep_world.specs.World.{is_lost, next_control};
+ghost use Rattle.sheep_world.specs.Conditions.{may_log_next, may_put, may_recover, may_retry};
 ghost use Rattle.sheep_world.specs.Enabled.{guest_events, loss_of, message_events, node_events, control_event};
 ghost use Rattle.sheep_world.specs.Enabled.{enabled_events, enabled_count, enabled_at};
 ghost use Rattle.sheep_world.specs.EnabledPlaces.{place_behind, place_behind_enabled, messages_of_sender};
@@ -109,8 +110,20 @@ impl WorldState {
         ControlFlow::Continue(left)
     }
 
-    /// Passes what a node may do, and that it leaves. Looks into no node.
-    fn pass_node(&self, script: &Script, node: NodeId, place: usize) -> ControlFlow<Event, usize>
+    /// Whether a node may do something, or is lost, and so may leave. Looks into no node.
+    fn may_act(&self, node: u32) -> bool
+        ensures { result ≡ (may_log_next node self.now || may_put node self.now || may_recover node self.now || may_retry node self.now
+            || is_lost node self.now) }
+    {
+        self.may_log_next(node)
+            || self.may_put(node)
+            || self.may_recover(node)
+            || self.may_retry(node)
+            || self.is_lost(node)
+    }
+
+    /// Passes what a node may do, and that it leaves, event by event.
+    fn pass_acts(&self, script: &Script, node: NodeId, place: usize) -> ControlFlow<Event, usize>
         ensures { result ≡ place_behind_enabled script.now self.now (node_events node.0) place }
     {
         let events = [
@@ -121,6 +134,16 @@ impl WorldState {
             Event::Leave { node },
         ];
         self.pass_events(script, &events, place)
+    }
+
+    /// Passes what a node may do, and that it leaves. Looks into no node; for a node that may do nothing it costs a look at its summary.
+    fn pass_node(&self, script: &Script, node: NodeId, place: usize) -> ControlFlow<Event, usize>
+        ensures { result ≡ place_behind_enabled script.now self.now (node_events node.0) place }
+    {
+        if !self.may_act(node.0) {
+            return ControlFlow::Continue(place);
+        }
+        self.pass_acts(script, node, place)
     }
 
     /// Passes what each node may do. Costs a few steps for each node.
