@@ -13,7 +13,7 @@ use Rattle.std.proofs.lemmas.List.Elements.{filter-append}
 use Rattle.std.proofs.lemmas.Option.{same_Some}
 use Rattle.std.proofs.Math.Seq.{drop-cons}
 use Rattle.cluster_script.specs.declared.statement.Statement.{Statement}
-use Rattle.object_id.specs.declared.node_id.NodeId.{NodeId}
+use Rattle.object_id.specs.declared.node.NodeId.{NodeId}
 use Rattle.sheep_node.specs.declared.event.Event.{Event}
 use Rattle.sheep_node.specs.declared.event.Event.TheVariants as events
 use Rattle.message_wire.specs.declared.name.MessageName.{MessageName}
