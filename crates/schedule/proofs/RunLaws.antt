@@ -5,7 +5,8 @@ use Rattle.std.proofs.lemmas.Option.{same_Some, none-some}
 use Rattle.cluster_script.specs.declared.statement.Statement.{Statement}
 use Rattle.sheep_node.specs.declared.event.Event.{Event}
 use Rattle.sheep_world.specs.Step.{EventOutcome, step}
-use Rattle.sheep_world.specs.Run.{Moment, initial_moment, moment_with_made, next, run_from, IsRun}
+use Rattle.sheep_world.specs.Run.{Moment, initial_moment, moment_with_made, next, run_from, run, IsRun}
+use Rattle.sheep_world.proofs.RunLaws.{run-append}
 use Rattle.schedule.specs.Stops.{stop_after, stop_from, stopped_at, IsStopAt}
 
 module _ (statements : List Statement) where
@@ -13,6 +14,16 @@ module _ (statements : List Statement) where
   pub next-made : (event : Event) (moment : Moment) (made : EventOutcome) → step statements event moment.world ≡ Some made
       → next statements event moment ≡ Some (moment_with_made moment.history made)
   next-made event moment made is = ap (option_map (moment_with_made moment.history)) is
+
+  -- a run with one event more, which makes something where the run ends
+  pub run-one_more : (events : List Event) (event : Event) (moment : Moment) (made : EventOutcome) → run statements events ≡ Some moment
+      → step statements event moment.world ≡ Some made
+      → run statements (events ++ event ∷ []) ≡ Some (moment_with_made moment.history made)
+  unfolding run_from
+  run-one_more events event moment made so_far steps =
+      run-append statements events (event ∷ []) (initial_moment statements)
+      ∙ ap (option_and_then (run_from statements (event ∷ []))) so_far
+      ∙ ap (option_and_then (run_from statements [])) (next-made event moment made steps)
 
   pub run-on : (event : Event) (events : List Event) (moment : Moment) (made : EventOutcome) → step statements event moment.world ≡ Some made
       → IsSome (run_from statements events (moment_with_made moment.history made)) → IsSome (run_from statements (event ∷ events) moment)

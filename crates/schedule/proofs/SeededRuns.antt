@@ -13,9 +13,8 @@ use Rattle.sheep_world.specs.World.{World}
 use Rattle.sheep_world.specs.Conditions.{may_end_phase}
 use Rattle.sheep_world.specs.Step.{EventOutcome, step}
 use Rattle.sheep_world.specs.Run.{Moment, initial_moment, moment_with_made, next, run_from, run, IsKept, Run}
-use Rattle.sheep_world.proofs.RunLaws.{run-append}
 use Rattle.schedule.specs.Schedule.{Draft, choice, empty_draft, world_after, draft_after_event, schedule_from, event_most, schedule_of}
-use Rattle.schedule.proofs.RunLaws.{next-made}
+use Rattle.schedule.proofs.RunLaws.{run-one_more}
 use Rattle.schedule.proofs.WholeLaws.{left, fewer_left}
 
 module _ (statements : List Statement) (seed : ℕ) where
@@ -42,15 +41,6 @@ module _ (statements : List Statement) (seed : ℕ) where
   unfolding schedule_from
   schedule-on most draft may =
       ap (λ b. cond b ((choice statements draft).event ∷ schedule_from statements most (draft_after_event statements draft)) []) may
-
-  run-one_more : (events : List Event) (event : Event) (moment : Moment) (made : EventOutcome) → run statements events ≡ Some moment
-      → step statements event moment.world ≡ Some made
-      → run statements (events ++ event ∷ []) ≡ Some (moment_with_made moment.history made)
-  unfolding run_from
-  run-one_more events event moment made so_far steps =
-      run-append statements events (event ∷ []) (initial_moment statements)
-      ∙ ap (option_and_then (run_from statements (event ∷ []))) so_far
-      ∙ ap (option_and_then (run_from statements [])) (next-made statements event moment made steps)
 
   pub front-on : (kept : Run) (draft : Draft) (made : EventOutcome) → IsFront kept draft → may_end_phase statements draft.world ≡ true
       → step statements (choice statements draft).event draft.world ≡ Some made

@@ -1,6 +1,5 @@
 -- A run as it is made and told: before the first event, one event more, and behind the last.
 use Rattle.std.proofs.Common.{◌≡◌, false, List, [], ◌∷◌, ◌++◌, Option, Some, refl, sym, ap, subst, ◌∙◌}
-use Rattle.std.specs.Option.{option_and_then}
 use Rattle.std.proofs.lemmas.List.Sums.{fold-append}
 use Rattle.cluster_script.specs.declared.statement.Statement.{Statement}
 use Rattle.sheep_node.specs.declared.event.Event.{Event}
@@ -9,8 +8,7 @@ use Rattle.sheep_world.specs.Opening.{initial_world}
 use Rattle.sheep_world.specs.SpentWorld.{WorldOrSpent}
 use Rattle.sheep_world.specs.Step.{EventOutcome, step}
 use Rattle.sheep_world.specs.Run.{Moment, initial_moment, moment_with_made, run_from, run}
-use Rattle.sheep_world.proofs.RunLaws.{run-append}
-use Rattle.schedule.proofs.RunLaws.{next-made}
+use Rattle.schedule.proofs.RunLaws.{run-one_more}
 use Rattle.dog_report.specs.Report.{Report, empty_report, report_before_event, report_with_made, report_after, finished_report, report_of, report_text}
 use Rattle.dog_report.specs.ToldPart.{counts_of}
 use Rattle.dog_report.specs.Reporter.{Reporter, IsReporterOf}
@@ -19,15 +17,6 @@ use Rattle.sheep.specs.declared.told_run.ToldRun.{ToldRun}
 use Rattle.sheep.specs.ToldRun.{report_so_far, IsToldRun, TellsRun}
 
 module _ (statements : List Statement) where
-  pub told-on : (events : List Event) (event : Event) (moment : Moment) (made : EventOutcome) → run statements events ≡ Some moment
-      → step statements event moment.world ≡ Some made
-      → run statements (events ++ event ∷ []) ≡ Some (moment_with_made moment.history made)
-  unfolding run_from
-  told-on events event moment made so_far steps =
-      run-append statements events (event ∷ []) (initial_moment statements)
-      ∙ ap (option_and_then (run_from statements (event ∷ []))) so_far
-      ∙ ap (option_and_then (run_from statements [])) (next-made statements event moment made steps)
-
   -- the report in the making, with the event
   pub report-on : (events : List Event) (event : Event) (world : World) (made : EventOutcome)
       → (report_so_far statements events).world ≡ world → step statements event world ≡ Some made
@@ -66,7 +55,7 @@ module _ (statements : List Statement) where
     history = so_far.history ++ made.grown;
     made =
         ap (run statements) events
-        ∙ told-on told.events event (record { world = told.world.world; history = so_far.history }) made so_far.made steps
+        ∙ run-one_more statements told.events event (record { world = told.world.world; history = so_far.history }) made so_far.made steps
         ∙ ap (λ (w : World). Some (record { world = w; history = so_far.history ++ made.grown })) here;
     same = ap (λ (report : Report). report.world) more ∙ here;
     reporter =
