@@ -1,18 +1,16 @@
 -- A schedule as it is made: what is left of it after the events so far.
-use Rattle.std.proofs.Common.{◌≡◌, ◌⊎◌, inl, inr, ℕ, zero, suc, ◌+◌, ◌-◌, ◌<◌, ◌≤◌, Bool, true, false, not, cond, List, [], ◌∷◌, ◌++◌}
-use Rattle.std.proofs.Common.{append_assoc, length, Option, Some, None, refl, sym, ap, subst, ◌∙◌, arith}
-use Rattle.std.specs.Option.{option_map, option_and_then}
+use Rattle.std.proofs.Common.{◌≡◌, ◌⊎◌, ℕ, zero, suc, ◌+◌, ◌-◌, ◌<◌, ◌≤◌, true, false, cond, List, [], ◌∷◌, ◌++◌}
+use Rattle.std.proofs.Common.{append_assoc, length, Some, refl, sym, ap, ◌∙◌, arith}
+use Rattle.std.specs.Option.{option_map}
 use Rattle.std.proofs.lemmas.List.{append-nil}
-use Rattle.std.proofs.lemmas.Bool.{ltb-true, le-ltb}
+use Rattle.std.proofs.lemmas.Bool.{ltb-true}
 use Rattle.cluster_script.specs.declared.statement.Statement.{Statement}
-use Rattle.cluster_script.specs.Settings.{limit_of}
 use Rattle.cluster_script.specs.Phases.{phases_of}
-use Rattle.disk_history.specs.declared.event.HistEvent.{HistEvent}
 use Rattle.sheep_node.specs.declared.event.Event.{Event}
 use Rattle.sheep_world.specs.World.{World}
 use Rattle.sheep_world.specs.Conditions.{may_end_phase}
 use Rattle.sheep_world.specs.Step.{EventOutcome, step}
-use Rattle.sheep_world.specs.Run.{Moment, initial_moment, moment_with_made, next, run_from, run, IsKept, Run}
+use Rattle.sheep_world.specs.Run.{Moment, next, run_from, run, IsKept, Run}
 use Rattle.schedule.specs.Schedule.{Draft, choice, empty_draft, world_after, draft_after_event, schedule_from, event_most, schedule_of}
 use Rattle.schedule.proofs.RunLaws.{run-one_more}
 use Rattle.schedule.proofs.WholeLaws.{left, fewer_left}

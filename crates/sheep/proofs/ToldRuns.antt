@@ -7,7 +7,7 @@ use Rattle.sheep_world.specs.World.{World}
 use Rattle.sheep_world.specs.Opening.{initial_world}
 use Rattle.sheep_world.specs.SpentWorld.{WorldOrSpent}
 use Rattle.sheep_world.specs.Step.{EventOutcome, step}
-use Rattle.sheep_world.specs.Run.{Moment, initial_moment, moment_with_made, run_from, run}
+use Rattle.sheep_world.specs.Run.{run_from, run}
 use Rattle.schedule.proofs.RunLaws.{run-one_more}
 use Rattle.dog_report.specs.Report.{Report, empty_report, report_before_event, report_with_made, report_after, finished_report, report_of, report_text}
 use Rattle.dog_report.specs.ToldPart.{counts_of}
