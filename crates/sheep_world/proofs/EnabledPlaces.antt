@@ -184,29 +184,30 @@ left-none (x ∷ xs) (suc i) past = left-none xs i (omega (arith, past))
 -- ---- a node that may do nothing has no place
 
 off : (test : Event → Bool) (event : Event) (rest : List Event) → test event ≡ false → filter test (event ∷ rest) ≡ filter test rest
-off test event rest no = ap (λ (b : Bool). cond b (event ∷ filter test rest) (filter test rest)) no
+off test event rest never = ap (λ (b : Bool). cond b (event ∷ filter test rest) (filter test rest)) never
 
 module _ (statements : List Statement) (world : World) (node : ℕ) where
-  number : NodeId
+  abbrev number : NodeId
   number = record { 0 = node }
 
-  none-may : (may_log_next node world || (may_put node world || (may_recover node world || (may_retry node world || is_lost node world)))) ≡ false
+  none-may : ((((may_log_next node world || may_put node world) || may_recover node world) || may_retry node world) || is_lost node world) ≡ false
       → filter (is_enabled statements world) (node_events node) ≡ []
   unfolding is_enabled
   none-may none =
-      let log = or_parts (may_log_next node world) (may_put node world || (may_recover node world || (may_retry node world || is_lost node world))) none in
-      let put = or_parts (may_put node world) (may_recover node world || (may_retry node world || is_lost node world)) log.1 in
-      let recover = or_parts (may_recover node world) (may_retry node world || is_lost node world) put.1 in
-      let retry = or_parts (may_retry node world) (is_lost node world) recover.1 in
+      let lost = or_parts (((may_log_next node world || may_put node world) || may_recover node world) || may_retry node world)
+      (is_lost node world) none in
+      let retry = or_parts ((may_log_next node world || may_put node world) || may_recover node world) (may_retry node world) lost.0 in
+      let recover = or_parts (may_log_next node world || may_put node world) (may_recover node world) retry.0 in
+      let log = or_parts (may_log_next node world) (may_put node world) recover.0 in
       off (is_enabled statements world) (events.LogNext number)
       (events.Put number ∷ events.RecoverTick number ∷ events.RetryTick number ∷ events.Leave number ∷ []) log.0
       ∙ off (is_enabled statements world) (events.Put number)
-      (events.RecoverTick number ∷ events.RetryTick number ∷ events.Leave number ∷ []) put.0
-      ∙ off (is_enabled statements world) (events.RecoverTick number) (events.RetryTick number ∷ events.Leave number ∷ []) recover.0
-      ∙ off (is_enabled statements world) (events.RetryTick number) (events.Leave number ∷ []) retry.0
-      ∙ off (is_enabled statements world) (events.Leave number) [] (ap (λ (b : Bool). b && is_newest_member node world) retry.1)
+      (events.RecoverTick number ∷ events.RetryTick number ∷ events.Leave number ∷ []) log.1
+      ∙ off (is_enabled statements world) (events.RecoverTick number) (events.RetryTick number ∷ events.Leave number ∷ []) recover.1
+      ∙ off (is_enabled statements world) (events.RetryTick number) (events.Leave number ∷ []) retry.1
+      ∙ off (is_enabled statements world) (events.Leave number) [] (ap (λ (b : Bool). b && is_newest_member node world) lost.1)
 
   pub idle-passed : (place : ℕ)
-      → (may_log_next node world || (may_put node world || (may_recover node world || (may_retry node world || is_lost node world)))) ≡ false
+      → ((((may_log_next node world || may_put node world) || may_recover node world) || may_retry node world) || is_lost node world) ≡ false
       → Continue place ≡ place_behind_enabled statements world (node_events node) place
   idle-passed place none = ap (λ (found : List Event). place_behind found place) (sym (none-may none))

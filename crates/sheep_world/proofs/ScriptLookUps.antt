@@ -1,13 +1,13 @@
 -- What the readers of a script tell of a request, in the words of the world.
 use Rattle.std.proofs.Common.{◌≡◌, ◌≢◌, ℕ, zero, suc, ◌+◌, ◌<◌, ◌≤◌, ◌==◌, Bool, true, false, not, cond, ◌||◌}
-use Rattle.std.proofs.Common.{List, [], ◌∷◌, ◌++◌, ◌/◌, length, get_or, Option, Some, None, refl, ap, sym, ◌∙◌, arith}
+use Rattle.std.proofs.Common.{List, [], ◌∷◌, ◌++◌, append_assoc, replicate, take, ◌-◌, ◌/◌, ◌%◌, length, get_or, Option, Some, None, refl, ap, ap₂, sym, ◌∙◌, arith}
 use Rattle.std.specs.Prelude.{◌^◌, filter, slice_get, unwrap_or, is_some, flat_map, IfSome}
 use Rattle.std.specs.List.{list_any, range_with_len, position_or_len}
 use Rattle.std.specs.Option.{option_map, option_and_then}
 use Rattle.std.proofs.lemmas.Bool.{false≢true, ne_eqb}
-use Rattle.std.proofs.lemmas.List.{length-map}
+use Rattle.std.proofs.lemmas.List.{length-map, append-nil, replicate-append-replicate, take_all}
 use Rattle.std.proofs.lemmas.List.Folds.{list_any-append}
-use Rattle.std.proofs.lemmas.List.FromFn.{length-enumerate_from, map-range_with_len_more}
+use Rattle.std.proofs.lemmas.List.FromFn.{length-enumerate_from, length-map-range_with_len, map-range_with_len_more}
 use Rattle.std.proofs.lemmas.Option.{none-some, same_Some, slice_get-get_or, slice_get_within}
 use Rattle.object_id.specs.declared.limits.TheConstants.{BLOCK_BYTES, INPUT_BYTES_MAX}
 use Rattle.cluster_script.specs.declared.statement.Pattern.{Pattern}
@@ -176,11 +176,38 @@ few-begun statements session begun (Some req) is few =
 
 -- ---- the bytes of a write
 
--- one byte more
-pub payload_of-more : (pattern : Pattern) (place byte : ℕ) (so_far : List ℕ) → byte ≡ byte_of pattern (place / BLOCK_BYTES)
-    → so_far ≡ payload_of pattern place → so_far ++ byte ∷ [] ≡ payload_of pattern (place + 1)
-payload_of-more pattern place byte so_far is was =
-    let next : 0 + place ≡ place = omega arith in
-    ap (λ (bytes : List ℕ). bytes ++ byte ∷ []) was
-    ∙ ap (λ (last : ℕ). payload_of pattern place ++ last ∷ []) is
-    ∙ sym (map-range_with_len_more (λ place. byte_of pattern (place / BLOCK_BYTES)) 0 place place next)
+module _ (pattern : Pattern) where
+  -- one byte more
+  payload_of-more : (place byte : ℕ) → byte ≡ byte_of pattern (place / BLOCK_BYTES)
+      → payload_of pattern place ++ byte ∷ [] ≡ payload_of pattern (place + 1)
+  payload_of-more place byte is =
+      let next : 0 + place ≡ place = omega arith in
+      ap (λ (last : ℕ). payload_of pattern place ++ last ∷ []) is
+      ∙ sym (map-range_with_len_more (λ place. byte_of pattern (place / BLOCK_BYTES)) 0 place place next)
+
+  -- more bytes of one block
+  in-block : (place byte count : ℕ) → byte ≡ byte_of pattern (place / BLOCK_BYTES) → place % BLOCK_BYTES + count ≤ BLOCK_BYTES
+      → payload_of pattern place ++ replicate count byte ≡ payload_of pattern (place + count)
+  in-block place byte zero is within =
+      let same : place ≡ place + 0 = omega arith in append-nil (payload_of pattern place) ∙ ap (payload_of pattern) same
+  in-block place byte (suc count) is within =
+      let fewer : place % BLOCK_BYTES + count ≤ BLOCK_BYTES = omega (arith, within) in
+      let block : place / BLOCK_BYTES ≡ (place + count) / BLOCK_BYTES = omega (arith, within) in
+      let more : count + 1 ≡ suc count = omega arith in
+      let behind : place + count + 1 ≡ place + suc count = omega arith in
+      ap (λ (n : ℕ). payload_of pattern place ++ replicate n byte) (sym more)
+      ∙ ap (λ (bytes : List ℕ). payload_of pattern place ++ bytes) (sym (replicate-append-replicate count 1 byte))
+      ∙ sym (append_assoc (payload_of pattern place) (replicate count byte) (byte ∷ []))
+      ∙ ap (λ (bytes : List ℕ). bytes ++ byte ∷ []) (in-block place byte count is fewer)
+      ∙ payload_of-more (place + count) byte (is ∙ ap (byte_of pattern) block)
+      ∙ ap (payload_of pattern) behind
+
+  -- so it is with all bytes up to the end of a block, or before it
+  pub payload_of-block : (place byte count held : ℕ) (so_far : List ℕ) → byte ≡ byte_of pattern (place / BLOCK_BYTES)
+      → place % BLOCK_BYTES + count ≤ BLOCK_BYTES → held ≡ place → so_far ≡ payload_of pattern place
+      → take (place + count) so_far ++ replicate (place + count - held) byte ≡ payload_of pattern (place + count)
+  payload_of-block place byte count held so_far is within holds was =
+      let long : length so_far ≡ place = ap length was ∙ length-map-range_with_len (λ place. byte_of pattern (place / BLOCK_BYTES)) 0 place in
+      let rest : place + count - held ≡ count = omega (arith, holds) in
+      ap₂ (λ (front : List ℕ) (n : ℕ). front ++ replicate n byte) (take_all (place + count) so_far (omega (arith, long))) rest
+      ∙ ap (λ (front : List ℕ). front ++ replicate count byte) was ∙ in-block place byte count is within

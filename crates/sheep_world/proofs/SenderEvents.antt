@@ -230,8 +230,8 @@ module _ (world : World) where
 -- an event that may happen, and one behind it that may if another test says so
 passed : (test : Event → Bool) (one other : Event) (rest : List Event) (may : Bool) → test one ≡ true → test other ≡ may
     → filter test (one ∷ other ∷ rest) ≡ one ∷ (cond may (other ∷ []) [] ++ filter test rest)
-passed test one other rest may yes is =
-    ap (λ (b : Bool). cond b (one ∷ filter test (other ∷ rest)) (filter test (other ∷ rest))) yes
+passed test one other rest may sure is =
+    ap (λ (b : Bool). cond b (one ∷ filter test (other ∷ rest)) (filter test (other ∷ rest))) sure
     ∙ ap (λ (events : List Event). one ∷ events) (behind may is)
   where
     behind : (may : Bool) → test other ≡ may → filter test (other ∷ rest) ≡ cond may (other ∷ []) [] ++ filter test rest
@@ -315,7 +315,7 @@ module _ (world : World) (nodes : NodeSet) (are_up : (node : ℕ) → node < 64 
       && list_all (λ (found : MessageName × Packet). contains_node (asked_node found.1).0 nodes) (messages_of_sender sender world))
       → list_all (λ (found : MessageName × Packet). found.0.sender.0 == node) (messages_of_sender sender world) ≡ true
       → within ≡ true → are_all_ends_up sender world ≡ true
-  sender-ends_up sender node within is senders yes =
+  sender-ends_up sender node within is senders sure =
       let both = and_parts (contains_node node nodes)
-      (list_all (λ (found : MessageName × Packet). contains_node (asked_node found.1).0 nodes) (messages_of_sender sender world)) (sym is ∙ yes) in
+      (list_all (λ (found : MessageName × Packet). contains_node (asked_node found.1).0 nodes) (messages_of_sender sender world)) (sym is ∙ sure) in
       ends-up node (messages_of_sender sender world) both.0 senders both.1

@@ -1,6 +1,7 @@
 //! What the world looks up in a script: who asks each request, and what it asks.
-ghost use Rattle.std.specs.Prelude.{◌≡◌, ◌+◌, ◌^◌, ◌<◌, false, Some, None, IfOk, if◌then◌else◌};
+ghost use Rattle.std.specs.Prelude.{◌≡◌, ◌+◌, ◌^◌, ◌%◌, ◌<◌, ◌≤◌, false, Some, None, IfOk, if◌then◌else◌};
 ghost use Rattle.std.specs.Option.{option_map, option_copied, option_map_or};
+ghost use Rattle.object_id.specs.declared.limits.TheConstants.{BLOCK_BYTES};
 ghost use Rattle.cluster_script.specs.Statements.{is_check as is_check_statement};
 ghost use Rattle.cluster_script.specs.NumberedRequests.{request_at, byte_of, payload_of, is_disk_request as is_disk_statement};
 ghost use Rattle.sheep_node.specs.declared.ask.Ask.TheVariants as asks;
@@ -78,13 +79,25 @@ fn byte_of(pattern: Pattern, block: u32) -> u8
     }
 }
 
-/// The bytes of a write of this length.
+/// How many of these bytes of a write, from a place on, are in one block.
+fn count_in_block(place: u32, count: u32) -> u32
+    ensures block { place % BLOCK_BYTES + result ≤ BLOCK_BYTES }
+    ensures within { result ≤ count }
+    ensures some { 0 < count → 0 < result }
+{
+    count.min(BLOCK_BYTES - place % BLOCK_BYTES)
+}
+
+/// The bytes of a write of this length, block by block.
 pub(crate) fn payload(alloc: Global, pattern: Pattern, length: u32) -> Result<Bytes, NoMemory>
     ensures { IfOk result (λ bytes. bytes ≡ payload_of pattern length) }
 {
     let mut bytes = Vec::with_capacity(alloc, length as usize)?;
-    for place in 0..length {
-        bytes.push(byte_of(pattern, place / BLOCK_BYTES))?;
+    let mut done = 0;
+    while done < length {
+        let byte = byte_of(pattern, done / BLOCK_BYTES);
+        done += count_in_block(done, length - done);
+        bytes.resize(done as usize, byte)?;
     }
     Ok(Bytes::from_vec(bytes))
 }
