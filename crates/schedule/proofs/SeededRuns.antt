@@ -71,7 +71,7 @@ module _ (statements : List Statement) (seed : ℕ) where
             ∙ sym (append_assoc kept.events ((choice statements draft).event ∷ [])
             (schedule_from statements most (draft_after_event statements draft)));
         made =
-            run-one_more kept.events (choice statements draft).event (record { world = draft.world; history = kept.history }) made front.made steps
+            run-one_more statements kept.events (choice statements draft).event (record { world = draft.world; history = kept.history }) made front.made steps
             ∙ ap (λ (world : World). Some (record { world = world; history = kept.history ++ made.grown })) (sym after);
       }
 
