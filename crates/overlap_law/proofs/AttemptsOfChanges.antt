@@ -34,7 +34,7 @@ use Rattle.sheep_world.specs.NodeCauses.{host_with_node}
 use Rattle.sheep_world.proofs.AskedWorks.{ToldIsBelow}
 use Rattle.overlap_law.specs.Attempts.{AttemptRecord, is_first, beginning, beginning_with, attempt_begun_with, attempts_begun_by}
 use Rattle.overlap_law.specs.StepMoments.{attempts_of_change}
-use Rattle.overlap_law.proofs.BegunNumbers.{filter_map-none, AreAlike, begun-alike, begun-none, DifferAtRequest, alike_elsewhere, differ_twice, begun-so_far, begun-with_more}
+use Rattle.overlap_law.proofs.BegunNumbers.{filter_map-none, begins-same, AreAlike, begun-alike, begun-none, DifferAtRequest, alike_elsewhere, differ_twice, begun-so_far, begun-with_more}
 use Rattle.overlap_law.proofs.MarkedMessages.{awaited-marked, begins-marked}
 use Rattle.overlap_law.proofs.RequestDifferences.{awaits_none-idle, course_differs, ended_differs, refused_differs, refused_if_there_differs, work_differs, gone_differs, awaits_none-over, ended_work_differs, steps_differ, next_differs}
 use Rattle.overlap_law.proofs.SendsOfChanges.{steps_send_nothing, next_sends_nothing, refusal_sends_nothing, denial_sends_nothing, end_sends_nothing, count_above}
@@ -272,7 +272,13 @@ module _ (input : Input) (host : Host) (sound : IsSoundStep input host.node) (gi
       none_begins so_far next req after refl
       (record { me_so = d.me_so; works_so = d.works_so; sessions_so = d.sessions_so; was = d.was; is = d.is })
   change_begins so_far next (changes.Rejects session req ask cause arrival) both above after = sym (append-nil (begun_at so_far))
-  change_begins so_far next (changes.Recovers due) both above after = sym (append-nil (begun_at so_far))
+  change_begins so_far next (changes.Recovers due) both above after =
+      begun-so_far host so_far.node next.node refl (λ k from below.
+      begun-alike host k so_far.node next.node after.1.once (record {
+        forth = λ q work got awaits. (work, got, awaits, begins-same host k so_far.node next.node refl q refl work.work work.stage);
+        back = λ q later got awaits. (later, got, awaits);
+      }))
+      ∙ sym (append-nil (begun_at so_far))
 
   -- in the middle of the step
   pub begun-grows : (so_far next : StepState) → Leads input host.node (input_received input (at_first host.node)) so_far

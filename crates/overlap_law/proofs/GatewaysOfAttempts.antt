@@ -63,7 +63,7 @@ module _ (hosts hosts_after : Hosts) (wire later : Wire) (attempts after : List 
   by_kind (MessageIsLost name (Request to bytes) at) j now got = marked Doomed name.sender name.number j now got
   by_kind (MessageIsLost name (Reply from bytes) at) j now got = unmarked j now got
   by_kind (ReplyIsReceived name from bytes at) j now got = unmarked j now got
-  by_kind (RequestIsAnswered name to bytes up rsp at spelled) j now got = marked (fate_of_say rsp.say) name.sender name.number j now got
+  by_kind (RequestIsAnswered name to bytes up rsp at spelled up_so) j now got = marked (fate_of_say rsp.say) name.sender name.number j now got
   by_kind (RequestsAreSent n sends by) j now got = unmarked j now got
   by_kind (AttemptBegins n sends new begun) j now got = ⊎_elim
       (λ (old : slice_get attempts j ≡ Some now). unmarked j now old)
@@ -116,7 +116,8 @@ module _ (hosts hosts_after : Hosts) (wire later : Wire) (attempts after : List 
       (λ (before : was.incarnation < h.host.incarnation).
       quiet_still j was at (of_incarnations.earlier j was at h.host h.is before).none fates)
       (λ (not_before : h.host.incarnation ≤ was.incarnation).
-      let renewed = h.renewed (omega (arith, not_before, less)) in
+      let later_one : h.host.incarnation < now.incarnation = omega (arith, not_before, less) in
+      let renewed = h.renewed later_one in
       quiet_still j was at (λ place target among. not_in_wire wire was.gateway.0 was place renewed refl) fates)
       (cases_lt was.incarnation h.host.incarnation)
 
@@ -125,12 +126,13 @@ module _ (hosts hosts_after : Hosts) (wire later : Wire) (attempts after : List 
     began = λ j now got host is. ⊎_elim
         (λ (w : WasThere j now).
         let h = at_hosts j w.was host w.at (ap (λ (a : AttemptRecord). tree.get hosts_after a.gateway.0) w.same ∙ is) in
-        let before = of_incarnations.began j w.was w.at h.host h.is in
-        let rises = h.incarnation in
-        subst (λ (a : AttemptRecord). a.incarnation ≤ host.incarnation) w.same (omega (arith, before, rises)))
+        let before : w.was.incarnation ≤ h.host.incarnation = of_incarnations.began j w.was w.at h.host h.is in
+        let rises : h.host.incarnation ≤ host.incarnation = h.incarnation in
+        let still : w.was.incarnation ≤ host.incarnation = omega (arith, before, rises) in
+        subst (λ (a : AttemptRecord). a.incarnation ≤ host.incarnation) w.same still)
         (λ (b : Begins j now).
         let same : b.begun.sent_by.after ≡ host = same_Some b.begun.sent_by.after host (sym b.begun.sent_by.there_after ∙ ap (tree.get hosts_after) (sym b.begun.gateway) ∙ is) in
-        let at = b.begun.incarnation ∙ sym b.begun.sent_by.stays ∙ ap (λ (h : Host). h.incarnation) same in
+        let at : now.incarnation ≡ host.incarnation = b.begun.incarnation ∙ sym b.begun.sent_by.stays ∙ ap (λ (h : Host). h.incarnation) same in
         omega (arith, at))
         (where_from j now got);
     earlier = λ j now got host is less. ⊎_elim
@@ -140,20 +142,22 @@ module _ (hosts hosts_after : Hosts) (wire later : Wire) (attempts after : List 
         (subst (λ (a : AttemptRecord). a.incarnation < host.incarnation) (sym w.same) less) w.fates))
         (λ (b : Begins j now).
         let same : b.begun.sent_by.after ≡ host = same_Some b.begun.sent_by.after host (sym b.begun.sent_by.there_after ∙ ap (tree.get hosts_after) (sym b.begun.gateway) ∙ is) in
-        let at = b.begun.incarnation ∙ sym b.begun.sent_by.stays ∙ ap (λ (h : Host). h.incarnation) same in
+        let at : now.incarnation ≡ host.incarnation = b.begun.incarnation ∙ sym b.begun.sent_by.stays ∙ ap (λ (h : Host). h.incarnation) same in
         absurd (omega (arith, at, less)))
         (where_from j now got);
     given = λ j now got host is. ⊎_elim
         (λ (w : WasThere j now).
         let h = at_hosts j w.was host w.at (ap (λ (a : AttemptRecord). tree.get hosts_after a.gateway.0) w.same ∙ is) in
-        let before = of_incarnations.given j w.was w.at h.host h.is in
-        let rises = h.sends in
-        subst (λ (a : AttemptRecord). a.first + length a.targets ≤ host.node.sends) w.same (omega (arith, before, rises)))
+        let before : w.was.first + length w.was.targets ≤ h.host.node.sends = of_incarnations.given j w.was w.at h.host h.is in
+        let rises : h.host.node.sends ≤ host.node.sends = h.sends in
+        let still : w.was.first + length w.was.targets ≤ host.node.sends = omega (arith, before, rises) in
+        subst (λ (a : AttemptRecord). a.first + length a.targets ≤ host.node.sends) w.same still)
         (λ (b : Begins j now).
         let same : b.begun.sent_by.after ≡ host = same_Some b.begun.sent_by.after host (sym b.begun.sent_by.there_after ∙ ap (tree.get hosts_after) (sym b.begun.gateway) ∙ is) in
-        let first = b.begun.first in
-        let count = b.begun.count in
-        let counted = sym (ap (λ (h : Host). h.node.sends) same) ∙ b.begun.sent_by.counted in
+        let first : now.first ≡ b.begun.sent_by.host.node.sends = b.begun.first in
+        let count : length now.targets ≡ length b.sends = b.begun.count in
+        let counted : host.node.sends ≡ b.begun.sent_by.host.node.sends + length b.sends
+        = sym (ap (λ (h : Host). h.node.sends) same) ∙ b.begun.sent_by.counted in
         omega (arith, first, count, counted))
         (where_from j now got);
     apart = λ j one got k other got_too below own. ⊎_elim
@@ -165,9 +169,11 @@ module _ (hosts hosts_after : Hosts) (wire later : Wire) (attempts after : List 
         (ap (λ (a : AttemptRecord). a.gateway.0) w.same ∙ own ∙ sym (ap (λ (a : AttemptRecord). a.gateway.0) v.same)))))
         (λ (b : Begins k other).
         let gateway : w.was.gateway.0 ≡ b.n = ap (λ (a : AttemptRecord). a.gateway.0) w.same ∙ own ∙ b.begun.gateway in
-        let given = of_incarnations.given j w.was w.at b.begun.sent_by.host (ap (tree.get hosts) gateway ∙ b.begun.sent_by.there) in
-        let first = b.begun.first in
-        subst (λ (a : AttemptRecord). a.first + length a.targets ≤ other.first) w.same (omega (arith, given, first)))
+        let given : w.was.first + length w.was.targets ≤ b.begun.sent_by.host.node.sends
+        = of_incarnations.given j w.was w.at b.begun.sent_by.host (ap (tree.get hosts) gateway ∙ b.begun.sent_by.there) in
+        let first : other.first ≡ b.begun.sent_by.host.node.sends = b.begun.first in
+        let behind : w.was.first + length w.was.targets ≤ other.first = omega (arith, given, first) in
+        subst (λ (a : AttemptRecord). a.first + length a.targets ≤ other.first) w.same behind)
         (where_from k other got_too))
         (λ (b : Begins j one). ⊎_elim
         (λ (v : WasThere k other).

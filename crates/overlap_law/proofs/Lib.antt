@@ -24,6 +24,7 @@ pub mod TrafficFates
 pub mod TrafficOrder
 pub mod TrafficReplies
 pub mod TrafficNumbers
+pub mod TrafficLost
 pub mod AttemptMessages
 pub mod KnownSteps
 pub mod OpeningTraffic

@@ -107,6 +107,11 @@ module _ (low high req : ℕ) where
     is = λ k from below other got. let gone = get-remove_same so_far.node.gateway.works req in absurd (cc (got, gone));
   }
 
+  -- a request goes on, in a node that differs from an earlier one at this request alone
+  course_after : (first : StepState) (session : ℕ) (course : Course) (so_far : StepState) → Differs first so_far → Differs first (with_course session req course so_far)
+  course_after first session course so_far d =
+      differ_twice low high req first.node so_far.node (with_course session req course so_far).node d (course_differs session course so_far d.is)
+
   module _ {input : Input} {node : Node} (sound : IsSoundStep input node) (given : ToldIsBelow input low) where
     -- a work of which a message comes to something waits for no new number once its attempt is over
     pub awaits_none-over : (so_far : StepState) (number : ℕ) (work : Work) (attempt : Attempt) (status : Status) → LearnsStatus input node so_far req number work attempt status
@@ -127,12 +132,7 @@ module _ (low high req : ℕ) where
       is = λ k from below other got. let gone = get-remove_same so_far.node.gateway.works req in absurd (cc (got, gone));
     }
 
-    -- a request goes on, in a node that differs from an earlier one at this request alone
-    course_after : (first : StepState) (session : ℕ) (course : Course) (so_far : StepState) → Differs first so_far → Differs first (with_course session req course so_far)
-    course_after first session course so_far d =
-        differ_twice low high req first.node so_far.node (with_course session req course so_far).node d (course_differs session course so_far d.is)
-
-    steps_differ : (so_far : StepState) (session : ℕ) (next : Outcome) (moved : StepState) → RequestSteps input node so_far session req next moved
+    pub steps_differ : (so_far : StepState) (session : ℕ) (next : Outcome) (moved : StepState) → RequestSteps input node so_far session req next moved
         → StepHasOneWork so_far → Differs so_far moved
     steps_differ so_far session next moved (DiskBegins ask disk there on may) good =
         let d = course_differs session (Driving (drivers.begin_driver disk ask).driver) so_far (awaits_none-idle low high req so_far good (ap may_work_at there)) in
@@ -200,6 +200,6 @@ module _ (low high req : ℕ) where
         let quiet : AwaitsNone low high req so_far.node = λ k from below w got. idle k w got in
         record { me_so = refl; works_so = λ q other. refl; sessions_so = λ q other. refl; was = quiet; is = quiet }
     next_differs so_far session asked lined (Again work course from next there request) good =
-        same_differ so_far (λ k from below w got. next_awaits_none so_far session asked lined (Again work course from next there request) good k w got)
+        same_differ so_far (λ k above below w got. next_awaits_none so_far session asked lined (Again work course from next there request) good k w got)
     next_differs so_far session asked lined (AgainAlone work from next there none) good =
-        same_differ so_far (λ k from below w got. next_awaits_none so_far session asked lined (AgainAlone work from next there none) good k w got)
+        same_differ so_far (λ k above below w got. next_awaits_none so_far session asked lined (AgainAlone work from next there none) good k w got)

@@ -96,9 +96,6 @@ module _ {input : Input} {node : Node} where
   next_sends_nothing so_far session req asked lined (Again work course from next there request) = (refl, refl)
   next_sends_nothing so_far session req asked lined (AgainAlone work from next there none) = (refl, refl)
 
-  pub twice_nothing : (one two three : StepState) → SendsNothing one two → SendsNothing two three → SendsNothing one three
-  twice_nothing one two three first second = (second.0 ∙ first.0, second.1 ∙ first.1)
-
   -- each change sends what it does behind what was sent
   pub sends_grow : (so_far next : StepState) → Change input node so_far next → IsLonger so_far next
   sends_grow so_far next (changes.Marks req number work attempt status learns over) = no_longer so_far next refl

@@ -1,9 +1,14 @@
 -- In every run whose worlds are in range the attempts are tied to the wire: at its opening, over each change of a moment, and so over each event.
 use Rattle.std.proofs.Common.{◌≡◌, List, [], ◌∷◌, Option, Some, None, option_map, refl, ap, subst}
 use Rattle.std.specs.Option.{option_and_then}
+use Rattle.std.specs.FinMap as tree
 use Rattle.std.proofs.lemmas.Option.{same_Some}
 use Rattle.cluster_script.specs.declared.statement.Statement.{Statement}
+use Rattle.message_wire.specs.declared.name.MessageName.{MessageName}
+use Rattle.message_wire.specs.declared.packet.Packet.{Packet}
+use Rattle.message_wire.specs.Message.{name_cmp, message_name}
 use Rattle.sheep_node.specs.declared.event.Event.{Event}
+use Rattle.sheep_world.specs.Opening.{initial_world}
 use Rattle.sheep_world.specs.Began.{Began}
 use Rattle.sheep_world.specs.Step.{EventOutcome, step}
 use Rattle.sheep_world.proofs.BegunWorlds.{goes_on}
@@ -12,17 +17,23 @@ use Rattle.overlap_law.specs.Past.{MomentWithPast, moment_after, next_moment, ru
 use Rattle.overlap_law.specs.MomentChanges.{MomentChange, MomentTrail, Still, Then, RunsAreInRange}
 use Rattle.overlap_law.specs.TiedAttempts.{IsTied}
 use Rattle.overlap_law.proofs.ChangesKeepAttempts.{keeps_fates, keeps_told}
-use Rattle.overlap_law.proofs.HostsInMoments.{hosts_stay}
+use Rattle.overlap_law.proofs.HostsInMoments.{hosts_stay, lost_were_lost}
 use Rattle.overlap_law.proofs.MomentTrails.{event_trail}
 use Rattle.overlap_law.proofs.NoRecoveredDue.{began-with_past}
 use Rattle.overlap_law.proofs.GatewaysOfAttempts.{there_still, incarnations_still}
+use Rattle.overlap_law.proofs.TrafficLost.{traffic_lost}
 use Rattle.overlap_law.proofs.TrafficNumbers.{traffic_numbers}
 use Rattle.overlap_law.proofs.TrafficOfChanges.{traffic}
 
--- before the first event there are no attempts
+-- before the first event nothing is in the wire, and there are no attempts
+none_yet : (script : List Statement) (name : MessageName) (packet : Packet) → tree.get (first_moment script).world.wire name ≡ Some packet → ⊥
+unfolding initial_world
+none_yet script name packet got = let none = tree.get-empty {X = Packet} name_cmp name in cc (got, none)
+
 pub opening_tied : (script : List Statement) → IsTied (first_moment script)
 opening_tied script = record {
   numbers = record { given = (opening-wired script).given };
+  no_reply_to_lost = record { each = λ n host there number packet lost got. absurd (none_yet script (message_name n number) packet got) };
   there = record { each = λ j attempt got. absurd (cc (got)) };
   incarnations = record {
     began = λ j attempt got. absurd (cc (got));
@@ -41,6 +52,8 @@ module _ (script : List Statement) (range : RunsAreInRange script) where
       given = traffic_numbers before.world.hosts after.world.hosts before.world.wire before.past.attempts (hosts_stay script range start began change) tied.numbers.given
           (traffic script range start began change);
     };
+    no_reply_to_lost = traffic_lost before.world.hosts after.world.hosts before.world.wire after.world.wire before.past.attempts after.past.attempts
+        (lost_were_lost script change) (traffic script range start began change) tied.no_reply_to_lost;
     there = there_still before.world.hosts after.world.hosts before.world.wire after.world.wire before.past.attempts after.past.attempts tied.incarnations tied.there
         (hosts_stay script range start began change) (traffic script range start began change);
     incarnations = incarnations_still before.world.hosts after.world.hosts before.world.wire after.world.wire before.past.attempts after.past.attempts tied.incarnations tied.there

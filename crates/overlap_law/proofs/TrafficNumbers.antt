@@ -1,5 +1,5 @@
 -- Each kind of traffic keeps that the numbers in the wire were given by their senders.
-use Rattle.std.proofs.Common.{◌≡◌, ◌≢◌, arith, ℕ, Bool, List, fold, Option, Some, None, refl, sym, ap, subst, ◌∙◌, ⊎_elim}
+use Rattle.std.proofs.Common.{◌≡◌, ◌≢◌, arith, ℕ, ◌+◌, ◌≤◌, ◌<◌, Bool, List, fold, length, Option, Some, None, refl, sym, ap, subst, ◌∙◌, ⊎_elim}
 use Rattle.std.specs.FinMap as tree
 use Rattle.object_id.specs.declared.node.NodeId.{NodeId}
 use Rattle.peer_proto.specs.declared.ask.PeerReq.{PeerReq}
@@ -34,18 +34,20 @@ module _ (hosts hosts_after : Hosts) (wire : Wire) (attempts : List AttemptRecor
       by_host None is none = absurd none
       by_host (Some host) is below =
           let s = stay name.sender.0 host is in
-          let more = s.sends in
-          subst (IsNumberGiven name.number) (sym s.there) (omega (arith, below, more))
+          let more : host.node.sends ≤ s.now.node.sends = s.sends in
+          let still : name.number < s.now.node.sends = omega (arith, below, more) in
+          subst (IsNumberGiven name.number) (sym s.there) still
 
   given_if_sent : (n : ℕ) (sends : List (NodeId × PeerReq)) → AreSentBy hosts hosts_after n sends → (name : MessageName) (packet : Packet)
       → tree.get (fold wire_with_request wire sends) name ≡ Some packet → IsGivenAt name
   given_if_sent n sends by name packet got = ⊎_elim
       (λ (new : IsSent sends name packet).
       let (send, there, named, is) = new in
-      let high = (numbers_within by.host.node.sends sends send by.numbers there).1 in
-      let counted = by.counted in
+      let high : send.1.number < by.host.node.sends + length sends = (numbers_within by.host.node.sends sends send by.numbers there).1 in
+      let counted : by.after.node.sends ≡ by.host.node.sends + length sends = by.counted in
+      let below : send.1.number < by.after.node.sends = omega (arith, high, counted) in
       subst IsGivenAt named
-      (subst (IsNumberGiven send.1.number) (sym (ap (tree.get hosts_after) (by.own send there) ∙ by.there_after)) (omega (arith, high, counted))))
+      (subst (IsNumberGiven send.1.number) (sym (ap (tree.get hosts_after) (by.own send there) ∙ by.there_after)) below))
       (λ (old : tree.get wire name ≡ Some packet). given_still name packet old)
       (got_sent sends wire name packet got)
 
@@ -60,7 +62,7 @@ module _ (hosts hosts_after : Hosts) (wire : Wire) (attempts : List AttemptRecor
   traffic_numbers NothingMoves name packet got = given_still name packet got
   traffic_numbers (MessageIsLost name lost there) q packet got = given_still q packet (left_before wire name q packet got)
   traffic_numbers (ReplyIsReceived name from bytes there) q packet got = given_still q packet (left_before wire name q packet got)
-  traffic_numbers (RequestIsAnswered name to bytes up rsp there spelled) q packet got = given_if_answered name to bytes up rsp there q packet got
+  traffic_numbers (RequestIsAnswered name to bytes up rsp there spelled up_so) q packet got = given_if_answered name to bytes up rsp there q packet got
   traffic_numbers (RequestsAreSent n sends by) q packet got = given_if_sent n sends by q packet got
   traffic_numbers (AttemptBegins n sends attempt begun) q packet got = given_if_sent n sends begun.sent_by q packet got
   traffic_numbers (RepliesGo n) q packet got = given_still q packet (got_before n wire q packet got)

@@ -124,11 +124,10 @@ wire-by_changes WorkIsRetried by hosts node wire = refl
 
 put_sends : (node : Node) → (node_step inputs.Put node).outputs.sends ≡ []
 unfolding node_step on_input recovered_put
-put_sends node = cond_either (λ (so_far : StepState). so_far.outputs.sends ≡ []) (is_due put.node) (with_recovered put) put (by_outbox node.outbox) (by_outbox node.outbox)
+put_sends node =
+    let put = on_put node.outbox (at_first node) in
+    cond_either (λ (so_far : StepState). so_far.outputs.sends ≡ []) (is_due put.node) (with_recovered put) put (by_outbox node.outbox) (by_outbox node.outbox)
   where
-    put : StepState
-    put = on_put node.outbox (at_first node)
-
     by_outbox : (outbox : List Entry) → (on_put outbox (at_first node)).outputs.sends ≡ []
     by_outbox [] = refl
     by_outbox (entry ∷ later) = refl
@@ -164,7 +163,7 @@ module _ (script : List Statement) (world : World) (n : ℕ) (host : Host) (atte
         read = so.read;
         receiver = ap (tree.get world.hosts) so.here ∙ there;
         up = up;
-      })))
+      })) refl)
   at_once together there up (ReplyComes name from rsp) so by own = absurd by
   at_once together there up (LossIsTold name packet) so by own = absurd by
   at_once together there up (EntryIsRead entry) so by own = absurd by

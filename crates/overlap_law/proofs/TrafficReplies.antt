@@ -106,7 +106,7 @@ module _ (hosts hosts_after : Hosts) (wire : Wire) (attempts : List AttemptRecor
       lost (Request to bytes) = removed_told Doomed name
       lost (Reply sender bytes) = answered_before (tree.remove wire name) (λ q from bytes got. (gone_before name q from bytes got).1)
   traffic_told (ReplyIsReceived name sender bytes there) fates = answered_before (tree.remove wire name) (λ q from bytes got. (gone_before name q from bytes got).1)
-  traffic_told (RequestIsAnswered name to bytes true rsp there spelled) fates = record {
+  traffic_told (RequestIsAnswered name to bytes true rsp there spelled up_so) fates = record {
     each = λ j now got_now place target from reply among h.
         let later = wire_with_reply name to true (Some rsp) wire in
         let (was, at, is) = got_marked (fate_of_say rsp.say) name.sender name.number attempts j now got_now in
@@ -139,7 +139,7 @@ module _ (hosts hosts_after : Hosts) (wire : Wire) (attempts : List AttemptRecor
           ∙ told_own place fate was.fates ∙ ap (option_map (known_fate fate)) (found ∙ ap (λ (f : MessageFate). Some f) flying) in
           subst (λ (r : PeerRsp). Fits (slice_get (fates_told fate name.sender name.number was) place) r.say) same
           (subst (λ (o : Option MessageFate). Fits o rsp.say) (sym fate_so) (fits_said rsp.say))
-  traffic_told (RequestIsAnswered name to bytes false rsp there spelled) fates = removed_told (fate_of_say rsp.say) name
+  traffic_told (RequestIsAnswered name to bytes false rsp there spelled up_so) fates = removed_told (fate_of_say rsp.say) name
   traffic_told (RequestsAreSent n sends by) fates = record {
     each = λ j attempt there place target from reply among h.
         told.each j attempt there place target from reply among

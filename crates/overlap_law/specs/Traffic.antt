@@ -19,6 +19,7 @@ use Rattle.message_wire.specs.Message.{without_replies}
 use Rattle.sheep_world.specs.World.{Host}
 use Rattle.sheep_world.specs.Messages.{wire_with_reply}
 use Rattle.sheep_world.specs.NodeSteps.{wire_with_request}
+use Rattle.sheep_world.specs.NodeCauses.{is_up_among}
 use Rattle.overlap_law.specs.Attempts.{AttemptRecord, MessageFate, Flying, attempts_with_fate, fate_of_say, object_of}
 use Rattle.overlap_law.specs.Reached.{Hosts}
 use Rattle.overlap_law.specs.Each.{EachUp, EachAttempt}
@@ -84,9 +85,9 @@ pub data Traffic (hosts hosts_after : Hosts) (wire : Wire) (attempts : List Atte
   -- a reply is received
   ReplyIsReceived : (name : MessageName) (from : NodeId) (bytes : List ℕ) → tree.get wire name ≡ Some (Reply from bytes)
       → Traffic hosts hosts_after wire attempts (tree.remove wire name) attempts
-  -- a request is served or refused, by a reply that can be read
+  -- a request is served or refused, by a reply that can be read, which is on its way where the sender is up
   RequestIsAnswered : (name : MessageName) (to : NodeId) (bytes : List ℕ) (up : Bool) (rsp : PeerRsp)
-      → tree.get wire name ≡ Some (Request to bytes) → say_in (say_bytes rsp) ≡ Ok rsp
+      → tree.get wire name ≡ Some (Request to bytes) → say_in (say_bytes rsp) ≡ Ok rsp → up ≡ is_up_among hosts_after name.sender.0
       → Traffic hosts hosts_after wire attempts (wire_with_reply name to up (Some rsp) wire)
       (attempts_with_fate (fate_of_say rsp.say) name.sender name.number attempts)
   -- a node sends what is no create or write
