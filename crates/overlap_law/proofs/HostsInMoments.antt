@@ -129,17 +129,17 @@ module _ (script : List Statement) (range : RunsAreInRange script) (start : Mome
       let rises : stepping.host.node.sends ≤ (last_in_step stepping).node.sends = omega (arith, counted) in
       more_sends start (moment_in_step script stepping start (last_in_step stepping)) stepping.n stepping.host (host_with_node stepping.host (last_in_step stepping).node) refl
       is.there refl rises
-  hosts_stay {before} {after} (moments.LossIsUntold event made h) = same_hosts before after (ap (λ (m : EventOutcome). m.world.hosts) (sym h.made_so))
-  hosts_stay {before} {after} (moments.DeliveryIsUnread event made h) = same_hosts before after (ap (λ (m : EventOutcome). m.world.hosts) (sym h.made_so))
-  hosts_stay {before} {after} (moments.NodeIsLost event made h) =
+  hosts_stay {before} {after} (moments.LossIsUntold event made happened h) = same_hosts before after (ap (λ (m : EventOutcome). m.world.hosts) (sym h.made_so))
+  hosts_stay {before} {after} (moments.DeliveryIsUnread event made happened h) = same_hosts before after (ap (λ (m : EventOutcome). m.world.hosts) (sym h.made_so))
+  hosts_stay {before} {after} (moments.NodeIsLost event made happened h) =
       more_sends before after h.n h.host (lost_host h.host) (ap (λ (m : EventOutcome). m.world.hosts) (sym h.made_so)) h.there refl (none_less h.host.node.sends)
-  hosts_stay {before} {after} (moments.NodeLeaves event made h) = same_hosts before after (ap (λ (m : EventOutcome). m.world.hosts) (sym h.made_so))
-  hosts_stay {before} {after} (moments.NodeIsReweighted event made h) = same_hosts before after (ap (λ (m : EventOutcome). m.world.hosts) (sym h.made_so))
-  hosts_stay {before} {after} (moments.NodeJoins event made h) =
+  hosts_stay {before} {after} (moments.NodeLeaves event made happened h) = same_hosts before after (ap (λ (m : EventOutcome). m.world.hosts) (sym h.made_so))
+  hosts_stay {before} {after} (moments.NodeIsReweighted event made happened h) = same_hosts before after (ap (λ (m : EventOutcome). m.world.hosts) (sym h.made_so))
+  hosts_stay {before} {after} (moments.NodeJoins event made happened h) =
       one_host before after h.n (joined_host script h.n) (ap (λ (m : EventOutcome). m.world.hosts) (sym h.made_so))
       (λ host there. none_there (tree.get start.world.hosts h.n) host
       (next_fits script start.world (lines.Join h.n) h.control (together script range start.world began).fit).1 there)
-  hosts_stay {before} {after} (moments.NodeComesBack event made h) =
+  hosts_stay {before} {after} (moments.NodeComesBack event made happened h) =
       let log = log_after_return script h.n start.world in
       let now = host_after_return log h.host in
       let counted = step_counts (inputs.Back log) h.host.node in
@@ -156,7 +156,7 @@ module _ (script : List Statement) (range : RunsAreInRange script) (start : Mome
         sends = rises;
         renewed = λ less name packet got. no_sender start.world h.n (ap not h.no_end) name packet got;
       }))
-  hosts_stay {before} {after} (moments.PhaseEnds event made h) = same_hosts before after (ap (λ (m : EventOutcome). m.world.hosts) (sym h.made_so))
+  hosts_stay {before} {after} (moments.PhaseEnds event made happened h) = same_hosts before after (ap (λ (m : EventOutcome). m.world.hosts) (sym h.made_so))
 
 -- ---- the lost
 
@@ -217,16 +217,16 @@ lost_were_lost script {start} (moments.StepGoesOn stepping so_far next is by wit
     (sym (insert-insert start.world.hosts stepping.n was now)) (get-insert_same start.world.hosts stepping.n was) refl
 lost_were_lost script {start} (moments.StepIsMade stepping is by) =
     step_lost start (moment_in_step script stepping start (last_in_step stepping)) stepping.n stepping.host (host_with_node stepping.host (last_in_step stepping).node) refl is.there refl
-lost_were_lost script {start} {before} {after} (moments.LossIsUntold event made h) = same_lost before after (ap (λ (m : EventOutcome). m.world.hosts) (sym h.made_so))
-lost_were_lost script {start} {before} {after} (moments.DeliveryIsUnread event made h) = same_lost before after (ap (λ (m : EventOutcome). m.world.hosts) (sym h.made_so))
-lost_were_lost script {start} {before} {after} (moments.NodeIsLost event made h) =
+lost_were_lost script {start} {before} {after} (moments.LossIsUntold event made happened h) = same_lost before after (ap (λ (m : EventOutcome). m.world.hosts) (sym h.made_so))
+lost_were_lost script {start} {before} {after} (moments.DeliveryIsUnread event made happened h) = same_lost before after (ap (λ (m : EventOutcome). m.world.hosts) (sym h.made_so))
+lost_were_lost script {start} {before} {after} (moments.NodeIsLost event made happened h) =
     one_lost before after h.n (lost_host h.host) (ap (λ (m : EventOutcome). m.world.hosts) (sym h.made_so))
     (λ lost. inr (subst (GetsNoReply h.n) (ap (λ (m : EventOutcome). m.world.wire) h.made_so) (none_to h.n start.world.wire)))
-lost_were_lost script {start} {before} {after} (moments.NodeLeaves event made h) = same_lost before after (ap (λ (m : EventOutcome). m.world.hosts) (sym h.made_so))
-lost_were_lost script {start} {before} {after} (moments.NodeIsReweighted event made h) = same_lost before after (ap (λ (m : EventOutcome). m.world.hosts) (sym h.made_so))
-lost_were_lost script {start} {before} {after} (moments.NodeJoins event made h) =
+lost_were_lost script {start} {before} {after} (moments.NodeLeaves event made happened h) = same_lost before after (ap (λ (m : EventOutcome). m.world.hosts) (sym h.made_so))
+lost_were_lost script {start} {before} {after} (moments.NodeIsReweighted event made happened h) = same_lost before after (ap (λ (m : EventOutcome). m.world.hosts) (sym h.made_so))
+lost_were_lost script {start} {before} {after} (moments.NodeJoins event made happened h) =
     one_lost before after h.n (joined_host script h.n) (ap (λ (m : EventOutcome). m.world.hosts) (sym h.made_so)) (λ lost. absurd (cc (lost)))
-lost_were_lost script {start} {before} {after} (moments.NodeComesBack event made h) =
+lost_were_lost script {start} {before} {after} (moments.NodeComesBack event made happened h) =
     one_lost before after h.n (host_after_return (log_after_return script h.n start.world) h.host) (ap (λ (m : EventOutcome). m.world.hosts) (sym h.made_so))
     (λ lost. absurd (cc (lost)))
-lost_were_lost script {start} {before} {after} (moments.PhaseEnds event made h) = same_lost before after (ap (λ (m : EventOutcome). m.world.hosts) (sym h.made_so))
+lost_were_lost script {start} {before} {after} (moments.PhaseEnds event made happened h) = same_lost before after (ap (λ (m : EventOutcome). m.world.hosts) (sym h.made_so))

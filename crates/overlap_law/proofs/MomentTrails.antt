@@ -73,14 +73,14 @@ module _ (script : List Statement) (start : MomentWithPast) where
         caused = h.caused;
         made = ap (λ (e : Event). step script e start.world) h.event_so ∙ happened ∙ ap (λ (m : EventOutcome). Some m) (sym h.made_so);
       }))
-  by_kind event made happened (kinds.UntoldLoss h) = Then Still (LossIsUntold event made h)
-  by_kind event made happened (kinds.UnreadDelivery h) = Then Still (DeliveryIsUnread event made h)
-  by_kind event made happened (kinds.NodeLoss h) = Then Still (NodeIsLost event made h)
-  by_kind event made happened (kinds.NodeLeave h) = Then Still (NodeLeaves event made h)
-  by_kind event made happened (kinds.NodeReweight h) = Then Still (NodeIsReweighted event made h)
-  by_kind event made happened (kinds.NodeJoin h) = Then Still (NodeJoins event made h)
-  by_kind event made happened (kinds.NodeReturn h) = Then Still (NodeComesBack event made h)
-  by_kind event made happened (kinds.PhaseEnd h) = Then Still (PhaseEnds event made h)
+  by_kind event made happened (kinds.UntoldLoss h) = Then Still (LossIsUntold event made happened h)
+  by_kind event made happened (kinds.UnreadDelivery h) = Then Still (DeliveryIsUnread event made happened h)
+  by_kind event made happened (kinds.NodeLoss h) = Then Still (NodeIsLost event made happened h)
+  by_kind event made happened (kinds.NodeLeave h) = Then Still (NodeLeaves event made happened h)
+  by_kind event made happened (kinds.NodeReweight h) = Then Still (NodeIsReweighted event made happened h)
+  by_kind event made happened (kinds.NodeJoin h) = Then Still (NodeJoins event made happened h)
+  by_kind event made happened (kinds.NodeReturn h) = Then Still (NodeComesBack event made happened h)
+  by_kind event made happened (kinds.PhaseEnd h) = Then Still (PhaseEnds event made happened h)
 
   by_made : (event : Event) (after : MomentWithPast) (o : Option EventOutcome) → step script event start.world ≡ o
       → option_map (moment_after script event start) o ≡ Some after → MomentTrail script start after

@@ -179,20 +179,20 @@ module _ (script : List Statement) (range : RunsAreInRange script) (start : Mome
       (λ req work current up got making stage.
       same_works start after stepping.n stepping.host now.node is.there (step_me (input_of_cause stepping.cause) stepping.host.node)
       (made_gateway stepping.cause stepping.host.node by) req work current up got stage)
-  open_or_begins {before} {after} (moments.LossIsUntold event made h) have = same_hosts before after (ap (λ (m : EventOutcome). m.world.hosts) (sym h.made_so))
-  open_or_begins {before} {after} (moments.DeliveryIsUnread event made h) have = same_hosts before after (ap (λ (m : EventOutcome). m.world.hosts) (sym h.made_so))
-  open_or_begins {before} {after} (moments.NodeIsLost event made h) have =
+  open_or_begins {before} {after} (moments.LossIsUntold event made happened h) have = same_hosts before after (ap (λ (m : EventOutcome). m.world.hosts) (sym h.made_so))
+  open_or_begins {before} {after} (moments.DeliveryIsUnread event made happened h) have = same_hosts before after (ap (λ (m : EventOutcome). m.world.hosts) (sym h.made_so))
+  open_or_begins {before} {after} (moments.NodeIsLost event made happened h) have =
       one_host before after h.n (lost_host h.host) (ap (λ (m : EventOutcome). m.world.hosts) (sym h.made_so))
       (λ req work current lost got making stage. absurd (cc (lost)))
-  open_or_begins {before} {after} (moments.NodeLeaves event made h) have = same_hosts before after (ap (λ (m : EventOutcome). m.world.hosts) (sym h.made_so))
-  open_or_begins {before} {after} (moments.NodeIsReweighted event made h) have = same_hosts before after (ap (λ (m : EventOutcome). m.world.hosts) (sym h.made_so))
-  open_or_begins {before} {after} (moments.NodeJoins event made h) have =
+  open_or_begins {before} {after} (moments.NodeLeaves event made happened h) have = same_hosts before after (ap (λ (m : EventOutcome). m.world.hosts) (sym h.made_so))
+  open_or_begins {before} {after} (moments.NodeIsReweighted event made happened h) have = same_hosts before after (ap (λ (m : EventOutcome). m.world.hosts) (sym h.made_so))
+  open_or_begins {before} {after} (moments.NodeJoins event made happened h) have =
       one_host before after h.n (joined_host script h.n) (ap (λ (m : EventOutcome). m.world.hosts) (sym h.made_so))
       (λ req work current up got making stage. none_open (joined_host script h.n).node.gateway.works req work refl got)
-  open_or_begins {before} {after} (moments.NodeComesBack event made h) have =
+  open_or_begins {before} {after} (moments.NodeComesBack event made happened h) have =
       let log = log_after_return script h.n start.world in
       let now = host_after_return log h.host in
       one_host before after h.n now (ap (λ (m : EventOutcome). m.world.hosts) (sym h.made_so))
       (λ req work current up got making stage.
       none_open now.node.gateway.works req work (ap (λ (g : Gateway). g.works) (stepped_renewed log h.host.node).node_so.gateway_so) got)
-  open_or_begins {before} {after} (moments.PhaseEnds event made h) have = same_hosts before after (ap (λ (m : EventOutcome). m.world.hosts) (sym h.made_so))
+  open_or_begins {before} {after} (moments.PhaseEnds event made happened h) have = same_hosts before after (ap (λ (m : EventOutcome). m.world.hosts) (sym h.made_so))

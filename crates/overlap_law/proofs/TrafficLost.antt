@@ -34,7 +34,7 @@ up_not_lost host up lost =
 module _ (hosts hosts_after : Hosts) (wire : Wire) (attempts : List AttemptRecord) (none : NoReplyGoesToTheLost hosts wire) (n : ℕ) (now : Host)
     (there_now : tree.get hosts_after n ≡ Some now) (lost_now : now.is_lost ≡ true) (was : WasLostBefore hosts n) where
   request_before : (number : ℕ) (packet : Packet) → tree.get wire (message_name n number) ≡ Some packet → is_request_in_flight (Some packet) ≡ true
-  request_before number packet got = none.each n was.0 was.1.0 number packet was.1.1 got
+  request_before number packet got = none.each n was.0 was.1 number packet was.2 got
 
   request_if_sent : (sends : List (NodeId × PeerReq)) (number : ℕ) (packet : Packet) → tree.get (fold wire_with_request wire sends) (message_name n number) ≡ Some packet
       → is_request_in_flight (Some packet) ≡ true
@@ -63,7 +63,7 @@ module _ (hosts hosts_after : Hosts) (wire : Wire) (attempts : List AttemptRecor
   still_request NothingMoves number packet got = request_before number packet got
   still_request (MessageIsLost name lost there) number packet got = request_before number packet (left_before wire name (message_name n number) packet got)
   still_request (ReplyIsReceived name from bytes there) number packet got = request_before number packet (left_before wire name (message_name n number) packet got)
-  still_request (RequestIsAnswered name to bytes up rsp there spelled up_so) number packet got = request_if_answered name to up rsp up_so number packet got
+  still_request (RequestIsAnswered name to bytes up rsp there answer) number packet got = request_if_answered name to up rsp answer.up_so number packet got
   still_request (RequestsAreSent k sends by) number packet got = request_if_sent sends number packet got
   still_request (AttemptBegins k sends attempt begun) number packet got = request_if_sent sends number packet got
   still_request (RepliesGo k) number packet got = request_before number packet (got_before k wire (message_name n number) packet got)

@@ -156,14 +156,21 @@ module _ (script : List Statement) (world : World) (n : ℕ) (host : Host) (atte
       (wire_with_reply name to (is_up_among hosts name.sender.0) (Some rsp) (fold wire_with_request world.wire sends))
       (attempts_at_cause host.node (RequestComes name to request) attempts))
       (sym (served_silent request host.node))
-      (kinds.RequestIsAnswered name to so.bytes (is_up_among hosts name.sender.0) rsp so.there
-      (together.messages.replies.spelled name to request host (record {
-        bytes = so.bytes;
-        there = so.there;
+      (kinds.RequestIsAnswered name to so.bytes (is_up_among hosts name.sender.0) rsp so.there (record {
+        host = host;
+        there = ap (tree.get world.hosts) so.here ∙ there;
+        request = request;
         read = so.read;
-        receiver = ap (tree.get world.hosts) so.here ∙ there;
-        up = up;
-      })) refl)
+        said = refl;
+        spelled = together.messages.replies.spelled name to request host (record {
+          bytes = so.bytes;
+          there = so.there;
+          read = so.read;
+          receiver = ap (tree.get world.hosts) so.here ∙ there;
+          up = up;
+        });
+        up_so = refl;
+      }))
   at_once together there up (ReplyComes name from rsp) so by own = absurd by
   at_once together there up (LossIsTold name packet) so by own = absurd by
   at_once together there up (EntryIsRead entry) so by own = absurd by
@@ -253,30 +260,30 @@ module _ (script : List Statement) (range : RunsAreInRange script) (start : Mome
   traffic (moments.StepBegins stepping is by) = step_begins stepping is by
   traffic (moments.StepGoesOn stepping so_far next is by within) = step_goes_on stepping so_far next is by within
   traffic (moments.StepIsMade stepping is by) = step_is_made stepping is by
-  traffic (moments.LossIsUntold event made h) =
+  traffic (moments.LossIsUntold event made happened h) =
       by_event event made (tree.remove start.world.wire h.name) (attempts_with_loss h.name h.packet start.past.attempts) (ap wire_of (sym h.made_so))
       (attempts-of_untold_loss script event start.world made start.past.attempts h) (kinds.MessageIsLost h.name h.packet h.there)
-  traffic (moments.DeliveryIsUnread event made h) =
+  traffic (moments.DeliveryIsUnread event made happened h) =
       by_event event made start.world.wire start.past.attempts (ap wire_of (sym h.made_so))
       (attempts-of_unread_delivery script event start.world made start.past.attempts h) kinds.NothingMoves
-  traffic (moments.NodeIsLost event made h) =
+  traffic (moments.NodeIsLost event made happened h) =
       by_event event made (without_replies h.n start.world.wire) start.past.attempts (ap wire_of (sym h.made_so))
       (attempts-of_loss script event start.world made start.past.attempts h) (kinds.RepliesGo h.n)
-  traffic (moments.NodeLeaves event made h) =
+  traffic (moments.NodeLeaves event made happened h) =
       by_event event made start.world.wire start.past.attempts (ap wire_of (sym h.made_so))
       (attempts-of_leave script event start.world made start.past.attempts h) kinds.NothingMoves
-  traffic (moments.NodeIsReweighted event made h) =
+  traffic (moments.NodeIsReweighted event made happened h) =
       by_event event made start.world.wire start.past.attempts (ap wire_of (sym h.made_so))
       (attempts-of_reweight script event start.world made start.past.attempts h) kinds.NothingMoves
-  traffic (moments.NodeJoins event made h) =
+  traffic (moments.NodeJoins event made happened h) =
       by_event event made start.world.wire start.past.attempts (ap wire_of (sym h.made_so))
       (attempts-of_join script event start.world made start.past.attempts h) kinds.NothingMoves
-  traffic (moments.NodeComesBack event made h) =
+  traffic (moments.NodeComesBack event made happened h) =
       by_event event made start.world.wire start.past.attempts
       (ap wire_of (sym h.made_so)
       ∙ ap (λ (sends : List (NodeId × PeerReq)). fold wire_with_request start.world.wire sends)
       (stepped_renewed (log_after_return script h.n start.world) h.host.node).silent)
       (attempts-of_return script event start.world made start.past.attempts h) kinds.NothingMoves
-  traffic (moments.PhaseEnds event made h) =
+  traffic (moments.PhaseEnds event made happened h) =
       by_event event made start.world.wire start.past.attempts (ap wire_of (sym h.made_so))
       (attempts-of_phase_end script event start.world made start.past.attempts h) kinds.NothingMoves

@@ -66,7 +66,7 @@ module _ (hosts hosts_after : Hosts) (wire : Wire) (attempts : List AttemptRecor
   traffic_fewer NothingMoves j attempt at place target among h = h
   traffic_fewer (MessageIsLost name packet there) j attempt at place target among h = gone_less wire name (message_name_at attempt place) h
   traffic_fewer (ReplyIsReceived name from bytes there) j attempt at place target among h = gone_less wire name (message_name_at attempt place) h
-  traffic_fewer (RequestIsAnswered name to bytes up rsp there spelled up_so) j attempt at place target among h =
+  traffic_fewer (RequestIsAnswered name to bytes up rsp there answer) j attempt at place target among h =
       said_less wire name to rsp up (Request to bytes) there (message_name_at attempt place) h
   traffic_fewer (RequestsAreSent n sends by) j attempt at place target among h =
       ap (λ (o : Option Packet). is_some o) (sym (sends_new hosts hosts_after wire attempts of_incarnations n sends by j attempt at place target among)) ∙ h
@@ -89,9 +89,9 @@ module _ (hosts hosts_after : Hosts) (wire : Wire) (attempts : List AttemptRecor
       ordered_marked (tree.remove wire name) Doomed name.sender name.number attempts (less (traffic_fewer (MessageIsLost name (Request to bytes) there)) ordered)
   traffic_ordered (MessageIsLost name (Reply from bytes) there) turns ordered = less (traffic_fewer (MessageIsLost name (Reply from bytes) there)) ordered
   traffic_ordered (ReplyIsReceived name from bytes there) turns ordered = less (traffic_fewer (ReplyIsReceived name from bytes there)) ordered
-  traffic_ordered (RequestIsAnswered name to bytes up rsp there spelled up_so) turns ordered =
+  traffic_ordered (RequestIsAnswered name to bytes up rsp there answer) turns ordered =
       ordered_marked (wire_with_reply name to up (Some rsp) wire) (fate_of_say rsp.say) name.sender name.number attempts
-      (less (traffic_fewer (RequestIsAnswered name to bytes up rsp there spelled up_so)) ordered)
+      (less (traffic_fewer (RequestIsAnswered name to bytes up rsp there answer)) ordered)
   traffic_ordered (RequestsAreSent n sends by) turns ordered = less (traffic_fewer (RequestsAreSent n sends by)) ordered
   traffic_ordered (AttemptBegins n sends attempt begun) turns ordered =
       let fewer = traffic_fewer (AttemptBegins n sends attempt begun) in

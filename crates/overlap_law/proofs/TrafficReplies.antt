@@ -106,7 +106,7 @@ module _ (hosts hosts_after : Hosts) (wire : Wire) (attempts : List AttemptRecor
       lost (Request to bytes) = removed_told Doomed name
       lost (Reply sender bytes) = answered_before (tree.remove wire name) (λ q from bytes got. (gone_before name q from bytes got).1)
   traffic_told (ReplyIsReceived name sender bytes there) fates = answered_before (tree.remove wire name) (λ q from bytes got. (gone_before name q from bytes got).1)
-  traffic_told (RequestIsAnswered name to bytes true rsp there spelled up_so) fates = record {
+  traffic_told (RequestIsAnswered name to bytes true rsp there answer) fates = record {
     each = λ j now got_now place target from reply among h.
         let later = wire_with_reply name to true (Some rsp) wire in
         let (was, at, is) = got_marked (fate_of_say rsp.say) name.sender name.number attempts j now got_now in
@@ -128,7 +128,7 @@ module _ (hosts hosts_after : Hosts) (wire : Wire) (attempts : List AttemptRecor
           let fate = fate_of_say rsp.say in
           let put = put_at wire name (Reply to (say_bytes rsp)) in
           let same_bytes : say_bytes rsp ≡ h.bytes = ap bytes_of (sym put ∙ ap (tree.get (wire_with_reply name to true (Some rsp) wire)) (sym own) ∙ h.there) in
-          let same : rsp ≡ reply = said_of rsp reply (sym spelled ∙ ap say_in same_bytes ∙ h.spelled) in
+          let same : rsp ≡ reply = said_of rsp reply (sym answer.spelled ∙ ap say_in same_bytes ∙ h.spelled) in
           let within : place < length was.fates = subst (λ (n : ℕ). place < n) (sym (fates.whole j was at)) (slice_get_within was.targets place target among) in
           let found = slice_get-get_or was.fates place Flying within in
           let flying = flies wire was place target to bytes (get_or was.fates place Flying) (ap (tree.get wire) own ∙ there)
@@ -139,7 +139,7 @@ module _ (hosts hosts_after : Hosts) (wire : Wire) (attempts : List AttemptRecor
           ∙ told_own place fate was.fates ∙ ap (option_map (known_fate fate)) (found ∙ ap (λ (f : MessageFate). Some f) flying) in
           subst (λ (r : PeerRsp). Fits (slice_get (fates_told fate name.sender name.number was) place) r.say) same
           (subst (λ (o : Option MessageFate). Fits o rsp.say) (sym fate_so) (fits_said rsp.say))
-  traffic_told (RequestIsAnswered name to bytes false rsp there spelled up_so) fates = removed_told (fate_of_say rsp.say) name
+  traffic_told (RequestIsAnswered name to bytes false rsp there answer) fates = removed_told (fate_of_say rsp.say) name
   traffic_told (RequestsAreSent n sends by) fates = record {
     each = λ j attempt there place target from reply among h.
         told.each j attempt there place target from reply among

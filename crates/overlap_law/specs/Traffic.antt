@@ -7,6 +7,7 @@ use Rattle.peer_proto.specs.declared.say.PeerRsp.{PeerRsp}
 use Rattle.peer_proto.specs.Ask.{ask_in, ask_bytes}
 use Rattle.peer_proto.specs.Say.{say_in, say_bytes}
 use Rattle.peer_proto.specs.Work.{oid_of}
+use Rattle.peer_service.specs.Serve.{reply_to}
 use Rattle.gateway.specs.Outcomes.{AreNumberedFrom}
 use Rattle.gateway.specs.declared.message.Message.{Message}
 use Rattle.gateway.specs.Work.{is_making}
@@ -53,6 +54,16 @@ pub record IsBegunBy (hosts hosts_after : Hosts) (n : ℕ) (sends : List (NodeId
   pub spelled : (place : ℕ) (target : NodeId) → slice_get attempt.targets place ≡ Some target
       → ask_in (ask_bytes (message_request_at attempt place)) ≡ Ok (message_request_at attempt place)
 
+-- the answer of the node that a request goes to, by what that node has: it can be read, and is on its way where the sender is up
+pub record IsAnswer (hosts hosts_after : Hosts) (name : MessageName) (to : NodeId) (bytes : List ℕ) (up : Bool) (rsp : PeerRsp) : Type 0 where
+  pub host : Host
+  pub there : tree.get hosts to.0 ≡ Some host
+  pub request : PeerReq
+  pub read : ask_in bytes ≡ Ok request
+  pub said : reply_to host.node.peer request ≡ rsp
+  pub spelled : say_in (say_bytes rsp) ≡ Ok rsp
+  pub up_so : up ≡ is_up_among hosts_after name.sender.0
+
 -- an attempt begins in its turn: it is of no earlier epoch than those on its object, and of a later one than those with packets
 abbrev pub IsInTurn : Wire → List AttemptRecord → AttemptRecord → Type 0
 IsInTurn wire attempts attempt =
@@ -85,9 +96,9 @@ pub data Traffic (hosts hosts_after : Hosts) (wire : Wire) (attempts : List Atte
   -- a reply is received
   ReplyIsReceived : (name : MessageName) (from : NodeId) (bytes : List ℕ) → tree.get wire name ≡ Some (Reply from bytes)
       → Traffic hosts hosts_after wire attempts (tree.remove wire name) attempts
-  -- a request is served or refused, by a reply that can be read, which is on its way where the sender is up
+  -- a request is served or refused
   RequestIsAnswered : (name : MessageName) (to : NodeId) (bytes : List ℕ) (up : Bool) (rsp : PeerRsp)
-      → tree.get wire name ≡ Some (Request to bytes) → say_in (say_bytes rsp) ≡ Ok rsp → up ≡ is_up_among hosts_after name.sender.0
+      → tree.get wire name ≡ Some (Request to bytes) → IsAnswer hosts hosts_after name to bytes up rsp
       → Traffic hosts hosts_after wire attempts (wire_with_reply name to up (Some rsp) wire)
       (attempts_with_fate (fate_of_say rsp.say) name.sender name.number attempts)
   -- a node sends what is no create or write
