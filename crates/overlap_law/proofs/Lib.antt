@@ -34,4 +34,5 @@ pub mod OpenInMoments
 pub mod ChangesKeepAttempts
 pub mod HostsInMoments
 pub mod GatewaysOfAttempts
+pub mod RunsByChanges
 pub mod TiedInRuns
