@@ -71,7 +71,7 @@ as_it_was hosts_after wire n host there = record {
 
 same_hosts : (before after : MomentWithPast) → after.world.hosts ≡ before.world.hosts → HostsStay before after
 same_hosts before after same n host there =
-    as_it_was after.world.hosts before.world.wire n host (ap (λ (hosts : Hosts). tree.get hosts n) same ∙ there)
+    as_it_was after.world.hosts before.world.wire n host (ap (λ (held : Hosts). tree.get held n) same ∙ there)
 
 -- one host is another
 one_host : (before after : MomentWithPast) (k : ℕ) (new : Host) → after.world.hosts ≡ tree.insert before.world.hosts k new
@@ -79,7 +79,7 @@ one_host : (before after : MomentWithPast) (k : ℕ) (new : Host) → after.worl
 one_host before after k new hosts own n host there = ⊎_elim
     (λ (is : n ≡ k). subst (λ (q : ℕ). HostStays after.world.hosts before.world.wire q host) (sym is) (own host (ap (tree.get before.world.hosts) (sym is) ∙ there)))
     (λ (apart : n ≢ k). as_it_was after.world.hosts before.world.wire n host
-    (ap (λ (hosts : Hosts). tree.get hosts n) hosts ∙ get-insert_other before.world.hosts k new n apart ∙ there))
+    (ap (λ (held : Hosts). tree.get held n) hosts ∙ get-insert_other before.world.hosts k new n apart ∙ there))
     (cases_eq n k)
 
 -- the same host, in which the node has sent no fewer messages
@@ -90,7 +90,7 @@ more_sends before after k old new hosts was incarnation sends = one_host before 
     let no_less : old.incarnation ≤ new.incarnation = omega (arith, incarnation) in
     subst (HostStays after.world.hosts before.world.wire k) same (record {
       now = new;
-      there = ap (λ (hosts : Hosts). tree.get hosts k) hosts ∙ get-insert_same before.world.hosts k new;
+      there = ap (λ (held : Hosts). tree.get held k) hosts ∙ get-insert_same before.world.hosts k new;
       incarnation = no_less;
       sends = sends;
       renewed = λ less. absurd (omega (arith, incarnation, less));
@@ -151,7 +151,7 @@ module _ (script : List Statement) (range : RunsAreInRange script) (start : Mome
       let same : h.host ≡ host = same_Some h.host host (sym h.there ∙ there) in
       subst (HostStays after.world.hosts before.world.wire h.n) same (record {
         now = now;
-        there = ap (λ (hosts : Hosts). tree.get hosts h.n) hosts ∙ get-insert_same before.world.hosts h.n now;
+        there = ap (λ (held : Hosts). tree.get held h.n) hosts ∙ get-insert_same before.world.hosts h.n now;
         incarnation = next;
         sends = rises;
         renewed = λ less name packet got. no_sender start.world h.n (ap not h.no_end) name packet got;
@@ -174,17 +174,17 @@ TheLostWereLost before after = (n : ℕ) (now : Host) → tree.get after.world.h
     → WasLostBefore before.world.hosts n ⊎ GetsNoReply n after.world.wire
 
 same_lost : (before after : MomentWithPast) → after.world.hosts ≡ before.world.hosts → TheLostWereLost before after
-same_lost before after same n now there lost = inl (now, ap (λ (hosts : Hosts). tree.get hosts n) (sym same) ∙ there, lost)
+same_lost before after same n now there lost = inl (now, ap (λ (held : Hosts). tree.get held n) (sym same) ∙ there, lost)
 
 one_lost : (before after : MomentWithPast) (k : ℕ) (new : Host) → after.world.hosts ≡ tree.insert before.world.hosts k new
     → (new.is_lost ≡ true → WasLostBefore before.world.hosts k ⊎ GetsNoReply k after.world.wire) → TheLostWereLost before after
 one_lost before after k new hosts own n now there lost = ⊎_elim
     (λ (is : n ≡ k).
-    let at : tree.get after.world.hosts k ≡ Some new = ap (λ (hosts : Hosts). tree.get hosts k) hosts ∙ get-insert_same before.world.hosts k new in
+    let at : tree.get after.world.hosts k ≡ Some new = ap (λ (held : Hosts). tree.get held k) hosts ∙ get-insert_same before.world.hosts k new in
     let same : new ≡ now = same_Some new now (sym at ∙ ap (tree.get after.world.hosts) (sym is) ∙ there) in
     subst (λ (q : ℕ). WasLostBefore before.world.hosts q ⊎ GetsNoReply q after.world.wire) (sym is) (own (ap (λ (h : Host). h.is_lost) same ∙ lost)))
     (λ (apart : n ≢ k).
-    inl (now, sym (ap (λ (hosts : Hosts). tree.get hosts n) hosts ∙ get-insert_other before.world.hosts k new n apart) ∙ there, lost))
+    inl (now, sym (ap (λ (held : Hosts). tree.get held n) hosts ∙ get-insert_other before.world.hosts k new n apart) ∙ there, lost))
     (cases_eq n k)
 
 -- a step leaves it as it is whether its node is lost

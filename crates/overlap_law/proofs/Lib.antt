@@ -34,5 +34,7 @@ pub mod OpenInMoments
 pub mod ChangesKeepAttempts
 pub mod HostsInMoments
 pub mod GatewaysOfAttempts
+pub mod EpochsRise
+pub mod TrafficServers
 pub mod RunsByChanges
 pub mod TiedInRuns
