@@ -65,7 +65,7 @@ same_host before after n host req work current there up got stage =
 -- where the hosts stay
 same_hosts : (before after : MomentWithPast) → after.world.hosts ≡ before.world.hosts → EachWasOpenOrBegins before after
 same_hosts before after same n host req work current there up got making stage =
-    same_host before after n host req work current (ap (λ (hosts : Hosts). tree.get hosts n) (sym same) ∙ there) up got stage
+    same_host before after n host req work current (ap (λ (held : Hosts). tree.get held n) (sym same) ∙ there) up got stage
 
 -- where one host is another
 one_host : (before after : MomentWithPast) (k : ℕ) (new : Host) → after.world.hosts ≡ tree.insert before.world.hosts k new
@@ -74,13 +74,13 @@ one_host : (before after : MomentWithPast) (k : ℕ) (new : Host) → after.worl
     → EachWasOpenOrBegins before after
 one_host before after k new hosts view n host req work current there up got making stage = ⊎_elim
     (λ (is : n ≡ k).
-    let own : tree.get after.world.hosts k ≡ Some new = ap (λ (hosts : Hosts). tree.get hosts k) hosts ∙ get-insert_same before.world.hosts k new in
+    let own : tree.get after.world.hosts k ≡ Some new = ap (λ (held : Hosts). tree.get held k) hosts ∙ get-insert_same before.world.hosts k new in
     let same : new ≡ host = same_Some new host (sym own ∙ ap (tree.get after.world.hosts) (sym is) ∙ there) in
     subst (λ (q : ℕ). WasOpenOrBegins before after q host.node req work current) (sym is)
     (subst (λ (h : Host). WasOpenOrBegins before after k h.node req work current) same
     (view req work current (ap (λ (h : Host). h.is_lost) same ∙ up) (ap (λ (h : Host). tree.get h.node.gateway.works req) same ∙ got) making stage)))
     (λ (apart : n ≢ k).
-    let old : tree.get after.world.hosts n ≡ tree.get before.world.hosts n = ap (λ (hosts : Hosts). tree.get hosts n) hosts ∙ get-insert_other before.world.hosts k new n apart in
+    let old : tree.get after.world.hosts n ≡ tree.get before.world.hosts n = ap (λ (held : Hosts). tree.get held n) hosts ∙ get-insert_other before.world.hosts k new n apart in
     same_host before after n host req work current (sym old ∙ there) up got stage)
     (cases_eq n k)
 

@@ -12,9 +12,11 @@ use Rattle.overlap_law.specs.Past.{MomentWithPast, first_moment}
 use Rattle.overlap_law.specs.MomentChanges.{MomentChange, RunsAreInRange, KeptByChanges}
 use Rattle.overlap_law.specs.TiedAttempts.{IsTied}
 use Rattle.overlap_law.proofs.ChangesKeepAttempts.{keeps_fates, keeps_told}
+use Rattle.overlap_law.proofs.EpochsRise.{epochs_rise}
 use Rattle.overlap_law.proofs.HostsInMoments.{hosts_stay, lost_were_lost}
 use Rattle.overlap_law.proofs.GatewaysOfAttempts.{there_still, incarnations_still}
 use Rattle.overlap_law.proofs.TrafficLost.{traffic_lost}
+use Rattle.overlap_law.proofs.TrafficServers.{traffic_reached}
 use Rattle.overlap_law.proofs.TrafficNumbers.{traffic_numbers}
 use Rattle.overlap_law.proofs.TrafficOfChanges.{traffic}
 
@@ -36,6 +38,7 @@ opening_tied script = record {
   };
   fates = record { whole = λ j attempt got. absurd (cc (got)); each = λ j attempt got. absurd (cc (got)) };
   told = record { each = λ j attempt got. absurd (cc (got)) };
+  reached = record { each = λ j attempt got. absurd (cc (got)) };
 }
 
 module _ (script : List Statement) (range : RunsAreInRange script) where
@@ -53,6 +56,8 @@ module _ (script : List Statement) (range : RunsAreInRange script) where
         (hosts_stay script range start began change) (traffic script range start began change);
     fates = keeps_fates script range start before after began change tied.incarnations tied.fates;
     told = keeps_told script range start before after began change tied.incarnations tied.fates tied.told;
+    reached = traffic_reached before.world.hosts after.world.hosts before.world.wire before.past.attempts (epochs_rise script range start began change) tied.reached
+        tied.fates (traffic script range start began change);
   }
 
   pub kept_tied : KeptByChanges script IsTied

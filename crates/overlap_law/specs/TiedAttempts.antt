@@ -8,13 +8,14 @@ use Rattle.overlap_law.specs.Past.{MomentWithPast}
 use Rattle.overlap_law.specs.Each.{EachAttempt}
 use Rattle.overlap_law.specs.Packets.{Wire}
 use Rattle.overlap_law.specs.Flight.{NumbersAreSent, NoReplyGoesToTheLost, FatesAreTold}
-use Rattle.overlap_law.specs.Fates.{FatesAreOfTheWire, AttemptsAreOfIncarnations}
+use Rattle.overlap_law.specs.Fates.{FatesAreOfTheWire, AttemptsAreOfIncarnations, ServersReachedTheEpoch}
 
 -- the gateway of each attempt has a host
 pub record GatewaysAreThere (hosts : Hosts) (attempts : List AttemptRecord) : Type 0 where
   pub each : EachAttempt attempts (λ j attempt. (host : Host) × (tree.get hosts attempt.gateway.0 ≡ Some host))
 
--- the attempts go with the hosts of their gateways, and with the wire: its numbers were given by their senders, and none of the lost gets a reply
+-- the attempts go with the hosts of their gateways and of those that served them, and with the wire: its numbers were given by their
+-- senders, and none of the lost gets a reply
 pub record AttemptsAreTied (hosts : Hosts) (wire : Wire) (attempts : List AttemptRecord) : Type 0 where
   pub numbers : NumbersAreSent hosts wire
   pub no_reply_to_lost : NoReplyGoesToTheLost hosts wire
@@ -22,6 +23,7 @@ pub record AttemptsAreTied (hosts : Hosts) (wire : Wire) (attempts : List Attemp
   pub incarnations : AttemptsAreOfIncarnations hosts wire attempts
   pub fates : FatesAreOfTheWire wire attempts
   pub told : FatesAreTold wire attempts
+  pub reached : ServersReachedTheEpoch hosts attempts
 
 -- those of a moment do
 abbrev pub IsTied : MomentWithPast → Type 0

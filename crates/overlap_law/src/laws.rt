@@ -119,9 +119,9 @@ pub fn each_change_is_of_a_kind_of_traffic()
 {}
 
 /// The wire and the attempts stay tied: each number in the wire was given by its sender, no reply goes to a lost node, a message of an
-/// attempt flies exactly while its request is in the wire, a reply to it says success exactly where its target served it, and the attempts
-/// go with the incarnations of their gateways. So it is when a script opens, each change of a moment and each event keeps it, and so it is
-/// in each run in range.
+/// attempt flies exactly while its request is in the wire, a reply to it says success exactly where its target served it, who served it
+/// came to its epoch, and the attempts go with the incarnations of their gateways. So it is when a script opens, each change of a moment
+/// and each event keeps it, and so it is in each run in range.
 pub fn the_wire_and_the_attempts_stay_tied()
     ensures opening { (script : List Statement) → IsTied (first_moment script) }
     ensures change { (script : List Statement) (start before after : MomentWithPast) → RunsAreInRange script → Began script start.world
