@@ -20,9 +20,8 @@ use Rattle.overlap_law.specs.Flight.{FatesAreTold}
 use Rattle.overlap_law.specs.OpenWorks.{IsTheSame, IsLast, OpenAttemptsAreLatest}
 use Rattle.overlap_law.specs.StepMoments.{attempts_with_loss}
 use Rattle.overlap_law.specs.MomentChanges.{MomentChange, RunsAreInRange}
-use Rattle.overlap_law.specs.Traffic.{BeginsInTurn, OpenAttemptsHaveMessages, Traffic, NothingMoves, MessageIsLost, ReplyIsReceived, RequestIsAnswered, RequestsAreSent, AttemptBegins, RepliesGo}
+use Rattle.overlap_law.specs.Traffic.{WasOpen, BeginsInTurn, OpenAttemptsHaveMessages, Traffic, NothingMoves, MessageIsLost, ReplyIsReceived, RequestIsAnswered, RequestsAreSent, AttemptBegins, RepliesGo}
 use Rattle.overlap_law.proofs.AttemptLists.{got_more, got_still, got_last, got_marked, marked_shape, fates_told}
-use Rattle.overlap_law.proofs.OpenAttempts.{WasOpen}
 use Rattle.overlap_law.proofs.OpenInMoments.{open_or_begins}
 use Rattle.overlap_law.proofs.TrafficFates.{traffic_fates}
 use Rattle.overlap_law.proofs.TrafficOfChanges.{traffic}
@@ -122,7 +121,8 @@ module _ (script : List Statement) (range : RunsAreInRange script) (start before
         let was_making : is_making w.was.work ≡ true = ap is_making (sym w.work_so) ∙ making in
         let (j, attempt, last, opened) = latest.each n old was_there was_up req w.was w.before w.there was_making w.stage in
         let (fates, still) = still_last before.world.hosts after.world.hosts before.world.wire after.world.wire before.past.attempts after.past.attempts (traffic script range start began change) j attempt last
-        (λ new is same. begins.alone new is n old was_there was_up req w.was w.before w.there was_making w.stage (same ∙ ap oid_of opened.same.work)) in
+        (λ new is same.
+        begins.alone new is n host there up old req work current was_there got making stage w (same ∙ ap oid_of (opened.same.work ∙ sym w.work_so))) in
         (j, record attempt { fates = fates }, still,
         record { there = got; making = making; stage = stage; same = same_still old.node host.node req work current attempt fates me w opened.same }))
         (λ begun.

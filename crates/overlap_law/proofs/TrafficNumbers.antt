@@ -35,7 +35,8 @@ module _ (hosts hosts_after : Hosts) (wire : Wire) (attempts : List AttemptRecor
       by_host (Some host) is below =
           let s = stay name.sender.0 host is in
           let more : host.node.sends ≤ s.now.node.sends = s.sends in
-          let still : name.number < s.now.node.sends = omega (arith, below, more) in
+          let low : name.number < host.node.sends = below in
+          let still : name.number < s.now.node.sends = omega (arith, low, more) in
           subst (IsNumberGiven name.number) (sym s.there) still
 
   given_if_sent : (n : ℕ) (sends : List (NodeId × PeerReq)) → AreSentBy hosts hosts_after n sends → (name : MessageName) (packet : Packet)

@@ -1,5 +1,6 @@
 -- What a change of a moment makes of the wire and the attempts, in seven kinds: what is said of these two alone is kept by each kind.
 use Rattle.std.specs.Prelude.{◌≡◌, ◌≢◌, ℕ, ◌+◌, Bool, true, List, [], ◌∷◌, ◌++◌, fold, length, slice_get, Contains, Some, Ok}
+use Rattle.std.specs.Ordering.{nat_cmp}
 use Rattle.std.specs.FinMap as tree
 use Rattle.object_id.specs.declared.node.NodeId.{NodeId}
 use Rattle.peer_proto.specs.declared.ask.PeerReq.{PeerReq}
@@ -21,7 +22,7 @@ use Rattle.sheep_world.specs.World.{Host}
 use Rattle.sheep_world.specs.Messages.{wire_with_reply}
 use Rattle.sheep_world.specs.NodeSteps.{wire_with_request}
 use Rattle.sheep_world.specs.NodeCauses.{is_up_among}
-use Rattle.overlap_law.specs.Attempts.{AttemptRecord, MessageFate, Flying, attempts_with_fate, fate_of_say, object_of}
+use Rattle.overlap_law.specs.Attempts.{AttemptRecord, MessageFate, Flying, attempts_with_fate, fate_of_say, receivers, object_of}
 use Rattle.overlap_law.specs.Reached.{Hosts}
 use Rattle.overlap_law.specs.Each.{EachUp, EachAttempt}
 use Rattle.overlap_law.specs.Packets.{Wire, message_request_at}
@@ -69,18 +70,30 @@ abbrev pub IsInTurn : Wire → List AttemptRecord → AttemptRecord → Type 0
 IsInTurn wire attempts attempt =
     EachAttempt attempts (λ j other. object_of other ≡ object_of attempt → AreInOrder wire other attempt)
 
--- no create or write is open on the object of an attempt
-abbrev pub IsAlone : Hosts → AttemptRecord → Type 0
-IsAlone hosts attempt = EachUp hosts (λ n node. (req : ℕ) (work : Work) (current : gateways.Attempt)
-    → tree.get node.gateway.works req ≡ Some work → is_making work.work ≡ true → work.stage ≡ Open current
-    → object_of attempt ≢ oid_of work.work)
+-- an open attempt of a request was open before among these works, of the same work, epoch, targets and numbers
+pub record WasOpen (old : tree.FinMap nat_cmp Work) (req : ℕ) (work : Work) (current : gateways.Attempt) : Type 0 where
+  pub was : Work
+  pub before : gateways.Attempt
+  pub there : tree.get old req ≡ Some was
+  pub stage : was.stage ≡ Open before
+  pub work_so : work.work ≡ was.work
+  pub epoch_so : current.epoch ≡ before.epoch
+  pub targets_so : receivers current.messages ≡ receivers before.messages
+  pub numbers_so : (place : ℕ) (message : Message) → slice_get current.messages place ≡ Some message
+      → (m : Message) × (slice_get before.messages place ≡ Some m) × (message.number ≡ m.number)
+
+-- no create or write that was open and still is, is on the object of an attempt
+abbrev pub IsAlone : Hosts → Hosts → AttemptRecord → Type 0
+IsAlone hosts hosts_after attempt = EachUp hosts_after (λ n node. (old : Host) (req : ℕ) (work : Work) (current : gateways.Attempt)
+    → tree.get hosts n ≡ Some old → tree.get node.gateway.works req ≡ Some work → is_making work.work ≡ true → work.stage ≡ Open current
+    → WasOpen old.node.gateway.works req work current → object_of attempt ≢ oid_of work.work)
 
 -- an attempt that begins between two moments does so in its turn, and alone: it is owed by the group of writers
 pub record BeginsInTurn (before after : MomentWithPast) : Type 0 where
   pub in_turn : (attempt : AttemptRecord) → after.past.attempts ≡ before.past.attempts ++ attempt ∷ []
       → IsInTurn before.world.wire before.past.attempts attempt
   pub alone : (attempt : AttemptRecord) → after.past.attempts ≡ before.past.attempts ++ attempt ∷ []
-      → IsAlone before.world.hosts attempt
+      → IsAlone before.world.hosts after.world.hosts attempt
 
 -- each open create or write has a message
 pub record OpenAttemptsHaveMessages (hosts : Hosts) : Type 0 where
