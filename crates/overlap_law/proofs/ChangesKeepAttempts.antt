@@ -1,8 +1,9 @@
 -- Each change of a moment keeps the fates, what is told of them, the order of the attempts, and that open ones are the latest.
-use Rattle.std.proofs.Common.{◌≡◌, ◌≢◌, arith, ℕ, true, List, [], ◌∷◌, ◌++◌, length, option_map, Some, slice_get, ⊎_elim, refl, sym, ap, subst, ◌∙◌}
+use Rattle.std.proofs.Common.{◌≡◌, ◌≢◌, arith, ℕ, true, List, [], ◌∷◌, ◌++◌, length, option_map, Some, slice_get, ⊎_elim, sym, ap, subst, ◌∙◌}
 use Rattle.std.proofs.lemmas.Option.{slice_get-map, slice_get_within}
 use Rattle.object_id.specs.declared.node.NodeId.{NodeId}
 use Rattle.cluster_script.specs.declared.statement.Statement.{Statement}
+use Rattle.peer_proto.specs.declared.ask.PeerReq.{PeerReq}
 use Rattle.peer_proto.specs.Work.{oid_of}
 use Rattle.message_wire.specs.declared.packet.Packet.{Packet}
 use Rattle.message_wire.specs.declared.packet.Packet.TheVariants.{Request, Reply}
@@ -18,10 +19,14 @@ use Rattle.overlap_law.specs.Packets.{Wire}
 use Rattle.overlap_law.specs.Fates.{FatesAreOfTheWire, AttemptsAreOfIncarnations, AttemptsAreOrdered}
 use Rattle.overlap_law.specs.Flight.{FatesAreTold}
 use Rattle.overlap_law.specs.OpenWorks.{IsTheSame, IsLast, OpenAttemptsAreLatest}
+use Rattle.overlap_law.specs.Sessions.{WorksAreApart}
+use Rattle.overlap_law.specs.Writers.{OnlyTheWriterWrites}
 use Rattle.overlap_law.specs.StepMoments.{attempts_with_loss}
 use Rattle.overlap_law.specs.MomentChanges.{MomentChange, RunsAreInRange}
-use Rattle.overlap_law.specs.Traffic.{WasOpen, BeginsInTurn, OpenAttemptsHaveMessages, Traffic, NothingMoves, MessageIsLost, ReplyIsReceived, RequestIsAnswered, RequestsAreSent, AttemptBegins, RepliesGo}
+use Rattle.overlap_law.specs.Traffic.{IsBegunBy, BeginsInTurn, OpenAttemptsHaveMessages, Traffic, NothingMoves, MessageIsLost, ReplyIsReceived, RequestIsAnswered, RequestsAreSent, AttemptBegins, RepliesGo}
 use Rattle.overlap_law.proofs.AttemptLists.{got_more, got_still, got_last, got_marked, marked_shape, fates_told}
+use Rattle.overlap_law.proofs.BegunAlone.{begins_alone}
+use Rattle.overlap_law.proofs.OpenAttempts.{WasOpen}
 use Rattle.overlap_law.proofs.OpenInMoments.{open_or_begins}
 use Rattle.overlap_law.proofs.TrafficFates.{traffic_fates}
 use Rattle.overlap_law.proofs.TrafficOfChanges.{traffic}
@@ -49,7 +54,8 @@ last_marked told sender number attempts j attempt last = (
 )
 
 still_last : (hosts hosts_after : Hosts) (wire later : Wire) (attempts after : List AttemptRecord) → Traffic hosts hosts_after wire attempts later after → (j : ℕ) (attempt : AttemptRecord) → IsLast attempts j attempt
-    → ((new : AttemptRecord) → after ≡ attempts ++ new ∷ [] → object_of new ≢ object_of attempt) → StillLast after j attempt
+    → ((k : ℕ) (sends : List (NodeId × PeerReq)) (new : AttemptRecord) → IsBegunBy hosts hosts_after k sends new → object_of new ≢ object_of attempt)
+    → StillLast after j attempt
 still_last hosts hosts_after wire later attempts after NothingMoves j attempt last apart = (attempt.fates, last)
 still_last hosts hosts_after wire later attempts after (MessageIsLost name packet there) j attempt last apart = by_packet packet
   where
@@ -66,7 +72,7 @@ still_last hosts hosts_after wire later attempts after (AttemptBegins n sends ne
     there = got_still attempts new j attempt last.there;
     last = λ k other got same. ⊎_elim
         (λ (old : slice_get attempts k ≡ Some other). last.last k other old same)
-        (λ (own : (k ≡ length attempts) × (new ≡ other)). absurd (apart new refl (ap object_of own.1 ∙ same)))
+        (λ (own : (k ≡ length attempts) × (new ≡ other)). absurd (apart n sends new begun (ap object_of own.1 ∙ same)))
         (got_more attempts new k other got);
   },
 )
@@ -112,17 +118,31 @@ module _ (script : List Statement) (range : RunsAreInRange script) (start before
   keeps_ordered of_incarnations begins ordered =
       traffic_ordered before.world.hosts after.world.hosts before.world.wire before.past.attempts of_incarnations (traffic script range start began change) begins.in_turn ordered
 
-  pub keeps_latest : BeginsInTurn before after → OpenAttemptsHaveMessages after.world.hosts
+  pub keeps_latest : AttemptsAreOfIncarnations before.world.hosts before.world.wire before.past.attempts → OpenAttemptsHaveMessages after.world.hosts
+      → WorksAreApart after.world.hosts → OnlyTheWriterWrites after.world.log after.world.hosts after.past.attempts
       → OpenAttemptsAreLatest before.world.hosts before.past.attempts → OpenAttemptsAreLatest after.world.hosts after.past.attempts
-  keeps_latest begins have latest = record {
+  keeps_latest of_incarnations have works_apart writes latest = record {
     each = λ n host there up req work current got making stage. ⊎_elim
         (λ kept.
         let (old, was_there, was_up, me, w) = kept in
         let was_making : is_making w.was.work ≡ true = ap is_making (sym w.work_so) ∙ making in
         let (j, attempt, last, opened) = latest.each n old was_there was_up req w.was w.before w.there was_making w.stage in
         let (fates, still) = still_last before.world.hosts after.world.hosts before.world.wire after.world.wire before.past.attempts after.past.attempts (traffic script range start began change) j attempt last
-        (λ new is same.
-        begins.alone new is n host there up old req work current was_there got making stage w (same ∙ ap oid_of (opened.same.work ∙ sym w.work_so))) in
+        (λ k sends new begun same.
+        begins_alone after.world.log before.world.hosts after.world.hosts before.world.wire before.past.attempts after.past.attempts of_incarnations have works_apart writes
+        n req work current
+        (record {
+          now = record { host = host; there = there; up = up; got = got; making = making; stage = stage };
+          old = old;
+          was_there = was_there;
+          me = me;
+          was_open = w;
+          place = j;
+          attempt = attempt;
+          found = last.there;
+          same = opened.same;
+        })
+        k sends new begun (same ∙ ap oid_of (opened.same.work ∙ sym w.work_so))) in
         (j, record attempt { fates = fates }, still,
         record { there = got; making = making; stage = stage; same = same_still old.node host.node req work current attempt fates me w opened.same }))
         (λ begun.

@@ -40,6 +40,7 @@ told_below script world n host WorkIsRetried so ready number status told = absur
 
 -- what holds of a step in a world of a run, and what it sends
 pub record IsKnownStep (script : List Statement) (world : World) (stepping : SteppingNode) : Type 0 where
+  pub up : is_host_up stepping.host ≡ true
   pub ready : IsReady script world stepping.n stepping.host
   pub sound : IsSoundStep (input_of_cause stepping.cause) stepping.host.node
   pub given : ToldIsBelow (input_of_cause stepping.cause) stepping.host.node.sends
@@ -66,6 +67,7 @@ module _ (script : List Statement) (range : RunsAreInRange script) (world : Worl
   known_step stepping is =
       let ready = is_ready script world together stepping.n stepping.host is.there is.up in
       record {
+        up = is.up;
         ready = ready;
         sound = sound_step script world stepping.n stepping.host stepping.cause is.caused ready;
         given = told_below script world stepping.n stepping.host stepping.cause is.caused ready;

@@ -31,6 +31,7 @@ pub mod OpeningTraffic
 pub mod TrafficOfChanges
 pub mod OpenAttempts
 pub mod OpenInMoments
+pub mod BegunAlone
 pub mod ChangesKeepAttempts
 pub mod HostsInMoments
 pub mod GatewaysOfAttempts

@@ -35,10 +35,21 @@ use Rattle.sheep_world.specs.NodeCauses.{host_with_node}
 use Rattle.overlap_law.specs.Attempts.{AttemptRecord, receivers, is_first, beginning, beginning_with}
 use Rattle.overlap_law.specs.OpenWorks.{IsTheSame}
 use Rattle.overlap_law.specs.StepMoments.{attempts_of_change}
-use Rattle.overlap_law.specs.Traffic.{WasOpen}
 use Rattle.overlap_law.proofs.AttemptLists.{got_map}
 use Rattle.overlap_law.proofs.MarkedMessages.{number-marked, receivers-marked}
 use Rattle.overlap_law.proofs.AttemptMessages.{message_at_place, targets-of_making}
+
+-- an open attempt was open before, of the same work, epoch, targets and numbers
+pub record WasOpen (old : Works) (req : ℕ) (work : Work) (current : gateways.Attempt) : Type 0 where
+  pub was : Work
+  pub before : gateways.Attempt
+  pub there : tree.get old req ≡ Some was
+  pub stage : was.stage ≡ Open before
+  pub work_so : work.work ≡ was.work
+  pub epoch_so : current.epoch ≡ before.epoch
+  pub targets_so : receivers current.messages ≡ receivers before.messages
+  pub numbers_so : (place : ℕ) (message : Message) → slice_get current.messages place ≡ Some message
+      → (m : Message) × (slice_get before.messages place ≡ Some m) × (message.number ≡ m.number)
 
 -- what is as it was, was open
 pub same_open : (old : Works) (req : ℕ) (work : Work) (current : gateways.Attempt) → tree.get old req ≡ Some work → work.stage ≡ Open current
@@ -107,7 +118,7 @@ next_fewer so_far session req asked lined (AgainAlone work from next there none)
 
 -- ---- what is open
 
-open_of : (one other : gateways.Attempt) → Open one ≡ Open other → one ≡ other
+pub open_of : (one other : gateways.Attempt) → Open one ≡ Open other → one ≡ other
 open_of one other is = ap attempt_open is
   where
     attempt_open : WorkStage → gateways.Attempt

@@ -39,9 +39,9 @@ use Rattle.overlap_law.specs.OpenWorks.{IsTheSame}
 use Rattle.overlap_law.specs.StepMoments.{SteppingNode, IsStepping, StepsByChanges, StepsAtOnce, first_in_step, last_in_step, IsWithinStep, moment_in_step}
 use Rattle.overlap_law.specs.MomentChanges as moments
 use Rattle.overlap_law.specs.MomentChanges.{MomentChange, RunsAreInRange}
-use Rattle.overlap_law.specs.Traffic.{WasOpen, OpenAttemptsHaveMessages}
+use Rattle.overlap_law.specs.Traffic.{OpenAttemptsHaveMessages}
 use Rattle.overlap_law.proofs.AttemptsInSteps.{attempts-grow}
-use Rattle.overlap_law.proofs.OpenAttempts.{same_open, change_opens}
+use Rattle.overlap_law.proofs.OpenAttempts.{WasOpen, same_open, change_opens}
 use Rattle.overlap_law.proofs.KnownSteps.{known_step}
 use Rattle.overlap_law.proofs.OpeningTraffic.{me_so_far}
 

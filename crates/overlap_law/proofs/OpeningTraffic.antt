@@ -1,8 +1,9 @@
 -- The traffic of an attempt that opens: its messages are sent, and where it creates or writes, an attempt begins.
-use Rattle.std.proofs.Common.{◌≡◌, arith, ℕ, ◌+◌, ◌&&◌, Bool, true, false, cond, List, [], ◌++◌, fold, map, length, Contains, Option, Some, None, Ok, option_map, slice_get, refl, sym, ap, subst, ◌∙◌, append-nil}
+use Rattle.std.proofs.Common.{◌≡◌, arith, ℕ, ◌+◌, ◌&&◌, Bool, true, false, not, cond, List, [], ◌++◌, fold, map, length, Contains, Option, Some, None, Ok, option_map, slice_get, refl, sym, ap, subst, ◌∙◌, append-nil}
 use Rattle.std.specs.List.{enumerate_from}
 use Rattle.std.specs.Option.{option_to_list}
 use Rattle.std.specs.FinMap as tree
+use Rattle.std.proofs.lemmas.Bool.{and_parts, not-true}
 use Rattle.std.proofs.lemmas.List.{length-map}
 use Rattle.std.proofs.lemmas.List.Elements.{Contains-append_left}
 use Rattle.proof_tools.proofs.FiniteMaps.{get-insert_same}
@@ -26,6 +27,7 @@ use Rattle.gateway.specs.State.{Work, Open}
 use Rattle.gateway.proofs.SendLaws.{sends-numbers}
 use Rattle.sheep_node.specs.declared.course.Request.{Request}
 use Rattle.sheep_node.specs.declared.input.Input.{Input}
+use Rattle.sheep_node.specs.May.{has_numbers}
 use Rattle.sheep_node.specs.StepState.{StepState}
 use Rattle.sheep_node.specs.Changes.{attempt_in, with_open_attempt, WorkIsNext}
 use Rattle.sheep_node.proofs.NumberChanges.{comes_numbered, both_in_chain}
@@ -36,6 +38,7 @@ use Rattle.sheep_world.specs.NodeSteps.{wire_with_request}
 use Rattle.sheep_world.specs.NodeCauses.{input_of_cause, host_with_node}
 use Rattle.overlap_law.specs.Attempts.{AttemptRecord, Flying, is_first, beginning, beginning_with}
 use Rattle.overlap_law.specs.Packets.{Wire, message_request_at}
+use Rattle.overlap_law.specs.OpenWorks.{IsOpenAs}
 use Rattle.overlap_law.specs.StepMoments.{SteppingNode, first_in_step, last_in_step, LeadsInStep, hosts_in_step}
 use Rattle.overlap_law.specs.Traffic as kinds
 use Rattle.overlap_law.specs.Traffic.{AreSentBy, IsBegunBy, Traffic}
@@ -136,6 +139,21 @@ module _ (script : List Statement) (world : World) (stepping : SteppingNode) (kn
             }))
             (Contains-map (send_of lined.node.gateway.me epoch work) current.messages message (contains_at current.messages place message found))
 
+        numbered : (place : ℕ) (message : Message) → slice_get current.messages place ≡ Some message → message.number ≡ lined.node.sends + place
+        numbered place message got =
+            (message_at_place work lined.node.sends 0 targets place message
+            (ap (λ (places : List (ℕ × NodeId)). slice_get (map (message_for work) (enumerate_from lined.node.sends places)) place)
+            (sym (targets-of_making work asked.ended targets making)) ∙ got)).number_so
+
+        -- its gateway has it open
+        opened_so : IsOpenAs opened.node req (record asked { stage = Open current }) current attempt
+        opened_so = record {
+          there = get-insert_same lined.node.gateway.works req (record asked { stage = Open current });
+          making = making;
+          stage = refl;
+          same = record { gateway = refl; request = refl; work = refl; epoch = refl; targets = refl; numbers = numbered };
+        }
+
         begun_by_sends : IsBegunBy (hosts_in_step stepping world so_far) (hosts_in_step stepping world opened) stepping.n sends attempt
         unfolding sent_by_node
         begun_by_sends = record {
@@ -149,6 +167,10 @@ module _ (script : List Statement) (world : World) (stepping : SteppingNode) (kn
           flying = λ place fate got. let (message, found, is) = got_map (λ (message : Message). Flying) current.messages place fate got in sym is;
           asks = asks_so;
           spelled = λ place target among. (readable (target, message_request_at attempt place) (asks_so place target among)).1;
+          up = not-true stepping.host.is_lost (and_parts (not stepping.host.is_lost) (has_numbers stepping.host.node) known.up).0;
+          work = record asked { stage = Open current };
+          current = current;
+          opened = opened_so;
         }
 
       pub opening_traffic : (wire : Wire) (attempts : List AttemptRecord)

@@ -1,13 +1,11 @@
 -- What a change of a moment makes of the wire and the attempts, in seven kinds: what is said of these two alone is kept by each kind.
-use Rattle.std.specs.Prelude.{◌≡◌, ◌≢◌, ℕ, ◌+◌, Bool, true, List, [], ◌∷◌, ◌++◌, fold, length, slice_get, Contains, Some, Ok}
-use Rattle.std.specs.Ordering.{nat_cmp}
+use Rattle.std.specs.Prelude.{◌≡◌, ℕ, ◌+◌, Bool, true, false, List, [], ◌∷◌, ◌++◌, fold, length, slice_get, Contains, Some, Ok}
 use Rattle.std.specs.FinMap as tree
 use Rattle.object_id.specs.declared.node.NodeId.{NodeId}
 use Rattle.peer_proto.specs.declared.ask.PeerReq.{PeerReq}
 use Rattle.peer_proto.specs.declared.say.PeerRsp.{PeerRsp}
 use Rattle.peer_proto.specs.Ask.{ask_in, ask_bytes}
 use Rattle.peer_proto.specs.Say.{say_in, say_bytes}
-use Rattle.peer_proto.specs.Work.{oid_of}
 use Rattle.peer_service.specs.Serve.{reply_to}
 use Rattle.gateway.specs.Outcomes.{AreNumberedFrom}
 use Rattle.gateway.specs.declared.message.Message.{Message}
@@ -22,11 +20,12 @@ use Rattle.sheep_world.specs.World.{Host}
 use Rattle.sheep_world.specs.Messages.{wire_with_reply}
 use Rattle.sheep_world.specs.NodeSteps.{wire_with_request}
 use Rattle.sheep_world.specs.NodeCauses.{is_up_among}
-use Rattle.overlap_law.specs.Attempts.{AttemptRecord, MessageFate, Flying, attempts_with_fate, fate_of_say, receivers, object_of}
+use Rattle.overlap_law.specs.Attempts.{AttemptRecord, MessageFate, Flying, attempts_with_fate, fate_of_say, object_of}
 use Rattle.overlap_law.specs.Reached.{Hosts}
 use Rattle.overlap_law.specs.Each.{EachUp, EachAttempt}
 use Rattle.overlap_law.specs.Packets.{Wire, message_request_at}
 use Rattle.overlap_law.specs.Fates.{AreInOrder}
+use Rattle.overlap_law.specs.OpenWorks.{IsOpenAs}
 use Rattle.overlap_law.specs.Past.{MomentWithPast}
 use Rattle.overlap_law.specs.StepMoments.{attempts_with_loss}
 
@@ -41,7 +40,7 @@ pub record AreSentBy (hosts hosts_after : Hosts) (n : ℕ) (sends : List (NodeId
   pub stays : after.incarnation ≡ host.incarnation
   pub counted : after.node.sends ≡ host.node.sends + length sends
 
--- an attempt begins by these sends: all its messages fly, and can be read
+-- an attempt begins by these sends: all its messages fly, and can be read; and its gateway, which is up, has it open then
 pub record IsBegunBy (hosts hosts_after : Hosts) (n : ℕ) (sends : List (NodeId × PeerReq)) (attempt : AttemptRecord) : Type 0 where
   pub sent_by : AreSentBy hosts hosts_after n sends
   pub gateway : attempt.gateway.0 ≡ n
@@ -54,6 +53,10 @@ pub record IsBegunBy (hosts hosts_after : Hosts) (n : ℕ) (sends : List (NodeId
       → Contains sends (target, message_request_at attempt place)
   pub spelled : (place : ℕ) (target : NodeId) → slice_get attempt.targets place ≡ Some target
       → ask_in (ask_bytes (message_request_at attempt place)) ≡ Ok (message_request_at attempt place)
+  pub up : sent_by.after.is_lost ≡ false
+  pub work : Work
+  pub current : gateways.Attempt
+  pub opened : IsOpenAs sent_by.after.node attempt.req work current attempt
 
 -- the answer of the node that a request goes to, by what that node has: it can be read, and is on its way where the sender is up
 pub record IsAnswer (hosts hosts_after : Hosts) (name : MessageName) (to : NodeId) (bytes : List ℕ) (up : Bool) (rsp : PeerRsp) : Type 0 where
@@ -70,30 +73,10 @@ abbrev pub IsInTurn : Wire → List AttemptRecord → AttemptRecord → Type 0
 IsInTurn wire attempts attempt =
     EachAttempt attempts (λ j other. object_of other ≡ object_of attempt → AreInOrder wire other attempt)
 
--- an open attempt of a request was open before among these works, of the same work, epoch, targets and numbers
-pub record WasOpen (old : tree.FinMap nat_cmp Work) (req : ℕ) (work : Work) (current : gateways.Attempt) : Type 0 where
-  pub was : Work
-  pub before : gateways.Attempt
-  pub there : tree.get old req ≡ Some was
-  pub stage : was.stage ≡ Open before
-  pub work_so : work.work ≡ was.work
-  pub epoch_so : current.epoch ≡ before.epoch
-  pub targets_so : receivers current.messages ≡ receivers before.messages
-  pub numbers_so : (place : ℕ) (message : Message) → slice_get current.messages place ≡ Some message
-      → (m : Message) × (slice_get before.messages place ≡ Some m) × (message.number ≡ m.number)
-
--- no create or write that was open and still is, is on the object of an attempt
-abbrev pub IsAlone : Hosts → Hosts → AttemptRecord → Type 0
-IsAlone hosts hosts_after attempt = EachUp hosts_after (λ n node. (old : Host) (req : ℕ) (work : Work) (current : gateways.Attempt)
-    → tree.get hosts n ≡ Some old → tree.get node.gateway.works req ≡ Some work → is_making work.work ≡ true → work.stage ≡ Open current
-    → WasOpen old.node.gateway.works req work current → object_of attempt ≢ oid_of work.work)
-
--- an attempt that begins between two moments does so in its turn, and alone: it is owed by the group of writers
+-- an attempt that begins between two moments does so in its turn: it is owed by the group of writers
 pub record BeginsInTurn (before after : MomentWithPast) : Type 0 where
   pub in_turn : (attempt : AttemptRecord) → after.past.attempts ≡ before.past.attempts ++ attempt ∷ []
       → IsInTurn before.world.wire before.past.attempts attempt
-  pub alone : (attempt : AttemptRecord) → after.past.attempts ≡ before.past.attempts ++ attempt ∷ []
-      → IsAlone before.world.hosts after.world.hosts attempt
 
 -- each open create or write has a message
 pub record OpenAttemptsHaveMessages (hosts : Hosts) : Type 0 where
