@@ -130,8 +130,8 @@ module _ (host : Host) (req : ℕ) (asked : Work) (lined : StepState)
       = ap (λ (ps : List (ℕ × NodeId)). list_any (is_awaited_message first) (map (message_for asked.work) (enumerate_from first ps))) is
       ∙ ap (λ (b : Bool). cond b true false || rest) (eq-eqb first first refl) in
       let later = filter_map-none (attempt_begun_with (host_with_node host then)) (first + 1)
-          (length (map (send_of lined.node.gateway.me epoch asked.work) (map (message_for asked.work) (enumerate_from (first + 1) ps))))
-          (λ k from below. later_none k (omega (arith, from))) in
+      (length (map (send_of lined.node.gateway.me epoch asked.work) (map (message_for asked.work) (enumerate_from (first + 1) ps))))
+      (λ k from below. later_none k (omega (arith, from))) in
       (λ i. cons_option (first_begun awaits i) (later i))
       ∙ one_of (beginning_with (host_with_node host then) first req asked.work stage)
       ∙ ap (λ (ps : List (ℕ × NodeId)). option_to_list (beginning_with (host_with_node host lined.node) first req asked.work (Open (attempt_with ps)))) is
@@ -170,14 +170,17 @@ module _ (input : Input) (host : Host) (sound : IsSoundStep input host.node) (gi
       = awaited-marked number status k apart attempt.messages
       ∙ sym (ap (λ (stage : WorkStage). list_any (is_awaited_message k) (open_messages stage)) learns.open_so) in
       let began = begins-marked number status host k so_far.node req work.work attempt
-          ∙ ap (λ (stage : WorkStage). beginning_with (host_with_node host so_far.node) k req work.work stage) (sym learns.open_so) in
+      ∙ ap (λ (stage : WorkStage). beginning_with (host_with_node host so_far.node) k req work.work stage) (sym learns.open_so) in
       record {
         forth = λ q other got awaits. ⊎_elim
             (λ (own : q ≡ req).
-            let same : other ≡ work = same_Some other work (sym got ∙ ap (tree.get works) own ∙ learns.there) in
-            (now, ap (tree.get (tree.insert works req now)) own ∙ get-insert_same works req now, marked_so ∙ ap (is_awaited_in k) (sym same) ∙ awaits,
-            (λ i. beginning_with (host_with_node host so_far.node) k (own i) now.work now.stage) ∙ began
-            ∙ (λ i. beginning_with (host_with_node host so_far.node) k (sym own i) (sym same i).work (sym same i).stage)))
+            let same : other ≡ work = same_Some other work (sym got ∙ ap (tree.get works) own ∙ learns.there) in (
+              now,
+              ap (tree.get (tree.insert works req now)) own ∙ get-insert_same works req now,
+              marked_so ∙ ap (is_awaited_in k) (sym same) ∙ awaits,
+              (λ i. beginning_with (host_with_node host so_far.node) k (own i) now.work now.stage) ∙ began
+                  ∙ (λ i. beginning_with (host_with_node host so_far.node) k (sym own i) (sym same i).work (sym same i).stage),
+            ))
             (λ (apart_too : q ≢ req). (other, get-insert_other works req now q apart_too ∙ got, awaits, refl))
             (cases_eq q req);
         back = λ q later got awaits. ⊎_elim
@@ -268,7 +271,7 @@ module _ (input : Input) (host : Host) (sound : IsSoundStep input host.node) (gi
       (ended_differs low so_far.node.sends req so_far session reply moved (steps_differ low so_far.node.sends req sound given so_far session (ToReply reply) moved steps both.0))
   change_begins so_far next (changes.Arrives session req ask disk arrival on) both above after =
       let d = course_differs low so_far.node.sends req session (Waiting ask) so_far
-          (awaits_none-idle low so_far.node.sends req so_far both.0 (ap may_work_at (arrival.none sound))) in
+      (awaits_none-idle low so_far.node.sends req so_far both.0 (ap may_work_at (arrival.none sound))) in
       none_begins so_far next req after refl
       (record { me_so = d.me_so; works_so = d.works_so; sessions_so = d.sessions_so; was = d.was; is = d.is })
   change_begins so_far next (changes.Rejects session req ask cause arrival) both above after = sym (append-nil (begun_at so_far))

@@ -81,7 +81,7 @@ module _ (log : List Entry) (hosts hosts_after : Hosts) (wire : Wire) (attempts 
       → tree.get one.host.node.gateway.works other ≡ Some second → oid_of work.work ≡ oid_of second.work → req ≢ other → ⊥
   one_request n req other work second current another one got same differs =
       let reads = apart.objects n one.host one.there one.up req other work second
-          (record { first_one = one.got; second_one = got; apart = differs }) same in
+      (record { first_one = one.got; second_one = got; apart = differs }) same in
       let reading = reads.0 in
       let making = one.making in
       cc (reading, making)
@@ -93,10 +93,10 @@ module _ (log : List Entry) (hosts hosts_after : Hosts) (wire : Wire) (attempts 
   not_begun n req work current stays k sends new begun host_so node_so req_so =
       let work_so : begun.work ≡ work
       = same_Some begun.work work
-          (sym begun.opened.there
-          ∙ ap (λ (h : Host). tree.get h.node.gateway.works new.req) host_so
-          ∙ ap (tree.get stays.now.host.node.gateway.works) (sym req_so)
-          ∙ stays.now.got) in
+      (sym begun.opened.there
+      ∙ ap (λ (h : Host). tree.get h.node.gateway.works new.req) host_so
+      ∙ ap (tree.get stays.now.host.node.gateway.works) (sym req_so)
+      ∙ stays.now.got) in
       let current_so : begun.current ≡ current
       = open_of begun.current current (sym begun.opened.stage ∙ ap (λ (w : Work). w.stage) work_so ∙ stays.now.stage) in
       let (message, first) = have.each n stays.now.host stays.now.there stays.now.up req work current stays.now.got stays.now.making stays.now.stage in
@@ -107,14 +107,14 @@ module _ (log : List Entry) (hosts hosts_after : Hosts) (wire : Wire) (attempts 
       let was_number : was.number ≡ stays.attempt.first + 0 = stays.same.numbers 0 was was_first in
       let target : slice_get stays.attempt.targets 0 ≡ Some was.node
       = ap (λ (targets : List NodeId). slice_get targets 0) stays.same.targets
-          ∙ slice_get-map (λ (m : Message). m.node) stays.was_open.before.messages 0
-          ∙ ap (option_map (λ (m : Message). m.node)) was_first in
+      ∙ slice_get-map (λ (m : Message). m.node) stays.was_open.before.messages 0
+      ∙ ap (option_map (λ (m : Message). m.node)) was_first in
       let within : 0 < length stays.attempt.targets = slice_get_within stays.attempt.targets 0 was.node target in
       let gateway : stays.attempt.gateway.0 ≡ n
       = ap (λ (me : NodeId). me.0) (stays.same.gateway ∙ sym stays.me)
-          ∙ ap (λ (h : Host). h.node.me.0) (sym host_so)
-          ∙ ap (λ (me : NodeId). me.0) (sym begun.opened.same.gateway)
-          ∙ begun.gateway ∙ sym node_so in
+      ∙ ap (λ (h : Host). h.node.me.0) (sym host_so)
+      ∙ ap (λ (me : NodeId). me.0) (sym begun.opened.same.gateway)
+      ∙ begun.gateway ∙ sym node_so in
       let given : stays.attempt.first + length stays.attempt.targets ≤ stays.old.node.sends
       = of_incarnations.given stays.place stays.attempt stays.found stays.old (ap (tree.get hosts) gateway ∙ stays.was_there) in
       let sender : begun.sent_by.host ≡ stays.old
@@ -129,7 +129,7 @@ module _ (log : List Entry) (hosts hosts_after : Hosts) (wire : Wire) (attempts 
       let node_so = one_node n req k new.req work begun.work current begun.current stays.now (begun_open k sends new begun) same in
       let host_so : begun.sent_by.after ≡ stays.now.host
       = same_Some begun.sent_by.after stays.now.host
-          (sym begun.sent_by.there_after ∙ ap (tree.get hosts_after) (sym node_so) ∙ stays.now.there) in
+      (sym begun.sent_by.there_after ∙ ap (tree.get hosts_after) (sym node_so) ∙ stays.now.there) in
       ⊎_elim
       (λ (own : req ≡ new.req). not_begun n req work current stays k sends new begun host_so node_so own)
       (λ (other : req ≢ new.req). one_request n req new.req work begun.work current begun.current stays.now

@@ -142,12 +142,18 @@ module _ (script : List Statement) (range : RunsAreInRange script) (start before
           found = last.there;
           same = opened.same;
         })
-        k sends new begun (same ∙ ap oid_of (opened.same.work ∙ sym w.work_so))) in
-        (j, record attempt { fates = fates }, still,
-        record { there = got; making = making; stage = stage; same = same_still old.node host.node req work current attempt fates me w opened.same }))
+        k sends new begun (same ∙ ap oid_of (opened.same.work ∙ sym w.work_so))) in (
+          j,
+          record attempt { fates = fates },
+          still,
+          record { there = got; making = making; stage = stage; same = same_still old.node host.node req work current attempt fates me w opened.same },
+        ))
         (λ begun.
-        let (new, is, same) = begun in
-        (length before.past.attempts, new, subst (λ (attempts : List AttemptRecord). IsLast attempts (length before.past.attempts) new) (sym is) (new_last before.past.attempts new),
-        record { there = got; making = making; stage = stage; same = same }))
+        let (new, is, same) = begun in (
+          length before.past.attempts,
+          new,
+          subst (λ (attempts : List AttemptRecord). IsLast attempts (length before.past.attempts) new) (sym is) (new_last before.past.attempts new),
+          record { there = got; making = making; stage = stage; same = same },
+        ))
         (open_or_begins script range start began change have n host req work current there up got making stage);
   }

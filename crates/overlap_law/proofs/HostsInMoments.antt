@@ -204,7 +204,7 @@ none_to n wire number packet got = by_packet (tree.get wire (message_name n numb
         ap (λ (p : Packet). is_request_in_flight (Some p)) (sym same)
     by_packet (Some (Reply from bytes)) is packet got =
         let none = forgot n wire (message_name n number) (Some (Reply from bytes)) is
-            ∙ ap (λ (b : Bool). cond (not b) (Some (Reply from bytes)) None) (eq-eqb n n refl) in
+        ∙ ap (λ (b : Bool). cond (not b) (Some (Reply from bytes)) None) (eq-eqb n n refl) in
         absurd (cc (got, none))
 
 pub lost_were_lost : (script : List Statement) {start before after : MomentWithPast} → MomentChange script start before after → TheLostWereLost before after

@@ -190,12 +190,14 @@ module _ {input : Input} {node : Node} (host : Host) (sound : IsSoundStep input 
       let (m, found) = have q other current got making stage in
       let first : slice_get (attempt_in asked lined.node).messages 0 ≡ Some m = ap (λ (a : gateways.Attempt). slice_get a.messages 0) same ∙ found in
       let number : m.number ≡ lined.node.sends = numbered made 0 m first ∙ plus_none lined.node.sends in
-      inr (attempt,
-      (λ i. option_to_list (cond (made i && first_so (attempt_in asked lined.node).messages m first number i)
-      (option_map (beginning (host_with_node host lined.node) lined.node.sends req asked.work (attempt_in asked lined.node)) (l.there i)) None)),
-      subst (λ (w : Work). IsTheSame (with_open_attempt req asked lined).node q w.work current attempt) own.1
-      (subst (λ (c : gateways.Attempt). IsTheSame (with_open_attempt req asked lined).node q asked.work c attempt) same
-      (record { gateway = refl; request = sym own.0; work = refl; epoch = refl; targets = refl; numbers = λ place message got. numbered made place message got }))))
+      inr (
+        attempt,
+        (λ i. option_to_list (cond (made i && first_so (attempt_in asked lined.node).messages m first number i)
+            (option_map (beginning (host_with_node host lined.node) lined.node.sends req asked.work (attempt_in asked lined.node)) (l.there i)) None)),
+        subst (λ (w : Work). IsTheSame (with_open_attempt req asked lined).node q w.work current attempt) own.1
+            (subst (λ (c : gateways.Attempt). IsTheSame (with_open_attempt req asked lined).node q asked.work c attempt) same
+            (record { gateway = refl; request = sym own.0; work = refl; epoch = refl; targets = refl; numbers = λ place message got. numbered made place message got })),
+      ))
       (λ (elsewhere : (q ≢ req) × (tree.get lined.node.gateway.works q ≡ Some other)).
       inl (same_open so_far.node.gateway.works q other current (next_fewer so_far session req asked lined comes q other elsewhere.1) stage))
       (get-insert_cases lined.node.gateway.works req now q other got)

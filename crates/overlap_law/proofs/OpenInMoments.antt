@@ -89,8 +89,14 @@ same_works : (before after : MomentWithPast) (n : ℕ) (host : Host) (node : Nod
     → node.gateway ≡ host.node.gateway → (req : ℕ) (work : Work) (current : gateways.Attempt) → host.is_lost ≡ false → tree.get node.gateway.works req ≡ Some work
     → work.stage ≡ Open current → WasOpenOrBegins before after n node req work current
 same_works before after n host node there me gateway req work current up got stage =
-    inl (host, there, up, me, same_open host.node.gateway.works req work current
-    (ap (λ (g : Gateway). tree.get g.works req) (sym gateway) ∙ got) stage)
+    inl (
+      host,
+      there,
+      up,
+      me,
+      same_open host.node.gateway.works req work current
+          (ap (λ (g : Gateway). tree.get g.works req) (sym gateway) ∙ got) stage,
+    )
 
 -- ---- what leaves the gateway as it is
 
@@ -153,13 +159,20 @@ module _ (script : List Statement) (range : RunsAreInRange script) (start : Mome
       let good = (both_in_chain (input_of_cause stepping.cause) stepping.host.node known.sound so_far within.leads).0 in
       one_host before after stepping.n now (sym (insert-insert start.world.hosts stepping.n was now))
       (λ req work current up got making stage. ⊎_elim
-      (λ kept. inl (was, there, up,
-      same_node next.node.me so_far.node.me stepping.n
-      (me_so_far script start.world stepping known next (changes.Then within.leads within.change)) (me_so_far script start.world stepping known so_far within.leads),
-      kept))
-      (λ begun. inr (begun.0,
-      attempts-grow script start stepping is known.sound known.given by so_far next within
-      ∙ ap (λ (more : List AttemptRecord). before.past.attempts ++ more) begun.1, begun.2))
+      (λ kept. inl (
+        was,
+        there,
+        up,
+        same_node next.node.me so_far.node.me stepping.n
+            (me_so_far script start.world stepping known next (changes.Then within.leads within.change)) (me_so_far script start.world stepping known so_far within.leads),
+        kept,
+      ))
+      (λ begun. inr (
+        begun.0,
+        attempts-grow script start stepping is known.sound known.given by so_far next within
+            ∙ ap (λ (more : List AttemptRecord). before.past.attempts ++ more) begun.1,
+        begun.2,
+      ))
       (change_opens stepping.host known.sound so_far next good within.change
       (λ q w c got making stage. have.each stepping.n now there_now up q w c got making stage) req work current got making stage))
 

@@ -131,12 +131,15 @@ module _ (script : List Statement) (world : World) (stepping : SteppingNode) (kn
             (sym (targets-of_making work asked.ended targets making)) ∙ found) in
             let place_so : 0 + place ≡ place = omega arith in
             subst (Contains sends)
-            (λ i. (node i, record {
-              from = own_me i;
-              number = is.number_so i;
-              epoch = epoch;
-              ask = ask_for work ((is.index_so ∙ ap (index_at (policy_of work) (kind_of (oid_of work))) place_so) i);
-            }))
+            (λ i. (
+              node i,
+              record {
+                from = own_me i;
+                number = is.number_so i;
+                epoch = epoch;
+                ask = ask_for work ((is.index_so ∙ ap (index_at (policy_of work) (kind_of (oid_of work))) place_so) i);
+              },
+            ))
             (Contains-map (send_of lined.node.gateway.me epoch work) current.messages message (contains_at current.messages place message found))
 
         numbered : (place : ℕ) (message : Message) → slice_get current.messages place ≡ Some message → message.number ≡ lined.node.sends + place

@@ -139,14 +139,14 @@ module _ (low high req : ℕ) where
         record { me_so = d.me_so; works_so = d.works_so; sessions_so = d.sessions_so; was = d.was; is = d.is }
     steps_differ so_far session next moved (DiskGoesOn number work attempt status bytes driver disk step ends on is) good =
         let d = course_after so_far session (Driving step.driver) (without_ended_work session req work status so_far)
-            (ended_work_differs so_far session number work attempt status ends.ends.learns ends.ends.over) in
+        (ended_work_differs so_far session number work attempt status ends.ends.learns ends.ends.over) in
         record { me_so = d.me_so; works_so = d.works_so; sessions_so = d.sessions_so; was = d.was; is = d.is }
     steps_differ so_far session next moved (CommandBegins ask step arrival is) good =
         let d = course_differs session (Commanding step.op) so_far (awaits_none-idle low high req so_far good (ap may_work_at (arrival.none sound))) in
         record { me_so = d.me_so; works_so = d.works_so; sessions_so = d.sessions_so; was = d.was; is = d.is }
     steps_differ so_far session next moved (CommandGoesOn number work attempt status bytes op step ends is) good =
         let d = course_after so_far session (Commanding step.op) (without_ended_work session req work status so_far)
-            (ended_work_differs so_far session number work attempt status ends.ends.learns ends.ends.over) in
+        (ended_work_differs so_far session number work attempt status ends.ends.learns ends.ends.over) in
         record { me_so = d.me_so; works_so = d.works_so; sessions_so = d.sessions_so; was = d.was; is = d.is }
     steps_differ so_far session next moved (CommandDecided entry op step from read there waits is) good =
         let d = course_differs session (Commanding step.op) so_far (awaits_none-idle low high req so_far good (ap may_work_at there ∙ wanted_never entry (Commanding op) waits)) in
@@ -156,7 +156,7 @@ module _ (low high req : ℕ) where
         record { me_so = d.me_so; works_so = d.works_so; sessions_so = d.sessions_so; was = d.was; is = d.is }
     steps_differ so_far session next moved (CheckGoesOn number work attempt status bytes check step ends is) good =
         let d = course_after so_far session (Checking step.check) (without_ended_work session req work status so_far)
-            (ended_work_differs so_far session number work attempt status ends.ends.learns ends.ends.over) in
+        (ended_work_differs so_far session number work attempt status ends.ends.learns ends.ends.over) in
         record { me_so = d.me_so; works_so = d.works_so; sessions_so = d.sessions_so; was = d.was; is = d.is }
     steps_differ so_far session next moved (ObjectBegins asked arrival) good =
         let d = course_differs session (DoingWork asked) so_far (awaits_none-idle low high req so_far good (ap may_work_at (arrival.none sound))) in

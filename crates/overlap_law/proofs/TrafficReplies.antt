@@ -132,7 +132,7 @@ module _ (hosts hosts_after : Hosts) (wire : Wire) (attempts : List AttemptRecor
           let within : place < length was.fates = subst (λ (n : ℕ). place < n) (sym (fates.whole j was at)) (slice_get_within was.targets place target among) in
           let found = slice_get-get_or was.fates place Flying within in
           let flying = flies wire was place target to bytes (get_or was.fates place Flying) (ap (tree.get wire) own ∙ there)
-              (fates.each j was at place target (get_or was.fates place Flying) among found) in
+          (fates.each j was at place target (get_or was.fates place Flying) among found) in
           let fate_so : slice_get (fates_told fate name.sender name.number was) place ≡ Some fate
           = ap (λ (b : Bool). slice_get (cond b (fates_with (name.number - was.first) fate was.fates) was.fates) place) (has_own was name place (slice_get_within was.targets place target among) own)
           ∙ ap (λ (p : ℕ). slice_get (fates_with p fate was.fates) place) (own_place was name place own)
