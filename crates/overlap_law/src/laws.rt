@@ -1,5 +1,5 @@
 //! Laws of the definitions, for the proofs of the layers above: each is the contract of a function that does nothing.
-ghost use Rattle.std.specs.Prelude.{◌≡◌, ◌≢◌, ℕ, ◌+◌, ◌-◌, true, false, List, [], length, slice_get, Some};
+ghost use Rattle.std.specs.Prelude.{◌≡◌, ◌≢◌, ℕ, ◌+◌, ◌-◌, true, false, List, [], ◌++◌, length, slice_get, Some};
 ghost use Rattle.std.specs.List.{list_all, AllByRecursion};
 ghost use Rattle.std.specs.FinMap.{get};
 ghost use Rattle.std.specs.Option.{option_map};
@@ -9,13 +9,19 @@ ghost use Rattle.object_list.specs.Gathered.{has_node};
 ghost use Rattle.cluster_script.specs.declared.statement.Statement.{Statement};
 ghost use Rattle.sheep_node.specs.declared.event.Event.{Event};
 ghost use Rattle.sheep_node.specs.Step.{is_due};
+ghost use Rattle.sheep_node.specs.StepState.{StepState};
+ghost use Rattle.sheep_world.specs.Began.{Began};
 ghost use Rattle.sheep_world.specs.Run.{run};
 ghost use Rattle.sheep_world.specs.World.{Host};
 ghost use Rattle.overlap_law.specs.Attempts.{MessageFate, Flying, Served, AttemptRecord, has_message, attempt_with_fate};
 ghost use Rattle.overlap_law.specs.Words.{Hosts, is_beyond, is_made, is_doomed, has_served, unit_start, unit_end, covers_unit, base_of};
 ghost use Rattle.overlap_law.specs.Words.{own_base_of};
 ghost use Rattle.overlap_law.specs.Headline.{OtherEpochsChangeNothing};
-ghost use Rattle.overlap_law.specs.Past.{MomentWithPast, run_with_past, without_past};
+ghost use Rattle.overlap_law.specs.Past.{MomentWithPast, run_with_past, without_past, next_moment, first_moment};
+ghost use Rattle.overlap_law.specs.StepMoments.{SteppingNode, IsStepping, StepsByChanges, IsWithinStep, moment_in_step, attempts_of_change};
+ghost use Rattle.overlap_law.specs.MomentChanges.{MomentChange, RunsAreInRange, EventsAreTrails};
+ghost use Rattle.overlap_law.specs.Traffic.{TrafficBetween};
+ghost use Rattle.overlap_law.specs.TiedAttempts.{IsTied};
 
 /// A made attempt isn't doomed, and whatever is told of a message leaves it made.
 pub fn what_is_made_stays_made()
@@ -89,4 +95,39 @@ pub fn peers_of_another_epoch_change_nothing()
 pub fn no_read_of_what_was_borne_is_left_out()
     ensures { (script : List Statement) (events : List Event) (moment : MomentWithPast) → run_with_past script events ≡ Some moment
         → moment.past.unavailable ≡ [] → moment.past.available_history ≡ moment.past.history }
+{}
+
+/// An event is a trail of small changes: from the moment before an event that may happen the one after it is reached by changes of a
+/// moment. A step that works go on with is one change of its node after the other; any other event is one change.
+pub fn an_event_is_a_trail_of_changes()
+    ensures { (script : List Statement) → EventsAreTrails script }
+{}
+
+/// In each run in range a change of the node in its step adds to the attempts exactly the one that it opens, if that creates or writes.
+pub fn an_attempt_begins_where_one_opens()
+    ensures { (script : List Statement) (start : MomentWithPast) (stepping : SteppingNode) (so_far next : StepState)
+        → RunsAreInRange script → Began script start.world → IsStepping script start.world stepping → StepsByChanges stepping.cause
+        → (within : IsWithinStep stepping so_far next)
+        → (moment_in_step script stepping start next).past.attempts ≡ (moment_in_step script stepping start so_far).past.attempts
+        ++ attempts_of_change stepping.host so_far next within.change }
+{}
+
+/// In each run in range a change of a moment is of one of seven kinds, by what it makes of the wire and the attempts.
+pub fn each_change_is_of_a_kind_of_traffic()
+    ensures { (script : List Statement) (start before after : MomentWithPast) → RunsAreInRange script → Began script start.world
+        → MomentChange script start before after → TrafficBetween before after }
+{}
+
+/// The wire and the attempts stay tied: each number in the wire was given by its sender, no reply goes to a lost node, a message of an
+/// attempt flies exactly while its request is in the wire, a reply to it says success exactly where its target served it, who served it
+/// came to its epoch, and the attempts go with the incarnations of their gateways. So it is when a script opens, each change of a moment
+/// and each event keeps it, and so it is in each run in range.
+pub fn the_wire_and_the_attempts_stay_tied()
+    ensures opening { (script : List Statement) → IsTied (first_moment script) }
+    ensures change { (script : List Statement) (start before after : MomentWithPast) → RunsAreInRange script → Began script start.world
+        → MomentChange script start before after → IsTied before → IsTied after }
+    ensures event { (script : List Statement) (event : Event) (before after : MomentWithPast) → RunsAreInRange script
+        → Began script before.world → next_moment script event before ≡ Some after → IsTied before → IsTied after }
+    ensures run { (script : List Statement) (events : List Event) (moment : MomentWithPast) → RunsAreInRange script
+        → run_with_past script events ≡ Some moment → IsTied moment }
 {}
