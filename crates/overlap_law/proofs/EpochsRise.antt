@@ -74,7 +74,7 @@ one_joins hosts hosts_after k new is none n host there = ⊎_elim
     (cases_eq n k)
 
 -- what more a node has read by the cause of its step
-read_more : NodeCause → List Entry
+abbrev read_more : NodeCause → List Entry
 read_more (GuestAsks session req ask) = []
 read_more (RequestComes name to request) = []
 read_more (ReplyComes name from rsp) = []
