@@ -13,11 +13,12 @@ use Rattle.peer_service.specs.State.{Peer}
 use Rattle.sheep_node.specs.declared.input.Input.TheVariants as inputs
 use Rattle.sheep_node.specs.State.{Node}
 use Rattle.sheep_node.specs.StepState.{StepState}
+use Rattle.sheep_node.specs.Step.{node_step}
 use Rattle.sheep_node.specs.StepFacts.{read_after, IsByTheLog}
 use Rattle.sheep_node.proofs.StepEffects.{Untouched}
 use Rattle.sheep_node.proofs.StepResults.{step_peer, step_reads}
 use Rattle.sheep_node.specs.Changes as changes
-use Rattle.sheep_world.specs.World.{Host}
+use Rattle.sheep_world.specs.World.{Host, World, host_at}
 use Rattle.sheep_world.specs.Step.{EventOutcome}
 use Rattle.sheep_world.specs.MembershipChanges.{lost_host, join_of, last_weight}
 use Rattle.sheep_world.specs.NodeCauses.{NodeCause, GuestAsks, RequestComes, ReplyComes, LossIsTold, EntryIsRead, EntryIsPut, RecoveryTicks, WorkIsRetried, input_of_cause, event_of_cause, host_with_node, world_after_cause}
@@ -103,19 +104,24 @@ rises_by_reading old new more by_old by_new reads =
     = by_new.epoch_so ∙ ap epoch_of reads ∙ epoch_of-append old.peer.entries more in
     omega (arith, was, now)
 
+-- over a whole step
+pub stepped_rises : (script : List Statement) (range : RunsAreInRange script) (world : World) (began : Began script world) (n : ℕ) (host : Host)
+    (cause : NodeCause) → host_at n world ≡ Some host → Began script (world_after_cause script n host cause world)
+    → host.node.peer.epoch ≤ (node_step (input_of_cause cause) host.node).node.peer.epoch
+stepped_rises script range world began n host cause there next =
+    let after = host_with_node host (node_step (input_of_cause cause) host.node).node in
+    rises_by_reading host.node after.node (read_more cause)
+    (by_the_log script range.is_script range.room world began n host there)
+    (by_the_log script range.is_script range.room (world_after_cause script n host cause world) next n after (get-insert_same world.hosts n after))
+    (step_reads (input_of_cause cause) host.node ∙ read_with_more cause host.node.peer.entries)
+
 module _ (script : List Statement) (range : RunsAreInRange script) (start : MomentWithPast) (began : Began script start.world) where
-  -- over a whole step
   step_rises : (stepping : SteppingNode) → IsStepping script start.world stepping
       → stepping.host.node.peer.epoch ≤ (last_in_step stepping).node.peer.epoch
   step_rises stepping is =
-      let after = host_with_node stepping.host (last_in_step stepping).node in
-      rises_by_reading stepping.host.node (last_in_step stepping).node (read_more stepping.cause)
-      (by_the_log script range.is_script range.room start.world began stepping.n stepping.host is.there)
-      (by_the_log script range.is_script range.room (world_after_cause script stepping.n stepping.host stepping.cause start.world)
+      stepped_rises script range start.world began stepping.n stepping.host stepping.cause is.there
       (goes_on script (event_of_cause stepping.n stepping.cause) start.world
       (outcome_of_step script stepping.n stepping.host stepping.cause start.world) began is.made)
-      stepping.n after (get-insert_same start.world.hosts stepping.n after))
-      (step_reads (input_of_cause stepping.cause) stepping.host.node ∙ read_with_more stepping.cause stepping.host.node.peer.entries)
 
   -- once the input was received, which is all that the step reads
   first_rises : (stepping : SteppingNode) → IsStepping script start.world stepping

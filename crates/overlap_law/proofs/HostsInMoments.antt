@@ -106,7 +106,7 @@ module _ (script : List Statement) (range : RunsAreInRange script) (start : Mome
   goes_on_stays stepping so_far next within =
       let was = host_with_node stepping.host so_far.node in
       let now = host_with_node stepping.host next.node in
-      let (more, longer) = sends_grow so_far next within.change in
+      let (more, longer, epochs) = sends_grow so_far next within.change in
       let counted : so_far.node.sends ≡ stepping.host.node.sends + length so_far.outputs.sends = (in_order_so_far so_far within.leads).counted in
       let counted_next : next.node.sends ≡ stepping.host.node.sends + length next.outputs.sends
       = (in_order_so_far next (changes.Then within.leads within.change)).counted in

@@ -63,16 +63,20 @@ module _ (script : List Statement) (range : RunsAreInRange script) (world : Worl
   sent_in_range n host there up RecoveryTicks so next = ticks_in_range script range.is_script range.room world began n host there up so
   sent_in_range n host there up WorkIsRetried so next = (range.messages (world_after_cause script n host WorkIsRetried world) next).sent (λ same. absurd (cc (same)))
 
+  pub known_at : (n : ℕ) (host : Host) (cause : NodeCause) → host_at n world ≡ Some host → is_host_up host ≡ true → IsCause script world n host cause
+      → Began script (world_after_cause script n host cause world) → IsKnownStep script world (record { n = n; host = host; cause = cause })
+  known_at n host cause there up so next =
+      let ready = is_ready script world together n host there up in
+      record {
+        up = up;
+        ready = ready;
+        sound = sound_step script world n host cause so ready;
+        given = told_below script world n host cause so ready;
+        asking = step_asks script world n host cause so ready (sent_in_range n host there up cause so next);
+        numbered = together.wired.numbered n host there;
+      }
+
   pub known_step : (stepping : SteppingNode) → IsStepping script world stepping → IsKnownStep script world stepping
   known_step stepping is =
-      let ready = is_ready script world together stepping.n stepping.host is.there is.up in
-      record {
-        up = is.up;
-        ready = ready;
-        sound = sound_step script world stepping.n stepping.host stepping.cause is.caused ready;
-        given = told_below script world stepping.n stepping.host stepping.cause is.caused ready;
-        asking = step_asks script world stepping.n stepping.host stepping.cause is.caused ready
-            (sent_in_range stepping.n stepping.host is.there is.up stepping.cause is.caused
-            (goes_on script (event_of_cause stepping.n stepping.cause) world (outcome_of_step script stepping.n stepping.host stepping.cause world) began is.made));
-        numbered = together.wired.numbered stepping.n stepping.host is.there;
-      }
+      known_at stepping.n stepping.host stepping.cause is.there is.up is.caused
+      (goes_on script (event_of_cause stepping.n stepping.cause) world (outcome_of_step script stepping.n stepping.host stepping.cause world) began is.made)

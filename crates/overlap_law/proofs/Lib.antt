@@ -27,6 +27,9 @@ pub mod TrafficNumbers
 pub mod TrafficLost
 pub mod AttemptMessages
 pub mod KnownSteps
+pub mod AskedEpochs
+pub mod EpochsRise
+pub mod PastAsks
 pub mod OpeningTraffic
 pub mod TrafficOfChanges
 pub mod OpenAttempts
@@ -35,7 +38,10 @@ pub mod BegunAlone
 pub mod ChangesKeepAttempts
 pub mod HostsInMoments
 pub mod GatewaysOfAttempts
-pub mod EpochsRise
 pub mod TrafficServers
+pub mod TrafficPast
 pub mod RunsByChanges
 pub mod TiedInRuns
+pub mod PastInRuns
+pub mod EpochsInRuns
+pub mod JoinsInRuns

@@ -44,7 +44,8 @@ use Rattle.overlap_law.specs.Traffic as kinds
 use Rattle.overlap_law.specs.Traffic.{AreSentBy, IsBegunBy, Traffic}
 use Rattle.overlap_law.proofs.AttemptLists.{got_map}
 use Rattle.overlap_law.proofs.RequestDifferences.{next_differs}
-use Rattle.overlap_law.proofs.SendsOfChanges.{next_sends_nothing, sends_lead, in_order_so_far}
+use Rattle.overlap_law.proofs.SendsOfChanges.{attempt_in_epoch, next_sends_nothing, sends_lead, in_order_so_far}
+use Rattle.overlap_law.proofs.AskedEpochs.{no_more}
 use Rattle.overlap_law.proofs.AttemptMessages.{message_at_place, targets-of_making, contains_at}
 use Rattle.overlap_law.proofs.KnownSteps.{IsKnownStep}
 
@@ -117,6 +118,8 @@ module _ (script : List Statement) (world : World) (stepping : SteppingNode) (kn
         there_after = get-insert_same world.hosts stepping.n (host_with_node host opened.node);
         stays = refl;
         counted = ap (λ (n : ℕ). n + length sends) count;
+        read = λ send there. (readable send there).1;
+        past = λ send there. no_more (attempt_in_epoch lined.node.gateway.me epoch work current.messages send there);
       }
 
       module _ (making : is_making work ≡ true) (request : Request) where
@@ -169,7 +172,6 @@ module _ (script : List Statement) (world : World) (stepping : SteppingNode) (kn
           whole = length-map current.messages (λ (message : Message). Flying) ∙ sym (length-map current.messages (λ (message : Message). message.node));
           flying = λ place fate got. let (message, found, is) = got_map (λ (message : Message). Flying) current.messages place fate got in sym is;
           asks = asks_so;
-          spelled = λ place target among. (readable (target, message_request_at attempt place) (asks_so place target among)).1;
           up = not-true stepping.host.is_lost (and_parts (not stepping.host.is_lost) (has_numbers stepping.host.node) known.up).0;
           work = record asked { stage = Open current };
           current = current;

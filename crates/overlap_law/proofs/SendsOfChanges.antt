@@ -1,19 +1,26 @@
 -- What a change of a node sends: the messages of an attempt that opens, and nothing else. So a node's count of sends never falls in a step.
-use Rattle.std.proofs.Common.{◌≡◌, ℕ, ◌+◌, ◌≤◌, ◌++◌, List, [], map, Option, arith, refl, sym, ap, ◌∙◌, append-nil}
+use Rattle.std.proofs.Common.{◌≡◌, ⊎_elim, ℕ, ◌≤◌, ◌++◌, List, [], ◌∷◌, map, Contains, Option, arith, refl, sym, ap, subst, ◌∙◌, append-nil}
 use Rattle.std.specs.Option.{option_map_or}
 use Rattle.proof_tools.proofs.Booleans.{cond_either}
 use Rattle.std.proofs.lemmas.List.{append_assoc}
+use Rattle.std.proofs.lemmas.List.Elements.{Contains-append_cases}
+use Rattle.proof_tools.proofs.Lists.{Contains-nil, Contains-cons_cases}
 use Rattle.object_id.specs.declared.cause.Cause.{Cause}
 use Rattle.object_id.specs.declared.cause.Cause.TheVariants.{Halt}
+use Rattle.object_id.specs.declared.entry.Entry.{Entry}
+use Rattle.object_id.specs.declared.node.Epoch.{Epoch}
 use Rattle.object_id.specs.declared.node.NodeId.{NodeId}
+use Rattle.peer_proto.specs.declared.work.ObjWork.{ObjWork}
 use Rattle.peer_proto.specs.declared.ask.PeerReq.{PeerReq}
 use Rattle.peer_proto.specs.declared.guest.GuestRsp.{GuestRsp}
+use Rattle.gateway.specs.declared.message.Message.{Message}
 use Rattle.gateway.specs.Work.{zones_for}
 use Rattle.gateway.specs.Attempt.{send_of}
 use Rattle.gateway.specs.State as gateways
 use Rattle.gateway.specs.State.{Work}
 use Rattle.recovery.specs.Steps as recovery_steps
 use Rattle.sheep_node.specs.declared.input.Input.{Input}
+use Rattle.sheep_node.specs.declared.input.Input.TheVariants as inputs
 use Rattle.sheep_node.specs.declared.course.Course.{Course}
 use Rattle.sheep_node.specs.declared.course.Request.{Request}
 use Rattle.sheep_node.specs.State.{Node}
@@ -21,12 +28,12 @@ use Rattle.sheep_node.specs.StepState.{StepState, at_first, request_ended}
 use Rattle.sheep_node.specs.RecoveryView.{recovery_state_of}
 use Rattle.sheep_node.specs.RequestWorks.{course_refused}
 use Rattle.sheep_node.specs.LogReading.{entry_read}
-use Rattle.sheep_node.specs.Step.{recovery_stepped}
+use Rattle.sheep_node.specs.Step.{on_put, on_input, is_due, with_recovered, recovered_put, recovery_stepped, node_step}
 use Rattle.sheep_node.specs.Changes as changes
 use Rattle.sheep_node.specs.Changes.{input_received, Outcome, ToWork, RequestSteps, DiskBegins, DiskGoesOn, CommandBegins, CommandGoesOn, CommandDecided, CheckBegins, CheckGoesOn, ObjectBegins, ObjectIsDone, EntryBegins, EntryDecided, WorkIsNext, AtOnce, InTurn, Again, AgainAlone, Change, Leads}
 use Rattle.sheep_node.proofs.RefusedCourses.{course_refused-keeps, request_refused-keeps}
 use Rattle.sheep_node.proofs.StepChain.{kept_by_chain}
-use Rattle.sheep_node.proofs.StepEffects.{untouched_in, IsInOrder, change_keeps_order, received_in_order}
+use Rattle.sheep_node.proofs.StepEffects.{Untouched, untouched_in, IsInOrder, change_keeps_order, received_in_order}
 use Rattle.sheep_world.specs.NodeCauses.{NodeCause, GuestAsks, RequestComes, ReplyComes, LossIsTold, EntryIsRead, EntryIsPut, RecoveryTicks, WorkIsRetried, input_of_cause}
 use Rattle.overlap_law.specs.StepMoments.{StepsByChanges}
 
@@ -34,12 +41,25 @@ use Rattle.overlap_law.specs.StepMoments.{StepsByChanges}
 abbrev pub SendsNothing : StepState → StepState → Type 0
 SendsNothing so_far next = (next.node.sends ≡ so_far.node.sends) × (next.outputs.sends ≡ so_far.outputs.sends)
 
--- more was sent, behind what was sent before
+-- these are of an epoch
+abbrev pub AreOfEpoch : ℕ → List (NodeId × PeerReq) → Type 0
+AreOfEpoch epoch sends = (send : NodeId × PeerReq) → Contains sends send → send.1.epoch.0 ≡ epoch
+
+-- more was sent, behind what was sent before, in the node's epoch
 abbrev pub IsLonger : StepState → StepState → Type 0
-IsLonger so_far next = (more : List (NodeId × PeerReq)) × (next.outputs.sends ≡ so_far.outputs.sends ++ more)
+IsLonger so_far next =
+    (more : List (NodeId × PeerReq)) × (next.outputs.sends ≡ so_far.outputs.sends ++ more) × AreOfEpoch next.node.peer.epoch more
 
 no_longer : (so_far next : StepState) → next.outputs.sends ≡ so_far.outputs.sends → IsLonger so_far next
-no_longer so_far next same = ([], same ∙ sym (append-nil so_far.outputs.sends))
+no_longer so_far next same = ([], same ∙ sym (append-nil so_far.outputs.sends), λ send there. absurd (Contains-nil send there))
+
+-- the messages of an attempt are of its epoch
+pub attempt_in_epoch : (me : NodeId) (epoch : Epoch) (work : ObjWork) (messages : List Message) → AreOfEpoch epoch.0 (map (send_of me epoch work) messages)
+attempt_in_epoch me epoch work [] send there = absurd (Contains-nil send there)
+attempt_in_epoch me epoch work (message ∷ messages) send there = ⊎_elim
+    (λ (same : send_of me epoch work message ≡ send). ap (λ (s : NodeId × PeerReq). s.1.epoch.0) (sym same))
+    (λ (later : Contains (map (send_of me epoch work) messages) send). attempt_in_epoch me epoch work messages send later)
+    (Contains-cons_cases (send_of me epoch work message) (map (send_of me epoch work) messages) send there)
 
 ended_sends_nothing : (first : StepState) (session req : ℕ) (reply : GuestRsp) (so_far : StepState) → SendsNothing first so_far
     → SendsNothing first (request_ended session req reply so_far)
@@ -104,8 +124,11 @@ module _ {input : Input} {node : Node} where
   sends_grow so_far next (changes.Refuses session req number work attempt status course cause ends done why) =
       no_longer so_far next (refusal_sends_nothing session req cause course (changes.without_ended_work session req work status so_far)).1
   sends_grow so_far next (changes.Opens session req asked lined comes enough) =
-      let more = map (send_of lined.node.gateway.me (record { 0 = lined.node.peer.epoch }) asked.work) (changes.attempt_in asked lined.node).messages in
-      (more, ap (λ (sends : List (NodeId × PeerReq)). sends ++ more) (next_sends_nothing so_far session req asked lined comes).1)
+      let more = map (send_of lined.node.gateway.me (record { 0 = lined.node.peer.epoch }) asked.work) (changes.attempt_in asked lined.node).messages in (
+        more,
+        ap (λ (sends : List (NodeId × PeerReq)). sends ++ more) (next_sends_nothing so_far session req asked lined comes).1,
+        attempt_in_epoch lined.node.gateway.me (record { 0 = lined.node.peer.epoch }) asked.work (changes.attempt_in asked lined.node).messages,
+      )
   sends_grow so_far next (changes.Holds session req asked lined comes short touched) =
       no_longer so_far next (next_sends_nothing so_far session req asked lined comes).1
   sends_grow so_far next (changes.Denies session req asked lined request comes short untouched there own) =
@@ -123,11 +146,12 @@ module _ {input : Input} {node : Node} where
   sends_grow so_far next (changes.Recovers due) = no_longer so_far next refl
 
   -- and so do many
-  pub sends_lead : (first last : StepState) → Leads input node first last → IsLonger first last
-  sends_lead first last changes.Still = no_longer first first refl
+  pub sends_lead : (first last : StepState) → Leads input node first last
+      → (more : List (NodeId × PeerReq)) × (last.outputs.sends ≡ first.outputs.sends ++ more)
+  sends_lead first last changes.Still = ([], sym (append-nil first.outputs.sends))
   sends_lead first last (changes.Then {so_far} {next} leads change) =
       let (one, is) = sends_lead first so_far leads in
-      let (two, too) = sends_grow so_far next change in
+      let (two, too, epochs) = sends_grow so_far next change in
       (one ++ two, too ∙ ap (λ (sends : List (NodeId × PeerReq)). sends ++ two) is ∙ append_assoc first.outputs.sends one two)
 
   -- ---- in the middle of a step
@@ -142,3 +166,28 @@ module _ {input : Input} {node : Node} where
   -- the count of sends is no less than at first
   pub count_above : (so_far : StepState) → Leads input node (input_received input (at_first node)) so_far → node.sends ≤ so_far.node.sends
   count_above so_far leads = let counted = (in_order_so_far so_far leads).counted in omega (arith, counted)
+
+  -- where the input sends nothing, all that is sent is of the epoch in which the node is by then
+  pub sends_in_epoch : (input_received input (at_first node)).outputs.sends ≡ [] → (so_far : StepState)
+      → Leads input node (input_received input (at_first node)) so_far → AreOfEpoch so_far.node.peer.epoch so_far.outputs.sends
+  sends_in_epoch silent so_far changes.Still send there =
+      absurd (Contains-nil send (subst (λ (sends : List (NodeId × PeerReq)). Contains sends send) silent there))
+  sends_in_epoch silent last (changes.Then {so_far} {next} leads change) send there =
+      let (more, is, epochs) = sends_grow so_far next change in
+      let peers : so_far.node.peer.epoch ≡ next.node.peer.epoch
+      = ap (λ (u : Untouched). u.peer.epoch) ((in_order_so_far so_far leads).same ∙ sym (in_order_so_far next (changes.Then leads change)).same) in
+      ⊎_elim
+      (λ (old : Contains so_far.outputs.sends send). sends_in_epoch silent so_far leads send old ∙ peers)
+      (λ (new : Contains more send). epochs send new)
+      (Contains-append_cases so_far.outputs.sends more send (subst (λ (sends : List (NodeId × PeerReq)). Contains sends send) is there))
+
+-- a node that puts an entry sends nothing
+pub put_sends : (node : Node) → (node_step inputs.Put node).outputs.sends ≡ []
+unfolding node_step on_input recovered_put
+put_sends node =
+    let put = on_put node.outbox (at_first node) in
+    cond_either (λ (so_far : StepState). so_far.outputs.sends ≡ []) (is_due put.node) (with_recovered put) put (by_outbox node.outbox) (by_outbox node.outbox)
+  where
+    by_outbox : (outbox : List Entry) → (on_put outbox (at_first node)).outputs.sends ≡ []
+    by_outbox [] = refl
+    by_outbox (entry ∷ later) = refl

@@ -21,7 +21,7 @@ use Rattle.overlap_law.proofs.TrafficNumbers.{traffic_numbers}
 use Rattle.overlap_law.proofs.TrafficOfChanges.{traffic}
 
 -- before the first event nothing is in the wire, and there are no attempts
-none_yet : (script : List Statement) (name : MessageName) (packet : Packet) → tree.get (first_moment script).world.wire name ≡ Some packet → ⊥
+pub none_yet : (script : List Statement) (name : MessageName) (packet : Packet) → tree.get (first_moment script).world.wire name ≡ Some packet → ⊥
 unfolding initial_world
 none_yet script name packet got = let none = tree.get-empty {X = Packet} name_cmp name in cc (got, none)
 

@@ -172,6 +172,6 @@ module _ (hosts hosts_after : Hosts) (wire : Wire) (attempts : List AttemptRecor
   traffic_fates (AttemptBegins n sends attempt begun) fates =
       fates_more (fold wire_with_request wire sends) attempts attempt begun.whole
       (λ place target fate among got. subst (IsFateIn (fold wire_with_request wire sends) attempt place target) (sym (begun.flying place fate got))
-      (record { bytes = ask_bytes (message_request_at attempt place); there = sends_there begun.sent_by.host.node.sends sends wire (target, message_request_at attempt place) begun.sent_by.numbers (begun.asks place target among); spelled = begun.spelled place target among }))
+      (record { bytes = ask_bytes (message_request_at attempt place); there = sends_there begun.sent_by.host.node.sends sends wire (target, message_request_at attempt place) begun.sent_by.numbers (begun.asks place target among); spelled = begun.sent_by.read (target, message_request_at attempt place) (begun.asks place target among) }))
       (fates_still wire (fold wire_with_request wire sends) attempts (λ j attempt there place target among. inl (sends_new n sends begun.sent_by j attempt there place target among)) fates)
   traffic_fates (RepliesGo n) fates = fates_still wire (without_replies n wire) attempts (λ j attempt at place target among. forgets_still n wire (message_name_at attempt place)) fates

@@ -1,12 +1,10 @@
 -- Each change of a moment is of one kind of traffic.
-use Rattle.std.proofs.Common.{◌≡◌, ℕ, ◌+◌, true, List, [], ◌∷◌, ◌++◌, fold, map, Contains, Some, refl, sym, ap, subst, ◌∙◌, append-nil}
+use Rattle.std.proofs.Common.{◌≡◌, ℕ, true, List, [], ◌∷◌, ◌++◌, fold, map, Some, refl, sym, ap, subst, ◌∙◌, append-nil}
 use Rattle.std.specs.FinMap as tree
 use Rattle.std.proofs.lemmas.List.Elements.{Contains-append_right}
-use Rattle.proof_tools.proofs.Booleans.{cond_either}
 use Rattle.proof_tools.proofs.FiniteMaps.{get-insert_same}
 use Rattle.object_id.specs.declared.node.NodeId.{NodeId}
 use Rattle.object_id.specs.declared.cause.Cause.TheVariants.{Halt}
-use Rattle.object_id.specs.declared.entry.Entry.{Entry}
 use Rattle.cluster_script.specs.declared.statement.Statement.{Statement}
 use Rattle.peer_proto.specs.declared.ask.PeerReq.{PeerReq}
 use Rattle.peer_service.specs.Serve.{reply_to}
@@ -17,8 +15,8 @@ use Rattle.sheep_node.specs.declared.event.Event.{Event}
 use Rattle.sheep_node.specs.declared.input.Input.{Input}
 use Rattle.sheep_node.specs.declared.input.Input.TheVariants as inputs
 use Rattle.sheep_node.specs.State.{Node}
-use Rattle.sheep_node.specs.StepState.{StepState, at_first}
-use Rattle.sheep_node.specs.Step.{on_put, on_input, is_due, with_recovered, recovered_put, node_step}
+use Rattle.sheep_node.specs.StepState.{StepState}
+use Rattle.sheep_node.specs.Step.{node_step}
 use Rattle.sheep_node.specs.Changes as changes
 use Rattle.sheep_node.specs.Changes.{attempt_in}
 use Rattle.sheep_node.proofs.StepResults.{step_numbers, step_counts}
@@ -44,7 +42,9 @@ use Rattle.overlap_law.specs.Traffic as kinds
 use Rattle.overlap_law.specs.Traffic.{Traffic, TrafficBetween}
 use Rattle.overlap_law.proofs.AttemptsOfEvents.{attempts-of_untold_loss, attempts-of_unread_delivery, attempts-of_loss, attempts-of_leave, attempts-of_reweight, attempts-of_join, attempts-of_return, attempts-of_phase_end}
 use Rattle.overlap_law.proofs.AttemptsInSteps.{attempts-at_first, attempts-at_end, attempts-grow}
-use Rattle.overlap_law.proofs.SendsOfChanges.{received_nothing, steps_send_nothing, next_sends_nothing, refusal_sends_nothing, denial_sends_nothing, end_sends_nothing}
+use Rattle.overlap_law.proofs.SendsOfChanges.{received_nothing, steps_send_nothing, next_sends_nothing, refusal_sends_nothing, denial_sends_nothing, end_sends_nothing, put_sends}
+use Rattle.overlap_law.proofs.AskedEpochs.{SendsInThePast}
+use Rattle.overlap_law.proofs.PastAsks.{step_in_past}
 use Rattle.overlap_law.proofs.KnownSteps.{IsKnownStep, together, known_step}
 use Rattle.overlap_law.proofs.OpeningTraffic.{AreReadable, readable_at, opening_traffic}
 
@@ -122,16 +122,6 @@ wire-by_changes (EntryIsPut entry) by hosts node wire = absurd by
 wire-by_changes RecoveryTicks by hosts node wire = absurd by
 wire-by_changes WorkIsRetried by hosts node wire = refl
 
-put_sends : (node : Node) → (node_step inputs.Put node).outputs.sends ≡ []
-unfolding node_step on_input recovered_put
-put_sends node =
-    let put = on_put node.outbox (at_first node) in
-    cond_either (λ (so_far : StepState). so_far.outputs.sends ≡ []) (is_due put.node) (with_recovered put) put (by_outbox node.outbox) (by_outbox node.outbox)
-  where
-    by_outbox : (outbox : List Entry) → (on_put outbox (at_first node)).outputs.sends ≡ []
-    by_outbox [] = refl
-    by_outbox (entry ∷ later) = refl
-
 module _ (script : List Statement) (world : World) (n : ℕ) (host : Host) (attempts : List AttemptRecord) where
   begins : (hosts_after : Hosts) (cause : NodeCause) → IsCause script world n host cause → StepsByChanges cause
       → Traffic world.hosts hosts_after world.wire attempts (wire_at_cause cause world.wire) (attempts_at_cause host.node cause attempts)
@@ -144,12 +134,12 @@ module _ (script : List Statement) (world : World) (n : ℕ) (host : Host) (atte
   begins hosts_after RecoveryTicks so by = absurd by
   begins hosts_after WorkIsRetried so by = kinds.NothingMoves
 
-  at_once : (together : HoldsTogether script world) (there : host_at n world ≡ Some host) (up : is_host_up host ≡ true) (cause : NodeCause)
-      → IsCause script world n host cause → StepsAtOnce cause
-      → ((send : NodeId × PeerReq) → Contains (node_step (input_of_cause cause) host.node).outputs.sends send → send.1.from.0 ≡ n)
+  at_once : (holds : HoldsTogether script world) (there : host_at n world ≡ Some host) (up : is_host_up host ≡ true) (cause : NodeCause)
+      → IsCause script world n host cause → StepsAtOnce cause → IsKnownStep script world (record { n = n; host = host; cause = cause })
+      → SendsInThePast (input_of_cause cause) host.node
       → Traffic world.hosts (world_after_cause script n host cause world).hosts world.wire attempts (world_after_cause script n host cause world).wire (attempts_at_cause host.node cause attempts)
-  at_once together there up (GuestAsks session req ask) so by own = absurd by
-  at_once together there up (RequestComes name to request) so by own =
+  at_once holds there up (GuestAsks session req ask) so by known past = absurd by
+  at_once holds there up (RequestComes name to request) so by known past =
       let hosts = (world_after_cause script n host (RequestComes name to request) world).hosts in
       let rsp = reply_to host.node.peer request in
       subst (λ (sends : List (NodeId × PeerReq)). Traffic world.hosts hosts world.wire attempts
@@ -162,7 +152,7 @@ module _ (script : List Statement) (world : World) (n : ℕ) (host : Host) (atte
         request = request;
         read = so.read;
         said = refl;
-        spelled = together.messages.replies.spelled name to request host (record {
+        spelled = holds.messages.replies.spelled name to request host (record {
           bytes = so.bytes;
           there = so.there;
           read = so.read;
@@ -171,23 +161,25 @@ module _ (script : List Statement) (world : World) (n : ℕ) (host : Host) (atte
         });
         up_so = refl;
       }))
-  at_once together there up (ReplyComes name from rsp) so by own = absurd by
-  at_once together there up (LossIsTold name packet) so by own = absurd by
-  at_once together there up (EntryIsRead entry) so by own = absurd by
-  at_once together there up (EntryIsPut entry) so by own =
+  at_once holds there up (ReplyComes name from rsp) so by known past = absurd by
+  at_once holds there up (LossIsTold name packet) so by known past = absurd by
+  at_once holds there up (EntryIsRead entry) so by known past = absurd by
+  at_once holds there up (EntryIsPut entry) so by known past =
       subst (λ (sends : List (NodeId × PeerReq)). Traffic world.hosts (world_after_cause script n host (EntryIsPut entry) world).hosts world.wire attempts (fold wire_with_request world.wire sends) attempts)
       (sym (put_sends host.node)) kinds.NothingMoves
-  at_once together there up RecoveryTicks so by own = kinds.RequestsAreSent n (node_step inputs.RecoverTick host.node).outputs.sends (record {
+  at_once holds there up RecoveryTicks so by known past = kinds.RequestsAreSent n (node_step inputs.RecoverTick host.node).outputs.sends (record {
     host = host;
     there = there;
     numbers = step_numbers inputs.RecoverTick host.node;
-    own = own;
+    own = λ send there. ap (λ (me : NodeId). me.0) (known.asking.own send there) ∙ known.numbered;
     after = host_with_node host (node_step inputs.RecoverTick host.node).node;
     there_after = get-insert_same world.hosts n (host_with_node host (node_step inputs.RecoverTick host.node).node);
     stays = refl;
     counted = step_counts inputs.RecoverTick host.node;
+    read = known.asking.read;
+    past = past;
   })
-  at_once together there up WorkIsRetried so by own = absurd by
+  at_once holds there up WorkIsRetried so by known past = absurd by
 
 -- ---- every change
 
@@ -240,8 +232,8 @@ module _ (script : List Statement) (range : RunsAreInRange script) (start : Mome
       let known = known_step script range start.world began stepping is in
       subst (Traffic start.world.hosts (hosts_in_step stepping start.world (last_in_step stepping)) start.world.wire start.past.attempts (moment_in_step script stepping start (last_in_step stepping)).world.wire)
       (sym (attempts-at_end script start stepping is by))
-      (at_once script start.world stepping.n stepping.host start.past.attempts (together script range start.world began) is.there is.up stepping.cause is.caused by
-      (λ send there. ap (λ (me : NodeId). me.0) (known.asking.own send there) ∙ known.numbered))
+      (at_once script start.world stepping.n stepping.host start.past.attempts (together script range start.world began) is.there is.up stepping.cause is.caused by known
+      (step_in_past script range start.world began stepping is))
 
   -- an event at which no node steps, by the wire and the attempts after it
   by_event : (event : Event) (made : EventOutcome) (wire : Wire) (attempts : List AttemptRecord) → made.world.wire ≡ wire

@@ -1,5 +1,5 @@
 -- What a change of a moment makes of the wire and the attempts, in seven kinds: what is said of these two alone is kept by each kind.
-use Rattle.std.specs.Prelude.{◌≡◌, ℕ, ◌+◌, Bool, true, false, List, [], ◌∷◌, ◌++◌, fold, length, slice_get, Contains, Some, Ok}
+use Rattle.std.specs.Prelude.{◌≡◌, ℕ, ◌+◌, ◌≤◌, Bool, true, false, List, [], ◌∷◌, ◌++◌, fold, length, slice_get, Contains, Some, Ok}
 use Rattle.std.specs.FinMap as tree
 use Rattle.object_id.specs.declared.node.NodeId.{NodeId}
 use Rattle.peer_proto.specs.declared.ask.PeerReq.{PeerReq}
@@ -29,7 +29,8 @@ use Rattle.overlap_law.specs.OpenWorks.{IsOpenAs}
 use Rattle.overlap_law.specs.Past.{MomentWithPast}
 use Rattle.overlap_law.specs.StepMoments.{attempts_with_loss}
 
--- between two states of the hosts a node sends these, in its own name, under the numbers from its count on, and counts them
+-- between two states of the hosts a node sends these, in its own name, under the numbers from its count on, and counts them; each can be
+-- read, and is of an epoch that the node came to
 pub record AreSentBy (hosts hosts_after : Hosts) (n : ℕ) (sends : List (NodeId × PeerReq)) : Type 0 where
   pub host : Host
   pub there : tree.get hosts n ≡ Some host
@@ -39,8 +40,10 @@ pub record AreSentBy (hosts hosts_after : Hosts) (n : ℕ) (sends : List (NodeId
   pub there_after : tree.get hosts_after n ≡ Some after
   pub stays : after.incarnation ≡ host.incarnation
   pub counted : after.node.sends ≡ host.node.sends + length sends
+  pub read : (send : NodeId × PeerReq) → Contains sends send → ask_in (ask_bytes send.1) ≡ Ok send.1
+  pub past : (send : NodeId × PeerReq) → Contains sends send → send.1.epoch.0 ≤ after.node.peer.epoch
 
--- an attempt begins by these sends: all its messages fly, and can be read; and its gateway, which is up, has it open then
+-- an attempt begins by these sends: all its messages fly; and its gateway, which is up, has it open then
 pub record IsBegunBy (hosts hosts_after : Hosts) (n : ℕ) (sends : List (NodeId × PeerReq)) (attempt : AttemptRecord) : Type 0 where
   pub sent_by : AreSentBy hosts hosts_after n sends
   pub gateway : attempt.gateway.0 ≡ n
@@ -51,8 +54,6 @@ pub record IsBegunBy (hosts hosts_after : Hosts) (n : ℕ) (sends : List (NodeId
   pub flying : (place : ℕ) (fate : MessageFate) → slice_get attempt.fates place ≡ Some fate → fate ≡ Flying
   pub asks : (place : ℕ) (target : NodeId) → slice_get attempt.targets place ≡ Some target
       → Contains sends (target, message_request_at attempt place)
-  pub spelled : (place : ℕ) (target : NodeId) → slice_get attempt.targets place ≡ Some target
-      → ask_in (ask_bytes (message_request_at attempt place)) ≡ Ok (message_request_at attempt place)
   pub up : sent_by.after.is_lost ≡ false
   pub work : Work
   pub current : gateways.Attempt
