@@ -1,5 +1,5 @@
 -- Each kind of traffic keeps that a node which served an attempt came to its epoch: it serves what is of its own epoch, and no epoch falls.
-use Rattle.std.proofs.Common.{◌≡◌, ◌≢◌, ⊎_elim, arith, ℕ, zero, suc, ◌-◌, ◌≤◌, ◌<◌, ◌==◌, nat_le, Bool, true, cond, ◌&&◌, List, [], ◌∷◌, ◌++◌, Option, Some, None, Result, Ok, Err, option_map, slice_get, refl, sym, ap, subst, ◌∙◌}
+use Rattle.std.proofs.Common.{◌≡◌, ◌≢◌, ⊎_elim, arith, ℕ, zero, suc, ◌-◌, ◌≤◌, ◌<◌, ◌==◌, nat_le, Bool, true, cond, ◌&&◌, List, [], ◌∷◌, ◌++◌, Option, Some, None, option_map, slice_get, refl, sym, ap, subst, ◌∙◌}
 use Rattle.std.specs.Option.{option_map_or}
 use Rattle.std.specs.FinMap as tree
 use Rattle.std.proofs.lemmas.Bool.{cases_lt, and_parts, eqb-true, eq-eqb, leb-true, le-leb, or_left, or_right, or_cases}
@@ -7,7 +7,6 @@ use Rattle.std.proofs.lemmas.Option.{slice_get_within}
 use Rattle.object_id.specs.declared.node.NodeId.{NodeId}
 use Rattle.peer_proto.specs.declared.ask.PeerAsk.{PeerAsk}
 use Rattle.peer_proto.specs.declared.ask.PeerReq.{PeerReq}
-use Rattle.peer_proto.specs.declared.fault.PeerFault.{PeerFault}
 use Rattle.peer_proto.specs.declared.say.PeerSay.{PeerSay}
 use Rattle.peer_proto.specs.declared.say.PeerSay.TheVariants as says
 use Rattle.peer_proto.specs.declared.say.PeerRsp.{PeerRsp}
@@ -21,6 +20,7 @@ use Rattle.message_wire.specs.declared.name.MessageName.{MessageName}
 use Rattle.message_wire.specs.declared.packet.Packet.{Packet}
 use Rattle.message_wire.specs.declared.packet.Packet.TheVariants.{Request, Reply}
 use Rattle.sheep_world.specs.World.{Host}
+use Rattle.sheep_world.proofs.RecoveryMessages.{same_asked}
 use Rattle.overlap_law.specs.Attempts.{AttemptRecord, MessageFate, Flying, Served, Doomed, known_fate, fates_with, attempts_with_fate, fate_of_say}
 use Rattle.overlap_law.specs.Words.{is_served, is_served_by}
 use Rattle.overlap_law.specs.Reached.{Hosts}
@@ -126,7 +126,7 @@ say_of_served (says.Row row) is = absurd (cc (is))
 say_of_served says.NoRow is = absurd (cc (is))
 say_of_served (says.Refused refusal) is = absurd (cc (is))
 
--- ---- parts of packets and results
+-- ---- parts of packets
 
 abbrev bytes_of : Option Packet → List ℕ
 bytes_of None = []
@@ -137,16 +137,6 @@ abbrev receiver_of : NodeId → Option Packet → NodeId
 receiver_of one None = one
 receiver_of one (Some (Request to bytes)) = to
 receiver_of one (Some (Reply from bytes)) = from
-
-abbrev request_of : PeerReq → Result PeerReq PeerFault → PeerReq
-request_of one (Ok request) = request
-request_of one (Err fault) = one
-
-abbrev read_as : PeerReq → Result PeerReq PeerFault
-read_as request = Ok request
-
-same_request : (one other : PeerReq) → read_as one ≡ read_as other → one ≡ other
-same_request one other is = ap (request_of one) is
 
 -- ---- every kind of traffic
 
@@ -220,7 +210,7 @@ module _ (hosts hosts_after : Hosts) (wire : Wire) (attempts : List AttemptRecor
       let to_so : to ≡ target = sym (ap (receiver_of target) packets) in
       let bytes_so : bytes ≡ asking.bytes = sym (ap bytes_of packets) in
       let request_so : answer.request ≡ message_request_at was place
-      = same_request answer.request (message_request_at was place) (sym answer.read ∙ ap ask_in bytes_so ∙ asking.spelled) in
+      = same_asked answer.request (message_request_at was place) (sym answer.read ∙ ap ask_in bytes_so ∙ asking.spelled) in
       let said : (peer_step answer.host.node.peer answer.request).say ≡ says.Success
       = ap (λ (r : PeerRsp). r.say) answer.said ∙ say_of_served rsp.say served in
       let epoch : answer.host.node.peer.epoch ≡ was.epoch
