@@ -139,12 +139,12 @@ refused-changes_nothing script world name to node request made refusal is why sa
           ∙ ap (λ outputs. flat_map (reply_grown script world None) outputs.replies) before.said;
     })
 
-older : (own requested : ℕ) → requested < own → epoch_refusal own requested ≡ Some (OldEpoch (record { 0 = own }))
+pub older : (own requested : ℕ) → requested < own → epoch_refusal own requested ≡ Some (OldEpoch (record { 0 = own }))
 older own requested below =
     ap (λ (b : Bool). cond b (Some (OldEpoch (record { 0 = own }))) (cond (nat_lt own requested) (Some (NewEpoch (record { 0 = own }))) None))
     (lt-ltb requested own below)
 
-newer : (own requested : ℕ) → own < requested → epoch_refusal own requested ≡ Some (NewEpoch (record { 0 = own }))
+pub newer : (own requested : ℕ) → own < requested → epoch_refusal own requested ≡ Some (NewEpoch (record { 0 = own }))
 newer own requested above =
     let below : own ≤ requested = omega arith in
     ap (λ (b : Bool). cond b (Some (OldEpoch (record { 0 = own }))) (cond (nat_lt own requested) (Some (NewEpoch (record { 0 = own }))) None))

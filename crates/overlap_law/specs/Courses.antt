@@ -5,7 +5,6 @@ use Rattle.object_id.specs.declared.oid.Vid.{Vid}
 use Rattle.object_id.specs.declared.entry.Entry.{Entry}
 use Rattle.object_id.specs.Spec.{objects_of}
 use Rattle.inode.specs.Layout.{Content}
-use Rattle.vdi_directory.specs.declared.header.Header.{Header}
 use Rattle.peer_proto.specs.declared.work.ObjWork.{ObjWork}
 use Rattle.gateway.specs.State.{Work}
 use Rattle.guest_driver.specs.declared.act.DriverAct.TheVariants as acts

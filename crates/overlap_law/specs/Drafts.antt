@@ -1,5 +1,5 @@
 -- What is to be published: from where the table of its inode is, and that the inode was created.
-use Rattle.std.specs.Prelude.{◌≡◌, ℕ, ◌^◌, ◌<◌, Bool, true, List, [], ◌∷◌, slice_get, slice_index, is_some, Option, Some, None}
+use Rattle.std.specs.Prelude.{◌≡◌, ℕ, ◌<◌, Bool, true, List, [], ◌∷◌, slice_get, slice_index, is_some, Option, Some, None}
 use Rattle.std.specs.FinMap as tree
 use Rattle.object_id.specs.declared.limits.TheConstants.{OBJECTS_MAX}
 use Rattle.object_id.specs.declared.oid.Vid.{Vid}

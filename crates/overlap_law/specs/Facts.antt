@@ -1,5 +1,5 @@
 -- The other facts on which the overlap of epochs rests: holders and lists, lost gateways, and entries; and all six together.
-use Rattle.std.specs.Prelude.{◌≡◌, ℕ, ◌+◌, ◌*◌, ◌^◌, ◌==◌, ◌<◌, ◌≤◌, max, Bool, true, false, ◌&&◌, List, [], ◌++◌, All, Some, Ok}
+use Rattle.std.specs.Prelude.{◌≡◌, ℕ, ◌+◌, ◌*◌, ◌==◌, ◌<◌, ◌≤◌, max, Bool, true, false, ◌&&◌, List, [], ◌++◌, All, Some, Ok}
 use Rattle.std.specs.List.{find, list_any}
 use Rattle.std.specs.Option.{option_map_or}
 use Rattle.std.specs.FinMap as tree

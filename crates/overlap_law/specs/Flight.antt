@@ -59,10 +59,14 @@ pub record NoReplyGoesToTheLost (hosts : Hosts) (wire : Wire) : Type 0 where
   pub each : EachHost hosts (λ n host. (number : ℕ) (packet : Packet) → host.is_lost ≡ true
       → tree.get wire (message_name n number) ≡ Some packet → is_request_in_flight (Some packet) ≡ true)
 
--- what was asked was asked in an epoch that its sender came to
+-- what flies was asked in an epoch that its sender came to
+abbrev pub FlyInThePast : Hosts → Wire → Type 0
+FlyInThePast hosts wire = EachHost hosts (λ n host. (number : ℕ) (to : NodeId) (request : PeerReq)
+    → IsAsking wire (message_name n number) to request → request.epoch.0 ≤ host.node.peer.epoch)
+
+-- and what is awaited too
 pub record RequestsAreOfThePast (hosts : Hosts) (wire : Wire) : Type 0 where
-  pub flying : EachHost hosts (λ n host. (number : ℕ) (to : NodeId) (request : PeerReq)
-      → IsAsking wire (message_name n number) to request → request.epoch.0 ≤ host.node.peer.epoch)
+  pub flying : FlyInThePast hosts wire
   pub awaited : EachUp hosts (λ n node. (to : NodeId) (request : PeerReq) → IsAwaitedReply node to request
       → request.epoch.0 ≤ node.peer.epoch)
 

@@ -34,3 +34,7 @@ pub mod Checks
 pub mod RequestsOfScript
 pub mod Groups
 pub mod Overlap
+pub mod StepMoments
+pub mod MomentChanges
+pub mod Traffic
+pub mod TiedAttempts

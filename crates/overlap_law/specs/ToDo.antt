@@ -1,5 +1,5 @@
 -- The works that are still to be made: what they would make is of objects that are there, and of bytes that may be read.
-use Rattle.std.specs.Prelude.{◌≡◌, ◌≢◌, ◌⊎◌, ℕ, ◌^◌, ◌<◌, Bool, true, false, List, slice_get, Some}
+use Rattle.std.specs.Prelude.{◌≡◌, ◌≢◌, ◌⊎◌, ℕ, ◌<◌, Bool, true, false, List, slice_get, Some}
 use Rattle.std.specs.FinMap as tree
 use Rattle.object_id.specs.declared.limits.TheConstants.{OBJECTS_MAX}
 use Rattle.object_id.specs.Oid.{IsVid, inode_number, object_number}

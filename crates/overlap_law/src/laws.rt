@@ -1,5 +1,5 @@
 //! Laws of the definitions, for the proofs of the layers above: each is the contract of a function that does nothing.
-ghost use Rattle.std.specs.Prelude.{◌≡◌, ◌≢◌, ℕ, ◌+◌, ◌-◌, true, false, List, [], length, slice_get, Some};
+ghost use Rattle.std.specs.Prelude.{◌≡◌, ◌≢◌, ℕ, ◌+◌, ◌-◌, true, false, List, [], ◌++◌, length, slice_get, Some};
 ghost use Rattle.std.specs.List.{list_all, AllByRecursion};
 ghost use Rattle.std.specs.FinMap.{get};
 ghost use Rattle.std.specs.Option.{option_map};
@@ -7,15 +7,29 @@ ghost use Rattle.object_id.specs.declared.node.NodeId.{NodeId};
 ghost use Rattle.object_id.specs.declared.oid.Kind.{Kind};
 ghost use Rattle.object_list.specs.Gathered.{has_node};
 ghost use Rattle.cluster_script.specs.declared.statement.Statement.{Statement};
+ghost use Rattle.cluster_script.specs.Language.{IsScript};
 ghost use Rattle.sheep_node.specs.declared.event.Event.{Event};
 ghost use Rattle.sheep_node.specs.Step.{is_due};
+ghost use Rattle.sheep_node.specs.StepState.{StepState};
+ghost use Rattle.sheep_world.specs.Began.{Began};
 ghost use Rattle.sheep_world.specs.Run.{run};
 ghost use Rattle.sheep_world.specs.World.{Host};
 ghost use Rattle.overlap_law.specs.Attempts.{MessageFate, Flying, Served, AttemptRecord, has_message, attempt_with_fate};
 ghost use Rattle.overlap_law.specs.Words.{Hosts, is_beyond, is_made, is_doomed, has_served, unit_start, unit_end, covers_unit, base_of};
 ghost use Rattle.overlap_law.specs.Words.{own_base_of};
 ghost use Rattle.overlap_law.specs.Headline.{OtherEpochsChangeNothing};
-ghost use Rattle.overlap_law.specs.Past.{MomentWithPast, run_with_past, without_past};
+ghost use Rattle.overlap_law.specs.Past.{MomentWithPast, run_with_past, without_past, next_moment, first_moment};
+ghost use Rattle.overlap_law.specs.StepMoments.{SteppingNode, IsStepping, StepsByChanges, IsWithinStep, moment_in_step, attempts_of_change};
+ghost use Rattle.overlap_law.specs.MomentChanges.{MomentChange, RunsAreInRange, EventsAreTrails};
+ghost use Rattle.overlap_law.specs.Traffic.{TrafficBetween, BeginsInTurn, OpenAttemptsHaveMessages};
+ghost use Rattle.overlap_law.specs.Fates.{AttemptsAreOrdered};
+ghost use Rattle.overlap_law.specs.OpenWorks.{OpenAttemptsAreLatest};
+ghost use Rattle.overlap_law.specs.Sessions.{WorksAreApart};
+ghost use Rattle.overlap_law.specs.Writers.{OnlyTheWriterWrites};
+ghost use Rattle.overlap_law.specs.Flight.{FlyInThePast, RequestsAreOfThePast};
+ghost use Rattle.overlap_law.specs.NodeEpochs.{TheUpAreMembers, NodesHaveRead, SettledIsRead};
+ghost use Rattle.overlap_law.specs.RequestsOfScript.{JoinsAreNew};
+ghost use Rattle.overlap_law.specs.TiedAttempts.{IsTied};
 
 /// A made attempt isn't doomed, and whatever is told of a message leaves it made.
 pub fn what_is_made_stays_made()
@@ -89,4 +103,80 @@ pub fn peers_of_another_epoch_change_nothing()
 pub fn no_read_of_what_was_borne_is_left_out()
     ensures { (script : List Statement) (events : List Event) (moment : MomentWithPast) → run_with_past script events ≡ Some moment
         → moment.past.unavailable ≡ [] → moment.past.available_history ≡ moment.past.history }
+{}
+
+/// An event is a trail of small changes: from the moment before an event that may happen the one after it is reached by changes of a
+/// moment. A step that works go on with is one change of its node after the other; any other event is one change.
+pub fn an_event_is_a_trail_of_changes()
+    ensures { (script : List Statement) → EventsAreTrails script }
+{}
+
+/// In each run in range a change of the node in its step adds to the attempts exactly the one that it opens, if that creates or writes.
+pub fn an_attempt_begins_where_one_opens()
+    ensures { (script : List Statement) (start : MomentWithPast) (stepping : SteppingNode) (so_far next : StepState)
+        → RunsAreInRange script → Began script start.world → IsStepping script start.world stepping → StepsByChanges stepping.cause
+        → (within : IsWithinStep stepping so_far next)
+        → (moment_in_step script stepping start next).past.attempts ≡ (moment_in_step script stepping start so_far).past.attempts
+        ++ attempts_of_change stepping.host so_far next within.change }
+{}
+
+/// In each run in range a change of a moment is of one of seven kinds, by what it makes of the wire and the attempts.
+pub fn each_change_is_of_a_kind_of_traffic()
+    ensures { (script : List Statement) (start before after : MomentWithPast) → RunsAreInRange script → Began script start.world
+        → MomentChange script start before after → TrafficBetween before after }
+{}
+
+/// The wire and the attempts stay tied: each number in the wire was given by its sender, no reply goes to a lost node, a message of an
+/// attempt flies exactly while its request is in the wire, a reply to it says success exactly where its target served it, who served it
+/// came to its epoch, and the attempts go with the incarnations of their gateways. So it is when a script opens, each change of a moment
+/// and each event keeps it, and so it is in each run in range.
+pub fn the_wire_and_the_attempts_stay_tied()
+    ensures opening { (script : List Statement) → IsTied (first_moment script) }
+    ensures change { (script : List Statement) (start before after : MomentWithPast) → RunsAreInRange script → Began script start.world
+        → MomentChange script start before after → IsTied before → IsTied after }
+    ensures event { (script : List Statement) (event : Event) (before after : MomentWithPast) → RunsAreInRange script
+        → Began script before.world → next_moment script event before ≡ Some after → IsTied before → IsTied after }
+    ensures run { (script : List Statement) (events : List Event) (moment : MomentWithPast) → RunsAreInRange script
+        → run_with_past script events ≡ Some moment → IsTied moment }
+{}
+
+/// Two more conjuncts are kept by each change at which the attempts are tied, if the group of writers gives what is asked here. The
+/// attempts on an object stay in order, if one that begins does so in its turn. And open attempts stay the latest, if after the change
+/// each open create or write has a message, works are apart, and only the writer of an id has one on it.
+pub fn the_attempts_stay_in_order()
+    ensures ordered { (script : List Statement) (start before after : MomentWithPast) → RunsAreInRange script → Began script start.world
+        → MomentChange script start before after → IsTied before → BeginsInTurn before after
+        → AttemptsAreOrdered before.world.wire before.past.attempts → AttemptsAreOrdered after.world.wire after.past.attempts }
+    ensures latest { (script : List Statement) (start before after : MomentWithPast) → RunsAreInRange script → Began script start.world
+        → MomentChange script start before after → IsTied before → OpenAttemptsHaveMessages after.world.hosts
+        → WorksAreApart after.world.hosts → OnlyTheWriterWrites after.world.log after.world.hosts after.past.attempts
+        → OpenAttemptsAreLatest before.world.hosts before.past.attempts → OpenAttemptsAreLatest after.world.hosts after.past.attempts }
+{}
+
+/// What was asked was asked in an epoch that its sender came to. Of what flies this is kept by each change of a moment at which the
+/// attempts are tied, and in each run in range it holds of what flies and of what the nodes wait for.
+pub fn what_is_asked_is_of_the_past()
+    ensures change { (script : List Statement) (start before after : MomentWithPast) → RunsAreInRange script → Began script start.world
+        → MomentChange script start before after → IsTied before → FlyInThePast before.world.hosts before.world.wire
+        → FlyInThePast after.world.hosts after.world.wire }
+    ensures run { (script : List Statement) (events : List Event) (moment : MomentWithPast) → RunsAreInRange script
+        → run_with_past script events ≡ Some moment → RequestsAreOfThePast moment.world.hosts moment.world.wire }
+{}
+
+/// In each run in range a node that isn't lost is a member of the newest epoch. What a node has read are the first entries of the log,
+/// and by them are its epoch, the settled one, and the members of each epoch that it entered. The settled epoch that it has read is no
+/// later than the log's, nor than its own.
+pub fn what_nodes_have_read_is_of_the_log()
+    ensures members { (script : List Statement) (events : List Event) (moment : MomentWithPast) → RunsAreInRange script
+        → run_with_past script events ≡ Some moment → TheUpAreMembers moment.world.log moment.world.hosts }
+    ensures read { (script : List Statement) (events : List Event) (moment : MomentWithPast) → RunsAreInRange script
+        → run_with_past script events ≡ Some moment → NodesHaveRead moment.world.log moment.world.hosts }
+    ensures settled { (script : List Statement) (events : List Event) (moment : MomentWithPast) → RunsAreInRange script
+        → run_with_past script events ≡ Some moment → SettledIsRead moment.world.log moment.world.hosts }
+{}
+
+/// In each run of a script a node whose join is still to come isn't there, and joins once.
+pub fn who_joins_is_new()
+    ensures { (script : List Statement) (events : List Event) (moment : MomentWithPast) → IsScript script
+        → run_with_past script events ≡ Some moment → JoinsAreNew script moment.world }
 {}
