@@ -1,0 +1,3 @@
+pub mod KeptTries
+pub mod HistoryLemmas
+pub mod CellLemmas
