@@ -115,10 +115,11 @@ fn a_step_is_above_the_entry_that_it_reads(rt: HostRuntime) -> Result<(), Fail> 
     assert_eq!(rt; told, Some(Ok(1)));
     assert!(rt; !cell.spent());
     assert_eq!(rt; cell.node().read_len(), 1);
-    assert_eq!(rt; cell.steps().len(), 1);
-    let step = cell.steps()[0].copy(alloc)?;
+    let steps = cell.steps();
+    assert_eq!(rt; steps.len(), 1);
+    let step = steps[0].copy(alloc)?;
     assert_eq!(rt; step.stamp, 1);
-    assert_eq!(rt; step.used.as_slice(), &[0]);
+    assert_eq!(rt; step.used.as_slice(), [0].as_slice());
     Ok(())
 }
 

@@ -6,6 +6,7 @@ use Rattle.sheep_node.specs.declared.event.Event.{Event}
 use Rattle.sheep_node.specs.declared.input.Input.{Input}
 use Rattle.sheep_node.specs.declared.input.Input.TheVariants as inputs
 use Rattle.sheep_node.specs.State.{Node, initial_node}
+use Rattle.sheep_node.specs.SpentNode.{NodeOrSpent}
 use Rattle.sheep_node.specs.Step.{node_step}
 use Rattle.sheep_node.specs.StepFacts.{read_after}
 use Rattle.sheep_node.specs.May.{May}
@@ -18,6 +19,16 @@ use Rattle.live_cells.specs.History.{made_step, Replays}
 use Rattle.live_cells.specs.Cell.{IsCell}
 use Rattle.live_cells.proofs.KeptTries.{tries_stay}
 use Rattle.live_cells.proofs.HistoryLemmas.{replays_more}
+
+-- a node that isn't spent
+abbrev pub live_node : Node → NodeOrSpent
+live_node node = record { spent = false; node = node }
+
+seen_node : Node → Bool → NodeOrSpent
+seen_node node spent = record { spent = spent; node = node }
+
+pub node_is_live : (seen : NodeOrSpent) → seen.spent ≡ false → seen ≡ live_node seen.node
+node_is_live seen live = ap (seen_node seen.node) live
 
 -- ---- a cell opens
 

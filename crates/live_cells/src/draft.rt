@@ -90,7 +90,7 @@ fn step_by(node: &mut Node, stamp: u64, draft: Draft) -> Result<Step, NoMemory>
 }
 
 /// Makes the step of a draft, and keeps it behind the others.
-pub fn make(
+pub fn add_step(
     node: &mut Node,
     steps: &mut Vec<Step>,
     stamp: u64,

@@ -11,7 +11,7 @@ ghost use Rattle.live_cells.specs.Seats.{HasDrawn};
 
 use crate::act_fault::ActFault;
 use crate::carry::{Carry, draw_above, join_all};
-use crate::draft::{Draft, draft_of, make};
+use crate::draft::{Draft, add_step, draft_of};
 use crate::step::Step;
 use object_id::NoMemory;
 use sheep_node::{Event, Input, Node};
@@ -71,7 +71,7 @@ impl NodeCell {
         requires opening { IsOpening node.node }
         ensures { result ≡ new_cell node.node }
     {
-        let has_read = node.read_len() != 0;
+        let has_read = 0 < node.read_len();
         NodeCell {
             node,
             has_read,
@@ -128,22 +128,20 @@ impl NodeCell {
     }
 
     /// Makes the step of a draft. Without memory the cell is spent.
-    fn make(&mut self, stamp: u64, draft: Draft) -> Result<u64, ActFault>
+    fn make(&mut self, stamp: u64, draft: Draft) -> Result<(), NoMemory>
         requires live { self.old.spent ≡ false }
         requires may { May draft.input self.old.node }
         requires kept { draft.kept ≡ draft.input }
         requires above { All (λ used. used < stamp) draft.used }
-        ensures stamp { IfOk result (λ answer. answer ≡ stamp) }
         ensures step { OnOk result (self.new ≡ cell_after stamp draft.event draft.input draft.used self.old) }
         ensures opening { OnOk result (opening_of self.new ≡ opening_of self.old) }
         ensures spent { OnErr result (self.new.spent ≡ true) }
-        ensures memory { OnErr result (result ≡ Err faults.NoMemory) }
     {
-        match make(&mut self.node, &mut self.steps, stamp, draft) {
-            Ok(()) => Ok(stamp),
+        match add_step(&mut self.node, &mut self.steps, stamp, draft) {
+            Ok(()) => Ok(()),
             Err(NoMemory) => {
                 self.spent = true;
-                Err(ActFault::NoMemory)
+                Err(NoMemory)
             }
         }
     }
@@ -173,7 +171,10 @@ impl NodeCell {
         ensures clock { seat.new.clock ≡ seat.old.clock }
     {
         match draw_above(brought, clock, seat) {
-            Ok(stamp) => self.make(stamp, draft),
+            Ok(stamp) => match self.make(stamp, draft) {
+                Ok(()) => Ok(stamp),
+                Err(NoMemory) => Err(ActFault::NoMemory),
+            },
             Err(ClockSpent) => Err(ActFault::ClockSpent),
         }
     }
