@@ -24,7 +24,7 @@ use Rattle.live_cells.proofs.HistoryLemmas.{replays_more}
 abbrev pub live_node : Node → NodeOrSpent
 live_node node = record { spent = false; node = node }
 
-seen_node : Node → Bool → NodeOrSpent
+abbrev seen_node : Node → Bool → NodeOrSpent
 seen_node node spent = record { spent = spent; node = node }
 
 pub node_is_live : (seen : NodeOrSpent) → seen.spent ≡ false → seen ≡ live_node seen.node

@@ -78,23 +78,20 @@ module _ (tries : ℕ) where
     change_keeps_tries so_far next (changes.Rejects session req ask cause arrival) good has = has
     change_keeps_tries so_far next (changes.Recovers due) good has = has
 
-abbrev TriesStay : ℕ → StepState → Type 0
-TriesStay tries so_far = so_far.node.gateway.tries ≡ tries
-
-received_tries : (input : Input) (node : Node) → TriesStay node.gateway.tries (input_received input (at_first node))
+received_tries : (input : Input) (node : Node) → HasTries node.gateway.tries (input_received input (at_first node))
 unfolding entry_read on_request on_recover_tick on_back
 received_tries (inputs.Guest req session ask) node = refl
 received_tries (inputs.Request request) node = refl
 received_tries (inputs.Reply rsp) node =
-    cond_either (TriesStay node.gateway.tries) (gateways.gateway_awaits rsp.number node.gateway) (at_first node)
+    cond_either (HasTries node.gateway.tries) (gateways.gateway_awaits rsp.number node.gateway) (at_first node)
     (recovery_stepped (recovery_steps.recovery_on_reply rsp (recovery_state_of node)) (at_first node)) refl refl
 received_tries (inputs.Lost number) node =
-    cond_either (TriesStay node.gateway.tries) (gateways.gateway_awaits number node.gateway) (at_first node)
+    cond_either (HasTries node.gateway.tries) (gateways.gateway_awaits number node.gateway) (at_first node)
     (recovery_stepped (recovery_steps.recovery_on_loss number (recovery_state_of node)) (at_first node)) refl refl
 received_tries (inputs.LogEntry entry) node = refl
 received_tries inputs.Put node = by_outbox node.outbox
   where
-    by_outbox : (outbox : List Entry) → TriesStay node.gateway.tries (on_put outbox (at_first node))
+    by_outbox : (outbox : List Entry) → HasTries node.gateway.tries (on_put outbox (at_first node))
     by_outbox [] = refl
     by_outbox (entry ∷ later) = refl
 received_tries inputs.RecoverTick node = refl
@@ -105,7 +102,7 @@ pub tries_stay : (input : Input) (node : Node) → May input node → HasOneWork
     → (node_step input node).node.gateway.tries ≡ node.gateway.tries
 tries_stay input node may driven =
     let sound : IsSoundStep input node = (meets_numbers input node may.condition, driven) in
-    (kept_by_chain (λ so_far. StepHasOneWork so_far × TriesStay node.gateway.tries so_far)
+    (kept_by_chain (λ so_far. StepHasOneWork so_far × HasTries node.gateway.tries so_far)
     (λ so_far next change both. (
       change_keeps_one_work so_far next change sound both.0,
       change_keeps_tries node.gateway.tries so_far next change both.0 both.1,

@@ -39,7 +39,7 @@ pub informed_of_nothing : (seat : SeatState) → IsInformed seat seat
 informed_of_nothing seat = record { clock = refl; mine = refl; seen = omega arith; room = refl; spent = refl }
 
 -- the seats that learned are equal but for what they have seen
-seat_drawn : ℕ → ClockId → List ℕ → ℕ → Bool → SeatState
+abbrev seat_drawn : ℕ → ClockId → List ℕ → ℕ → Bool → SeatState
 seat_drawn number clock mine room spent = record { clock = clock; mine = number ∷ mine; seen = number + 1; room = room; spent = spent }
 
 -- a number drawn after that
