@@ -1,6 +1,6 @@
 //! A step that is still to be made, with room for all that is kept of it.
 
-ghost use Rattle.std.specs.Prelude.{◌≡◌, OnOk, OnErr, IfOk, ◌++◌, ◌∷◌, []};
+ghost use Rattle.std.specs.Prelude.{◌≡◌, false, [], ◌∷◌, ◌++◌, IfOk, OnOk};
 ghost use Rattle.sheep_node.specs.Step.{node_step};
 ghost use Rattle.sheep_node.specs.May.{May};
 ghost use Rattle.live_cells.specs.History.{made_step};

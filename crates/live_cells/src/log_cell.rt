@@ -3,7 +3,7 @@
 ghost use Rattle.std.specs.Prelude.{◌≡◌, ◌<◌, [], ◌∷◌, ◌++◌, length, slice_index, IfOk, OnOk, OnErr};
 ghost use Rattle.std.specs.Option.{option_map};
 ghost use Rattle.epoch_log.specs.Appending.{MayAppend};
-ghost use Rattle.live_cells.specs.LogState.{IsFormatAlone, new_log, log_after, entry_at};
+ghost use Rattle.live_cells.specs.LogState.{IsFormatAlone, log_after, entry_at};
 
 use crate::carry::Carry;
 use epoch_log::Log;
