@@ -1,6 +1,5 @@
 -- What contracts see of the log's cell.
-use Rattle.std.specs.Prelude.{◌≡◌, ℕ, List, [], ◌∷◌, ◌++◌, slice_get, slice_index, Option}
-use Rattle.std.specs.Option.{option_map}
+use Rattle.std.specs.Prelude.{◌≡◌, ℕ, List, [], ◌∷◌, ◌++◌, slice_get, Option, None, Some}
 use Rattle.object_id.specs.declared.entry.Member.{Member}
 use Rattle.object_id.specs.declared.entry.Entry.{Entry}
 use Rattle.object_id.specs.declared.entry.Entry.TheVariants.{Format}
@@ -18,6 +17,12 @@ IsFormatAlone entries = (members : List Member) × (entries ≡ Format members �
 abbrev pub log_after : Entry → ℕ → LogState → LogState
 log_after entry stamp log = record { entries = log.entries ++ entry ∷ []; stamps = log.stamps ++ stamp ∷ [] }
 
+-- an entry and its stamp, where both are
+abbrev pub with_stamp : Option Entry → Option ℕ → Option (Entry × ℕ)
+with_stamp None stamp = None
+with_stamp (Some entry) None = None
+with_stamp (Some entry) (Some stamp) = Some (entry, stamp)
+
 -- the entry at a place, with its stamp
 abbrev pub entry_at : ℕ → LogState → Option (Entry × ℕ)
-entry_at place log = option_map (λ (entry : Entry). (entry, slice_index log.stamps place)) (slice_get log.entries place)
+entry_at place log = with_stamp (slice_get log.entries place) (slice_get log.stamps place)

@@ -1,9 +1,11 @@
 //! A step that is still to be made, with room for all that is kept of it.
 
-ghost use Rattle.std.specs.Prelude.{◌≡◌, false, [], ◌∷◌, ◌++◌, IfOk, OnOk};
+ghost use Rattle.std.specs.Prelude.{◌≡◌, ◌<◌, false, [], ◌∷◌, ◌++◌, All, IfOk, OnOk};
 ghost use Rattle.sheep_node.specs.Step.{node_step};
 ghost use Rattle.sheep_node.specs.May.{May};
+ghost use Rattle.live_cells.specs.Opening.{opening_node};
 ghost use Rattle.live_cells.specs.History.{made_step};
+ghost use Rattle.live_cells.specs.Cell.{IsCell};
 
 use crate::carry::Carry;
 use crate::step::{StampList, Step};
@@ -89,8 +91,9 @@ fn step_by(node: &mut Node, stamp: u64, draft: Draft) -> Result<Step, NoMemory>
     })
 }
 
-/// Makes the step of a draft, and keeps it behind the others.
+/// Makes the step of a draft, and keeps it behind the others: a cell stays one. `has_read` is for the contract alone.
 pub fn add_step(
+    has_read: bool,
     node: &mut Node,
     steps: &mut Vec<Step>,
     stamp: u64,
@@ -99,9 +102,14 @@ pub fn add_step(
     requires live { node.old.spent ≡ false }
     requires may { May draft.input node.old.node }
     requires kept { draft.kept ≡ draft.input }
-    ensures node { OnOk result (node.new ≡ record { spent = false; node = (node_step draft.input node.old.node).node }) }
+    requires above { All (λ used. used < stamp) draft.used }
+    requires cell { IsCell has_read node.old.node steps.old.items }
+    ensures live { OnOk result (node.new.spent ≡ false) }
+    ensures node { OnOk result (node.new.node ≡ (node_step draft.input node.old.node).node) }
     ensures steps { OnOk result (steps.new.items
         ≡ steps.old.items ++ made_step stamp draft.event draft.input draft.used node.old.node ∷ []) }
+    ensures cell { OnOk result (IsCell has_read node.new.node steps.new.items) }
+    ensures opening { OnOk result (opening_node has_read node.new.node ≡ opening_node has_read node.old.node) }
 {
     let step = step_by(node, stamp, draft)?;
     steps.push(step)?;

@@ -57,7 +57,9 @@ impl<N: ClockName> LogCell<N> {
 
     /// The log. Takes no memory.
     pub fn log(&self) -> &Log
-        ensures { result.now ≡ self.now.entries }
+        ensures entries { result.now ≡ self.now.entries }
+        // There is a carry for each entry.
+        ensures stamps { length self.now.stamps ≡ length self.now.entries }
     {
         &self.log
     }
@@ -66,10 +68,9 @@ impl<N: ClockName> LogCell<N> {
     pub fn entry(&self, place: usize) -> Option<(&Entry, u64)>
         ensures { option_map (λ found. (found.0.now, found.1)) result ≡ entry_at place self.now }
     {
-        match self.log.entry(place) {
-            Some(entry) => Some((entry, self.carries[place].stamp())),
-            None => None,
-        }
+        let entry = self.log.entry(place)?;
+        let carry = self.carries.as_slice().get(place)?;
+        Some((entry, carry.stamp()))
     }
 
     /// A carry of the stamp of the entry at a place. Takes no memory.

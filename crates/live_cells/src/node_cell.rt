@@ -137,7 +137,7 @@ impl NodeCell {
         ensures opening { OnOk result (opening_of self.new ≡ opening_of self.old) }
         ensures spent { OnErr result (self.new.spent ≡ true) }
     {
-        match add_step(&mut self.node, &mut self.steps, stamp, draft) {
+        match add_step(self.has_read, &mut self.node, &mut self.steps, stamp, draft) {
             Ok(()) => Ok(()),
             Err(NoMemory) => {
                 self.spent = true;
