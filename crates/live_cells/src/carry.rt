@@ -1,6 +1,6 @@
 //! A stamp on its way to a step that is to be above it.
 
-ghost use Rattle.std.specs.Prelude.{◌≡◌, ◌<◌, true, [], All, IfOk, OnErr};
+ghost use Rattle.std.specs.Prelude.{◌≡◌, ◌<◌, ◌≤◌, true, [], All, IfOk, OnErr};
 ghost use Rattle.live_cells.specs.Seats.{IsInformed, HasDrawn};
 
 use stamp_clock::{Clock, ClockName, ClockSpent, Note, Seat};
@@ -66,6 +66,8 @@ impl<N: ClockName> Carry<N> {
         requires seat { seat.old.clock ≡ clock.now.id }
         ensures above { self < seat.new.seen }
         ensures seat { IsInformed seat.old seat.new }
+        ensures seen { seat.old.seen ≤ seat.new.seen }
+        ensures clock { seat.new.clock ≡ seat.old.clock }
     {
         let Carry {
             stamp: _,
@@ -77,12 +79,14 @@ impl<N: ClockName> Carry<N> {
 }
 
 /// Joins all that was brought into a seat: from now on it draws above each of the stamps.
+#[tactic(auto, using(crate::proofs::SeatLemmas::informed_of_nothing, crate::proofs::SeatLemmas::informed_twice))]
 pub fn join_all<N: ClockName>(brought: &mut Vec<Carry<N>>, clock: &Clock, seat: &mut Seat)
     requires clock { clock.now.id ≡ N.clock }
     requires seat { seat.old.clock ≡ clock.now.id }
     ensures empty { brought.new.items ≡ [] }
     ensures above { All (λ stamp. stamp < seat.new.seen) brought.old.items }
     ensures seat { IsInformed seat.old seat.new }
+    ensures clock { seat.new.clock ≡ seat.old.clock }
 {
     while let Some(carry) = brought.pop() {
         carry.join(clock, seat);

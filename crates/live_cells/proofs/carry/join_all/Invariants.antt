@@ -5,7 +5,7 @@ use Rattle.live_cells.proofs.carry.join_all.Given as goal
 -- what was joined so far stood behind what is left, and the seat is above it
 abbrev pub invariant-loop-carry : goal.invariant-loop-carry
 invariant-loop-carry g l =
-    IsInformed l.fn.seat l.seat
+    (l.seat.clock ≡ l.fn.seat.clock) × IsInformed l.fn.seat l.seat
     × ((joined : List ℕ) × (l.initial.brought.items ≡ l.brought.items ++ joined) × All (λ (stamp : ℕ). stamp < l.seat.seen) joined)
 
 abbrev pub decreases-loop-carry : goal.decreases-loop-carry

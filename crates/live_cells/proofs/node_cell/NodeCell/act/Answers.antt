@@ -1,4 +1,4 @@
-use Rattle.std.proofs.Common.{◌≡◌, sym, ap, subst, ◌∙◌}
+use Rattle.std.proofs.Common.{◌≡◌, ℕ, List, sym, ap, subst, ◌∙◌}
 use Rattle.std.specs.Prelude.{IfOk, OnOk}
 use Rattle.sheep_node.specs.May.{May}
 use Rattle.live_cells.specs.declared.draft.Draft.{Draft}
@@ -25,7 +25,7 @@ returns-in-Ok-clause-step g c =
     let own = c.in-Ok.ensures in
     subst (λ (cell : CellState). IfOk c.act_by.result (λ stamp. c.act_by.new.self
     ≡ cell_after stamp c.args.event c.args.input c.args.brought.now.items cell)) own.ok
-    (subst (λ used. IfOk c.act_by.result (λ stamp. c.act_by.new.self
+    (subst (λ (used : List ℕ). IfOk c.act_by.result (λ stamp. c.act_by.new.self
     ≡ cell_after stamp c.args.event c.args.input used c.draft.new.self)) c.as_slice.ensures.value
     (subst (λ (draft : Draft). IfOk c.act_by.result (λ stamp. c.act_by.new.self
     ≡ cell_after stamp draft.event draft.input draft.used c.draft.new.self)) own.draft c.act_by.ensures.step))
