@@ -58,4 +58,5 @@ drawn_after last number old between new learned drawn = record {
 
 pub all_below : (seen number : ℕ) (stamps : List ℕ) → seen ≤ number → All (λ (stamp : ℕ). stamp < seen) stamps
     → All (λ (stamp : ℕ). stamp < number) stamps
-all_below seen number stamps most = All-weaker (λ (stamp : ℕ). stamp < seen) (λ (stamp : ℕ). stamp < number) (λ stamp below. omega arith) stamps
+all_below seen number stamps most =
+    All-weaker (λ (stamp : ℕ). stamp < seen) (λ (stamp : ℕ). stamp < number) (λ stamp below. omega arith) stamps

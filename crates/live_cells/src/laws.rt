@@ -23,7 +23,8 @@ pub fn a_locked_node_replays_its_history(cell: &NodeCell)
 /// What replaying says of the first of some steps: it had its input, gave what the node's step on that gives, has a stamp above each that
 /// was brought to it, and the later steps replay from the node behind it.
 pub fn a_step_gives_what_its_node_would()
-    ensures { (before after : Node) (step : Step) (later : List Step) (input : Input) → Replays before (step ∷ later) after → step.input ≡ Some input
+    ensures { (before after : Node) (step : Step) (later : List Step) (input : Input)
+        → Replays before (step ∷ later) after → step.input ≡ Some input
         → (step.outputs ≡ (node_step input before).outputs) × All (λ stamp. stamp < step.stamp) step.used
         × Replays (node_step input before).node later after }
 {}

@@ -6,7 +6,8 @@ use Rattle.live_cells.proofs.carry.draw_above.Goals as goal
 
 pub returns-clause-above : goal.returns-clause-above
 returns-clause-above g c =
-    IfOk-weaker c.draw.result _ _ (λ stamp most. all_below c.join_all.new.seat.seen stamp c.args.brought.now.items most c.join_all.ensures.above)
+    IfOk-weaker c.draw.result _ _
+    (λ stamp most. all_below c.join_all.new.seat.seen stamp c.args.brought.now.items most c.join_all.ensures.above)
     c.draw.ensures.above
 
 pub returns-clause-drawn : goal.returns-clause-drawn

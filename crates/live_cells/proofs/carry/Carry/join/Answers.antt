@@ -9,3 +9,9 @@ returns-clause-above g c =
 
 pub returns-clause-seat : goal.returns-clause-seat
 returns-clause-seat g c = informed c.args.seat.now c.self.inside.note.seen c.learn.new.seat c.learn.ensures
+
+pub returns-clause-seen : goal.returns-clause-seen
+returns-clause-seen g c = (informed c.args.seat.now c.self.inside.note.seen c.learn.new.seat c.learn.ensures).seen
+
+pub returns-clause-clock : goal.returns-clause-clock
+returns-clause-clock g c = (informed c.args.seat.now c.self.inside.note.seen c.learn.new.seat c.learn.ensures).clock

@@ -6,5 +6,6 @@ use Rattle.live_cells.proofs.node_cell.NodeCell.new.Goals as goal
 pub invariant_of-result : goal.invariant_of-result
 invariant_of-result c = λ live. (
   c.requires.live,
-  subst (λ (read : ℕ). IsCell (nat_lt 0 read) c.args.node.node []) (sym c.read_len.ensures) (cell_opens c.args.node.node c.requires.opening),
+  subst (λ (read : ℕ). IsCell (nat_lt 0 read) c.args.node.node []) (sym c.read_len.ensures)
+      (cell_opens c.args.node.node c.requires.opening),
 )
