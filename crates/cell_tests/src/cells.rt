@@ -72,9 +72,16 @@ fn step<N: ClockName>(
     ensures { seat.new.clock ≡ seat.old.clock }
 {
     let mut brought = brought;
-    if cell.spent() || brought.is_empty() || !cell.node().may(&input) {
+    if cell.spent() {
         return None;
     }
+    if brought.is_empty() {
+        return None;
+    }
+    if !cell.node().may(&input) {
+        return None;
+    }
+    // The test is the condition of a step.
     conditions_are_tests();
     Some(cell.act(NEXT, input, &mut brought, clock, seat))
 }

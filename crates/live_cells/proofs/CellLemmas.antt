@@ -66,7 +66,8 @@ cell_opens node is =
 -- ---- and goes on
 
 -- what a node has read stays, and is followed by more
-goes_on : (input : Input) (node : Node) → May input node → (later : List Entry) × (read_after input node.peer.entries ≡ node.peer.entries ++ later)
+goes_on : (input : Input) (node : Node) → May input node
+    → (later : List Entry) × (read_after input node.peer.entries ≡ node.peer.entries ++ later)
 goes_on (inputs.Guest req session ask) node may = ([], sym (append-nil node.peer.entries))
 goes_on (inputs.Request request) node may = ([], sym (append-nil node.peer.entries))
 goes_on (inputs.Reply rsp) node may = ([], sym (append-nil node.peer.entries))
