@@ -56,6 +56,9 @@ drawn_after last number old between new learned drawn = record {
       ∙ ap (λ (spent : Bool). seat_drawn number old.clock old.mine old.room spent) learned.spent;
 }
 
+pub below_seen : (number : ℕ) (old new : SeatState) → new ≡ record old { mine = number ∷ old.mine; seen = number + 1 } → number < new.seen
+below_seen number old new drawn = subst (λ (n : ℕ). number < n) (sym (ap (λ (seat : SeatState). seat.seen) drawn)) (omega arith)
+
 pub all_below : (seen number : ℕ) (stamps : List ℕ) → seen ≤ number → All (λ (stamp : ℕ). stamp < seen) stamps
     → All (λ (stamp : ℕ). stamp < number) stamps
 all_below seen number stamps most =

@@ -104,6 +104,7 @@ pub fn draw_above<N: ClockName>(
     ensures empty { brought.new.items ≡ [] }
     ensures above { IfOk result (λ stamp. All (λ earlier. earlier < stamp) brought.old.items) }
     ensures drawn { IfOk result (λ stamp. HasDrawn clock.now.last stamp seat.old seat.new) }
+    ensures below { IfOk result (λ stamp. stamp < seat.new.seen) }
     ensures spent { OnErr result (seat.new.spent ≡ true) }
     ensures clock { seat.new.clock ≡ seat.old.clock }
 {

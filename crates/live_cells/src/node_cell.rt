@@ -164,6 +164,7 @@ impl NodeCell {
         ensures opening { OnOk result (opening_of self.new ≡ opening_of self.old) }
         ensures above { IfOk result (λ stamp. All (λ used. used < stamp) brought.old.items) }
         ensures drawn { IfOk result (λ stamp. HasDrawn clock.now.last stamp seat.old seat.new) }
+        ensures below { IfOk result (λ stamp. stamp < seat.new.seen) }
         ensures unchanged { result ≡ Err faults.ClockSpent → self.new ≡ self.old }
         ensures no_stamp { result ≡ Err faults.ClockSpent → seat.new.spent ≡ true }
         ensures spent { result ≡ Err faults.NoMemory → self.new.spent ≡ true }
