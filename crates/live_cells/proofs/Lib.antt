@@ -1,0 +1,5 @@
+pub mod KeptTries
+pub mod HistoryLemmas
+pub mod CellLemmas
+pub mod SeatLemmas
+pub mod Outcomes
