@@ -117,7 +117,7 @@ fn a_step_is_above_the_entry_that_it_reads(rt: HostRuntime) -> Result<(), Fail> 
     let (Some(mut taker), Some(mut maker)) = (seats.pop(), seats.pop()) else {
         panic!(rt; "two seats");
     };
-    let mut cell = NodeCell::new(alloc, Node::new(alloc, NodeId(0), 8));
+    let mut cell = NodeCell::new(alloc, Node::new(alloc, NodeId(0), 8))?;
     let told = read_format::<Brand>(&mut cell, &clock, &mut maker, &mut taker, alloc)?;
     assert_eq!(rt; told, Some(Ok(1)));
     assert!(rt; !cell.spent());
@@ -137,7 +137,7 @@ fn without_a_stamp_the_cell_stays(rt: HostRuntime) -> Result<(), Fail> {
     let (Some(mut taker), Some(mut maker)) = (seats.pop(), seats.pop()) else {
         panic!(rt; "two seats");
     };
-    let mut cell = NodeCell::new(alloc, Node::new(alloc, NodeId(0), 8));
+    let mut cell = NodeCell::new(alloc, Node::new(alloc, NodeId(0), 8))?;
     let told = read_format::<Brand>(&mut cell, &clock, &mut maker, &mut taker, alloc)?;
     assert_eq!(rt; told, Some(Err(ActFault::ClockSpent)));
     assert!(rt; !cell.spent());

@@ -1,6 +1,7 @@
 -- A cell of a node opens as one, and stays one at each step of its node; its opening node stays the same.
 use Rattle.std.proofs.Common.{◌≡◌, ◌≢◌, ℕ, ◌<◌, nat_lt, Bool, true, false, List, [], ◌∷◌, ◌++◌, length, All, refl, sym, ap, ap₂, subst, ◌∙◌}
 use Rattle.std.proofs.lemmas.List.{append-nil}
+use Rattle.object_id.specs.declared.node.NodeId.{NodeId}
 use Rattle.object_id.specs.declared.entry.Entry.{Entry}
 use Rattle.sheep_node.specs.declared.event.Event.{Event}
 use Rattle.sheep_node.specs.declared.input.Input.{Input}
@@ -11,7 +12,11 @@ use Rattle.sheep_node.specs.Step.{node_step}
 use Rattle.sheep_node.specs.StepFacts.{read_after}
 use Rattle.sheep_node.specs.May.{May}
 use Rattle.sheep_node.specs.OneWork.{HasOneWorkPerRequest}
+use Rattle.sheep_node.specs.OwnEntries.{HasOnlyOwnEntries}
+use Rattle.sheep_node.specs.ValidDisks.{HasValidDisks}
 use Rattle.sheep_node.proofs.NumberChanges.{one_work_at_opening, one_work_stays}
+use Rattle.sheep_node.proofs.OwnEntryChanges.{asks_for_own, own_entries_stay, own_entries_at_opening}
+use Rattle.sheep_node.proofs.ValidLaws.{valid_input, valid_disks_stay, valid_disks_at_opening}
 use Rattle.sheep_node.proofs.StepResults.{step_reads, step_me}
 use Rattle.live_cells.specs.declared.step.Step.{Step}
 use Rattle.live_cells.specs.Opening.{node_as_made, node_with_first, opening_node, IsOpeningWith, IsOpening}
@@ -42,12 +47,20 @@ opening_is (first ∷ second ∷ later) node read is = absurd is
 pub opening_is_itself : (node : Node) → IsOpening node → opening_node (nat_lt 0 (length node.peer.entries)) node ≡ node
 opening_is_itself node is = opening_is node.peer.entries node refl is
 
-one_work_if : (entries : List Entry) (node : Node) → IsOpeningWith entries node → HasOneWorkPerRequest node
-one_work_if [] node is = subst HasOneWorkPerRequest (sym is) (one_work_at_opening node.me node.gateway.tries)
-one_work_if (first ∷ []) node is =
-    subst HasOneWorkPerRequest (sym is.1)
-    (one_work_stays (inputs.LogEntry first) (node_as_made node) is.0 (one_work_at_opening node.me node.gateway.tries))
-one_work_if (first ∷ second ∷ later) node is = absurd is
+-- what steps keep, it has
+module _ (P : Node → Type 0) (opens : (me : NodeId) (tries : ℕ) → P (initial_node me tries))
+    (stays : (input : Input) (node : Node) → May input node → P node → P (node_step input node).node) where
+  kept_if : (entries : List Entry) (node : Node) → IsOpeningWith entries node → P node
+  kept_if [] node is = subst P (sym is) (opens node.me node.gateway.tries)
+  kept_if (first ∷ []) node is =
+      subst P (sym is.1) (stays (inputs.LogEntry first) (node_as_made node) is.0 (opens node.me node.gateway.tries))
+  kept_if (first ∷ second ∷ later) node is = absurd is
+
+own_stay : (input : Input) (node : Node) → May input node → HasOnlyOwnEntries node → HasOnlyOwnEntries (node_step input node).node
+own_stay input node may own = own_entries_stay input node (asks_for_own input node may) own
+
+valid_stay : (input : Input) (node : Node) → May input node → HasValidDisks node → HasValidDisks (node_step input node).node
+valid_stay input node may valid = valid_disks_stay input node (valid_input input node may.condition valid.read) valid
 
 some_read : (entries : List Entry) → nat_lt 0 (length entries) ≡ true → entries ≢ []
 some_read [] is none = cc (is)
@@ -60,7 +73,9 @@ cell_opens node is =
       opening = subst IsOpening (sym own) is;
       read = some_read node.peer.entries;
       history = own;
-      one_work = one_work_if node.peer.entries node is;
+      one_work = kept_if HasOneWorkPerRequest one_work_at_opening one_work_stays node.peer.entries node is;
+      own_entries = kept_if HasOnlyOwnEntries own_entries_at_opening own_stay node.peer.entries node is;
+      valid_disks = kept_if HasValidDisks valid_disks_at_opening valid_stay node.peer.entries node is;
     }
 
 -- ---- and goes on
@@ -119,4 +134,6 @@ cell_stays has_read node steps stamp event input used may above is =
           subst (λ (opening : Node). Replays opening (steps ++ step ∷ []) (node_step input node).node) (sym stays)
           (replays_more (opening_node has_read node) steps node step is.history (record { given = (may, refl); above = above }));
       one_work = one_work_stays input node may is.one_work;
+      own_entries = own_stay input node may is.own_entries;
+      valid_disks = valid_stay input node may is.valid_disks;
     }

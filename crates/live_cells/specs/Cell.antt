@@ -5,6 +5,8 @@ use Rattle.sheep_node.specs.declared.input.Input.{Input}
 use Rattle.sheep_node.specs.State.{Node}
 use Rattle.sheep_node.specs.Step.{node_step}
 use Rattle.sheep_node.specs.OneWork.{HasOneWorkPerRequest}
+use Rattle.sheep_node.specs.OwnEntries.{HasOnlyOwnEntries}
+use Rattle.sheep_node.specs.ValidDisks.{HasValidDisks}
 use Rattle.live_cells.specs.declared.step.Step.{Step}
 use Rattle.live_cells.specs.Opening.{opening_node, IsOpening}
 use Rattle.live_cells.specs.History.{made_step, Replays}
@@ -34,9 +36,12 @@ cell_after stamp event input used cell = record {
   steps = cell.steps ++ made_step stamp event input used cell.node ∷ [];
 }
 
--- what holds of a cell that isn't spent: its opening node is one, which keeps what it has read, and its steps lead from there to its node
+-- what holds of a cell that isn't spent: its opening node is one, which keeps what it has read, and its steps lead from there to its node;
+-- and what the steps of nodes keep, by which the opening node stays the same, and what the node puts may stand in the log
 pub record IsCell (has_read : Bool) (node : Node) (steps : List Step) : Type 0 where
   pub opening : IsOpening (opening_node has_read node)
   pub read : has_read ≡ true → node.peer.entries ≢ []
   pub history : Replays (opening_node has_read node) steps node
   pub one_work : HasOneWorkPerRequest node
+  pub own_entries : HasOnlyOwnEntries node
+  pub valid_disks : HasValidDisks node

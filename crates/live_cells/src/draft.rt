@@ -15,12 +15,26 @@ use stamp_clock::ClockName;
 use std::alloc::Global;
 
 /// What a step is made of. Its input is there twice: the node takes one, and the cell keeps the other.
-#[derive(Drop)]
 pub struct Draft {
     pub event: Event,
     pub input: Input,
     pub kept: Input,
     pub used: StampList,
+}
+
+/// Written out, so that letting a draft go is one call wherever it is done.
+impl Drop for Draft {
+    fn drop(self) {
+        let Draft {
+            event: _,
+            input,
+            kept,
+            used,
+        } = self;
+        drop(input);
+        drop(kept);
+        drop(used);
+    }
 }
 
 /// The stamps that are brought.
@@ -67,28 +81,30 @@ pub fn draft_of<N: ClockName>(
     }
 }
 
-/// Makes the step of a draft, with its stamp.
-fn step_by(node: &mut Node, stamp: u64, draft: Draft) -> Result<Step, NoMemory>
-    requires live { node.old.spent ≡ false }
-    requires may { May draft.input node.old.node }
-    requires kept { draft.kept ≡ draft.input }
-    ensures node { OnOk result (node.new ≡ record { spent = false; node = (node_step draft.input node.old.node).node }) }
-    ensures step { IfOk result (λ step. step ≡ made_step stamp draft.event draft.input draft.used node.old.node) }
-{
-    let Draft {
-        event,
-        input,
-        kept,
-        used,
-    } = draft;
-    let outputs = node.step(input)?;
-    Ok(Step {
-        stamp,
-        event,
-        input: Some(kept),
-        outputs,
-        used,
-    })
+impl Draft {
+    /// Makes the step of a node, with its stamp.
+    fn step_of(self, node: &mut Node, stamp: u64) -> Result<Step, NoMemory>
+        requires live { node.old.spent ≡ false }
+        requires may { May self.input node.old.node }
+        requires kept { self.kept ≡ self.input }
+        ensures node { OnOk result (node.new ≡ record { spent = false; node = (node_step self.input node.old.node).node }) }
+        ensures step { IfOk result (λ step. step ≡ made_step stamp self.event self.input self.used node.old.node) }
+    {
+        let Draft {
+            event,
+            input,
+            kept,
+            used,
+        } = self;
+        let outputs = node.step(input)?;
+        Ok(Step {
+            stamp,
+            event,
+            input: Some(kept),
+            outputs,
+            used,
+        })
+    }
 }
 
 /// Makes the step of a draft, and keeps it behind the others: a cell stays one. `has_read` is for the contract alone.
@@ -111,7 +127,7 @@ pub fn add_step(
     ensures cell { OnOk result (IsCell has_read node.new.node steps.new.items) }
     ensures opening { OnOk result (opening_node has_read node.new.node ≡ opening_node has_read node.old.node) }
 {
-    let step = step_by(node, stamp, draft)?;
+    let step = draft.step_of(node, stamp)?;
     steps.push(step)?;
     Ok(())
 }

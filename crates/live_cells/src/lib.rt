@@ -27,7 +27,10 @@ mod step;
 
 pub use act_fault::ActFault;
 pub use carry::Carry;
-pub use laws::{a_locked_node_replays_its_history, a_step_gives_what_its_node_would};
+pub use laws::{
+    a_locked_node_replays_its_history, a_step_gives_what_its_node_would,
+    what_a_node_puts_may_stand_in_the_log,
+};
 pub use letter::Letter;
 pub use log_cell::LogCell;
 pub use node_cell::NodeCell;

@@ -14,10 +14,18 @@ use std::marker::Model;
 
 /// The membership log, and for each entry a carry of the step that put it there, of the clock that N names. Contracts see the entries and
 /// their stamps.
-#[derive(Drop)]
 pub struct LogCell<N: ClockName> {
     log: Log,
     carries: Vec<Carry<N>>,
+}
+
+/// Written out, so that letting a cell go is one call wherever it is done.
+impl<N: ClockName> Drop for LogCell<N> {
+    fn drop(self) {
+        let LogCell { log, carries } = self;
+        drop(log);
+        drop(carries);
+    }
 }
 
 impl<N: ClockName> Model for LogCell<N> {

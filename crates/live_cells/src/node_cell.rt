@@ -6,6 +6,7 @@ ghost use Rattle.live_cells.specs.declared.act_fault.ActFault.TheVariants as fau
 ghost use Rattle.live_cells.specs.Opening.{IsOpening};
 ghost use Rattle.live_cells.specs.History.{Replays};
 ghost use Rattle.live_cells.specs.Cell.{new_cell, opening_of, cell_after};
+ghost use Rattle.live_cells.specs.Puts.{IsPuttable};
 ghost use Rattle.live_cells.specs.Brought.{takes_brought};
 ghost use Rattle.live_cells.specs.Seats.{HasDrawn};
 
@@ -21,13 +22,26 @@ use std::marker::Model;
 
 /// A node, and each step that it made from its opening on. A call of `act` that answers out of memory spends it; no other call does, and a
 /// spent cell makes no other call. Contracts see the record `CellState` of `specs/Cell.antt`.
-#[derive(Drop)]
 pub struct NodeCell {
     node: Node,
     /// Whether the opening node had read the log's first entry.
     has_read: bool,
     steps: Vec<Step>,
     spent: bool,
+}
+
+/// Written out, so that letting a cell go is one call wherever it is done.
+impl Drop for NodeCell {
+    fn drop(self) {
+        let NodeCell {
+            node,
+            has_read: _,
+            steps,
+            spent: _,
+        } = self;
+        drop(node);
+        drop(steps);
+    }
 }
 
 impl Model for NodeCell {
@@ -65,19 +79,20 @@ impl Model for NodeCell {
 }
 
 impl NodeCell {
-    /// The cell of a node that has made no step, or one step on the log's first entry. Takes no memory.
-    pub fn new(alloc: Global, node: Node) -> NodeCell
+    /// The cell of a node that has made no step, or one step on the log's first entry. It has room for a first step.
+    pub fn new(alloc: Global, node: Node) -> Result<NodeCell, NoMemory>
         requires live { node.spent ≡ false }
         requires opening { IsOpening node.node }
-        ensures { result ≡ new_cell node.node }
+        ensures { IfOk result (λ cell. cell ≡ new_cell node.node) }
     {
+        let steps = Vec::with_capacity(alloc, 1)?;
         let has_read = 0 < node.read_len();
-        NodeCell {
+        Ok(NodeCell {
             node,
             has_read,
-            steps: Vec::new(alloc),
+            steps,
             spent: false,
-        }
+        })
     }
 
     /// Whether a call answered that it is out of memory. Takes no memory.
@@ -101,7 +116,9 @@ impl NodeCell {
     /// The node as it is now. Takes no memory.
     pub fn node(&self) -> &Node
         requires { self.now.spent ≡ false }
-        ensures { result.now ≡ record { spent = false; node = self.now.node } }
+        ensures value { result.now ≡ record { spent = false; node = self.now.node } }
+        // Each entry that it has to put may stand in a log that has room for one.
+        ensures puts { All IsPuttable self.now.node.outbox }
     {
         &self.node
     }

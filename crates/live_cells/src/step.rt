@@ -9,7 +9,7 @@ pub type StampList = Items<u64>;
 
 /// An event that was made, with its stamp. A node's step has its input and what the node gave; an event at which no node steps has no input
 /// and gives nothing.
-#[derive(Debug, Drop)]
+#[derive(Debug)]
 pub struct Step {
     pub stamp: u64,
     pub event: Event,
@@ -17,6 +17,22 @@ pub struct Step {
     pub outputs: Outputs,
     /// The stamps that were brought to it.
     pub used: StampList,
+}
+
+/// Written out, so that letting a step go is one call wherever it is done.
+impl Drop for Step {
+    fn drop(self) {
+        let Step {
+            stamp: _,
+            event: _,
+            input,
+            outputs,
+            used,
+        } = self;
+        drop(input);
+        drop(outputs);
+        drop(used);
+    }
 }
 
 impl Step {

@@ -6,4 +6,4 @@ use Rattle.cell_tests.proofs.cells.step.Goals as goal
 pub act-requires-clause-may : goal.act-requires-clause-may
 act-requires-clause-may g c =
     (c.conditions_are_tests.ensures.may c.args.input c.args.cell.now.node).0
-    (sym (c.may.ensures ∙ ap (λ (seen : NodeOrSpent). may c.args.input seen.node) c.node.ensures) ∙ c.if-not-may.false)
+    (sym (c.may.ensures ∙ ap (λ (seen : NodeOrSpent). may c.args.input seen.node) c.node.ensures.value) ∙ c.if-not-may.false)

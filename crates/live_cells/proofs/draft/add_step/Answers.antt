@@ -13,7 +13,7 @@ returns-clause-cell c =
     let made : Step = made_step c.args.stamp c.args.draft.event c.args.draft.input c.args.draft.used c.args.node.now.node in
     let steps : c.push.new.self.items ≡ c.args.steps.now.items ++ made ∷ []
     = c.in_ok-push.ensures.items ∙ ap (λ (step : Step). c.args.steps.now.items ++ step ∷ []) c.in_ok-step.ensures.step in
-    subst (λ (steps : List Step). IsCell c.args.has_read c.step_by.new.node.node steps) (sym steps)
+    subst (λ (steps : List Step). IsCell c.args.has_read c.step_of.new.node.node steps) (sym steps)
     (subst (λ (seen : NodeOrSpent). IsCell c.args.has_read seen.node (c.args.steps.now.items ++ made ∷ [])) (sym c.in_ok-step.ensures.node)
     (cell_stays c.args.has_read c.args.node.now.node c.args.steps.now.items c.args.stamp c.args.draft.event c.args.draft.input
     c.args.draft.used c.requires.may c.requires.above c.requires.cell))
