@@ -6,8 +6,8 @@
 //! threads did, a locked node did it as a node of one thread does.
 //!
 //! A [`Carry`] brings the stamp of a step to whoever takes what the step gave: a letter, an entry of the log, the mark of a loss. A step
-//! joins what was brought to it into its seat, and then draws its stamp, which so is above each that was brought. A [`LogCell`] keeps a
-//! carry for each entry of the log, and a [`Letter`] has one.
+//! joins what was brought to it into its seat, and then draws its stamp, which so is above each that was brought; [`draw_above`] does the
+//! same for an event at which no node steps. A [`LogCell`] keeps a carry for each entry of the log, and a [`Letter`] has one.
 //!
 //! What comes out of a lock or a channel is known by its type alone. So the types that keep carries have a parameter `N: ClockName`,
 //! which names the clock that the carries are of.
@@ -26,7 +26,7 @@ mod node_cell;
 mod step;
 
 pub use act_fault::ActFault;
-pub use carry::Carry;
+pub use carry::{Carry, draw_above};
 pub use laws::{
     a_locked_node_replays_its_history, a_step_gives_what_its_node_would,
     what_a_node_puts_may_stand_in_the_log,
