@@ -78,6 +78,13 @@ impl Model for NodeCell {
         → (cell.node.spent ≡ false) × IsCell cell.has_read cell.node.node cell.steps.items };
 }
 
+/// No step yet, with room for a first one.
+fn no_steps(alloc: Global) -> Result<Vec<Step>, NoMemory>
+    ensures { IfOk result (λ steps. steps.items ≡ []) }
+{
+    Ok(Vec::with_capacity(alloc, 1)?)
+}
+
 impl NodeCell {
     /// The cell of a node that has made no step, or one step on the log's first entry. It has room for a first step.
     pub fn new(alloc: Global, node: Node) -> Result<NodeCell, NoMemory>
@@ -85,7 +92,7 @@ impl NodeCell {
         requires opening { IsOpening node.node }
         ensures { IfOk result (λ cell. cell ≡ new_cell node.node) }
     {
-        let steps = Vec::with_capacity(alloc, 1)?;
+        let steps = no_steps(alloc)?;
         let has_read = 0 < node.read_len();
         Ok(NodeCell {
             node,

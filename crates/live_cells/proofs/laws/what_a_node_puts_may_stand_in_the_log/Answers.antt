@@ -7,4 +7,4 @@ pub returns : goal.returns
 returns c = λ log entry some room.
     puttable_may_stand log entry
     (first_puttable c.args.cell.now.node.outbox entry
-    (sym (c.outputs_are_as_the_input.ensures.put inputs.Put c.args.cell.now.node) ∙ some) c.node.ensures.puts) room
+    (sym (c.outputs_are_as_the_input.ensures.put inputs.Put c.args.cell.now.node) ∙ some) c.node-node.ensures.puts) room
