@@ -6,19 +6,20 @@ use Rattle.live_cells.specs.Cell.{CellState, opening_of, cell_after}
 use Rattle.live_cells.proofs.node_cell.NodeCell.act.Goals as goal
 
 pub act_by-requires-clause-live : goal.act_by-requires-clause-live
-act_by-requires-clause-live g c = ap (λ (cell : CellState). cell.spent) c.in-Ok.ensures.ok ∙ c.requires.live
+act_by-requires-clause-live g c = λ lifetimes outlive. (ap (λ (cell : CellState). cell.spent) c.in-Ok.ensures.ok ∙ c.requires.live)
 
 pub act_by-requires-clause-may : goal.act_by-requires-clause-may
-act_by-requires-clause-may g c =
+act_by-requires-clause-may g c = λ lifetimes outlive.
     subst (λ (draft : Draft). May draft.input c.draft.new.self.node) (sym c.in-Ok.ensures.draft)
     (subst (λ (cell : CellState). May c.args.input cell.node) (sym c.in-Ok.ensures.ok) c.requires.may)
 
 pub act_by-requires-clause-kept : goal.act_by-requires-clause-kept
-act_by-requires-clause-kept g c =
-    ap (λ (draft : Draft). draft.kept) c.in-Ok.ensures.draft ∙ sym (ap (λ (draft : Draft). draft.input) c.in-Ok.ensures.draft)
+act_by-requires-clause-kept g c = λ lifetimes outlive.
+    (ap (λ (draft : Draft). draft.kept) c.in-Ok.ensures.draft ∙ sym (ap (λ (draft : Draft). draft.input) c.in-Ok.ensures.draft))
 
 pub act_by-requires-clause-used : goal.act_by-requires-clause-used
-act_by-requires-clause-used g c = ap (λ (draft : Draft). draft.used) c.in-Ok.ensures.draft ∙ c.as_slice.ensures.value
+act_by-requires-clause-used g c = λ lifetimes outlive.
+    (ap (λ (draft : Draft). draft.used) c.in-Ok.ensures.draft ∙ c.as_slice.ensures.value)
 
 pub returns-in-Ok-clause-step : goal.returns-in-Ok-clause-step
 returns-in-Ok-clause-step g c =
