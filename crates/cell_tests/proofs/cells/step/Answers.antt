@@ -4,6 +4,6 @@ use Rattle.sheep_node.specs.MayTests.{may}
 use Rattle.cell_tests.proofs.cells.step.Goals as goal
 
 pub act-requires-clause-may : goal.act-requires-clause-may
-act-requires-clause-may g c =
+act-requires-clause-may g c = λ lifetimes outlive.
     (c.conditions_are_tests.ensures.may c.args.input c.args.cell.now.node).0
     (sym (c.may.ensures ∙ ap (λ (seen : NodeOrSpent). may c.args.input seen.node) c.node.ensures.value) ∙ c.if-not-may.false)
