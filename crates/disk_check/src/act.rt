@@ -14,6 +14,7 @@ pub enum CheckAct {
 }
 
 impl CheckAct {
+    /// Takes memory for the bytes or ids in it, and costs them.
     pub fn copy(&self, alloc: Global) -> Result<Self, NoMemory>
         ensures { IfOk result (λ copy. copy ≡ self.now) }
     {

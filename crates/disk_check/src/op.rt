@@ -95,28 +95,28 @@ pub fn begin_check(alloc: Global, inode: &Inode) -> Result<(CheckOp, CheckAct), 
 }
 
 impl CheckOp {
-    /// The id of the disk.
+    /// The id of the disk. Costs nothing.
     pub fn vid(&self) -> Vid
         ensures { result.0 ≡ self.now.vid }
     {
         self.vid
     }
 
-    /// What the disk was made with.
+    /// What the disk was made with. Costs nothing.
     pub fn spec(&self) -> VdiSpec
         ensures { result ≡ self.now.spec }
     {
         self.spec
     }
 
-    /// How many own objects the check has found. Takes no memory.
+    /// How many own objects the check has found. Takes no memory, and costs nothing.
     pub fn objects_found(&self) -> u32
         ensures { result ≡ self.now.found.objects }
     {
         self.found.objects
     }
 
-    /// How many bytes the work gives that the check waits for; `None` if it waits for none. Takes no memory.
+    /// How many bytes the work gives that the check waits for; `None` if it waits for none. Takes no memory, and costs nothing.
     pub fn bytes_wanted(&self) -> Option<usize>
         ensures { result ≡ check_bytes_wanted self.now }
     {
@@ -127,7 +127,7 @@ impl CheckOp {
         }
     }
 
-    /// Whether the check compares an own object. Takes no memory.
+    /// Whether the check compares an own object. Takes no memory, and costs nothing.
     pub fn is_comparing(&self) -> bool
         ensures { result ≡ is_comparing self.now }
     {

@@ -23,6 +23,7 @@ use Rattle.gateway.specs.declared.beginning.Beginning.TheVariants as beginnings
 use Rattle.gateway.specs.declared.message.Status.{Status}
 use Rattle.gateway.specs.declared.outcome.Outcome.{Outcome}
 use Rattle.gateway.specs.declared.outcome.Outcome.TheVariants as outcomes
+use Rattle.gateway.specs.Outcomes.{RefusesWork}
 use Rattle.gateway.specs.Work.{zones_for}
 use Rattle.gateway.specs.Attempt.{Attempt, is_awaited_message, messages_of, is_over, is_done, bytes_given, first_failure}
 use Rattle.gateway.specs.State.{WorkStage, Open, Ended, WaitsForMembers, Work, Gateway, is_touched, asker, open_messages, may_try, next_try}
@@ -216,3 +217,15 @@ pub retry-none : (epochs : List EpochMembers) (gateway : Gateway) (first : ℕ) 
     → retry_step epochs gateway first epoch ≡ waiting_step gateway
 unfolding retry_step
 retry-none epochs gateway first epoch none = ap (retry_step_of epochs gateway first epoch) (nothing-found (next_try epoch gateway) none)
+
+-- a work that is refused as it starts would begin in too few zones
+
+by_short : (short : Bool) (halt opened : GatewayStep) → (RefusesWork opened.act → ⊥) → RefusesWork (cond short halt opened).act → short ≡ true
+by_short true halt opened none refuses = refl
+by_short false halt opened none refuses = absurd (none refuses)
+
+pub refused-short : (epochs : List EpochMembers) (gateway : Gateway) (req : ℕ) (work : ObjWork) (first : ℕ) (epoch : Epoch)
+    → RefusesWork (start_step epochs gateway req work first epoch).act
+    → nat_lt (zone_count (members_at epochs epoch.0)) (zones_for work) ≡ true
+unfolding start_step attempt_step
+refused-short epochs gateway req work first epoch = by_short (nat_lt (zone_count (members_at epochs epoch.0)) (zones_for work)) _ _ (λ refuses. refuses)

@@ -1,10 +1,12 @@
 //! How an attempt begins.
 
-ghost use Rattle.std.specs.Prelude.{◌≡◌, ◌-◌, ◌^◌, ◌<◌, ◌≤◌, length, IfOk, IsTrue};
+ghost use Rattle.std.specs.Prelude.{◌≡◌, ◌-◌, ◌^◌, ◌<◌, ◌≤◌, length, nat_lt, true, IfOk, IsOk, IsTrue};
 ghost use Rattle.object_id.specs.declared.limits.TheConstants.{NODES_MAX};
-ghost use Rattle.vnode_table.specs.Epochs.{is_entered};
+ghost use Rattle.hash_ring.specs.Placement.{zone_count};
+ghost use Rattle.vnode_table.specs.Epochs.{is_entered, members_at};
 ghost use Rattle.peer_proto.specs.Work.{IsWork};
 ghost use Rattle.object_id.specs.declared.cause.Cause.TheVariants.{Halt};
+ghost use Rattle.gateway.specs.Work.{zones_for};
 ghost use Rattle.gateway.specs.Attempt.{messages_of};
 ghost use Rattle.gateway.specs.Kept.{halt_beginning, sends_beginning, beginning_of};
 
@@ -66,7 +68,7 @@ fn sent(
 }
 
 /// Begins an attempt of a work in an epoch. Costs a look-up of the object's targets, and takes the messages and the bytes that
-/// they send.
+/// they send; in too few zones it takes nothing.
 pub(crate) fn begin_attempt(
     alloc: Global,
     me: NodeId,
@@ -80,7 +82,8 @@ pub(crate) fn begin_attempt(
     requires work { IsWork work.now }
     requires entered { IsTrue (is_entered place.now epoch.0) }
     requires room { first ≤ 2 ^ 32 - NODES_MAX }
-    ensures { IfOk result (λ beginning. beginning ≡ beginning_of place.now me work.now ended touched first epoch) }
+    ensures beginning { IfOk result (λ beginning. beginning ≡ beginning_of place.now me work.now ended touched first epoch) }
+    ensures memory { nat_lt (zone_count (members_at place.now epoch.0)) (zones_for work.now) ≡ true → IsOk result }
 {
     let mut targets = [NodeId(0); TARGETS_MAX];
     let count = place.targets_at(epoch, work.oid(), work.policy(), &mut targets);

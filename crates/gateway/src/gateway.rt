@@ -1,4 +1,4 @@
-ghost use Rattle.std.specs.Prelude.{◌≡◌, ℕ, ◌&&◌, false, Some, IfOk, IfSome, OnErr, IsTrue, not};
+ghost use Rattle.std.specs.Prelude.{◌≡◌, ℕ, ◌&&◌, false, Some, IfOk, IfSome, IsOk, OnErr, IsTrue, not};
 ghost use Rattle.std.specs.Option.{option_map};
 ghost use Rattle.peer_proto.specs.Work.{IsWork};
 ghost use Rattle.gateway.specs.Work.{is_making as makes_something};
@@ -130,7 +130,7 @@ fn touches(work: &ObjWork, status: &Status) -> bool
 }
 
 impl Gateway {
-    /// A gateway without works, where no request is touched. Takes no memory.
+    /// A gateway without works, where no request is touched. Takes no memory, and costs nothing.
     pub fn new(alloc: Global, me: NodeId, tries: u32) -> Gateway
         ensures { result ≡ initial_gateway me tries }
     {
@@ -230,7 +230,7 @@ impl Gateway {
         }
     }
 
-    /// How many attempts of an untouched request may fail before it is refused.
+    /// How many attempts of an untouched request may fail before it is refused. Costs nothing.
     pub fn tries(&self) -> u32
         ensures { result ≡ self.now.tries }
     {
@@ -246,7 +246,7 @@ impl Gateway {
 
     /// Begins a request's work on an object with its first attempt, whose messages are numbered upwards from `first`. Costs a look-up
     /// of the object's targets and takes the messages, with the bytes that they send. Without memory, and where the request is
-    /// refused, nothing changes.
+    /// refused, nothing changes; a refusal takes no memory.
     pub fn start(
         &mut self,
         req: u32,
@@ -259,6 +259,7 @@ impl Gateway {
         requires may_start { MayStart self.old req work }
         ensures ok { IfOk result (λ act. start_step place.now self.old req work first epoch ≡ record { gateway = self.new; act = act }) }
         ensures refused { IfOk result (λ act. RefusesWork act → self.new ≡ self.old) }
+        ensures memory { RefusesWork (start_step place.now self.old req work first epoch).act → IsOk result }
         ensures err { OnErr result (self.new ≡ self.old) }
     {
         let touched = self.touched.has(req);

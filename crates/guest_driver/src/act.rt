@@ -14,6 +14,7 @@ pub enum DriverAct {
 }
 
 impl DriverAct {
+    /// Takes memory for the bytes in it, and costs them.
     pub fn copy(&self, alloc: Global) -> Result<Self, NoMemory>
         ensures { IfOk result (λ copy. copy ≡ self.now) }
     {

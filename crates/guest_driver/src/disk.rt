@@ -36,6 +36,7 @@ impl Model for Disk {
 }
 
 impl Disk {
+    /// The open disk of an inode. Takes no memory, and costs nothing.
     pub fn new(inode: Inode, snapshot: bool) -> Disk
         requires vid { IsVid inode.vid }
         requires entries { All IsEntry inode.table }
@@ -44,6 +45,7 @@ impl Disk {
         Disk { inode, snapshot }
     }
 
+    /// The inode. Costs nothing.
     pub fn inode(&self) -> &Inode
         ensures value { result.now ≡ self.now.inode }
         ensures valid { HasIds result.now }
@@ -51,6 +53,7 @@ impl Disk {
         &self.inode
     }
 
+    /// Whether it is a snapshot that is open. Costs nothing.
     pub fn snapshot(&self) -> bool
         ensures { result ≡ self.now.snapshot }
     {
@@ -67,6 +70,7 @@ impl Disk {
         self.inode.set_entry(index, vid);
     }
 
+    /// Takes memory for a copy of the inode, and costs it.
     pub fn copy(&self, alloc: Global) -> Result<Self, NoMemory>
         ensures { IfOk result (λ copy. copy ≡ self.now) }
     {

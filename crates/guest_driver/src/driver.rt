@@ -99,7 +99,7 @@ pub(crate) fn answered(alloc: Global, reply: GuestRsp) -> (Driver, DriverAct)
 }
 
 impl Driver {
-    /// How many bytes the work gives that the driver waits for; `None` if it waits for none. Takes no memory.
+    /// How many bytes the work gives that the driver waits for; `None` if it waits for none. Takes no memory, and costs nothing.
     pub fn bytes_wanted(&self, disk: &Disk) -> Option<usize>
         ensures { result ≡ driver_bytes_wanted disk.now.inode self.now }
     {

@@ -51,7 +51,7 @@ impl Model for InodeQueue {
 }
 
 impl InodeQueue {
-    /// The queue in which nobody is. Takes no memory.
+    /// The queue in which nobody is. Takes no memory, and costs nothing.
     pub fn new(alloc: Global) -> InodeQueue
         ensures { result ≡ empty_inode_queue }
     {
@@ -61,14 +61,14 @@ impl InodeQueue {
         }
     }
 
-    /// Whether a work may begin at once.
+    /// Whether a work may begin at once. Costs nothing.
     pub fn may_open(&self, work: &ObjWork) -> bool
         ensures { result ≡ may_open_work self.now work.now }
     {
         !is_on_inode(work) || self.current.is_none()
     }
 
-    /// Takes note of a work that begins at once. Takes no memory.
+    /// Takes note of a work that begins at once. Takes no memory, and costs nothing.
     pub fn open(&mut self, req: u32, work: &ObjWork)
         requires { IsTrue (may_open_work self.old work.now) }
         ensures { self.new ≡ queue_with_open self.old req work.now }
@@ -78,7 +78,7 @@ impl InodeQueue {
         }
     }
 
-    /// Lets a work wait behind the others. Without memory the queue stays as it was.
+    /// Lets a work wait behind the others. Costs nothing, but for a move when the queue grows. Without memory the queue stays as it was.
     pub fn wait(&mut self, req: u32, work: ObjWork) -> Result<(), NoMemory>
         requires { IsWork work }
         ensures ok { OnOk result (self.new ≡ queue_with_waiting self.old req work) }
@@ -88,7 +88,7 @@ impl InodeQueue {
         Ok(())
     }
 
-    /// Takes note that a work is done or refused. Takes no memory.
+    /// Takes note that a work is done or refused. Takes no memory, and costs nothing.
     pub fn end(&mut self, work: &ObjWork)
         ensures { self.new ≡ queue_after_end self.old work.now }
     {
@@ -97,7 +97,7 @@ impl InodeQueue {
         }
     }
 
-    /// Whether a work begins next: one waits, and no other is open.
+    /// Whether a work begins next: one waits, and no other is open. Costs nothing.
     pub fn has_next(&self) -> bool
         ensures { result ≡ is_some (next_work self.now) }
     {

@@ -17,7 +17,7 @@ fn are_blocks(offset: u64, long: u64) -> bool
     offset % block == 0 && long % block == 0 && long != 0
 }
 
-/// Whether a request asks for whole blocks, and for one at least. Takes no memory.
+/// Whether a request asks for whole blocks, and for one at least. Takes no memory, and costs nothing.
 pub fn is_ask(ask: &DiskAsk) -> bool
     ensures { result ≡ is_ask ask.now }
 {
@@ -70,7 +70,7 @@ pub(crate) fn refusal_on(disk: &Disk, deleted: bool, ask: &DiskAsk) -> Option<Ca
 }
 
 /// The refusal of a request of a session, if it is refused on the spot: `disk` is what the session has open, and `deleted` says
-/// whether that is deleted, by what the node has read. Takes no memory.
+/// whether that is deleted, by what the node has read. Takes no memory, and costs nothing.
 pub fn disk_refusal(disk: Option<&Disk>, deleted: bool, ask: &DiskAsk) -> Option<Cause>
     ensures { result ≡ disk_refusal (option_map (λ open_disk. open_disk.now) disk.entry) deleted ask.now }
 {

@@ -63,7 +63,7 @@ fn epoch_refusal(own: Epoch, requested: Epoch) -> Option<Refusal>
 }
 
 impl<O: ObjStore> PeerState<O> {
-    /// A peer that has read no entry: its list is finished, and nothing is pending. Takes no memory.
+    /// A peer that has read no entry: its list is finished, and nothing is pending. Takes no memory, and costs nothing.
     pub fn new(alloc: Global, store: O, epoch: Epoch) -> PeerState<O>
         requires { OpenUpTo epoch.0 (O.rows store) }
         ensures { result ≡ initial_peer (O.rows store) epoch.0 }
@@ -110,7 +110,7 @@ impl<O: ObjStore> PeerState<O> {
         &self.store
     }
 
-    /// The store, with the rows as they are. Takes no memory.
+    /// The store, with the rows as they are. Takes no memory, and costs nothing.
     pub fn into_store(self) -> O
         ensures rows { O.rows result ≡ self.rows }
         ensures opened { OpenUpTo self.epoch (O.rows result) }

@@ -14,7 +14,7 @@ use object_id::{Epoch, Kind, NoMemory, Oid, Policy, VdiSpec};
 use object_store::{ObjStore, OidList, RowCopy};
 use strip_coding::part_size;
 
-/// How many bytes an object of this kind has, on a disk of this spec.
+/// How many bytes an object of this kind has, on a disk of this spec. Costs nothing.
 pub fn object_size(spec: VdiSpec, kind: Kind) -> u32
     requires { IsSpec spec }
     ensures { result ≡ object_size spec kind }

@@ -67,7 +67,7 @@ impl Model for Recovery {
 }
 
 impl Recovery {
-    /// Before the first recovery: epoch 1 needs none. Takes no memory.
+    /// Before the first recovery: epoch 1 needs none. Takes no memory, and costs nothing.
     pub fn new(alloc: Global, me: NodeId) -> Recovery
         ensures { result ≡ initial_recovery me }
     {
@@ -91,7 +91,7 @@ impl Recovery {
         self.flight.node(number).is_some()
     }
 
-    /// The epoch that is recovered; 1 before the first recovery.
+    /// The epoch that is recovered; 1 before the first recovery. Costs nothing.
     pub fn epoch(&self) -> Epoch
         ensures { result.0 ≡ self.now.epoch }
     {
@@ -106,7 +106,8 @@ impl Recovery {
         self.missing.as_slice().contains(&oid)
     }
 
-    /// Whether no recovery was begun, or all that is to be recovered is known and nothing of it is pending. Takes no memory.
+    /// Whether no recovery was begun, or all that is to be recovered is known and nothing of it is pending. Takes no memory, and
+    /// costs what `first_pending` of the node does.
     pub fn finished<R: Rows>(&self, rows: &R) -> bool
         ensures { result ≡ is_finished (recovery_state self.now (R.shown rows.now)) }
     {
@@ -119,7 +120,7 @@ impl Recovery {
         }
     }
 
-    /// Whether the recovery isn't finished and has no unanswered message. Takes no memory.
+    /// Whether the recovery isn't finished and has no unanswered message. Takes no memory, and costs what [`Recovery::finished`] does.
     #[tactic(auto, using(crate::proofs::FlightLemmas::length_kept))]
     pub fn can_tick<R: Rows>(&self, rows: &R) -> bool
         ensures { result ≡ can_tick (recovery_state self.now (R.shown rows.now)) }

@@ -2,6 +2,7 @@
 use cluster_script::parse;
 use object_id::{Bytes, INPUT_BYTES_MAX, NodeId};
 use sheep_node::Event;
+use sheep_world::ApplyFault;
 use std::alloc::Global;
 use std::test::Fail;
 use trace_text::{
@@ -155,5 +156,15 @@ fn replays_no_event(rt: HostRuntime) -> Result<(), Fail> {
         Ok(text) => assert_eq!(rt; text.as_slice(), b"".as_slice()),
         Err(fault) => assert!(rt; false, "{fault:?}"),
     }
+    Ok(())
+}
+
+#[test]
+fn says_why_an_event_is_not_made(rt: HostRuntime) -> Result<(), Fail> {
+    let alloc = rt.alloc();
+    let barred = format!(in alloc; "{}", ApplyFault::NotEnabled)?;
+    assert_eq!(rt; barred.as_str(), "the event may not happen");
+    let spent = format!(in alloc; "{}", ApplyFault::NoMemory)?;
+    assert_eq!(rt; spent.as_str(), "no memory");
     Ok(())
 }

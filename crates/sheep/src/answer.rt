@@ -197,6 +197,7 @@ fn answer_read<S: Source>(alloc: Global, work: Work, source: &mut S) -> Result<A
 
     ensures takes { TakesAtMost (INPUT_BYTES_MAX + 1) (S.left source.old) (S.left source.new) }
     ensures count { S.faults source.old ≤ S.faults source.new }
+    ensures memory { IsErrOf result Stop.NoMemory → S.faults source.new ≡ S.faults source.old }
 {
     let input = match read_all(alloc, source, INPUT_BYTES_MAX) {
         Ok(input) => input,
@@ -220,6 +221,7 @@ pub fn answer_call<S: Source>(
     ensures untouched { reads_input (mode_asked_for words.now) ≡ false → source.new ≡ source.old }
     ensures takes { TakesAtMost (INPUT_BYTES_MAX + 1) (S.left source.old) (S.left source.new) }
     ensures count { S.faults source.old ≤ S.faults source.new }
+    ensures memory { IsErrOf result Stop.NoMemory → S.faults source.new ≡ S.faults source.old }
 {
     match mode_of(alloc, words)? {
         Some(Mode::Run { seed, trace }) => answer_read(alloc, Work::Run { seed, trace }, source),

@@ -47,7 +47,8 @@ pub fn sheep<S: Source, K: Sink>(
     ensures write_fault { result ≡ Status.WriteFault → Rose (K.faults sink.old) (K.faults sink.new)
         × ((answer : Ended) × (n : ℕ) × AnswersCall (mode_asked_for words.now) (S.left source.old) (S.left source.new) answer
         × (n < length answer.text) × Gains K.stops (K.given sink.old) (K.given sink.new) (take n answer.text)) }
-    ensures no_memory { result ≡ Status.NoMemory → sink.new ≡ sink.old }
+    // Nor did the source fail.
+    ensures no_memory { result ≡ Status.NoMemory → (sink.new ≡ sink.old) × (S.faults source.new ≡ S.faults source.old) }
 
     // At every status, nothing is read for words that ask for no input, no more than tells an input that is too long, and no count of
     // faults falls.

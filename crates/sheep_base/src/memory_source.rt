@@ -1,4 +1,4 @@
-ghost use Rattle.std.specs.Prelude.{◌≡◌, ◌↔◌, ℕ, ◌<◌, ◌≤◌, ◌++◌, min, length, drop, Some, IfOk, OnErr, IsErr, MatchResult};
+ghost use Rattle.std.specs.Prelude.{◌≡◌, ◌↔◌, ℕ, ◌<◌, ◌≤◌, ◌++◌, min, length, drop, Some, IfOk, OnOk, OnErr, IsErr, MatchResult};
 ghost use Rattle.std.specs.Io.{ReadsAtMost};
 ghost use Rattle.std.specs.Io.KnownBytes.{ReadConsumes};
 ghost use Rattle.sheep_base.specs.Fault.{Rose};
@@ -57,6 +57,7 @@ impl Source for MemSource {
         ensures bound { ReadsAtMost result buf.new }
         ensures bytes { ReadConsumes (Some self.old.left) (Some self.new.left) result buf.new }
         ensures count { self.old.plan.faults ≤ self.new.plan.faults }
+        ensures calm { OnOk result (self.new.plan.faults ≡ self.old.plan.faults) }
         ensures fault { OnErr result (Rose self.old.plan.faults self.new.plan.faults) }
 
         // It fails at the calls that are listed, and else gives as much as it may.

@@ -1,4 +1,4 @@
-ghost use Rattle.std.specs.Prelude.{ℕ, ◌<◌, ◌≤◌, List, length, Option, OnErr};
+ghost use Rattle.std.specs.Prelude.{◌≡◌, ℕ, ◌<◌, ◌≤◌, List, length, Option, OnOk, OnErr};
 ghost use Rattle.std.specs.Io.{ReadsAtMost};
 ghost use Rattle.std.specs.Io.KnownBytes.{ReadConsumes};
 ghost use Rattle.sheep_base.specs.Fault.{Rose};
@@ -14,11 +14,12 @@ pub trait Source {
     ghost faults: { Self → ℕ };
 
     /// Moves the first bytes that are left to the front of `buf`, and answers how many. At `Ok(0)` none
-    /// were left. At a fault what is left stays.
+    /// were left. At a fault what is left stays; without one the count stays.
     fn take(&mut self, buf: &mut [u8]) -> Result<usize, Fault>
         requires { 0 < length buf.old }
         ensures bound { ReadsAtMost result buf.new }
         ensures bytes { ReadConsumes (left self.old) (left self.new) result buf.new }
         ensures count { faults self.old ≤ faults self.new }
+        ensures calm { OnOk result (faults self.new ≡ faults self.old) }
         ensures fault { OnErr result (Rose (faults self.old) (faults self.new)) };
 }

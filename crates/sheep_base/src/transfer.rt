@@ -56,6 +56,10 @@ pub fn read_all<S: Source>(alloc: Global, source: &mut S, limit: usize) -> Resul
     // It doesn't fail by itself.
     ensures failed { IsErrOf result ReadStop.Failed → Rose (S.faults source.old) (S.faults source.new) }
     ensures count { S.faults source.old ≤ S.faults source.new }
+    // At every other end there was no fault: want of memory isn't told in the place of one.
+    ensures calm { OnOk result (S.faults source.new ≡ S.faults source.old) }
+    ensures calm_long { IsErrOf result ReadStop.TooLong → S.faults source.new ≡ S.faults source.old }
+    ensures calm_memory { IsErrOf result ReadStop.NoMemory → S.faults source.new ≡ S.faults source.old }
 {
     let mut text = Vec::new(alloc);
     let mut chunk = [0u8; CHUNK_BYTES];

@@ -2,6 +2,9 @@
 //! standard output, and its status is the exit status. Nothing is written to standard error.
 #![tactic(auto)]
 
+ghost use Rattle.std.specs.Prelude.{◌≡◌, ◌↔◌, IsTrue};
+ghost use Rattle.std.specs.declared.io.ErrorKind.TheVariants.{OutOfMemory};
+
 use object_id::NoMemory;
 use sheep::{Status, sheep};
 use sheep_base::{HostSink, HostSource};
@@ -10,6 +13,13 @@ use std::env;
 use std::io::ErrorKind;
 use std::process::ExitCode;
 use std::rt::Env;
+
+/// Whether a fault of this kind says that memory ran out; at any other no words are accepted.
+fn is_want_of_memory(kind: ErrorKind) -> bool
+    ensures { IsTrue result ↔ (kind ≡ OutOfMemory) }
+{
+    kind == ErrorKind::OutOfMemory
+}
 
 /// The words of the command line, without the program's own name. Where one of them isn't text there are none, since
 /// no list with such a word is accepted.
@@ -22,7 +32,7 @@ fn words_of<R: Env + AllocGlobal>(rt: &R) -> Result<Vec<String>, NoMemory> {
             }
         }
         Err(error) => {
-            if error.kind() == ErrorKind::OutOfMemory {
+            if is_want_of_memory(error.kind()) {
                 return Err(NoMemory);
             }
         }

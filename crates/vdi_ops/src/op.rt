@@ -101,7 +101,8 @@ impl VdiOp {
         }
     }
 
-    /// The number that the entry is about whose decision the command waits for; `None` if it waits for none. Takes no memory.
+    /// The number that the entry is about whose decision the command waits for; `None` if it waits for none. Takes no memory, and costs
+    /// nothing.
     pub fn number_wanted(&self) -> Option<u32>
         ensures { result ≡ number_wanted self.now }
     {
@@ -135,7 +136,7 @@ impl VdiOp {
         }
     }
 
-    /// How many bytes the work gives that the command waits for; `None` if it waits for none. Takes no memory.
+    /// How many bytes the work gives that the command waits for; `None` if it waits for none. Takes no memory, and costs nothing.
     pub fn bytes_wanted(&self) -> Option<usize>
         ensures { result ≡ op_bytes_wanted self.now }
     {
@@ -210,7 +211,7 @@ impl VdiOp {
     }
 
     /// How the command ends when the work that it waits for was refused: with the refusal, and with what gives back the id that it was
-    /// granted. Takes no memory.
+    /// granted. Takes no memory, and costs nothing.
     #[tactic(auto, unfolding(crate::specs::Steps::on_refusal))]
     pub fn on_refused(&self, cause: Cause) -> OpEnd
         requires { IsTrue (is_some (op_bytes_wanted self.now)) }
@@ -241,14 +242,14 @@ impl VdiOp {
         }
     }
 
-    /// Whether the session has nothing open from then on. Takes no memory.
+    /// Whether the session has nothing open from then on. Takes no memory, and costs nothing.
     pub fn closes(&self) -> bool
         ensures { result ≡ closes (disk_change_at self.now.stage) }
     {
         matches!(&self.stage, Stage::Answered(Change::Closes))
     }
 
-    /// Whether what the session has open from then on is a snapshot that the command opened. Takes no memory.
+    /// Whether what the session has open from then on is a snapshot that the command opened. Takes no memory, and costs nothing.
     pub fn opens_snapshot(&self) -> bool
         ensures { result ≡ opens_snapshot (disk_change_at self.now.stage) }
     {
@@ -258,7 +259,8 @@ impl VdiOp {
         }
     }
 
-    /// The inode that the session has open from then on; `None` exactly where the command opened none. Takes no memory.
+    /// The inode that the session has open from then on; `None` exactly where the command opened none. Takes no memory, and
+    /// costs nothing.
     pub fn into_inode(self) -> Option<Inode>
         ensures value { result ≡ inode_opened (disk_change_at self.stage) }
         // A session may have it open: its id is one, and each entry of its table is 0 or an id.

@@ -15,8 +15,8 @@ use Rattle.gateway.specs.Kept.{halt_beginning, sends_beginning}
 use Rattle.gateway.proofs.AskingLemmas.{targets-count, zones_wanted, zones-short, zones-enough}
 use Rattle.gateway.proofs.beginning.begin_attempt.Goals as goal
 
-pub returns-then-count-zones : goal.returns-then-count-zones
-returns-then-count-zones c =
+pub returns-then-count-zones-clause-beginning : goal.returns-then-count-zones-clause-beginning
+returns-then-count-zones-clause-beginning c =
     let work = c.args.work.now in
     let zones : ℕ = zone_count (members_at c.args.place.now c.args.epoch.0) in
     let targets : List NodeId = targets_in c.args.place.now c.args.epoch.0 (oid_of work) (policy_of work) in
@@ -32,8 +32,8 @@ returns-then-count-zones c =
     ∙ sym (cond-true (nat_lt zones (zones_for work)) (halt_beginning c.args.touched (Halt zones (zones_for work)))
     (sends_beginning c.args.me c.args.epoch work (messages_of work c.args.ended c.args.first targets)) (lt-ltb zones (zones_for work) less))
 
-pub returns-else-count-zones : goal.returns-else-count-zones
-returns-else-count-zones c =
+pub returns-else-count-zones-clause-beginning : goal.returns-else-count-zones-clause-beginning
+returns-else-count-zones-clause-beginning c =
     let work = c.args.work.now in
     let zones : ℕ = zone_count (members_at c.args.place.now c.args.epoch.0) in
     let targets : List NodeId = targets_in c.args.place.now c.args.epoch.0 (oid_of work) (policy_of work) in
@@ -51,3 +51,16 @@ returns-else-count-zones c =
     ∙ sym (cond-false (nat_lt zones (zones_for work)) (halt_beginning c.args.touched (Halt zones (zones_for work)))
     (sends_beginning c.args.me c.args.epoch work (messages_of work c.args.ended c.args.first targets)) (le-ltb zones (zones_for work) most)))
     c.sent.ensures
+
+pub returns-else-count-zones-clause-memory : goal.returns-else-count-zones-clause-memory
+returns-else-count-zones-clause-memory c short =
+    let work = c.args.work.now in
+    let zones : ℕ = zone_count (members_at c.args.place.now c.args.epoch.0) in
+    let targets : List NodeId = targets_in c.args.place.now c.args.epoch.0 (oid_of work) (policy_of work) in
+    let count : c.targets_at-count.result ≡ length targets =
+    c.targets_at-count.ensures.count ∙ ap₂ (λ o p. length (targets_in c.args.place.now c.args.epoch.0 o p)) c.oid.ensures c.policy.ensures in
+    let enough : zones_for work ≤ c.targets_at-count.result = subst (λ (n : ℕ). n ≤ c.targets_at-count.result) c.zones_for-zones.ensures c.if-count-zones.false in
+    let most : zones_for work ≤ zones =
+    zones-enough c.targets_at-count.result (wanted_of (policy_of work) (kind_of (oid_of work))) zones (zones_for work)
+    (count ∙ targets-count c.args.place.now c.args.epoch.0 (oid_of work) (policy_of work)) enough in
+    absurd (cc (sym short ∙ le-ltb zones (zones_for work) most))

@@ -39,7 +39,7 @@ invariant_of-self c =
     = ap (λ (g : Gateway). list_all (λ (number : ℕ). nat_lt number c.args.first) (open_numbers g)) c.self.view_is ∙ c.requires.may_send.numbers in
     let is : c.in-Sends.messages ≡ messages_of work.work work.ended c.args.first targets
     = messages-sent c.args.place.now c.self.inside.me work.work work.ended c.has-touched.result c.args.first c.args.epoch c.in-Sends.messages c.in-Sends.sends
-    (sym c.in-Sends.is ∙ c.in_ok-beginning.ensures
+    (sym c.in-Sends.is ∙ c.in_ok-beginning.ensures.beginning
     ∙ ap₂ (λ w e. beginning_of c.args.place.now c.self.inside.me w e c.has-touched.result c.args.first c.args.epoch) c.work.ensures.value c.ended-2.ensures) in
     AreAskers-some c.self.inside.askers c.put_all.new.self c.self.inside.works c.in-Sends.messages c.self.invariant
     (λ number none. c.in_err-put_all-in-Sends.ensures.err number (ap (list_any (has_number number)) c.as_slice.ensures ∙ none))
@@ -52,7 +52,7 @@ set_stage-requires c =
     if_some (tree.get c.self.inside.works c.args.req) _ work at (
       AreMessagesFor-sent c.args.place.now c.self.inside.me work.work work.ended c.has-touched.result c.args.first c.args.epoch c.in-Sends.messages c.in-Sends.sends
           c.work.ensures.valid
-          (sym c.in-Sends.is ∙ c.in_ok-beginning.ensures
+          (sym c.in-Sends.is ∙ c.in_ok-beginning.ensures.beginning
           ∙ ap₂ (λ w e. beginning_of c.args.place.now c.self.inside.me w e c.has-touched.result c.args.first c.args.epoch) c.work.ensures.value c.ended-2.ensures),
       omega (arith, c.if-ended.false, c.ended.ensures, c.ended.type_inv),
     )
@@ -67,7 +67,7 @@ invariant_of-self-in-Sends c =
     = ap (λ (g : Gateway). list_all (λ (number : ℕ). nat_lt number c.args.first) (open_numbers g)) c.self.view_is ∙ c.requires.may_send.numbers in
     let is : c.in-Sends.messages ≡ messages_of work.work work.ended c.args.first targets
     = messages-sent c.args.place.now c.self.inside.me work.work work.ended c.has-touched.result c.args.first c.args.epoch c.in-Sends.messages c.in-Sends.sends
-    (sym c.in-Sends.is ∙ c.in_ok-beginning.ensures
+    (sym c.in-Sends.is ∙ c.in_ok-beginning.ensures.beginning
     ∙ ap₂ (λ w e. beginning_of c.args.place.now c.self.inside.me w e c.has-touched.result c.args.first c.args.epoch) c.work.ensures.value c.ended-2.ensures) in
     let new : Work = record { work = work.work; ended = work.ended; stage = Open (record { epoch = c.args.epoch; messages = c.in-Sends.messages }) } in
     let put : c.set_stage.new.self ≡ tree.insert c.self.inside.works c.args.req new
@@ -105,7 +105,7 @@ returns-in_ok-put_all-in-Sends-clause-ok c =
     let next : next_req c.args.epoch seen.works ≡ Some c.args.req
     = ap (λ (g : Gateway). next_req c.args.epoch g.works) c.self.view_is ∙ c.requires.next in
     let is : beginnings.Sends c.in-Sends.messages c.in-Sends.sends ≡ beginning_of c.args.place.now seen.me work.work work.ended (is_touched c.args.req seen) c.args.first c.args.epoch
-    = sym c.in-Sends.is ∙ c.in_ok-beginning.ensures
+    = sym c.in-Sends.is ∙ c.in_ok-beginning.ensures.beginning
     ∙ ap₂ (λ w e. beginning_of c.args.place.now c.self.inside.me w e c.has-touched.result c.args.first c.args.epoch) c.work.ensures.value c.ended-2.ensures
     ∙ ap (λ b. beginning_of c.args.place.now seen.me work.work work.ended b c.args.first c.args.epoch) c.has-touched.ensures in
     let new : Work = record { work = work.work; ended = work.ended; stage = Open (record { epoch = c.args.epoch; messages = c.in-Sends.messages }) } in
@@ -127,7 +127,7 @@ returns-in-Waits-clause-ok c =
     let next : next_req c.args.epoch seen.works ≡ Some c.args.req
     = ap (λ (g : Gateway). next_req c.args.epoch g.works) c.self.view_is ∙ c.requires.next in
     let is : beginnings.Waits ≡ beginning_of c.args.place.now seen.me work.work work.ended (is_touched c.args.req seen) c.args.first c.args.epoch
-    = sym c.in-Waits.is ∙ c.in_ok-beginning.ensures
+    = sym c.in-Waits.is ∙ c.in_ok-beginning.ensures.beginning
     ∙ ap₂ (λ w e. beginning_of c.args.place.now c.self.inside.me w e c.has-touched.result c.args.first c.args.epoch) c.work.ensures.value c.ended-2.ensures
     ∙ ap (λ b. beginning_of c.args.place.now seen.me work.work work.ended b c.args.first c.args.epoch) c.has-touched.ensures in
     let new : Work = record { work = work.work; ended = work.ended; stage = WaitsForMembers c.args.epoch } in
@@ -149,7 +149,7 @@ returns-in-Refused-clause-ok c =
     let next : next_req c.args.epoch seen.works ≡ Some c.args.req
     = ap (λ (g : Gateway). next_req c.args.epoch g.works) c.self.view_is ∙ c.requires.next in
     let is : beginnings.Refused c.in-Refused.cause ≡ beginning_of c.args.place.now seen.me work.work work.ended (is_touched c.args.req seen) c.args.first c.args.epoch
-    = sym c.in-Refused.is ∙ c.in_ok-beginning.ensures
+    = sym c.in-Refused.is ∙ c.in_ok-beginning.ensures.beginning
     ∙ ap₂ (λ w e. beginning_of c.args.place.now c.self.inside.me w e c.has-touched.result c.args.first c.args.epoch) c.work.ensures.value c.ended-2.ensures
     ∙ ap (λ b. beginning_of c.args.place.now seen.me work.work work.ended b c.args.first c.args.epoch) c.has-touched.ensures in
     let told : c.refuse.result ≡ acts.Refused work.work c.args.req c.in-Refused.cause

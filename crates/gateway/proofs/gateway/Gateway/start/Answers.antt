@@ -11,12 +11,13 @@ use Rattle.gateway.specs.declared.beginning.Beginning.TheVariants as beginnings
 use Rattle.gateway.specs.declared.act.Act.TheVariants as acts
 use Rattle.gateway.specs.Attempt.{messages_of}
 use Rattle.gateway.specs.State.{Work, Open, Ended, WaitsForMembers, Gateway, is_awaited_in, open_numbers, is_touched}
-use Rattle.gateway.specs.Step.{start_step}
+use Rattle.gateway.specs.Step.{GatewayStep, start_step}
+use Rattle.gateway.specs.Outcomes.{RefusesWork}
 use Rattle.gateway.specs.Kept.{AreAskers, step_from, beginning_of}
 use Rattle.gateway.proofs.MessageLemmas.{has_number}
 use Rattle.gateway.proofs.BeginningLemmas.{AreMessagesFor-sent}
 use Rattle.gateway.proofs.AskersKept.{messages-sent, sent-others, AreAskers-some, AreAskers-open, AreAskers-quiet, awaited-open}
-use Rattle.gateway.proofs.StepLemmas.{start-from, refused-start}
+use Rattle.gateway.proofs.StepLemmas.{start-from, refused-start, refused-short}
 use Rattle.gateway.proofs.gateway.Gateway.start.Goals as goal
 
 pub invariant_of-self : goal.invariant_of-self
@@ -27,7 +28,7 @@ invariant_of-self c =
     = ap (λ (g : Gateway). list_all (λ (number : ℕ). nat_lt number c.args.first) (open_numbers g)) c.self.view_is ∙ c.requires.may_send.numbers in
     let is : c.in-Sends.messages ≡ messages_of c.args.work 0 c.args.first targets
     = messages-sent c.args.place.now c.self.inside.me c.args.work 0 c.has-touched.result c.args.first c.args.epoch c.in-Sends.messages c.in-Sends.sends
-    (sym c.in-Sends.is ∙ c.in_ok-beginning.ensures) in
+    (sym c.in-Sends.is ∙ c.in_ok-beginning.ensures.beginning) in
     AreAskers-some c.self.inside.askers c.put_all.new.self c.self.inside.works c.in-Sends.messages c.self.invariant
     (λ number none. c.in_err-put_all-in-Sends.ensures.err number (ap (list_any (has_number number)) c.as_slice.ensures ∙ none))
     (sent-others seen c.args.work 0 c.args.first targets c.in-Sends.messages all is)
@@ -35,7 +36,7 @@ invariant_of-self c =
 pub new-requires-clause-stage : goal.new-requires-clause-stage
 new-requires-clause-stage c = (
   AreMessagesFor-sent c.args.place.now c.self.inside.me c.args.work 0 c.has-touched.result c.args.first c.args.epoch c.in-Sends.messages c.in-Sends.sends
-      c.requires.may_start.is_work (sym c.in-Sends.is ∙ c.in_ok-beginning.ensures),
+      c.requires.may_start.is_work (sym c.in-Sends.is ∙ c.in_ok-beginning.ensures.beginning),
   omega arith,
 )
 
@@ -47,7 +48,7 @@ invariant_of-self-in_err-put-in-Sends c =
     = ap (λ (g : Gateway). list_all (λ (number : ℕ). nat_lt number c.args.first) (open_numbers g)) c.self.view_is ∙ c.requires.may_send.numbers in
     let is : c.in-Sends.messages ≡ messages_of c.args.work 0 c.args.first targets
     = messages-sent c.args.place.now c.self.inside.me c.args.work 0 c.has-touched.result c.args.first c.args.epoch c.in-Sends.messages c.in-Sends.sends
-    (sym c.in-Sends.is ∙ c.in_ok-beginning.ensures) in
+    (sym c.in-Sends.is ∙ c.in_ok-beginning.ensures.beginning) in
     subst (λ (works : tree.FinMap nat_cmp Work). AreAskers c.put_all.new.self works) (sym c.in_err-put-in-Sends.ensures.err)
     (AreAskers-some c.self.inside.askers c.put_all.new.self c.self.inside.works c.in-Sends.messages c.self.invariant
     (λ number none. c.in_ok-put_all-in-Sends.ensures.ok number
@@ -62,7 +63,7 @@ invariant_of-self-in-Sends c =
     = ap (λ (g : Gateway). list_all (λ (number : ℕ). nat_lt number c.args.first) (open_numbers g)) c.self.view_is ∙ c.requires.may_send.numbers in
     let is : c.in-Sends.messages ≡ messages_of c.args.work 0 c.args.first targets
     = messages-sent c.args.place.now c.self.inside.me c.args.work 0 c.has-touched.result c.args.first c.args.epoch c.in-Sends.messages c.in-Sends.sends
-    (sym c.in-Sends.is ∙ c.in_ok-beginning.ensures) in
+    (sym c.in-Sends.is ∙ c.in_ok-beginning.ensures.beginning) in
     let new : Work = record { work = c.args.work; ended = 0; stage = Open (record { epoch = c.args.epoch; messages = c.in-Sends.messages }) } in
     subst (λ (works : tree.FinMap nat_cmp Work). AreAskers c.put_all.new.self works)
     (sym (c.in_ok-put-in-Sends.ensures.ok ∙ ap (tree.insert c.self.inside.works c.args.req) c.new.ensures))
@@ -86,7 +87,7 @@ returns-in_ok-put-in-Sends-clause-ok c =
     (record { work = c.args.work; ended = 0; stage = Open (record { epoch = c.args.epoch; messages = c.in-Sends.messages }) })
     = c.in_ok-put-in-Sends.ensures.ok ∙ ap (tree.insert c.self.inside.works c.args.req) c.new.ensures in
     let is : beginnings.Sends c.in-Sends.messages c.in-Sends.sends ≡ beginning_of c.args.place.now seen.me c.args.work 0 (is_touched c.args.req seen) c.args.first c.args.epoch
-    = sym c.in-Sends.is ∙ c.in_ok-beginning.ensures
+    = sym c.in-Sends.is ∙ c.in_ok-beginning.ensures.beginning
     ∙ ap (λ b. beginning_of c.args.place.now seen.me c.args.work 0 b c.args.first c.args.epoch) c.has-touched.ensures in
     ap (λ (g : Gateway). start_step c.args.place.now g c.args.req c.args.work c.args.first c.args.epoch) (sym c.self.view_is)
     ∙ start-from c.args.place.now seen c.args.req c.args.work c.args.first c.args.epoch (beginnings.Sends c.in-Sends.messages c.in-Sends.sends) is
@@ -102,7 +103,7 @@ returns-in_ok-put-in-Waits-clause-ok c =
     (record { work = c.args.work; ended = 0; stage = WaitsForMembers c.args.epoch })
     = c.in_ok-put-in-Waits.ensures.ok ∙ ap (tree.insert c.self.inside.works c.args.req) c.new-in-Waits.ensures in
     let is : beginnings.Waits ≡ beginning_of c.args.place.now seen.me c.args.work 0 (is_touched c.args.req seen) c.args.first c.args.epoch
-    = sym c.in-Waits.is ∙ c.in_ok-beginning.ensures
+    = sym c.in-Waits.is ∙ c.in_ok-beginning.ensures.beginning
     ∙ ap (λ b. beginning_of c.args.place.now seen.me c.args.work 0 b c.args.first c.args.epoch) c.has-touched.ensures in
     ap (λ (g : Gateway). start_step c.args.place.now g c.args.req c.args.work c.args.first c.args.epoch) (sym c.self.view_is)
     ∙ start-from c.args.place.now seen c.args.req c.args.work c.args.first c.args.epoch beginnings.Waits is
@@ -117,7 +118,7 @@ returns-in-Refused-clause-ok c =
     let none : tree.get seen.works c.args.req ≡ None
     = ap (λ (g : Gateway). tree.get g.works c.args.req) c.self.view_is ∙ nothing (tree.get c.args.self.now.works c.args.req) c.requires.may_start.first_one in
     let is : beginnings.Refused c.in-Refused.cause ≡ beginning_of c.args.place.now seen.me c.args.work 0 (is_touched c.args.req seen) c.args.first c.args.epoch
-    = sym c.in-Refused.is ∙ c.in_ok-beginning.ensures
+    = sym c.in-Refused.is ∙ c.in_ok-beginning.ensures.beginning
     ∙ ap (λ b. beginning_of c.args.place.now seen.me c.args.work 0 b c.args.first c.args.epoch) c.has-touched.ensures in
     ap (λ (g : Gateway). start_step c.args.place.now g c.args.req c.args.work c.args.first c.args.epoch) (sym c.self.view_is)
     ∙ start-from c.args.place.now seen c.args.req c.args.work c.args.first c.args.epoch (beginnings.Refused c.in-Refused.cause) is
@@ -126,3 +127,41 @@ returns-in-Refused-clause-ok c =
     nothing : (o : Option Work) → IsTrue (not (is_some o)) → o ≡ None
     nothing None is = refl
     nothing (Some work) is = absurd (cc (is))
+
+pub returns-in_err-beginning-clause-memory : goal.returns-in_err-beginning-clause-memory
+returns-in_err-beginning-clause-memory c refuses =
+    absurd (cc (c.in_err-beginning.ensures.memory
+    (refused-short c.args.place.now c.args.self.now c.args.req c.args.work c.args.first c.args.epoch refuses)))
+
+pub returns-in_err-put_all-in-Sends-clause-memory : goal.returns-in_err-put_all-in-Sends-clause-memory
+returns-in_err-put_all-in-Sends-clause-memory c refuses =
+    let seen : Gateway = record { me = c.self.inside.me; tries = c.self.inside.tries; works = c.self.inside.works; touched = c.self.inside.touched } in
+    let is : beginnings.Sends c.in-Sends.messages c.in-Sends.sends ≡ beginning_of c.args.place.now seen.me c.args.work 0 (is_touched c.args.req seen) c.args.first c.args.epoch
+    = sym c.in-Sends.is ∙ c.in_ok-beginning.ensures.beginning
+    ∙ ap (λ b. beginning_of c.args.place.now seen.me c.args.work 0 b c.args.first c.args.epoch) c.has-touched.ensures in
+    absurd (subst (λ (step : GatewayStep). RefusesWork step.act)
+    (ap (λ (g : Gateway). start_step c.args.place.now g c.args.req c.args.work c.args.first c.args.epoch) (sym c.self.view_is)
+    ∙ start-from c.args.place.now seen c.args.req c.args.work c.args.first c.args.epoch (beginnings.Sends c.in-Sends.messages c.in-Sends.sends) is)
+    refuses)
+
+pub returns-in_err-put-in-Sends-clause-memory : goal.returns-in_err-put-in-Sends-clause-memory
+returns-in_err-put-in-Sends-clause-memory c refuses =
+    let seen : Gateway = record { me = c.self.inside.me; tries = c.self.inside.tries; works = c.self.inside.works; touched = c.self.inside.touched } in
+    let is : beginnings.Sends c.in-Sends.messages c.in-Sends.sends ≡ beginning_of c.args.place.now seen.me c.args.work 0 (is_touched c.args.req seen) c.args.first c.args.epoch
+    = sym c.in-Sends.is ∙ c.in_ok-beginning.ensures.beginning
+    ∙ ap (λ b. beginning_of c.args.place.now seen.me c.args.work 0 b c.args.first c.args.epoch) c.has-touched.ensures in
+    absurd (subst (λ (step : GatewayStep). RefusesWork step.act)
+    (ap (λ (g : Gateway). start_step c.args.place.now g c.args.req c.args.work c.args.first c.args.epoch) (sym c.self.view_is)
+    ∙ start-from c.args.place.now seen c.args.req c.args.work c.args.first c.args.epoch (beginnings.Sends c.in-Sends.messages c.in-Sends.sends) is)
+    refuses)
+
+pub returns-in_err-put-in-Waits-clause-memory : goal.returns-in_err-put-in-Waits-clause-memory
+returns-in_err-put-in-Waits-clause-memory c refuses =
+    let seen : Gateway = record { me = c.self.inside.me; tries = c.self.inside.tries; works = c.self.inside.works; touched = c.self.inside.touched } in
+    let is : beginnings.Waits ≡ beginning_of c.args.place.now seen.me c.args.work 0 (is_touched c.args.req seen) c.args.first c.args.epoch
+    = sym c.in-Waits.is ∙ c.in_ok-beginning.ensures.beginning
+    ∙ ap (λ b. beginning_of c.args.place.now seen.me c.args.work 0 b c.args.first c.args.epoch) c.has-touched.ensures in
+    absurd (subst (λ (step : GatewayStep). RefusesWork step.act)
+    (ap (λ (g : Gateway). start_step c.args.place.now g c.args.req c.args.work c.args.first c.args.epoch) (sym c.self.view_is)
+    ∙ start-from c.args.place.now seen c.args.req c.args.work c.args.first c.args.epoch beginnings.Waits is)
+    refuses)
