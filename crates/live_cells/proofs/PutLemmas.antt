@@ -2,28 +2,15 @@
 use Rattle.std.proofs.Common.{◌≡◌, ◌<◌, false, List, [], ◌∷◌, All, Option, Some, slice_get, unwrap_or, refl, sym, ap, subst, ◌∙◌}
 use Rattle.std.proofs.lemmas.List.Elements.{All-head}
 use Rattle.object_id.specs.declared.entry.Entry.{Entry}
-use Rattle.object_id.specs.declared.entry.Entry.TheVariants.{Format, Join, Leave, Reweight, Recovered, Reserve, Publish, Clone, Snapshot, Delete, Lock, Unlock}
+use Rattle.object_id.specs.declared.entry.Entry.TheVariants.{Join, Leave, Reweight}
 use Rattle.object_id.specs.declared.entry.Member.{Member}
 use Rattle.object_id.specs.declared.limits.TheConstants.{EPOCH_MAX}
 use Rattle.object_id.specs.declared.node.NodeId.{NodeId}
 use Rattle.epoch_log.specs.Epochs.{begins_epoch, epoch_of, members_in}
 use Rattle.epoch_log.specs.Appending.{IsReservable, FitsMembers, MayAppend}
 use Rattle.sheep_node.specs.OwnEntries.{IsEntryOf}
-use Rattle.live_cells.specs.Puts.{IsPuttable}
-
-own_puttable : (me : NodeId) (entry : Entry) → IsEntryOf me entry → IsReservable entry → IsPuttable entry
-own_puttable me (Format members) own names = absurd own
-own_puttable me (Join node zone vnodes) own names = absurd own
-own_puttable me (Leave node) own names = absurd own
-own_puttable me (Reweight node vnodes) own names = absurd own
-own_puttable me (Recovered node epoch) own names = record { later = refl; plain = refl; reservable = names }
-own_puttable me (Reserve by session name origin) own names = record { later = refl; plain = refl; reservable = names }
-own_puttable me (Publish by vid) own names = record { later = refl; plain = refl; reservable = names }
-own_puttable me (Clone by vid) own names = record { later = refl; plain = refl; reservable = names }
-own_puttable me (Snapshot by old vid) own names = record { later = refl; plain = refl; reservable = names }
-own_puttable me (Delete by session name tag) own names = record { later = refl; plain = refl; reservable = names }
-own_puttable me (Lock by session name tag) own names = record { later = refl; plain = refl; reservable = names }
-own_puttable me (Unlock by session vid) own names = record { later = refl; plain = refl; reservable = names }
+use Rattle.sheep_node.specs.PuttableEntries.{IsPuttable}
+use Rattle.sheep_node.proofs.PuttableEntries.{own_puttable}
 
 pub all_puttable : (me : NodeId) (outbox : List Entry) → All (IsEntryOf me) outbox → All IsReservable outbox → All IsPuttable outbox
 all_puttable me outbox own names = λ k d within. own_puttable me _ (own k d within) (names k d within)

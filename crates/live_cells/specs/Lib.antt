@@ -4,4 +4,3 @@ pub mod Cell
 pub mod Brought
 pub mod Seats
 pub mod LogState
-pub mod Puts

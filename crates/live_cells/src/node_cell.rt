@@ -6,7 +6,7 @@ ghost use Rattle.live_cells.specs.declared.act_fault.ActFault.TheVariants as fau
 ghost use Rattle.live_cells.specs.Opening.{IsOpening};
 ghost use Rattle.live_cells.specs.History.{Replays};
 ghost use Rattle.live_cells.specs.Cell.{new_cell, opening_of, cell_after};
-ghost use Rattle.live_cells.specs.Puts.{IsPuttable};
+ghost use Rattle.sheep_node.specs.PuttableEntries.{IsPuttable};
 ghost use Rattle.live_cells.specs.Brought.{takes_brought};
 ghost use Rattle.live_cells.specs.Seats.{HasDrawn};
 

@@ -13,6 +13,7 @@ pub mod StepChain
 pub mod MessageNumbers
 pub mod NumberChanges
 pub mod OwnEntryChanges
+pub mod PuttableEntries
 pub mod QueueChanges
 pub mod QueueLengths
 pub mod SoleParts

@@ -17,6 +17,7 @@ pub mod RecoveryRange
 pub mod OneWork
 pub mod Changes
 pub mod OwnEntries
+pub mod PuttableEntries
 pub mod SessionQueues
 pub mod OpenLines
 pub mod Validity

@@ -23,7 +23,8 @@ use Rattle.sheep_world.specs.NodeCauses.{NodeCause, GuestAsks, RequestComes, Rep
 use Rattle.sheep_world.specs.EventKinds.{log_after_return, EventKind, NodeStep, UntoldLoss, UnreadDelivery, NodeLoss, NodeLeave, NodeReweight, NodeJoin, NodeReturn, PhaseEnd}
 use Rattle.sheep_world.specs.HostChanges.{host_after_step, host_after_return, joined_host, HostChange, Stays, Steps, IsLost, ComesBack, Joins}
 use Rattle.sheep_world.specs.ControlsToCome.{has_host, ControlsFit}
-use Rattle.sheep_world.proofs.PuttableEntries.{IsPuttable, EachPuts}
+use Rattle.sheep_node.specs.PuttableEntries.{IsPuttable}
+use Rattle.sheep_world.proofs.PuttableEntries.{EachPuts}
 use Rattle.sheep_world.specs.LogHolds.{is_member_now, IsWell, LogHolds}
 use Rattle.sheep_world.proofs.HostChangeLaws.{became}
 use Rattle.sheep_world.proofs.ControlLaws.{next_fits, seated_now}

@@ -1,19 +1,19 @@
 -- What heads an outbox is its node's own entry in each world of a run, so it opens no log and begins no epoch.
-use Rattle.std.proofs.Common.{◌≡◌, ℕ, false, List, ◌∷◌, All, Some, refl, subst}
+use Rattle.std.proofs.Common.{◌≡◌, ℕ, List, ◌∷◌, All, Some, subst}
 use Rattle.std.specs.FinMap as tree
 use Rattle.std.proofs.lemmas.List.Elements.{All-head}
 use Rattle.object_id.specs.declared.entry.Entry.{Entry}
-use Rattle.object_id.specs.declared.entry.Entry.TheVariants.{Format, Join, Leave, Reweight, Recovered, Reserve, Publish, Clone, Snapshot, Delete, Lock, Unlock}
 use Rattle.object_id.specs.declared.node.NodeId.{NodeId}
-use Rattle.epoch_log.specs.Epochs.{begins_epoch}
-use Rattle.epoch_log.specs.Appending.{is_format, IsReservable}
+use Rattle.epoch_log.specs.Appending.{IsReservable}
 use Rattle.cluster_script.specs.declared.statement.Statement.{Statement}
 use Rattle.cluster_script.specs.Settings.{tries_of}
 use Rattle.sheep_node.specs.declared.input.Input.TheVariants as inputs
 use Rattle.sheep_node.specs.State as nodes
 use Rattle.sheep_node.specs.State.{Node}
 use Rattle.sheep_node.specs.OwnEntries.{IsEntryOf, HasOnlyOwnEntries, AsksForOwn}
+use Rattle.sheep_node.specs.PuttableEntries.{IsPuttable}
 use Rattle.sheep_node.proofs.OwnEntryChanges.{own_entries_stay, own_entries_at_opening}
+use Rattle.sheep_node.proofs.PuttableEntries.{own_puttable}
 use Rattle.sheep_world.specs.World.{Host, World}
 use Rattle.sheep_world.specs.Opening.{format_entry}
 use Rattle.sheep_world.specs.Began.{Began}
@@ -26,26 +26,6 @@ use Rattle.sheep_node.specs.declared.ask.Ask.{Ask}
 use Rattle.sheep_node.specs.declared.ask.Ask.TheVariants as asks
 use Rattle.sheep_world.specs.Asking.{ask_of_statement}
 use Rattle.cluster_script.specs.declared.statement.Statement.TheVariants as lines
-
--- an entry that a node may put: it opens no log, begins no epoch, and what it names may be named
-pub record IsPuttable (entry : Entry) : Type 0 where
-  pub later : is_format entry ≡ false
-  pub plain : begins_epoch entry ≡ false
-  pub reservable : IsReservable entry
-
-own_puttable : (me : NodeId) (entry : Entry) → IsEntryOf me entry → IsReservable entry → IsPuttable entry
-own_puttable me (Format members) own names = absurd own
-own_puttable me (Join node zone vnodes) own names = absurd own
-own_puttable me (Leave node) own names = absurd own
-own_puttable me (Reweight node vnodes) own names = absurd own
-own_puttable me (Recovered node epoch) own names = record { later = refl; plain = refl; reservable = names }
-own_puttable me (Reserve by session name origin) own names = record { later = refl; plain = refl; reservable = names }
-own_puttable me (Publish by vid) own names = record { later = refl; plain = refl; reservable = names }
-own_puttable me (Clone by vid) own names = record { later = refl; plain = refl; reservable = names }
-own_puttable me (Snapshot by old vid) own names = record { later = refl; plain = refl; reservable = names }
-own_puttable me (Delete by session name tag) own names = record { later = refl; plain = refl; reservable = names }
-own_puttable me (Lock by session name tag) own names = record { later = refl; plain = refl; reservable = names }
-own_puttable me (Unlock by session vid) own names = record { later = refl; plain = refl; reservable = names }
 
 -- a session asks for no entry
 no_entry_asked : (me : NodeId) (req session : ℕ) (ask : Ask) (s : Statement) → ask_of_statement s ≡ Some ask → AsksForOwn me (inputs.Guest req session ask)

@@ -1,6 +1,6 @@
 use Rattle.std.proofs.Common.{◌≡◌, false, ap, subst, All, ◌∙◌}
 use Rattle.live_cells.specs.Cell.{CellState}
-use Rattle.live_cells.specs.Puts.{IsPuttable}
+use Rattle.sheep_node.specs.PuttableEntries.{IsPuttable}
 use Rattle.live_cells.proofs.CellLemmas.{live_node, node_is_live}
 use Rattle.live_cells.proofs.PutLemmas.{all_puttable}
 use Rattle.live_cells.proofs.node_cell.NodeCell.node.Goals as goal
