@@ -1,5 +1,8 @@
 //! Logs whose answers come from outside, and what no clause says.
 
+ghost use Rattle.std.specs.Prelude.{IfOk, OnOk};
+ghost use Rattle.epoch_log.specs.Tally.{IsTally};
+
 use crate::log::{EntryList, Log};
 use crate::tally::Tally;
 use object_id::{Bytes, Entry, Epoch, Member, NoMemory, NodeId, Origin, Policy, VdiSpec, Vid};
@@ -199,110 +202,189 @@ fn answers_as_the_table(rt: HostRuntime) -> Result<(), Fail> {
     Ok(())
 }
 
-#[test]
-fn gives_its_entries(rt: HostRuntime) -> Result<(), Fail> {
-    let alloc = rt.alloc();
-    let Some(mut log) = log_of(alloc, b"ab", b"Lb--")? else {
-        return Ok(assert!(rt; false, "not a log"));
-    };
-    let reserve = Entry::Reserve {
+/// The log of two members; an error where they may not open one.
+fn short_log(alloc: Global, steps: &[u8]) -> Result<Log, NoMemory> {
+    match log_of(alloc, b"ab", steps)? {
+        Some(log) => Ok(log),
+        None => Err(NoMemory),
+    }
+}
+
+/// The log of two members that one has left, with a snapshot's name reserved; an error where that may not stand there.
+fn log_with_a_reserve(alloc: Global) -> Result<Log, NoMemory> {
+    let mut log = short_log(alloc, b"Lb--")?;
+    let reserve = reserve_of(alloc, b"vm", b"monday")?;
+    if !log.may_append(&reserve) {
+        return Err(NoMemory);
+    }
+    log.append(reserve)?;
+    Ok(log)
+}
+
+/// Node 0 reserves a name for a snapshot of a tag.
+fn reserve_of(alloc: Global, name: &[u8], tag: &[u8]) -> Result<Entry, NoMemory> {
+    let tag = Bytes::from_slice(alloc, tag)?;
+    Ok(Entry::Reserve {
         by: NodeId(0),
         session: 7,
-        name: Bytes::from_slice(alloc, b"vm")?,
-        origin: Origin::SnapshotOf {
-            tag: Bytes::from_slice(alloc, b"monday")?,
-        },
-    };
-    assert!(rt; log.may_append(&reserve));
-    log.append(reserve)?;
-    assert_eq!(rt; log.len(), 3);
+        name: Bytes::from_slice(alloc, name)?,
+        origin: Origin::SnapshotOf { tag },
+    })
+}
+
+/// A copy of the list of the log's first four entries.
+fn entries_of(alloc: Global, log: &Log) -> Result<EntryList, NoMemory> {
     let mut list = EntryList::new(alloc);
     for place in 0..4 {
         if let Some(entry) = log.entry(place) {
             list.push(entry.copy(alloc)?)?;
         }
     }
-    let copy = list.copy(alloc)?;
-    assert_eq!(rt; (copy.len(), log.entry(3).is_none()), (3, true));
+    list.copy(alloc)
+}
+
+/// Whether a reserve asks for this name in this session.
+fn is_reserve(entry: Option<&Entry>, number: u32, text: &[u8]) -> bool {
+    match entry {
+        Some(Entry::Reserve { session, name, .. }) => {
+            *session == number && name.as_slice() == text
+        }
+        _ => false,
+    }
+}
+
+#[test]
+fn has_three_entries(rt: HostRuntime) -> Result<(), Fail> {
+    let log = log_with_a_reserve(rt.alloc())?;
+    assert_eq!(rt; (log.len(), log.entry(3).is_none()), (3, true));
+    Ok(())
+}
+
+#[test]
+fn gives_its_entries(rt: HostRuntime) -> Result<(), Fail> {
+    let log = log_with_a_reserve(rt.alloc())?;
+    let copy = entries_of(rt.alloc(), &log)?;
+    assert_eq!(rt; copy.len(), 3);
     assert!(rt; matches!(copy.get(0), Some(Entry::Format { members }) if members.len() == 2));
     assert!(rt; matches!(copy.get(1), Some(Entry::Leave { node: NodeId(1) })));
-    match copy.get(2) {
-        Some(Entry::Reserve { session, name, .. }) => {
-            assert_eq!(rt; (*session, name.as_slice()), (7, b"vm".as_slice()));
-        }
-        _ => assert!(rt; false, "another entry"),
-    }
+    assert!(rt; is_reserve(copy.get(2), 7, b"vm"));
     Ok(())
 }
 
-// A name or a tag has 1 to 255 bytes, none of them 0. A disk has whole blocks of 512 bytes, in at most 2^20 objects of 2^12
-// to 2^24 bytes, and 1 to 31 copies or 2, 4, 8 or 16 strips with 1 to 15 of parity.
-#[test]
-fn asks_for_names_and_sizes(rt: HostRuntime) -> Result<(), Fail> {
-    let alloc = rt.alloc();
-    let Some(log) = log_of(alloc, b"ab", b"")? else {
-        return Ok(assert!(rt; false, "not a log"));
+/// Whether node 0 may reserve a name for a clone of a snapshot with that name for its tag.
+fn may_take_name(alloc: Global, name: &[u8]) -> Result<bool, NoMemory> {
+    let copy = Bytes::from_slice(alloc, name)?;
+    let tag = Bytes::from_slice(alloc, name)?;
+    let base = Bytes::from_slice(alloc, b"base")?;
+    may_reserve(alloc, copy, Origin::CloneOf { base, tag })
+}
+
+/// Whether node 0 may reserve a name for a new disk.
+fn may_make(alloc: Global, spec: VdiSpec) -> Result<bool, NoMemory> {
+    let name = Bytes::from_slice(alloc, b"vm")?;
+    may_reserve(alloc, name, Origin::Fresh { spec })
+}
+
+fn may_reserve(alloc: Global, name: Bytes, origin: Origin) -> Result<bool, NoMemory> {
+    let reserve = Entry::Reserve {
+        by: NodeId(0),
+        session: 1,
+        name,
+        origin,
     };
-    let long = [b'x'; 256];
-    let names: [(&[u8], bool); 5] = [
-        (b"vm", true),
-        (b"", false),
-        (b"v\0m", false),
-        (&long[..255], true),
-        (&long, false),
-    ];
-    for (name, want) in names {
-        let copy = Bytes::from_slice(alloc, name)?;
-        let tag = Bytes::from_slice(alloc, name)?;
-        let base = Bytes::from_slice(alloc, b"base")?;
-        let reserve = Entry::Reserve {
-            by: NodeId(0),
-            session: 1,
-            name: copy,
-            origin: Origin::CloneOf { base, tag },
-        };
-        assert_eq!(rt; log.may_append(&reserve), want);
-    }
-    let specs = [
-        (512, 12, Policy::Copies(1), true),
-        (0x1_0000_0000, 12, Policy::Copies(31), true),
-        (0x1_0000_0200, 12, Policy::Copies(3), false),
-        (0x1000_0000_0000, 24, Policy::Coded { d: 16, p: 15 }, true),
-        (0x1000_0000_0200, 24, Policy::Coded { d: 16, p: 15 }, false),
-        (0, 22, Policy::Copies(3), false),
-        (513, 22, Policy::Copies(3), false),
-        (512, 11, Policy::Copies(3), false),
-        (512, 25, Policy::Copies(3), false),
-        (512, 22, Policy::Copies(0), false),
-        (512, 22, Policy::Copies(32), false),
-        (512, 22, Policy::Coded { d: 6, p: 2 }, false),
-        (512, 22, Policy::Coded { d: 4, p: 0 }, false),
-        (512, 22, Policy::Coded { d: 4, p: 16 }, false),
-    ];
-    for (size, shift, policy, want) in specs {
-        let origin = Origin::Fresh {
-            spec: VdiSpec {
-                size,
-                policy,
-                shift,
-            },
-        };
-        let name = Bytes::from_slice(alloc, b"vm")?;
-        let reserve = Entry::Reserve {
-            by: NodeId(0),
-            session: 1,
-            name,
-            origin,
-        };
-        assert_eq!(rt; log.may_append(&reserve), want, "{size} {shift}");
-    }
+    let log = short_log(alloc, b"")?;
+    Ok(log.may_append(&reserve))
+}
+
+// A name or a tag has 1 to 255 bytes, none of them 0.
+#[test]
+fn asks_for_names(rt: HostRuntime) -> Result<(), Fail> {
+    assert!(rt; may_take_name(rt.alloc(), b"vm")?);
+    assert!(rt; !may_take_name(rt.alloc(), b"")?);
+    assert!(rt; !may_take_name(rt.alloc(), b"v\0m")?);
     Ok(())
 }
 
-// A body that gives up at many members would meet every contract.
 #[test]
-fn opens_with_all_the_members_that_there_may_be(rt: HostRuntime) -> Result<(), Fail> {
-    let alloc = rt.alloc();
+fn asks_for_names_that_fit(rt: HostRuntime) -> Result<(), Fail> {
+    assert!(rt; may_take_name(rt.alloc(), &[b'x'; 255])?);
+    assert!(rt; !may_take_name(rt.alloc(), &[b'x'; 256])?);
+    Ok(())
+}
+
+// A disk has whole blocks of 512 bytes, in at most 2^20 objects of 2^12 to 2^24 bytes, and 1 to 31 copies or 2, 4, 8 or 16
+// strips with 1 to 15 of parity. A row: the size, the shift, and copies or strips; `+` where a disk may be so.
+const SPECS: &[u8] = b"512 12 1 +\n\
+4294967296 12 31 +\n\
+4294967808 12 3 -\n\
+17592186044416 24 16:15 +\n\
+17592186044928 24 16:15 -\n\
+0 22 3 -\n\
+513 22 3 -\n\
+512 11 3 -\n\
+512 25 3 -\n\
+512 22 0 -\n\
+512 22 32 -\n\
+512 22 6:2 -\n\
+512 22 4:0 -\n\
+512 22 4:16 -";
+
+/// The part of a row at a place.
+fn part(row: &[u8], separator: u8, place: usize) -> &[u8] {
+    row.split(|byte| *byte == separator)
+        .nth(place)
+        .unwrap_or(b"")
+}
+
+fn number_of(digits: &[u8]) -> u64 {
+    let mut number = 0_u64;
+    for digit in digits {
+        number = number
+            .wrapping_mul(10)
+            .wrapping_add(u64::from(digit.wrapping_sub(b'0')));
+    }
+    number
+}
+
+fn small_number_of(digits: &[u8]) -> u8 {
+    (number_of(digits) % 256) as u8
+}
+
+fn policy_of(word: &[u8]) -> Policy {
+    let first = small_number_of(part(word, b':', 0));
+    let second = part(word, b':', 1);
+    if second.is_empty() {
+        Policy::Copies(first)
+    } else {
+        Policy::Coded {
+            d: first,
+            p: small_number_of(second),
+        }
+    }
+}
+
+fn spec_of(row: &[u8]) -> VdiSpec {
+    VdiSpec {
+        size: number_of(part(row, b' ', 0)),
+        policy: policy_of(part(row, b' ', 2)),
+        shift: small_number_of(part(row, b' ', 1)),
+    }
+}
+
+#[test]
+fn asks_for_sizes(rt: HostRuntime) -> Result<(), Fail> {
+    let mut rows = 0_u32;
+    for row in SPECS.split(|byte| *byte == b'\n') {
+        let want = row.last() == Some(&b'+');
+        assert_eq!(rt; may_make(rt.alloc(), spec_of(row))?, want, "row {rows}");
+        rows = rows.wrapping_add(1);
+    }
+    assert_eq!(rt; rows, 14);
+    Ok(())
+}
+
+/// As many members as there may be, each of the greatest weight.
+fn full_roster(alloc: Global) -> Result<Vec<Member>, NoMemory> {
     let mut members = Vec::new(alloc);
     for number in 0..64 {
         members.push(Member {
@@ -311,17 +393,38 @@ fn opens_with_all_the_members_that_there_may_be(rt: HostRuntime) -> Result<(), F
             vnodes: 256,
         })?;
     }
+    Ok(members)
+}
+
+/// How many members the log of a full roster has, its first and its last; `None` where they may not open one.
+fn ends_of_full_log(alloc: Global) -> Result<Option<(usize, Member, Member)>, NoMemory> {
+    let members = full_roster(alloc)?;
     if !Log::may_open(members.as_slice()) {
-        return Ok(assert!(rt; false, "64 members may open a log"));
+        return Ok(None);
     }
     let log = Log::new(alloc, members.as_slice())?;
     let mut out = blank();
-    assert_eq!(rt; log.members(Epoch(1), &mut out), 64);
+    let count = log.members(Epoch(1), &mut out);
+    Ok(Some((count, out[0], out[63])))
+}
+
+// A body that gives up at many members would meet every contract.
+#[test]
+fn opens_with_all_the_members_that_there_may_be(rt: HostRuntime) -> Result<(), Fail> {
+    let Some((count, first, last)) = ends_of_full_log(rt.alloc())? else {
+        return Ok(assert!(rt; false, "64 members may open a log"));
+    };
+    assert_eq!(rt; count, 64);
     assert_eq!(rt;
-        (out[0].node, out[63].node, out[63].vnodes),
+        (first.node, last.node, last.vnodes),
         (NodeId(0), NodeId(63), 256)
     );
+    Ok(())
+}
 
+#[test]
+fn opens_with_no_more_members(rt: HostRuntime) -> Result<(), Fail> {
+    let mut members = full_roster(rt.alloc())?;
     members.push(Member {
         node: NodeId(64),
         zone: 0,
@@ -358,25 +461,43 @@ fn entry_at(place: u32) -> Entry {
     }
 }
 
-#[test]
-fn reads_a_long_log(rt: HostRuntime) -> Result<(), Fail> {
-    let alloc = rt.alloc();
-    let Some(mut log) = log_of(alloc, b"abc", b"")? else {
-        return Ok(assert!(rt; false, "not a log"));
-    };
+/// Adds the entry of a place, where it may stand there.
+fn append_at(log: &mut Log, place: u32) -> Result<bool, NoMemory> {
+    let entry = entry_at(place);
+    if !log.may_append(&entry) {
+        return Ok(false);
+    }
+    log.append(entry)?;
+    Ok(true)
+}
+
+/// How many members the newest epoch has, and the settled epoch: their sum.
+fn answers_at_end(log: &Log) -> u64 {
+    let newest = log.epoch_at(log.len());
+    let mut out = blank();
+    let count = log.members(newest, &mut out);
+    let settled = log.settled_at(log.len());
+    (count as u64).wrapping_add(u64::from(settled.0))
+}
+
+/// Adds the entries of the long log, and sums the answers after each; `None` where one may not stand there.
+fn fill(log: &mut Log) -> Result<Option<u64>, NoMemory> {
     let mut asked = 0_u64;
     for place in 1..100_000 {
-        let entry = entry_at(place);
-        if !log.may_append(&entry) {
-            return Ok(assert!(rt; false, "at {place}"));
+        if !append_at(log, place)? {
+            return Ok(None);
         }
-        log.append(entry)?;
-        let newest = log.epoch_at(log.len());
-        let mut out = blank();
-        asked = asked
-            .wrapping_add(log.members(newest, &mut out) as u64)
-            .wrapping_add(u64::from(log.settled_at(log.len()).0));
+        asked = asked.wrapping_add(answers_at_end(log));
     }
+    Ok(Some(asked))
+}
+
+#[test]
+fn reads_a_long_log(rt: HostRuntime) -> Result<(), Fail> {
+    let Some(mut log) = log_of(rt.alloc(), b"abc", b"")? else {
+        return Ok(assert!(rt; false, "not a log"));
+    };
+    let asked = fill(&mut log)?;
     assert_eq!(rt;
         (
             log.len(),
@@ -387,41 +508,105 @@ fn reads_a_long_log(rt: HostRuntime) -> Result<(), Fail> {
     );
     // Three members are asked for 99,999 times. Epoch 1 is settled after each of its 99 entries. Each later epoch has three
     // entries after which the one before it is the settled one, and 97 after which it is itself: 100 times its number, less 3.
-    assert_eq!(rt; asked, 299_997 + 99 + 100 * 500_499 - 3 * 999);
+    assert_eq!(rt; asked, Some(299_997 + 99 + 100 * 500_499 - 3 * 999));
     Ok(())
+}
+
+/// A log that two members open, and its tally.
+fn opened(alloc: Global) -> Result<(Log, Tally), NoMemory>
+    ensures { IfOk result (λ opened. IsTally opened.0 opened.1) }
+{
+    let members = opening(alloc, b"ab")?;
+    if !Log::may_open(members.as_slice()) {
+        return Err(NoMemory);
+    }
+    let log = Log::new(alloc, members.as_slice())?;
+    let tally = Tally::new(alloc, members.as_slice())?;
+    Ok((log, tally))
+}
+
+/// The tally is told an entry, and the log reads it.
+fn append(alloc: Global, log: &mut Log, tally: &mut Tally, entry: Entry) -> Result<(), NoMemory>
+    requires { IsTally log.old tally.old }
+    ensures { OnOk result (IsTally log.new tally.new) }
+{
+    if !tally.may_count(log.entries(), &entry) {
+        return Err(NoMemory);
+    }
+    tally.count(alloc, log.entries(), &entry)?;
+    log.append(entry)?;
+    Ok(())
+}
+
+/// The newest epoch and the settled one, by the tally.
+fn marks_in(log: &Log, tally: &Tally) -> (Epoch, Epoch)
+    requires { IsTally log.now tally.now }
+{
+    (tally.epoch(log.entries()), tally.settled(log.entries()))
+}
+
+/// How many members an epoch has, by the tally; 0 where it hasn't begun.
+fn count_in(log: &Log, tally: &Tally, epoch: u32) -> usize
+    requires { IsTally log.now tally.now }
+{
+    if 1 <= epoch && epoch <= tally.epoch(log.entries()).0 {
+        tally.members(log.entries(), Epoch(epoch)).len()
+    } else {
+        0
+    }
+}
+
+/// The log of two members that the first has left, and its tally.
+fn left(alloc: Global) -> Result<(Log, Tally), NoMemory>
+    ensures { IfOk result (λ left. IsTally left.0 left.1) }
+{
+    let (mut log, mut tally) = opened(alloc)?;
+    let leave = Entry::Leave { node: NodeId(0) };
+    append(alloc, &mut log, &mut tally, leave)?;
+    Ok((log, tally))
+}
+
+/// The same once the second has recovered.
+fn settled(alloc: Global) -> Result<(Log, Tally), NoMemory>
+    ensures { IfOk result (λ settled. IsTally settled.0 settled.1) }
+{
+    let (mut log, mut tally) = left(alloc)?;
+    let recovered = Entry::Recovered {
+        node: NodeId(1),
+        epoch: Epoch(2),
+    };
+    append(alloc, &mut log, &mut tally, recovered)?;
+    Ok((log, tally))
 }
 
 // A tally is told the entries that the log reads, and answers as the log does.
 #[test]
 fn counts_without_the_entries(rt: HostRuntime) -> Result<(), Fail> {
-    let alloc = rt.alloc();
-    let members = opening(alloc, b"ab")?;
-    if !Log::may_open(members.as_slice()) {
-        return Ok(assert!(rt; false, "two members may open a log"));
-    }
-    let mut log = Log::new(alloc, members.as_slice())?;
-    let mut tally = Tally::new(alloc, members.as_slice())?;
-    let leave = Entry::Leave { node: NodeId(0) };
-    assert!(rt; tally.may_count(log.entries(), &leave));
-    tally.count(alloc, log.entries(), &leave)?;
-    log.append(leave)?;
+    let (log, tally) = left(rt.alloc())?;
+    assert_eq!(rt; marks_in(&log, &tally), (Epoch(2), Epoch(1)));
+    Ok(())
+}
+
+#[test]
+fn settles_without_the_entries(rt: HostRuntime) -> Result<(), Fail> {
+    let (log, tally) = settled(rt.alloc())?;
+    assert_eq!(rt; marks_in(&log, &tally), (Epoch(2), Epoch(2)));
+    Ok(())
+}
+
+#[test]
+fn counts_the_members_of_each_epoch(rt: HostRuntime) -> Result<(), Fail> {
+    let (log, tally) = settled(rt.alloc())?;
     assert_eq!(rt;
-        (tally.epoch(log.entries()), tally.settled(log.entries())),
-        (Epoch(2), Epoch(1))
+        (count_in(&log, &tally, 1), count_in(&log, &tally, 2)),
+        (2, 1)
     );
-    let recovered = Entry::Recovered {
-        node: NodeId(1),
-        epoch: Epoch(2),
-    };
-    assert!(rt; tally.may_count(log.entries(), &recovered));
-    tally.count(alloc, log.entries(), &recovered)?;
-    log.append(recovered)?;
-    assert_eq!(rt;
-        (tally.epoch(log.entries()), tally.settled(log.entries())),
-        (Epoch(2), Epoch(2))
-    );
-    assert_eq!(rt; tally.members(log.entries(), Epoch(2)).len(), 1);
-    assert_eq!(rt; tally.members(log.entries(), Epoch(1)).len(), 2);
+    Ok(())
+}
+
+#[test]
+fn counts_no_member_that_has_left(rt: HostRuntime) -> Result<(), Fail> {
+    let (log, tally) = settled(rt.alloc())?;
     assert!(rt; !tally.may_count(log.entries(), &Entry::Leave { node: NodeId(0) }));
     Ok(())
 }
