@@ -1,11 +1,10 @@
 //! Logs whose answers come from outside, and what no clause says.
 
-ghost use Rattle.std.specs.Prelude.{IfOk, OnOk};
-ghost use Rattle.epoch_log.specs.Tally.{IsTally};
+mod reserving;
+mod telling;
 
 use crate::log::{EntryList, Log};
-use crate::tally::Tally;
-use object_id::{Bytes, Entry, Epoch, Member, NoMemory, NodeId, Origin, Policy, VdiSpec, Vid};
+use object_id::{Bytes, Entry, Epoch, Member, NoMemory, NodeId, Origin, Vid};
 use std::alloc::Global;
 use std::test::Fail;
 
@@ -271,118 +270,6 @@ fn gives_its_entries(rt: HostRuntime) -> Result<(), Fail> {
     Ok(())
 }
 
-/// Whether node 0 may reserve a name for a clone of a snapshot with that name for its tag.
-fn may_take_name(alloc: Global, name: &[u8]) -> Result<bool, NoMemory> {
-    let copy = Bytes::from_slice(alloc, name)?;
-    let tag = Bytes::from_slice(alloc, name)?;
-    let base = Bytes::from_slice(alloc, b"base")?;
-    may_reserve(alloc, copy, Origin::CloneOf { base, tag })
-}
-
-/// Whether node 0 may reserve a name for a new disk.
-fn may_make(alloc: Global, spec: VdiSpec) -> Result<bool, NoMemory> {
-    let name = Bytes::from_slice(alloc, b"vm")?;
-    may_reserve(alloc, name, Origin::Fresh { spec })
-}
-
-fn may_reserve(alloc: Global, name: Bytes, origin: Origin) -> Result<bool, NoMemory> {
-    let reserve = Entry::Reserve {
-        by: NodeId(0),
-        session: 1,
-        name,
-        origin,
-    };
-    let log = short_log(alloc, b"")?;
-    Ok(log.may_append(&reserve))
-}
-
-// A name or a tag has 1 to 255 bytes, none of them 0.
-#[test]
-fn asks_for_names(rt: HostRuntime) -> Result<(), Fail> {
-    assert!(rt; may_take_name(rt.alloc(), b"vm")?);
-    assert!(rt; !may_take_name(rt.alloc(), b"")?);
-    assert!(rt; !may_take_name(rt.alloc(), b"v\0m")?);
-    Ok(())
-}
-
-#[test]
-fn asks_for_names_that_fit(rt: HostRuntime) -> Result<(), Fail> {
-    assert!(rt; may_take_name(rt.alloc(), &[b'x'; 255])?);
-    assert!(rt; !may_take_name(rt.alloc(), &[b'x'; 256])?);
-    Ok(())
-}
-
-// A disk has whole blocks of 512 bytes, in at most 2^20 objects of 2^12 to 2^24 bytes, and 1 to 31 copies or 2, 4, 8 or 16
-// strips with 1 to 15 of parity. A row: the size, the shift, and copies or strips; `+` where a disk may be so.
-const SPECS: &[u8] = b"512 12 1 +\n\
-4294967296 12 31 +\n\
-4294967808 12 3 -\n\
-17592186044416 24 16:15 +\n\
-17592186044928 24 16:15 -\n\
-0 22 3 -\n\
-513 22 3 -\n\
-512 11 3 -\n\
-512 25 3 -\n\
-512 22 0 -\n\
-512 22 32 -\n\
-512 22 6:2 -\n\
-512 22 4:0 -\n\
-512 22 4:16 -";
-
-/// The part of a row at a place.
-fn part(row: &[u8], separator: u8, place: usize) -> &[u8] {
-    row.split(|byte| *byte == separator)
-        .nth(place)
-        .unwrap_or(b"")
-}
-
-fn number_of(digits: &[u8]) -> u64 {
-    let mut number = 0_u64;
-    for digit in digits {
-        number = number
-            .wrapping_mul(10)
-            .wrapping_add(u64::from(digit.wrapping_sub(b'0')));
-    }
-    number
-}
-
-fn small_number_of(digits: &[u8]) -> u8 {
-    (number_of(digits) % 256) as u8
-}
-
-fn policy_of(word: &[u8]) -> Policy {
-    let first = small_number_of(part(word, b':', 0));
-    let second = part(word, b':', 1);
-    if second.is_empty() {
-        Policy::Copies(first)
-    } else {
-        Policy::Coded {
-            d: first,
-            p: small_number_of(second),
-        }
-    }
-}
-
-fn spec_of(row: &[u8]) -> VdiSpec {
-    VdiSpec {
-        size: number_of(part(row, b' ', 0)),
-        policy: policy_of(part(row, b' ', 2)),
-        shift: small_number_of(part(row, b' ', 1)),
-    }
-}
-
-#[test]
-fn asks_for_sizes(rt: HostRuntime) -> Result<(), Fail> {
-    let mut rows = 0_u32;
-    for row in SPECS.split(|byte| *byte == b'\n') {
-        let want = row.last() == Some(&b'+');
-        assert_eq!(rt; may_make(rt.alloc(), spec_of(row))?, want, "row {rows}");
-        rows = rows.wrapping_add(1);
-    }
-    assert_eq!(rt; rows, 14);
-    Ok(())
-}
-
 /// As many members as there may be, each of the greatest weight.
 fn full_roster(alloc: Global) -> Result<Vec<Member>, NoMemory> {
     let mut members = Vec::new(alloc);
@@ -509,104 +396,5 @@ fn reads_a_long_log(rt: HostRuntime) -> Result<(), Fail> {
     // Three members are asked for 99,999 times. Epoch 1 is settled after each of its 99 entries. Each later epoch has three
     // entries after which the one before it is the settled one, and 97 after which it is itself: 100 times its number, less 3.
     assert_eq!(rt; asked, Some(299_997 + 99 + 100 * 500_499 - 3 * 999));
-    Ok(())
-}
-
-/// A log that two members open, and its tally.
-fn opened(alloc: Global) -> Result<(Log, Tally), NoMemory>
-    ensures { IfOk result (λ opened. IsTally opened.0 opened.1) }
-{
-    let members = opening(alloc, b"ab")?;
-    if !Log::may_open(members.as_slice()) {
-        return Err(NoMemory);
-    }
-    let log = Log::new(alloc, members.as_slice())?;
-    let tally = Tally::new(alloc, members.as_slice())?;
-    Ok((log, tally))
-}
-
-/// The tally is told an entry, and the log reads it.
-fn append(alloc: Global, log: &mut Log, tally: &mut Tally, entry: Entry) -> Result<(), NoMemory>
-    requires { IsTally log.old tally.old }
-    ensures { OnOk result (IsTally log.new tally.new) }
-{
-    if !tally.may_count(log.entries(), &entry) {
-        return Err(NoMemory);
-    }
-    tally.count(alloc, log.entries(), &entry)?;
-    log.append(entry)?;
-    Ok(())
-}
-
-/// The newest epoch and the settled one, by the tally.
-fn marks_in(log: &Log, tally: &Tally) -> (Epoch, Epoch)
-    requires { IsTally log.now tally.now }
-{
-    (tally.epoch(log.entries()), tally.settled(log.entries()))
-}
-
-/// How many members an epoch has, by the tally; 0 where it hasn't begun.
-fn count_in(log: &Log, tally: &Tally, epoch: u32) -> usize
-    requires { IsTally log.now tally.now }
-{
-    if 1 <= epoch && epoch <= tally.epoch(log.entries()).0 {
-        tally.members(log.entries(), Epoch(epoch)).len()
-    } else {
-        0
-    }
-}
-
-/// The log of two members that the first has left, and its tally.
-fn left(alloc: Global) -> Result<(Log, Tally), NoMemory>
-    ensures { IfOk result (λ left. IsTally left.0 left.1) }
-{
-    let (mut log, mut tally) = opened(alloc)?;
-    let leave = Entry::Leave { node: NodeId(0) };
-    append(alloc, &mut log, &mut tally, leave)?;
-    Ok((log, tally))
-}
-
-/// The same once the second has recovered.
-fn settled(alloc: Global) -> Result<(Log, Tally), NoMemory>
-    ensures { IfOk result (λ settled. IsTally settled.0 settled.1) }
-{
-    let (mut log, mut tally) = left(alloc)?;
-    let recovered = Entry::Recovered {
-        node: NodeId(1),
-        epoch: Epoch(2),
-    };
-    append(alloc, &mut log, &mut tally, recovered)?;
-    Ok((log, tally))
-}
-
-// A tally is told the entries that the log reads, and answers as the log does.
-#[test]
-fn counts_without_the_entries(rt: HostRuntime) -> Result<(), Fail> {
-    let (log, tally) = left(rt.alloc())?;
-    assert_eq!(rt; marks_in(&log, &tally), (Epoch(2), Epoch(1)));
-    Ok(())
-}
-
-#[test]
-fn settles_without_the_entries(rt: HostRuntime) -> Result<(), Fail> {
-    let (log, tally) = settled(rt.alloc())?;
-    assert_eq!(rt; marks_in(&log, &tally), (Epoch(2), Epoch(2)));
-    Ok(())
-}
-
-#[test]
-fn counts_the_members_of_each_epoch(rt: HostRuntime) -> Result<(), Fail> {
-    let (log, tally) = settled(rt.alloc())?;
-    assert_eq!(rt;
-        (count_in(&log, &tally, 1), count_in(&log, &tally, 2)),
-        (2, 1)
-    );
-    Ok(())
-}
-
-#[test]
-fn counts_no_member_that_has_left(rt: HostRuntime) -> Result<(), Fail> {
-    let (log, tally) = settled(rt.alloc())?;
-    assert!(rt; !tally.may_count(log.entries(), &Entry::Leave { node: NodeId(0) }));
     Ok(())
 }
