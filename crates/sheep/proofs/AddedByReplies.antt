@@ -1,6 +1,6 @@
 -- What a reply that was given added is a part of the history: of a write that began on an open disk its end, of a read the blocks read.
-use Rattle.std.proofs.Common.{◌≡◌, ℕ, Bool, true, false, List, [], ◌∷◌, ◌++◌, flat_map, Contains, Option, Some, None, is_some, option_map_or, refl, sym, ap, subst, ◌∙◌, append-nil}
-use Rattle.std.specs.FinMap as tree
+use Rattle.std.proofs.Common.{◌≡◌, ℕ, Bool, true, false, List, [], ◌∷◌, ◌++◌, flat_map, Contains, Option, Some, None, is_some, refl, sym, ap, subst, ◌∙◌, append-nil}
+use Rattle.std.specs.Option.{option_map_or}
 use Rattle.std.proofs.lemmas.Option.{same_Some}
 use Rattle.proof_tools.proofs.Lists.{Contains-nil}
 use Rattle.cluster_script.specs.declared.statement.Statement.{Statement}
@@ -20,10 +20,10 @@ use Rattle.sheep_node.specs.State.{Node}
 use Rattle.sheep_node.specs.Step.{node_step}
 use Rattle.sheep_world.specs.World.{Host, World, host_at}
 use Rattle.sheep_world.specs.Enabled.{is_enabled}
-use Rattle.sheep_world.specs.Effects.{guest_begun, put_effect}
-use Rattle.sheep_world.specs.NodeSteps.{node_stepped, at_rest}
+use Rattle.sheep_world.specs.Effects.{guest_begun, with_entries, put_effect}
+use Rattle.sheep_world.specs.NodeSteps.{world_after_step, node_stepped, at_rest}
 use Rattle.sheep_world.specs.MembershipChanges.{host_changed, lost_host, control_taken, node_lost, node_left, node_joined, node_reweighted, revived_host}
-use Rattle.sheep_world.specs.MembershipChanges.{node_rejoined, came_back, phase_ended}
+use Rattle.sheep_world.specs.MembershipChanges.{join_of, last_weight, node_rejoined, came_back, phase_ended}
 use Rattle.sheep_world.specs.HistoryAdditions.{writes_grown, each_block, write_ended, reply_adds, added_by, has_begun_check_write, reply_grown}
 use Rattle.sheep_world.specs.HistoryAdditions.{disk_of, check_write_grown, check_write_by, replies_grown}
 use Rattle.sheep_world.specs.MadeWorlds.{world_after_event, event_adds}
@@ -33,6 +33,7 @@ use Rattle.sheep_world.proofs.MadeWorlds.{event-made}
 use Rattle.dog_report.specs.Fates.{Answered}
 use Rattle.dog_report.specs.Counts.{is_ok, is_refused}
 use Rattle.message_wire.specs.declared.name.MessageName.{MessageName}
+use Rattle.message_wire.specs.Message.{without_replies}
 use Rattle.sheep.specs.PrintedReplies.{IsGiven, world_without_reply, check_write_at, world_asked, disk_begun_on, reply_added, HasPart}
 use Rattle.sheep.proofs.ReplyLists.{flat_map-part, part-between, part-contains}
 use Rattle.sheep.proofs.StepReplies.{put-silent, back-silent}
@@ -43,11 +44,13 @@ module _ (statements : List Statement) where
   silent_step : (node : ℕ) (input : Input) (world : World) → world.outputs.replies ≡ []
       → ((node : Node) → (node_step input node).outputs.replies ≡ []) → (node_stepped statements node input world).outputs.replies ≡ []
   unfolding node_stepped
-  silent_step node input world none silent = by_host (host_at node world) refl
+  silent_step node input world none silent = by_host (host_at node world)
     where
-      by_host : (o : Option Host) → host_at node world ≡ o → (node_stepped statements node input world).outputs.replies ≡ []
-      by_host None is = rw is none
-      by_host (Some host) is = rw is (silent host.node)
+      by_host : (o : Option Host)
+          → (option_map_or (λ (host : Host). world_after_step statements node input host (node_step input host.node) world) o world).outputs.replies
+          ≡ []
+      by_host None = none
+      by_host (Some host) = silent host.node
 
   changed_silent : (change : Host → Host) (node : ℕ) (host : Option Host) (world : World) → world.outputs.replies ≡ []
       → (host_changed change node host world).outputs.replies ≡ []
@@ -95,14 +98,16 @@ module _ (statements : List Statement) where
   added (events.RetryTick node) before reply there = among_replies before None _ reply there
   added (events.Lost node) before reply there =
       absurd (never (world_after_event statements (events.Lost node) before) reply
-      (changed_silent lost_host node.0 (host_at node.0 before) _ refl) there)
+      (changed_silent lost_host node.0 (host_at node.0 before)
+      (record (control_taken (at_rest before)) { wire = without_replies node.0 before.wire }) refl) there)
   added (events.Leave node) before reply there = absurd (Contains-nil reply there)
   added (events.Join node) before reply there = absurd (Contains-nil reply there)
   added (events.Reweight node) before reply there = absurd (Contains-nil reply there)
   added (events.Back node) before reply there =
       absurd (never (world_after_event statements (events.Back node) before) reply
       (silent_step node.0 (inputs.Back (node_rejoined statements node.0 before).log) (node_rejoined statements node.0 before)
-      (changed_silent revived_host node.0 (host_at node.0 before) _ refl)
+      (changed_silent revived_host node.0 (host_at node.0 before)
+      (with_entries (join_of statements node.0 (last_weight before.log node.0) ∷ []) (control_taken (at_rest before))) refl)
       (back-silent (node_rejoined statements node.0 before).log)) there)
   added events.Phase before reply there = absurd (Contains-nil reply there)
 

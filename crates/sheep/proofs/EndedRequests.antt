@@ -1,13 +1,15 @@
 -- A request that was replied to has ended: no node has it any more, and none gets it again. So it gets one reply, and none once its
 -- gateway is gone.
-use Rattle.std.proofs.Common.{◌≡◌, ◌≢◌, ◌⊎◌, inl, inr, ⊎_elim, arith, ℕ, ◌+◌, ◌<◌, ◌≤◌, ◌==◌, nat_lt, not, ◌&&◌, ◌||◌, Bool, true, false, List, [], ◌∷◌, fold, Contains, Option, Some, None, is_some, option_and_then, option_map_or, refl, sym, ap, subst, ◌∙◌}
+use Rattle.std.proofs.Common.{◌≡◌, ◌≢◌, ◌⊎◌, inl, inr, ⊎_elim, arith, ℕ, ◌+◌, ◌<◌, ◌≤◌, ◌==◌, nat_lt, not, ◌&&◌, ◌||◌, Bool, true, false, List, [], ◌∷◌, fold, Contains, Option, Some, None, is_some, option_and_then, refl, sym, ap, subst, ◌∙◌}
 use Rattle.std.specs.Prelude.{unwrap_or}
+use Rattle.std.specs.Option.{option_map_or}
 use Rattle.std.specs.Ordering.{nat_cmp}
 use Rattle.std.specs.FinMap as tree
 use Rattle.std.proofs.lemmas.Bool.{cases_eq, eqb-true, eq-eqb, lt-ltb, ltb-true, le-ltb, and_parts, or_cases}
 use Rattle.std.proofs.lemmas.Option.{same_Some}
 use Rattle.proof_tools.proofs.FiniteMaps.{get-insert_same, get-insert_other}
 use Rattle.proof_tools.proofs.Lists.{Contains-nil}
+use Rattle.object_id.specs.declared.entry.Entry.{Entry}
 use Rattle.cluster_script.specs.declared.statement.Statement.{Statement}
 use Rattle.cluster_script.specs.declared.statement.Statement.TheVariants as lines
 use Rattle.cluster_script.specs.Language.{IsScript}
@@ -82,9 +84,31 @@ replies_grow statements (reply ∷ later) guests = λ q.
     let one : begun_count q guests ≤ begun_count q (progress_after_reply statements guests reply)
     = answered_grows reply.0 (session_asking statements reply.0) guests q in
     let rest : begun_count q (progress_after_reply statements guests reply)
-        ≤ begun_count q (fold (progress_after_reply statements) (progress_after_reply statements guests reply) later)
+    ≤ begun_count q (fold (progress_after_reply statements) (progress_after_reply statements guests reply) later)
     = replies_grow statements later (progress_after_reply statements guests reply) q in
     omega (arith, one, rest)
+
+-- ---- a node that is up
+
+false_by : (b : Bool) → not b ≡ true → b ≡ false
+false_by true is = absurd (cc (is))
+false_by false is = refl
+
+not_lost : (host : Host) → is_host_up host ≡ true → host.is_lost ≡ false
+not_lost host up = false_by host.is_lost (and_parts (not host.is_lost) (has_numbers host.node) up).0
+
+and_false : (b : Bool) → (b && false) ≡ false
+and_false true = refl
+and_false false = refl
+
+-- its present incarnation isn't gone
+not_gone : (session : ScriptSession) (host : Host) → session.incarnation ≡ host.incarnation → host.is_lost ≡ false
+    → is_incarnation_gone session host ≡ false
+not_gone session host same up =
+    ap (λ (k : ℕ). nat_lt k host.incarnation || (k == host.incarnation && host.is_lost)) same
+    ∙ ap (λ (b : Bool). b || (host.incarnation == host.incarnation && host.is_lost)) (le-ltb host.incarnation host.incarnation (omega arith))
+    ∙ ap (λ (b : Bool). host.incarnation == host.incarnation && b) up
+    ∙ and_false (host.incarnation == host.incarnation)
 
 module _ (statements : List Statement) where
   begun_later : (guests later : Guests) (session q : ℕ) → Grows guests later → WasBegun statements guests session q → WasBegun statements later session q
@@ -324,25 +348,6 @@ module _ (statements : List Statement) where
         ∙ ap (λ (o : Option Host). option_map_or (is_incarnation_gone begun.session) o false)
         (ap (λ (k : ℕ). tree.get world.hosts k) begun.gateway ∙ so.there)
         ∙ not_gone begun.session so.host begun.lived (not_lost so.host so.up)
-      where
-        not_lost : (host : Host) → is_host_up host ≡ true → host.is_lost ≡ false
-        not_lost host up = by_lost host.is_lost refl (and_parts (not host.is_lost) (has_numbers host.node) up).0
-          where
-            by_lost : (b : Bool) → host.is_lost ≡ b → not b ≡ true → host.is_lost ≡ false
-            by_lost true is up = absurd (cc (up))
-            by_lost false is up = is
-
-        not_gone : (session : ScriptSession) (host : Host) → session.incarnation ≡ host.incarnation → host.is_lost ≡ false
-            → is_incarnation_gone session host ≡ false
-        not_gone session host same up =
-            ap (λ (k : ℕ). nat_lt k host.incarnation || (k == host.incarnation && host.is_lost)) same
-            ∙ ap (λ (b : Bool). b || (host.incarnation == host.incarnation && host.is_lost)) (le-ltb host.incarnation host.incarnation (omega arith))
-            ∙ ap (λ (b : Bool). host.incarnation == host.incarnation && b) up
-            ∙ and_false (host.incarnation == host.incarnation)
-          where
-            and_false : (b : Bool) → (b && false) ≡ false
-            and_false true = refl
-            and_false false = refl
 
   -- the request that a reply is to is one of the script
   pub reply-asks : (event : Event) (world : World) (made : EventOutcome) (is : step statements event world ≡ Some made) (began : Began statements world)
@@ -391,20 +396,20 @@ module _ (statements : List Statement) (event : Event) (world : World) (made : E
       by_later false true lost is = refl
       by_later false false lost is = is
 
-  when_back : (host : Host) (log : _) → is_incarnation_gone session host ≡ true → is_incarnation_gone session (host_after_return log host) ≡ true
+  gone_before : (host : Host) → is_incarnation_gone session host ≡ true → session.incarnation < host.incarnation + 1
+  gone_before host gone = ⊎_elim
+      (λ (later : nat_lt session.incarnation host.incarnation ≡ true).
+      let below : session.incarnation < host.incarnation = ltb-true session.incarnation host.incarnation later in omega (arith, below))
+      (λ (same : (session.incarnation == host.incarnation && host.is_lost) ≡ true).
+      let is : session.incarnation ≡ host.incarnation
+      = eqb-true session.incarnation host.incarnation (and_parts (session.incarnation == host.incarnation) host.is_lost same).0 in
+      omega (arith, is))
+      (or_cases (nat_lt session.incarnation host.incarnation) (session.incarnation == host.incarnation && host.is_lost) gone)
+
+  when_back : (host : Host) (log : List Entry) → is_incarnation_gone session host ≡ true → is_incarnation_gone session (host_after_return log host) ≡ true
   when_back host log gone =
       ap (λ (b : Bool). b || (session.incarnation == (host.incarnation + 1) && false))
-      (lt-ltb session.incarnation (host.incarnation + 1) (before gone))
-    where
-      before : is_incarnation_gone session host ≡ true → session.incarnation < host.incarnation + 1
-      before gone = ⊎_elim
-          (λ (later : nat_lt session.incarnation host.incarnation ≡ true).
-          let below : session.incarnation < host.incarnation = ltb-true session.incarnation host.incarnation later in omega (arith, below))
-          (λ (same : (session.incarnation == host.incarnation && host.is_lost) ≡ true).
-          let is : session.incarnation ≡ host.incarnation
-          = eqb-true session.incarnation host.incarnation (and_parts (session.incarnation == host.incarnation) host.is_lost same).0 in
-          omega (arith, is))
-          (or_cases (nat_lt session.incarnation host.incarnation) (session.incarnation == host.incarnation && host.is_lost) gone)
+      (lt-ltb session.incarnation (host.incarnation + 1) (gone_before host gone))
 
   gone_stays : EventKind statements event world made → IsGone world.hosts → IsGone made.world.hosts
   gone_stays (NodeStep h) is =

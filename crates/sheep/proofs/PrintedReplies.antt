@@ -122,39 +122,45 @@ module _ (statements : List Statement) (script : IsScript statements) (q : ℕ) 
     reply : tree.get report.replies q ≡ Some rsp
     line : Contains report.left q ⊎ HasReplyLine report.lines q rsp
 
+  -- the lines that are due at the end of a phase, and those of its list
+  abbrev lines_due : Report → List ReportLine
+  lines_due report = filter_map (λ req. option_map (Told req) (fate_due statements report req)) report.left
+
+  abbrev lines_listed : Report → List ReportLine
+  lines_listed report = map Listed (barrier_list statements report.world)
+
   module _ (rsp : GuestRsp) where
+    -- a line that was told or is due stands among those behind the phase
+    told_behind : (report : Report) → HasReplyLine (report.lines ++ lines_due report) q rsp → HasReplyLine (phase_told statements report).lines q rsp
+    told_behind report told = Contains-append_left (report.lines ++ lines_due report) (lines_listed report) (Told q (Answered rsp)) told
+
+    settled : (report : Report) → IsAnswered rsp report → settled_fate statements report q ≡ Some (Answered rsp)
+    settled report has = ap (λ (found : Option GuestRsp). fate_settled_by found (is_lost_request statements q report.world)) has.reply
+
+    by_come : (report : Report) → IsAnswered rsp report → Contains report.left q → (come : Bool)
+        → nat_le (phase_of_request statements q) report.world.phase ≡ come
+        → Contains (phase_told statements report).left q ⊎ HasReplyLine (phase_told statements report).lines q rsp
+    by_come report has there true is =
+        let due : fate_due statements report q ≡ Some (Answered rsp)
+        = ap (λ (b : Bool). cond b (settled_fate statements report q) None) is ∙ settled report has in
+        inr (told_behind report
+        (Contains-append_right report.lines (lines_due report) (Told q (Answered rsp))
+        (Contains-filter_map (λ req. option_map (Told req) (fate_due statements report req)) report.left q (Told q (Answered rsp)) there
+        (ap (option_map (Told q)) due))))
+    by_come report has there false is =
+        inl (Contains-filter (λ (req : ℕ). not (is_some (fate_due statements report req))) report.left q there
+        (ap (λ (b : Bool). not (is_some (cond b (settled_fate statements report q) None))) is))
+
     phase_answered : (report : Report) → IsAnswered rsp report → IsAnswered rsp (phase_told statements report)
     phase_answered report has = record {
       ended = has.ended;
       reply = has.reply;
-      line = ⊎_elim (λ (there : Contains report.left q). by_come there (nat_le (phase_of_request statements q) report.world.phase) refl)
+      line = ⊎_elim
+          (λ (there : Contains report.left q). by_come report has there (nat_le (phase_of_request statements q) report.world.phase) refl)
           (λ (told : HasReplyLine report.lines q rsp). inr
-          (Contains-append_left (report.lines ++ new) listed (Told q (Answered rsp)) (Contains-append_left report.lines new (Told q (Answered rsp)) told)))
+          (told_behind report (Contains-append_left report.lines (lines_due report) (Told q (Answered rsp)) told)))
           has.line;
     }
-      where
-        line : ℕ → Option ReportLine
-        line req = option_map (Told req) (fate_due statements report req)
-
-        new listed : List ReportLine
-        new = filter_map (λ req. option_map (Told req) (fate_due statements report req)) report.left
-        listed = map Listed (barrier_list statements report.world)
-
-        settled : settled_fate statements report q ≡ Some (Answered rsp)
-        settled = ap (λ (found : Option GuestRsp). fate_settled_by found (is_lost_request statements q report.world)) has.reply
-
-        by_come : Contains report.left q → (come : Bool) → nat_le (phase_of_request statements q) report.world.phase ≡ come
-            → Contains (phase_told statements report).left q ⊎ HasReplyLine (phase_told statements report).lines q rsp
-        by_come there true is =
-            let due : fate_due statements report q ≡ Some (Answered rsp)
-            = ap (λ (b : Bool). cond b (settled_fate statements report q) None) is ∙ settled in
-            inr (Contains-append_left (report.lines ++ new) listed (Told q (Answered rsp))
-            (Contains-append_right report.lines new (Told q (Answered rsp))
-            (Contains-filter_map (λ req. option_map (Told req) (fate_due statements report req)) report.left q (Told q (Answered rsp)) there
-            (ap (option_map (Told q)) due))))
-        by_come there false is =
-            inl (Contains-filter (λ (req : ℕ). not (is_some (fate_due statements report req))) report.left q there
-            (ap (λ (b : Bool). not (is_some (cond b (settled_fate statements report q) None))) is))
 
     before_answered : (report : Report) (phase : Bool) → IsAnswered rsp report → IsAnswered rsp (cond phase (phase_told statements report) report)
     before_answered report true has = phase_answered report has
@@ -290,6 +296,15 @@ module _ (statements : List Statement) (script : IsScript statements) (q : ℕ) 
   unfolding report_of
   given-printed events history last rsp reached given =
       finished_line (report_so_far statements events) rsp (answered_last events history last rsp reached given)
+
+-- a request gets one reply
+pub given-one : (statements : List Statement) (events : List Event) (last : Moment) → IsScript statements → run statements events ≡ Some last
+    → (req : ℕ) (rsp other : GuestRsp) → IsGiven statements events last.history req rsp → IsGiven statements events last.history req other
+    → rsp ≡ other
+given-one statements events last script reached req rsp other given again =
+    same_Some rsp other
+    (sym (answered_last statements script req events last.history last rsp reached given).reply
+    ∙ (answered_last statements script req events last.history last other reached again).reply)
 
 -- the report of a run prints the replies that its events gave
 pub prints-replies : (statements : List Statement) (events : List Event) (last : Moment) → IsScript statements → run statements events ≡ Some last

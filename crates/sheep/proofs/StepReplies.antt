@@ -33,7 +33,7 @@ use Rattle.sheep_node.specs.RecoveryView.{recovery_state_of}
 use Rattle.sheep_node.specs.StepState.{StepState, at_first, replies_in_order, with_optional_entry, request_ended}
 use Rattle.sheep_node.specs.RequestWorks.{command_refused, course_refused}
 use Rattle.sheep_node.specs.LogReading.{entry_read, on_back}
-use Rattle.sheep_node.specs.Step.{on_request, on_recover_tick, on_put, recovery_stepped, is_due, with_recovered, recovered_put, node_step}
+use Rattle.sheep_node.specs.Step.{on_request, on_recover_tick, on_put, recovery_stepped, is_due, with_recovered, on_input, recovered_put, node_step}
 use Rattle.sheep_node.specs.Changes as changes
 use Rattle.sheep_node.specs.Changes.{Outcome, ToWork, ToEntry, ToReply, RequestSteps, DiskBegins, DiskGoesOn, CommandBegins, CommandGoesOn, CommandDecided}
 use Rattle.sheep_node.specs.Changes.{CheckBegins, CheckGoesOn, ObjectBegins, ObjectIsDone, EntryBegins, EntryDecided}
@@ -44,6 +44,9 @@ use Rattle.sheep_node.proofs.StepChain.{kept_by_chain, step_chain}
 
 abbrev pub Replies : Type 0
 Replies = List (ℕ × GuestRsp)
+
+abbrev IsSame : ℕ × GuestRsp → ℕ × GuestRsp → Type 0
+IsSame one other = one ≡ other
 
 -- what stands among replies, once one more was put in order
 in_order : (reply : ℕ × GuestRsp) (replies : Replies) (found : ℕ × GuestRsp) → Contains (replies_in_order reply replies) found
@@ -110,21 +113,24 @@ module _ (input : Input) (node : Node) (q : ℕ) where
   -- a request that is there goes on
   put_same : (requests : Requests) (replies : Replies) (req : ℕ) (old new : Request) → tree.get requests req ≡ Some old → Once requests replies
       → Once (tree.insert requests req new) replies × Has (tree.insert requests req new) req
-  put_same requests replies req old new had holds = (record {
-    own = holds.own;
-    gone = λ rsp replied. ⊎_elim
-        (λ (same : q ≡ req).
-        let none : tree.get requests q ≡ None = holds.gone rsp replied in
-        let some : tree.get requests q ≡ Some old = ap (tree.get requests) same ∙ had in
-        absurd (cc (none, some)))
-        (λ (other : q ≢ req). get-insert_other requests req new q other ∙ holds.gone rsp replied)
-        (cases_eq q req);
-    one = holds.one;
-    there = λ request got. ⊎_elim
-        (λ (same : (q ≡ req) × (new ≡ request)). holds.there old (ap (tree.get requests) same.0 ∙ had))
-        (λ (other : (q ≢ req) × (tree.get requests q ≡ Some request)). holds.there request other.1)
-        (get-insert_cases requests req new q request got);
-  }, (new, get-insert_same requests req new))
+  put_same requests replies req old new had holds = (
+    record {
+      own = holds.own;
+      gone = λ rsp replied. ⊎_elim
+          (λ (same : q ≡ req).
+          let none : tree.get requests q ≡ None = holds.gone rsp replied in
+          let some : tree.get requests q ≡ Some old = ap (tree.get requests) same ∙ had in
+          absurd (cc (none, some)))
+          (λ (other : q ≢ req). get-insert_other requests req new q other ∙ holds.gone rsp replied)
+          (cases_eq q req);
+      one = holds.one;
+      there = λ request got. ⊎_elim
+          (λ (same : (q ≡ req) × (new ≡ request)). holds.there old (ap (tree.get requests) same.0 ∙ had))
+          (λ (other : (q ≢ req) × (tree.get requests q ≡ Some request)). holds.there request other.1)
+          (get-insert_cases requests req new q request got);
+    },
+    (new, get-insert_same requests req new),
+  )
 
   nothing_replied : (replies : Replies) (rsp : GuestRsp) → replies ≡ [] → Contains replies (q, rsp) → ⊥
   nothing_replied replies rsp none replied =
@@ -133,38 +139,41 @@ module _ (input : Input) (node : Node) (q : ℕ) where
   -- one that comes is there, before anything is replied
   put_new : (requests : Requests) (replies : Replies) (req : ℕ) (new : Request) → replies ≡ [] → (q ≡ req → IsOwn input node q)
       → Once requests replies → Once (tree.insert requests req new) replies × Has (tree.insert requests req new) req
-  put_new requests replies req new none own holds = (record {
-    own = holds.own;
-    gone = λ rsp replied. absurd (nothing_replied replies rsp none replied);
-    one = holds.one;
-    there = λ request got. ⊎_elim
-        (λ (same : (q ≡ req) × (new ≡ request)). own same.0)
-        (λ (other : (q ≢ req) × (tree.get requests q ≡ Some request)). holds.there request other.1)
-        (get-insert_cases requests req new q request got);
-  }, (new, get-insert_same requests req new))
+  put_new requests replies req new none own holds = (
+    record {
+      own = holds.own;
+      gone = λ rsp replied. absurd (nothing_replied replies rsp none replied);
+      one = holds.one;
+      there = λ request got. ⊎_elim
+          (λ (same : (q ≡ req) × (new ≡ request)). own same.0)
+          (λ (other : (q ≢ req) × (tree.get requests q ≡ Some request)). holds.there request other.1)
+          (get-insert_cases requests req new q request got);
+    },
+    (new, get-insert_same requests req new),
+  )
 
   -- one that is there ends with its reply
   ended : (requests : Requests) (replies : Replies) (req : ℕ) (reply : GuestRsp) → Has requests req → Once requests replies
       → Once (tree.remove requests req) (replies_in_order (req, reply) replies)
   ended requests replies req reply had holds = record {
     own = λ rsp replied. ⊎_elim
-        (λ (new : (req, reply) ≡ (q, rsp)). holds.there had.0 (ap (tree.get requests) (sym (number_same rsp new)) ∙ had.1))
+        (λ (new : IsSame (req, reply) (q, rsp)). holds.there had.0 (ap (tree.get requests) (sym (number_same rsp new)) ∙ had.1))
         (λ (old : Contains replies (q, rsp)). holds.own rsp old)
         (in_order (req, reply) replies (q, rsp) replied);
     gone = λ rsp replied. ⊎_elim
         (λ (same : q ≡ req). ap (tree.get (tree.remove requests req)) same ∙ get-remove_same requests req)
         (λ (other : q ≢ req). ⊎_elim
-        (λ (new : (req, reply) ≡ (q, rsp)). absurd (other (sym (number_same rsp new))))
+        (λ (new : IsSame (req, reply) (q, rsp)). absurd (other (sym (number_same rsp new))))
         (λ (old : Contains replies (q, rsp)). get-remove_other requests req q other ∙ holds.gone rsp old)
         (in_order (req, reply) replies (q, rsp) replied))
         (cases_eq q req);
     one = λ rsp other replied again. ⊎_elim
-        (λ (new : (req, reply) ≡ (q, rsp)). ⊎_elim
-        (λ (too : (req, reply) ≡ (q, other)). sym (reply_same rsp new) ∙ reply_same other too)
+        (λ (new : IsSame (req, reply) (q, rsp)). ⊎_elim
+        (λ (too : IsSame (req, reply) (q, other)). sym (reply_same rsp new) ∙ reply_same other too)
         (λ (old : Contains replies (q, other)). absurd (not_both rsp other new old))
         (in_order (req, reply) replies (q, other) again))
         (λ (old : Contains replies (q, rsp)). ⊎_elim
-        (λ (new : (req, reply) ≡ (q, other)). absurd (not_both other rsp new old))
+        (λ (new : IsSame (req, reply) (q, other)). absurd (not_both other rsp new old))
         (λ (too : Contains replies (q, other)). holds.one rsp other old too)
         (in_order (req, reply) replies (q, other) again))
         (in_order (req, reply) replies (q, rsp) replied);
@@ -177,13 +186,13 @@ module _ (input : Input) (node : Node) (q : ℕ) where
         (cases_eq q req);
   }
     where
-      number_same : (rsp : GuestRsp) → (req, reply) ≡ (q, rsp) → req ≡ q
+      number_same : (rsp : GuestRsp) → IsSame (req, reply) (q, rsp) → req ≡ q
       number_same rsp same = ap (λ (one : ℕ × GuestRsp). one.0) same
 
-      reply_same : (rsp : GuestRsp) → (req, reply) ≡ (q, rsp) → reply ≡ rsp
+      reply_same : (rsp : GuestRsp) → IsSame (req, reply) (q, rsp) → reply ≡ rsp
       reply_same rsp same = ap (λ (one : ℕ × GuestRsp). one.1) same
 
-      not_both : (rsp other : GuestRsp) → (req, reply) ≡ (q, rsp) → Contains replies (q, other) → ⊥
+      not_both : (rsp other : GuestRsp) → IsSame (req, reply) (q, rsp) → Contains replies (q, other) → ⊥
       not_both rsp other new old =
           let none : tree.get requests q ≡ None = holds.gone other old in
           let some : tree.get requests q ≡ Some had.0
@@ -279,9 +288,9 @@ module _ (input : Input) (node : Node) (q : ℕ) where
       there = holds.there;
     }
       where
-        told : (rsp : GuestRsp) → Contains (replies_in_order (req, Refused cause) so_far.outputs.replies) (q, rsp) → (req, Refused cause) ≡ (q, rsp)
+        told : (rsp : GuestRsp) → Contains (replies_in_order (req, Refused cause) so_far.outputs.replies) (q, rsp) → IsSame (req, Refused cause) (q, rsp)
         told rsp replied = ⊎_elim
-            (λ (new : (req, Refused cause) ≡ (q, rsp)). new)
+            (λ (new : IsSame (req, Refused cause) (q, rsp)). new)
             (λ (old : Contains so_far.outputs.replies (q, rsp)).
             absurd (nothing_replied so_far.outputs.replies rsp (comes_first so_far session req ask (Some cause) arrival) old))
             (in_order (req, Refused cause) so_far.outputs.replies (q, rsp) replied)
@@ -336,10 +345,10 @@ recovered_replies so_far =
 
 -- nothing is replied to a guest as an entry is put
 pub put-silent : (node : Node) → (node_step inputs.Put node).outputs.replies ≡ []
-unfolding node_step
+unfolding node_step on_input
 put-silent node = recovered_replies (on_put node.outbox (at_first node)) ∙ received_replies inputs.Put node
 
 -- nor as a node comes back
 pub back-silent : (entries : List Entry) (node : Node) → (node_step (inputs.Back entries) node).outputs.replies ≡ []
-unfolding node_step
+unfolding node_step on_input
 back-silent entries node = recovered_replies (input_received (inputs.Back entries) (at_first node))

@@ -23,6 +23,13 @@ pub fn a_report_prints_the_replies_of_its_run()
         → PrintsReplies statements events last.history }
 {}
 
+/// The events of a run give one reply at most to a request.
+pub fn a_request_gets_one_reply()
+    ensures { (statements : List Statement) (events : List Event) (last : Moment) → IsScript statements → run statements events ≡ Some last
+        → (req : ℕ) (rsp other : GuestRsp) → IsGiven statements events last.history req rsp
+        → IsGiven statements events last.history req other → rsp ≡ other }
+{}
+
 /// What a reply that an event of a run gave added is a part of the history. So of a write that began on an open disk the history has
 /// that it is done, if the reply is told as `ok`, and that it was refused, if it is told so; and of a read that began on one the reads of
 /// its blocks of the disk, with the bytes that are told.

@@ -19,7 +19,8 @@ mod told_run;
 mod top;
 
 pub use laws::{
-    a_report_prints_the_replies_of_its_run, the_history_has_what_replies_added,
+    a_report_prints_the_replies_of_its_run, a_request_gets_one_reply,
+    the_history_has_what_replies_added,
 };
 pub use sheep_words::{Mode, mode_of};
 pub use status::Status;
