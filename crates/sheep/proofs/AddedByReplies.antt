@@ -89,13 +89,18 @@ module _ (statements : List Statement) where
       let after = world_after_event statements (events.Deliver node number) before in
       behind (option_map_or (check_write_grown statements) (check_write_by name before after) []) _ _
       (among_replies before (check_write_by name before after) after reply there)
-  added (events.LoseRequest node number) before reply there = among_replies before None _ reply there
-  added (events.LoseReply node number) before reply there = among_replies before None _ reply there
-  added (events.LogNext node) before reply there = among_replies before None _ reply there
+  added (events.LoseRequest node number) before reply there =
+      among_replies before None (world_after_event statements (events.LoseRequest node number) before) reply there
+  added (events.LoseReply node number) before reply there =
+      among_replies before None (world_after_event statements (events.LoseReply node number) before) reply there
+  added (events.LogNext node) before reply there =
+      among_replies before None (world_after_event statements (events.LogNext node) before) reply there
   added (events.Put node) before reply there =
       absurd (never (world_after_event statements (events.Put node) before) reply (silent_step node.0 inputs.Put (at_rest before) refl put-silent) there)
-  added (events.RecoverTick node) before reply there = among_replies before None _ reply there
-  added (events.RetryTick node) before reply there = among_replies before None _ reply there
+  added (events.RecoverTick node) before reply there =
+      among_replies before None (world_after_event statements (events.RecoverTick node) before) reply there
+  added (events.RetryTick node) before reply there =
+      among_replies before None (world_after_event statements (events.RetryTick node) before) reply there
   added (events.Lost node) before reply there =
       absurd (never (world_after_event statements (events.Lost node) before) reply
       (changed_silent lost_host node.0 (host_at node.0 before)
