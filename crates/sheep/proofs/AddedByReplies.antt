@@ -1,5 +1,5 @@
 -- What a reply that was given added is a part of the history: of a write that began on an open disk its end, of a read the blocks read.
-use Rattle.std.proofs.Common.{◌≡◌, ℕ, Bool, true, false, List, [], ◌∷◌, ◌++◌, flat_map, Contains, Option, Some, None, is_some, refl, sym, ap, subst, ◌∙◌, append-nil}
+use Rattle.std.proofs.Common.{◌≡◌, ℕ, Bool, true, List, [], ◌∷◌, ◌++◌, Contains, Option, Some, None, is_some, refl, sym, ap, subst, ◌∙◌, append-nil}
 use Rattle.std.specs.Option.{option_map_or}
 use Rattle.std.proofs.lemmas.Option.{same_Some}
 use Rattle.proof_tools.proofs.Lists.{Contains-nil}
@@ -25,7 +25,7 @@ use Rattle.sheep_world.specs.NodeSteps.{world_after_step, node_stepped, at_rest}
 use Rattle.sheep_world.specs.MembershipChanges.{host_changed, lost_host, control_taken, node_lost, node_left, node_joined, node_reweighted, revived_host}
 use Rattle.sheep_world.specs.MembershipChanges.{join_of, last_weight, node_rejoined, came_back, phase_ended}
 use Rattle.sheep_world.specs.HistoryAdditions.{writes_grown, each_block, write_ended, reply_adds, added_by, has_begun_check_write, reply_grown}
-use Rattle.sheep_world.specs.HistoryAdditions.{disk_of, check_write_grown, check_write_by, replies_grown}
+use Rattle.sheep_world.specs.HistoryAdditions.{check_write_grown, check_write_by, replies_grown}
 use Rattle.sheep_world.specs.MadeWorlds.{world_after_event, event_adds}
 use Rattle.sheep_world.specs.Step.{EventOutcome, step}
 use Rattle.sheep_world.proofs.EnabledLaws.{is_some-step}

@@ -1,11 +1,11 @@
 -- A request that was replied to has ended: no node has it any more, and none gets it again. So it gets one reply, and none once its
 -- gateway is gone.
-use Rattle.std.proofs.Common.{◌≡◌, ◌≢◌, ◌⊎◌, inl, inr, ⊎_elim, arith, ℕ, ◌+◌, ◌<◌, ◌≤◌, ◌==◌, nat_lt, not, ◌&&◌, ◌||◌, Bool, true, false, List, [], ◌∷◌, fold, Contains, Option, Some, None, is_some, option_and_then, refl, sym, ap, subst, ◌∙◌}
+use Rattle.std.proofs.Common.{◌≡◌, ◌≢◌, ⊎_elim, arith, ℕ, ◌+◌, ◌<◌, ◌≤◌, ◌==◌, nat_lt, not, ◌&&◌, ◌||◌, Bool, true, false, List, [], ◌∷◌, fold, Contains, Option, Some, None, is_some, option_and_then, refl, sym, ap, subst, ◌∙◌}
 use Rattle.std.specs.Prelude.{unwrap_or}
 use Rattle.std.specs.Option.{option_map_or}
 use Rattle.std.specs.Ordering.{nat_cmp}
 use Rattle.std.specs.FinMap as tree
-use Rattle.std.proofs.lemmas.Bool.{cases_eq, eqb-true, eq-eqb, lt-ltb, ltb-true, le-ltb, and_parts, or_cases}
+use Rattle.std.proofs.lemmas.Bool.{cases_eq, eqb-true, lt-ltb, ltb-true, le-ltb, and_parts, or_cases}
 use Rattle.std.proofs.lemmas.Option.{same_Some}
 use Rattle.proof_tools.proofs.FiniteMaps.{get-insert_same, get-insert_other}
 use Rattle.proof_tools.proofs.Lists.{Contains-nil}
@@ -36,10 +36,10 @@ use Rattle.sheep_world.specs.MembershipChanges.{lost_host}
 use Rattle.sheep_world.specs.Incarnations.{is_incarnation_gone, is_session_gone}
 use Rattle.sheep_world.specs.Step.{EventOutcome, step}
 use Rattle.sheep_world.specs.Began.{Began}
-use Rattle.sheep_world.specs.BegunRequests.{begun_count, WasBegun, IsBegun, RequestsWereBegun}
+use Rattle.sheep_world.specs.BegunRequests.{begun_count, WasBegun, IsBegun}
 use Rattle.sheep_world.specs.NodeCauses.{NodeCause, GuestAsks, RequestComes, ReplyComes, LossIsTold, EntryIsRead, EntryIsPut, RecoveryTicks, WorkIsRetried}
-use Rattle.sheep_world.specs.NodeCauses.{input_of_cause, IsCause, progress_at_cause, world_after_cause, host_with_node}
-use Rattle.sheep_world.specs.EventKinds.{log_after_return, world_after_return, EventKind, IsNodeStep, NodeStep, UntoldLoss, UnreadDelivery, NodeLoss}
+use Rattle.sheep_world.specs.NodeCauses.{input_of_cause, IsCause, progress_at_cause}
+use Rattle.sheep_world.specs.EventKinds.{log_after_return, EventKind, IsNodeStep, NodeStep, UntoldLoss, UnreadDelivery, NodeLoss}
 use Rattle.sheep_world.specs.EventKinds.{NodeLeave, NodeReweight, NodeJoin, NodeReturn, PhaseEnd}
 use Rattle.sheep_world.specs.HostChanges.{host_after_step, host_after_return, joined_host, HostsKeep}
 use Rattle.sheep_world.specs.ControlsToCome.{has_host, ControlsFit}

@@ -1,6 +1,6 @@
 -- Each reply that a report prints was given at an event of its run.
-use Rattle.std.proofs.Common.{◌≡◌, ◌⊎◌, ⊎_elim, ℕ, Bool, true, false, not, cond, List, [], ◌∷◌, ◌++◌, map, filter, fold, Contains, Option, Some, None, is_some, unwrap_or, refl, sym, ap, subst, ◌∙◌, append_assoc, append-nil}
-use Rattle.std.specs.List.{filter_map, range_with_len}
+use Rattle.std.proofs.Common.{◌≡◌, ⊎_elim, ℕ, Bool, true, false, cond, List, [], ◌∷◌, ◌++◌, map, Contains, Option, Some, None, unwrap_or, refl, sym, ap, subst, ◌∙◌, append_assoc, append-nil}
+use Rattle.std.specs.List.{filter_map}
 use Rattle.std.specs.Option.{option_map}
 use Rattle.std.specs.Ordering.{nat_cmp}
 use Rattle.std.specs.FinMap as tree
@@ -12,12 +12,11 @@ use Rattle.disk_history.specs.declared.event.HistEvent.{HistEvent}
 use Rattle.peer_proto.specs.declared.guest.GuestRsp.{GuestRsp}
 use Rattle.sheep_node.specs.declared.event.Event.{Event}
 use Rattle.sheep_world.specs.Step.{EventOutcome, step}
-use Rattle.sheep_world.specs.Run.{Moment, initial_moment, moment_with_made, run_from, run}
+use Rattle.sheep_world.specs.Run.{Moment, initial_moment, moment_with_made, run}
 use Rattle.dog_report.specs.Words.{Words}
-use Rattle.dog_report.specs.Fates.{RequestFate, Answered, Gone, Pending, Unsent, ReportLine, Told, Listed}
+use Rattle.dog_report.specs.Fates.{RequestFate, Answered, Pending, Unsent, ReportLine, Told, Listed}
 use Rattle.dog_report.specs.Report.{Report, empty_report, is_lost_request, is_begun, fate_settled_by, settled_fate, fate_due, barrier_list}
 use Rattle.dog_report.specs.Report.{phase_told, is_phase, report_with_made, report_before_event, last_fate, finished_report, report_of}
-use Rattle.dog_report.specs.Report.{replies_with}
 use Rattle.sheep.specs.ToldRun.{report_so_far}
 use Rattle.sheep.specs.PrintedReplies.{IsGiven, HasReplyLine}
 use Rattle.sheep.proofs.ReplyLists.{map-contains, filter_map-contains, put-cases}

@@ -1,8 +1,7 @@
 -- Each reply that an event of a run gave is printed: its request had no line before, and gets the reply's.
-use Rattle.std.proofs.Common.{◌≡◌, ◌≢◌, ◌⊎◌, inl, inr, ⊎_elim, arith, ℕ, zero, suc, ◌+◌, ◌<◌, nat_le, Bool, true, false, not, cond, List, [], ◌∷◌, ◌++◌, length, map, filter, fold, Contains, Option, Some, None, is_some, refl, sym, ap, subst, ◌∙◌, append_assoc}
+use Rattle.std.proofs.Common.{◌≡◌, ◌⊎◌, inl, inr, ⊎_elim, arith, ℕ, zero, suc, ◌+◌, ◌<◌, nat_le, Bool, true, false, not, cond, List, [], ◌∷◌, ◌++◌, length, map, Contains, Option, Some, None, is_some, refl, sym, ap, subst, ◌∙◌, append_assoc}
 use Rattle.std.specs.List.{filter_map, range_with_len}
 use Rattle.std.specs.Option.{option_map}
-use Rattle.std.specs.Prelude.{slice_get}
 use Rattle.std.specs.Ordering.{nat_cmp}
 use Rattle.std.specs.FinMap as tree
 use Rattle.std.proofs.lemmas.Option.{same_Some, slice_get_within}
@@ -18,12 +17,11 @@ use Rattle.peer_proto.specs.declared.guest.GuestRsp.{GuestRsp}
 use Rattle.sheep_node.specs.declared.event.Event.{Event}
 use Rattle.sheep_world.specs.World.{World}
 use Rattle.sheep_world.specs.Step.{EventOutcome, step}
-use Rattle.sheep_world.specs.Run.{Moment, initial_moment, moment_with_made, run_from, run}
+use Rattle.sheep_world.specs.Run.{Moment, initial_moment, moment_with_made, run}
 use Rattle.sheep_world.specs.Began.{Began}
 use Rattle.sheep_world.proofs.RunLaws.{run-prefix}
-use Rattle.schedule.proofs.RunLaws.{run-one_more}
-use Rattle.dog_report.specs.Fates.{RequestFate, Answered, Gone, ReportLine, Told, Listed}
-use Rattle.dog_report.specs.Report.{Report, empty_report, is_lost_request, fate_settled_by, settled_fate, fate_due, barrier_list}
+use Rattle.dog_report.specs.Fates.{RequestFate, Answered, ReportLine, Told, Listed}
+use Rattle.dog_report.specs.Report.{Report, is_lost_request, fate_settled_by, settled_fate, fate_due, barrier_list}
 use Rattle.dog_report.specs.Report.{phase_told, is_phase, report_with_made, report_before_event, last_fate, finished_report, report_of}
 use Rattle.dog_report.proofs.FateLaws.{answered}
 use Rattle.sheep.specs.ToldRun.{report_so_far}

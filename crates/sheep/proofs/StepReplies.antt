@@ -30,9 +30,8 @@ use Rattle.sheep_node.specs.declared.course.Request.{Request}
 use Rattle.sheep_node.specs.declared.course.Course.TheVariants.{Waiting, Driving, Commanding, Checking, DoingWork, AwaitingDecision}
 use Rattle.sheep_node.specs.State.{Node}
 use Rattle.sheep_node.specs.RecoveryView.{recovery_state_of}
-use Rattle.sheep_node.specs.StepState.{StepState, at_first, replies_in_order, with_optional_entry, request_ended}
+use Rattle.sheep_node.specs.StepState.{StepState, at_first, replies_in_order, request_ended}
 use Rattle.sheep_node.specs.RequestWorks.{command_refused, course_refused}
-use Rattle.sheep_node.specs.LogReading.{entry_read, on_back}
 use Rattle.sheep_node.specs.Step.{on_request, on_recover_tick, on_put, recovery_stepped, is_due, with_recovered, on_input, recovered_put, node_step}
 use Rattle.sheep_node.specs.Changes as changes
 use Rattle.sheep_node.specs.Changes.{Outcome, ToWork, ToEntry, ToReply, RequestSteps, DiskBegins, DiskGoesOn, CommandBegins, CommandGoesOn, CommandDecided}
