@@ -1,3 +1,10 @@
+pub mod ReplyLists
+pub mod RunInduction
+pub mod StepReplies
+pub mod EndedRequests
+pub mod GivenReplies
+pub mod PrintedReplies
+pub mod AddedByReplies
 pub mod ToldRuns
 pub mod MakingRuns
 pub mod AnswerLemmas

@@ -2,4 +2,5 @@ pub mod Status
 pub mod Reading
 pub mod ToldRun
 pub mod Answer
+pub mod PrintedReplies
 pub mod Outcome

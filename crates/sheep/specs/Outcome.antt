@@ -16,6 +16,7 @@ use Rattle.trace_text.specs.Replay.{bad_place}
 use Rattle.sheep_words.specs.declared.mode.Mode.{Mode}
 use Rattle.sheep_words.specs.declared.mode.Mode.TheVariants.{Run, Replay, Gen, Live}
 use Rattle.sheep.specs.Reading.{ReadsAll}
+use Rattle.sheep.specs.PrintedReplies.{PrintsReplies}
 use Rattle.sheep.specs.Answer.{printed_text, told_text, generated_line, bad_line_text, bad_event_text}
 
 -- whether a call with these words reads its source
@@ -34,10 +35,11 @@ takes_words (Some Replay) = true
 takes_words (Some (Gen number)) = true
 takes_words (Some (Live trace)) = false
 
--- events are a run of a script, in which every phase is ended, and made this history
+-- events are a run of a script, in which every phase is ended, and made this history, in which the replies that its report prints were given
 pub record MakesRun (statements : List Statement) (events : List Event) (history : List HistEvent) : Type 0 where
   pub whole : IsWholeRun statements events
   pub kept : history_of statements events ≡ Some history
+  pub replies : PrintsReplies statements events history
 
 module _ (Given : List ℕ → Type 0) (old new : Option (List ℕ)) where
   -- the input is a script, and the sink was given the report of the run that the seed gives, with the trace where it is asked for

@@ -4,17 +4,24 @@
 //! gives, or that a trace gives, and for a script that a number generates one line. Its contract says what is written for every input,
 //! with each status, over the definitions of `schedule`, `trace_text` and `dog_report`.
 //!
+//! The replies that are printed are those that the events of the run gave, in its history (`specs/PrintedReplies.antt`, `laws.rt`).
+//!
 //! The words are those of `sheep_words`. A run is made and told event by event (`told_run.rt`), so that no run is made twice; `making.rt`
 //! has the two orders. `answer.rt` has the answer to each input, with its status.
 #![tactic(auto)]
 
 mod answer;
+mod laws;
 mod lines;
 mod making;
 mod status;
 mod told_run;
 mod top;
 
+pub use laws::{
+    a_report_prints_the_replies_of_its_run, a_request_gets_one_reply,
+    the_history_has_what_replies_added,
+};
 pub use sheep_words::{Mode, mode_of};
 pub use status::Status;
 pub use top::sheep;
