@@ -27,5 +27,9 @@ mod trial;
 mod words;
 mod work_words;
 
+pub use entry_words::write_entry;
 pub use fault::Fault;
+pub use input_words::write_input;
 pub use life::Life;
+pub use output_words::{outputs_line, write_reply};
+pub use words::write_bytes;

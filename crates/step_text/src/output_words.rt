@@ -9,7 +9,7 @@ use std::alloc::{AllocError, Global};
 use std::fmt::Write;
 
 /// The outputs of a step on one line: what it sends, says, replies and puts, each ended by `;`. Messages stand as their bytes.
-pub(crate) fn outputs_line(alloc: Global, given: &Outputs) -> Result<String, NoMemory> {
+pub fn outputs_line(alloc: Global, given: &Outputs) -> Result<String, NoMemory> {
     let mut out = String::new(alloc);
     for (to, request) in given.sends.as_slice() {
         write!(out, "send {} ", to.0)?;
@@ -35,7 +35,7 @@ pub(crate) fn outputs_line(alloc: Global, given: &Outputs) -> Result<String, NoM
 }
 
 /// Writes a guest's reply: its kind, and what it gives.
-pub(crate) fn write_reply(out: &mut String, reply: &GuestRsp) -> Result<(), AllocError> {
+pub fn write_reply(out: &mut String, reply: &GuestRsp) -> Result<(), AllocError> {
     match reply {
         GuestRsp::Done => out.push_str("done"),
         GuestRsp::Piece(piece) => {

@@ -1,0 +1,33 @@
+ghost use Rattle.std.specs.Prelude.{◌≡◌};
+
+use object_id::NoMemory;
+use std::alloc::AllocError;
+
+/// Why nothing is told of a case.
+#[derive(Debug, Drop, thiserror::Error)]
+pub enum Fault {
+    #[error("out of memory")]
+    NoMemory,
+    /// What stands before the trace is no script, or is longer than one may be.
+    #[error("bad script")]
+    Script,
+    /// A line of the trace is no event.
+    #[error("bad event")]
+    Event,
+}
+
+impl From<NoMemory> for Fault {
+    ghost use Rattle.world_text.specs.declared.fault.Fault.TheVariants as faults;
+
+    ghost from_gives = { λ _ e. e ≡ faults.NoMemory };
+
+    fn from(_: NoMemory) -> Fault {
+        Fault::NoMemory
+    }
+}
+
+impl From<AllocError> for Fault {
+    fn from(_: AllocError) -> Fault {
+        Fault::NoMemory
+    }
+}
