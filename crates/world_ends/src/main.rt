@@ -1,5 +1,5 @@
 //! Worlds at their ends, by a list of cases. A case is a script, a line `trace`, a line for each event, and a line `end`; for each comes
-//! what its events give and the world that they end with, in the words of `world_text`, and a line `end`.
+//! what its events give and the world that they end with, in the words of `step_text`, and a line `end`.
 //!
 //! The list beside this program (`stdin`) was made by another program, which was written independently, from the rules alone: scripts
 //! and events by chance. The worlds that its own events ended with are the text that must come out here (`stdout`). So the events of
@@ -7,7 +7,7 @@
 #![tactic(auto)]
 
 use std::io;
-use world_text::end_of;
+use step_text::end_of;
 
 /// Prints what is told of a case.
 fn print_end(rt: &HostRuntime, case: &str) -> io::Result<()> {

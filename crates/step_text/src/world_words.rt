@@ -2,6 +2,10 @@
 
 ghost use Rattle.std.specs.Prelude.{◌≡◌, false};
 
+use crate::entry_words::write_entry;
+use crate::input_words::write_input;
+use crate::output_words::{outputs_line, write_reply};
+use crate::words::write_bytes;
 use cluster_script::Script;
 use dog_report::push_stored;
 use object_id::{NODES_MAX, NoMemory, NodeId};
@@ -9,7 +13,6 @@ use sheep_node::{Event, Node, Outputs};
 use sheep_world::{World, enabled};
 use std::alloc::Global;
 use std::fmt::Write;
-use step_text::{outputs_line, write_bytes, write_entry, write_input, write_reply};
 use trace_text::print_events;
 
 /// Writes the replies to guests that a step gave, each as a line.

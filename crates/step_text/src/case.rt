@@ -1,14 +1,17 @@
 //! A case: the world that a script opens with, and the events that are made of it.
 
-ghost use Rattle.std.specs.Prelude.{◌≡◌, false, OnOk};
-ghost use Rattle.world_text.specs.Traces.{IsTaken};
+ghost use Rattle.std.specs.Prelude.{◌≡◌, false, OnOk, IsErrOf};
+ghost use Rattle.trace_text.specs.Lines.{lines_in};
+ghost use Rattle.trace_text.specs.InputParts.{script_part, trace_part};
+ghost use Rattle.step_text.specs.Traces.{IsTaken};
+ghost use Rattle.step_text.specs.Cases.{IsNoScript, HasNoEvent};
 
-use crate::fault::Fault;
+use crate::case_fault::CaseFault;
 use crate::history_words::write_history;
 use crate::world_words::{write_replies, write_world};
 use cluster_script::{Script, ScriptFault, parse};
 use disk_history::HistList;
-use object_id::INPUT_BYTES_MAX;
+use object_id::{INPUT_BYTES_MAX, NoMemory};
 use sheep_node::Event;
 use sheep_world::{ApplyFault, World};
 use std::alloc::Global;
@@ -16,33 +19,49 @@ use trace_text::{Lines, event_in, input_parts};
 
 /// Tells what each event of a case gives, and the world that it ends with. An event that may not happen is told as such, and the world
 /// stays.
-pub fn end_of(alloc: Global, case: &str) -> Result<String, Fault> {
+pub fn end_of(alloc: Global, case: &str) -> Result<String, CaseFault>
+    ensures script { IsErrOf result CaseFault.Script → IsNoScript (script_part case.now) }
+    ensures event { IsErrOf result CaseFault.Event → HasNoEvent (lines_in (trace_part case.now)) }
+{
     let (script, trace) = input_parts(case.as_bytes());
     let script = script_of(alloc, script)?;
     told(alloc, &script, trace)
 }
 
 /// The script that a text is.
-fn script_of(alloc: Global, text: &[u8]) -> Result<Script, Fault> {
+fn script_of(alloc: Global, text: &[u8]) -> Result<Script, CaseFault>
+    ensures script { IsErrOf result CaseFault.Script → IsNoScript text.now }
+    ensures event { IsErrOf result CaseFault.Event → ⊥ }
+{
     if INPUT_BYTES_MAX < text.len() {
-        return Err(Fault::Script);
+        return Err(CaseFault::Script);
     }
     match parse(alloc, text) {
         Ok(script) => Ok(script),
-        Err(ScriptFault::BadLine { line: _, cause: _ }) => Err(Fault::Script),
-        Err(ScriptFault::NoMemory) => Err(Fault::NoMemory),
+        Err(ScriptFault::BadLine { line: _, cause: _ }) => Err(CaseFault::Script),
+        Err(ScriptFault::NoMemory) => Err(CaseFault::NoMemory),
     }
 }
 
 /// Opens the world of a script, and tells what the events of a trace give.
-fn told(alloc: Global, script: &Script, trace: &[u8]) -> Result<String, Fault> {
+fn told(alloc: Global, script: &Script, trace: &[u8]) -> Result<String, CaseFault>
+    ensures script { IsErrOf result CaseFault.Script → ⊥ }
+    ensures event { IsErrOf result CaseFault.Event → HasNoEvent (lines_in trace.now) }
+{
     let mut world = World::new(alloc, script)?;
     told_of(alloc, script, &mut world, trace)
 }
 
 /// Tells what the events of a trace give, and the world that they end with.
-fn told_of(alloc: Global, script: &Script, world: &mut World, trace: &[u8]) -> Result<String, Fault>
+fn told_of(
+    alloc: Global,
+    script: &Script,
+    world: &mut World,
+    trace: &[u8],
+) -> Result<String, CaseFault>
     requires { world.old.spent ≡ false }
+    ensures script { IsErrOf result CaseFault.Script → ⊥ }
+    ensures event { IsErrOf result CaseFault.Event → HasNoEvent (lines_in trace.now) }
 {
     let mut out = String::new(alloc);
     make_events(&mut out, script, world, trace)?;
@@ -56,14 +75,16 @@ fn make_events(
     script: &Script,
     world: &mut World,
     trace: &[u8],
-) -> Result<(), Fault>
+) -> Result<(), CaseFault>
     requires { world.old.spent ≡ false }
-    ensures { OnOk result (world.new.spent ≡ false) }
+    ensures live { OnOk result (world.new.spent ≡ false) }
+    ensures script { IsErrOf result CaseFault.Script → ⊥ }
+    ensures event { IsErrOf result CaseFault.Event → HasNoEvent (lines_in trace.now) }
 {
     let mut lines = Lines::new(trace);
     while let Some(line) = lines.next() {
         let Some(event) = event_in(line) else {
-            return Err(Fault::Event);
+            return Err(CaseFault::Event);
         };
         make_event(out, script, world, event)?;
     }
@@ -76,20 +97,21 @@ fn make_event(
     script: &Script,
     world: &mut World,
     event: Event,
-) -> Result<(), Fault>
+) -> Result<(), CaseFault>
     requires { world.old.spent ≡ false }
     ensures taken { OnOk result (IsTaken script.now event world.old world.new) }
     ensures live { OnOk result (world.new.spent ≡ false) }
+    ensures memory { (IsErrOf result CaseFault.Script → ⊥) × (IsErrOf result CaseFault.Event → ⊥) }
 {
     match world.apply(script, event) {
-        Ok(grown) => write_given(out, world, &grown),
+        Ok(grown) => Ok(write_given(out, world, &grown)?),
         Err(ApplyFault::NotEnabled) => Ok(out.push_str("may not happen\n")?),
-        Err(ApplyFault::NoMemory) => Err(Fault::NoMemory),
+        Err(ApplyFault::NoMemory) => Err(CaseFault::NoMemory),
     }
 }
 
 /// Writes what an event gave: the replies of its step, and what it adds to the history.
-fn write_given(out: &mut String, world: &World, grown: &HistList) -> Result<(), Fault>
+fn write_given(out: &mut String, world: &World, grown: &HistList) -> Result<(), NoMemory>
     requires { world.now.spent ≡ false }
 {
     write_replies(out, world.outputs())?;

@@ -5,7 +5,7 @@ use std::alloc::AllocError;
 
 /// Why nothing is told of a case.
 #[derive(Debug, Drop, thiserror::Error)]
-pub enum Fault {
+pub enum CaseFault {
     #[error("out of memory")]
     NoMemory,
     /// What stands before the trace is no script, or is longer than one may be.
@@ -16,18 +16,22 @@ pub enum Fault {
     Event,
 }
 
-impl From<NoMemory> for Fault {
-    ghost use Rattle.world_text.specs.declared.fault.Fault.TheVariants as faults;
+impl From<NoMemory> for CaseFault {
+    ghost use Rattle.step_text.specs.declared.case_fault.CaseFault.TheVariants as faults;
 
     ghost from_gives = { λ _ e. e ≡ faults.NoMemory };
 
-    fn from(_: NoMemory) -> Fault {
-        Fault::NoMemory
+    fn from(_: NoMemory) -> CaseFault {
+        CaseFault::NoMemory
     }
 }
 
-impl From<AllocError> for Fault {
-    fn from(_: AllocError) -> Fault {
-        Fault::NoMemory
+impl From<AllocError> for CaseFault {
+    ghost use Rattle.step_text.specs.declared.case_fault.CaseFault.TheVariants as faults;
+
+    ghost from_gives = { λ _ e. e ≡ faults.NoMemory };
+
+    fn from(_: AllocError) -> CaseFault {
+        CaseFault::NoMemory
     }
 }

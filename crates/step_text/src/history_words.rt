@@ -1,9 +1,9 @@
 //! The words of what the history gains.
 
+use crate::words::write_bytes;
 use disk_history::HistEvent;
 use std::alloc::AllocError;
 use std::fmt::Write;
-use step_text::write_bytes;
 
 /// Writes an event of the history as a line: its kind, and its fields in order.
 pub(crate) fn write_history(out: &mut String, event: &HistEvent) -> Result<(), AllocError> {
