@@ -4,15 +4,15 @@ ghost use Rattle.vdi_directory.specs.Decisions.{log_effects};
 ghost use Rattle.vdi_directory.specs.DirectoryState.{AreLocks};
 
 use crate::directory_rows::{DEAD_ROWS, ROWS};
-use crate::log_words::{digit_of, entry_of, push_decision, push_live, reserve_of, spec, vid_of};
+use crate::log_words::{entry_of, push_decision, push_live, spec, vid_of};
 use disk_lock::Locks;
 use epoch_log::Log;
-use object_id::{Bytes, Entry, Member, NoMemory, NodeId, Vid};
+use object_id::{Member, NoMemory, NodeId, Vid};
 use std::alloc::Global;
 use std::test::Fail;
-use vdi_directory::{Decision, Directory, FullVdi, VidRange, free_vid, nobody_holds_at_first};
+use vdi_directory::{Directory, FullVdi, VidRange, free_vid, nobody_holds_at_first};
 
-fn members() -> [Member; 4] {
+pub fn members() -> [Member; 4] {
     [0, 1, 2, 3].map(|number| Member {
         node: NodeId(number),
         zone: number,
@@ -129,54 +129,62 @@ fn tells_the_dead(rt: HostRuntime) -> Result<(), Fail> {
 #[test]
 fn finds_free_ids(rt: HostRuntime) {
     assert_eq!(rt; free_vid(b"a", &[]), Ok(Vid(0x01_ec8c)));
-    assert_eq!(rt;
-        free_vid(
-            b"a",
-            &[VidRange {
-                first: 0x01_ec8c,
-                last: 0x01_ec8c
-            }]
-        ),
-        Ok(Vid(0x01_ec8d))
-    );
-    assert_eq!(rt;
-        free_vid(
-            b"a",
-            &[VidRange {
-                first: 0x01_ec8c,
-                last: 0xff_ffff
-            }]
-        ),
-        Ok(Vid(1))
-    );
-    assert_eq!(rt;
-        free_vid(
-            b"a",
-            &[VidRange {
-                first: 1,
-                last: 0xff_ffff
-            }]
-        ),
-        Err(FullVdi)
-    );
+    let own = [VidRange {
+        first: 0x01_ec8c,
+        last: 0x01_ec8c,
+    }];
+    assert_eq!(rt; free_vid(b"a", &own), Ok(Vid(0x01_ec8d)));
 }
 
 #[test]
-fn finds_disks_and_headers(rt: HostRuntime) -> Result<(), Fail> {
-    let alloc = rt.alloc();
-    let words = b"F01a P0001ec8c O01a S01a:t N0001ec8c:01ec8d F12b";
-    let Some((directory, _locks)) = read_words(alloc, words, &mut Vec::new(alloc))? else {
-        return Ok(assert!(rt; false, "not a log"));
-    };
-    assert_eq!(rt; directory.entries().len(), 6);
+fn finds_free_ids_before_its_own(rt: HostRuntime) {
+    let from_its_own = [VidRange {
+        first: 0x01_ec8c,
+        last: 0xff_ffff,
+    }];
+    assert_eq!(rt; free_vid(b"a", &from_its_own), Ok(Vid(1)));
+    let all = [VidRange {
+        first: 1,
+        last: 0xff_ffff,
+    }];
+    assert_eq!(rt; free_vid(b"a", &all), Err(FullVdi));
+}
+
+/// The directory once these entries were read; an error where one may not stand there.
+fn directory_of(alloc: Global, words: &[u8]) -> Result<Directory, NoMemory> {
+    match read_words(alloc, words, &mut Vec::new(alloc))? {
+        Some((directory, _locks)) => Ok(directory),
+        None => Err(NoMemory),
+    }
+}
+
+/// Disk `a` is made, opened and becomes the snapshot `t`; a name `b` is reserved.
+const SNAPSHOT: &[u8] = b"F01a P0001ec8c O01a S01a:t N0001ec8c:01ec8d F12b";
+
+// A reservation alone isn't found, though its id is known.
+#[test]
+fn finds_disks(rt: HostRuntime) -> Result<(), Fail> {
+    let directory = directory_of(rt.alloc(), SNAPSHOT)?;
     assert_eq!(rt; directory.find(b"a", None), Some(Vid(0x01_ec8d)));
     assert_eq!(rt; directory.find(b"a", Some(b"t")), Some(Vid(0x01_ec8c)));
     assert_eq!(rt; directory.find(b"a", Some(b"u")), None);
-    // A reservation alone isn't found, though its id is known.
     assert_eq!(rt; directory.find(b"b", None), None);
+    Ok(())
+}
+
+#[test]
+fn finds_what_is_known_of_a_disk(rt: HostRuntime) -> Result<(), Fail> {
+    let directory = directory_of(rt.alloc(), SNAPSHOT)?;
     assert_eq!(rt; directory.spec(Vid(0x01_f1a5)), Some(spec()));
     assert_eq!(rt; directory.spec(Vid(0x01_f1a6)), None);
     assert!(rt; directory.header(Vid(0x01_f1a6)).is_none());
+    Ok(())
+}
+
+#[test]
+fn finds_entries_and_live_disks(rt: HostRuntime) -> Result<(), Fail> {
+    let directory = directory_of(rt.alloc(), SNAPSHOT)?;
+    assert_eq!(rt; directory.entries().len(), 6);
     assert_eq!(rt;
         (
             directory.live_at(0),
@@ -209,144 +217,34 @@ fn makes_dead(
 
 // Two snapshots of a disk, of which the older one is deleted, and then the disk: the newer snapshot keeps the older one from being dead
 // until it goes too.
+const TWO_SNAPSHOTS: &[u8] =
+    b"F01a P0001ec8c O01a S01a:t N0001ec8c:01ec8d S01a:u N0001ec8d:01ec8e U0101ec8e D01a:t D01a";
+
+/// The newer snapshot and the older one.
+const SNAPSHOTS: [Vid; 2] = [Vid(0x01_ec8d), Vid(0x01_ec8c)];
+
 #[test]
-fn walks_chains_and_tells_what_dies(rt: HostRuntime) -> Result<(), Fail> {
-    let alloc = rt.alloc();
-    let words =
-        b"F01a P0001ec8c O01a S01a:t N0001ec8c:01ec8d S01a:u N0001ec8d:01ec8e U0101ec8e D01a:t D01a";
-    let Some((directory, locks)) = read_words(alloc, words, &mut Vec::new(alloc))? else {
-        return Ok(assert!(rt; false, "not a log"));
-    };
-    let older = [Vid(0x01_ec8d), Vid(0x01_ec8c)];
-    assert!(rt; has_chain(&directory, Vid(0x01_ec8e), &older)?);
+fn walks_chains(rt: HostRuntime) -> Result<(), Fail> {
+    let directory = directory_of(rt.alloc(), TWO_SNAPSHOTS)?;
+    assert!(rt; has_chain(&directory, Vid(0x01_ec8e), &SNAPSHOTS)?);
     assert_eq!(rt; directory.parent(Vid(0x01_ec8c)), None);
+    Ok(())
+}
+
+#[test]
+fn tells_what_is_gone(rt: HostRuntime) -> Result<(), Fail> {
+    let directory = directory_of(rt.alloc(), TWO_SNAPSHOTS)?;
     assert!(rt; directory.is_gone(Vid(0x01_ec8c)) && !directory.dead(Vid(0x01_ec8c)));
     assert!(rt; !directory.is_gone(Vid(0x01_ec8d)) && !directory.is_gone(Vid(0x01_ec8f)));
-    assert!(rt; makes_dead(alloc, &directory, &locks, b"D01a:u", &older)?);
     Ok(())
 }
 
-// A name and a tag of 255 bytes, the longest that there are.
 #[test]
-fn keeps_the_longest_names(rt: HostRuntime) -> Result<(), Fail> {
+fn tells_what_dies(rt: HostRuntime) -> Result<(), Fail> {
     let alloc = rt.alloc();
-    nobody_holds_at_first();
-    let opening = members();
-    if !Log::may_open(&opening) {
+    let Some((directory, locks)) = read_words(alloc, TWO_SNAPSHOTS, &mut Vec::new(alloc))? else {
         return Ok(assert!(rt; false, "not a log"));
-    }
-    let log = Log::new(alloc, &opening)?;
-    let mut directory = Directory::new(alloc);
-    let mut locks = Locks::new(alloc);
-    let by = NodeId(0);
-    let name = [b'n'; 255];
-    let reserve = reserve_of(alloc, b'F', by, 1, &name)?;
-    let Some(vid) = put(&log, &mut directory, &mut locks, &reserve)? else {
-        return Ok(assert!(rt; false, "refused"));
     };
-    put(
-        &log,
-        &mut directory,
-        &mut locks,
-        &Entry::Publish { by, vid },
-    )?;
-    let lock = Entry::Lock {
-        by,
-        session: 1,
-        name: Bytes::from_slice(alloc, &name)?,
-        tag: None,
-    };
-    put(&log, &mut directory, &mut locks, &lock)?;
-    // The name, and itself as the tag.
-    let mut names = [b'n'; 511];
-    names[255] = b':';
-    let reserve = reserve_of(alloc, b'S', by, 1, &names)?;
-    let Some(next) = put(&log, &mut directory, &mut locks, &reserve)? else {
-        return Ok(assert!(rt; false, "refused"));
-    };
-    let snapshot = Entry::Snapshot {
-        by,
-        old: vid,
-        vid: next,
-    };
-    put(&log, &mut directory, &mut locks, &snapshot)?;
-    assert_eq!(rt; directory.find(&name, None), Some(next));
-    assert_eq!(rt; directory.find(&name, Some(&name)), Some(vid));
-    Ok(())
-}
-
-/// Name `k`: its four hexadecimal digits.
-fn name_of(k: u32) -> [u8; 4] {
-    [k >> 12, k >> 8, k >> 4, k].map(digit_of)
-}
-
-fn granted(decision: Decision) -> Option<Vid> {
-    match decision {
-        Decision::Granted { vid } => Some(vid),
-        _ => None,
-    }
-}
-
-fn put(
-    log: &Log,
-    directory: &mut Directory,
-    locks: &mut Locks,
-    entry: &Entry,
-) -> Result<Option<Vid>, NoMemory>
-    requires { AreLocks (log_effects directory.old) locks.old }
-    ensures { OnOk result (AreLocks (log_effects directory.new) locks.new) }
-{
-    if !log.may_append(entry) {
-        return Ok(None);
-    }
-    match directory.read_entry(entry, locks) {
-        Ok(decision) => Ok(granted(decision)),
-        Err(error) => Err(error),
-    }
-}
-
-/// Reserves and publishes disk `k`.
-fn publish(
-    alloc: Global,
-    log: &Log,
-    directory: &mut Directory,
-    locks: &mut Locks,
-    k: u32,
-) -> Result<(), NoMemory>
-    requires { AreLocks (log_effects directory.old) locks.old }
-    ensures { OnOk result (AreLocks (log_effects directory.new) locks.new) }
-{
-    let by = NodeId(0);
-    let reserve = reserve_of(alloc, b'F', by, 1, &name_of(k))?;
-    if let Some(vid) = put(log, directory, locks, &reserve)? {
-        put(log, directory, locks, &Entry::Publish { by, vid })?;
-    }
-    Ok(())
-}
-
-// Each disk is reserved, published and found by its name.
-#[test]
-fn keeps_10_000_disks(rt: HostRuntime) -> Result<(), Fail> {
-    let alloc = rt.alloc();
-    nobody_holds_at_first();
-    let opening = members();
-    if !Log::may_open(&opening) {
-        return Ok(assert!(rt; false, "not a log"));
-    }
-    let log = Log::new(alloc, &opening)?;
-    let mut directory = Directory::new(alloc);
-    let mut locks = Locks::new(alloc);
-    for disk in 0..10_000 {
-        publish(alloc, &log, &mut directory, &mut locks, disk)?;
-    }
-    let mut found = 0_u32;
-    for k in 0..10_000 {
-        if directory.find(&name_of(k), None).is_some() {
-            found = found.wrapping_add(1);
-        }
-    }
-    assert_eq!(rt; found, 10_000);
-    assert!(rt; directory.live_at(9_999).is_some());
-    assert!(rt; directory.live_at(10_000).is_none());
+    assert!(rt; makes_dead(alloc, &directory, &locks, b"D01a:u", &SNAPSHOTS)?);
     Ok(())
 }

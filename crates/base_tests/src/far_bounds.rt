@@ -2,13 +2,12 @@
 
 use gateway_queue::Queue;
 use inode::Inode;
-use object_id::{OBJECTS_MAX, Policy, VdiSpec, Vid};
+use object_id::{Bytes, NoMemory, OBJECTS_MAX, Policy, VdiSpec, Vid};
+use std::alloc::Global;
 use std::test::Fail;
 
-// The last entry of the longest table stands in the last four bytes of the inode.
-#[test]
-fn an_inode_has_1_048_576_entries(rt: HostRuntime) -> Result<(), Fail> {
-    let alloc = rt.alloc();
+/// The bytes of the inode of the longest table, in which the last entry is 7.
+fn longest_inode(alloc: Global) -> Result<Bytes, NoMemory> {
     let spec = VdiSpec {
         size: 4_294_967_296,
         policy: Policy::Copies(1),
@@ -16,9 +15,15 @@ fn an_inode_has_1_048_576_entries(rt: HostRuntime) -> Result<(), Fail> {
     };
     let mut inode = Inode::new(alloc, b"a", Vid(9), 1, None, spec)?;
     inode.set_entry(OBJECTS_MAX - 1, Vid(7));
-    let bytes = inode.to_bytes(alloc)?;
+    inode.to_bytes(alloc)
+}
+
+// The last entry of the longest table stands in the last four bytes of the inode.
+#[test]
+fn an_inode_has_1_048_576_entries(rt: HostRuntime) -> Result<(), Fail> {
+    let bytes = longest_inode(rt.alloc())?;
     assert_eq!(rt; bytes.len(), 4_198_968);
-    let read = Inode::from_bytes(alloc, bytes.as_slice())?;
+    let read = Inode::from_bytes(rt.alloc(), bytes.as_slice())?;
     assert_eq!(rt;
         (read.entries().len(), read.entries().last()),
         (1_048_576, Some(&7))
@@ -26,16 +31,21 @@ fn an_inode_has_1_048_576_entries(rt: HostRuntime) -> Result<(), Fail> {
     Ok(())
 }
 
-// Each request has an index of its own, but the 65th, which has all of theirs.
-#[test]
-fn a_65th_request_waits(rt: HostRuntime) -> Result<(), Fail> {
-    let mut queue = Queue::new(rt.alloc());
+/// A queue of 65 requests. Each has an index of its own, but the last, which has all of theirs.
+fn long_queue(alloc: Global) -> Result<Queue, NoMemory> {
+    let mut queue = Queue::new(alloc);
     for req in 0..65 {
         let first = if req < 64 { req } else { 0 };
         if !queue.is_queued(req) {
             queue.push(req, first, req)?;
         }
     }
+    Ok(queue)
+}
+
+#[test]
+fn a_65th_request_waits(rt: HostRuntime) -> Result<(), Fail> {
+    let queue = long_queue(rt.alloc())?;
     assert_eq!(rt; queue.as_slice().len(), 65);
     assert!(rt; queue.is_queued(63) && queue.may_run(63));
     assert!(rt; queue.is_queued(64) && !queue.may_run(64));

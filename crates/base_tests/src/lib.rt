@@ -15,6 +15,8 @@ mod far_bounds;
 #[cfg(test)]
 mod id_lists;
 #[cfg(test)]
+mod large_directories;
+#[cfg(test)]
 mod log_words;
 #[cfg(test)]
 mod plain_rows;

@@ -176,49 +176,90 @@ fn ends_so<O: ObjStore>(
     )
 }
 
+/// A store with an open row from epoch 1, which begins with 1.
+fn node_with_row(alloc: Global) -> Result<Tried<PlainStore>, StoreFault> {
+    let mut node = Tried::new(PlainStore::new(alloc));
+    node.create(&key(1, 0, 0), 1, 0, &[1])?;
+    Ok(node)
+}
+
 #[test]
-fn goes_through_the_life_of_a_row(rt: HostRuntime) -> Result<(), Fail> {
-    let mut node = Tried::new(PlainStore::new(rt.alloc()));
+fn begins_the_life_of_a_row(rt: HostRuntime) -> Result<(), Fail> {
+    let node = node_with_row(rt.alloc())?;
     let first = key(1, 0, 0);
-    node.create(&first, 1, 0, &[1])?;
     assert_eq!(rt; node.read(&first, 0), Ok([1, 0]));
     assert_eq!(rt; node.read(&first, 4095), Err(StoreFault::OutOfObject));
-    let steps = [
-        (Step::Advance(2), [1, 1, 1], 1),
-        (Step::Purge(1), [1, 1, 1], 1),
-        (Step::Purge(2), [0, 0, 0], 0),
-    ];
-    for (step, row, objects) in steps {
-        assert!(rt; ends_so(&mut node, &first, step, row, objects)?);
-    }
     Ok(())
+}
+
+#[test]
+fn goes_through_the_life_of_a_row(rt: HostRuntime) -> Result<(), Fail> {
+    let mut node = node_with_row(rt.alloc())?;
+    let first = key(1, 0, 0);
+    assert!(rt; ends_so(&mut node, &first, Step::Advance(2), [1, 1, 1], 1)?);
+    assert!(rt; ends_so(&mut node, &first, Step::Purge(1), [1, 1, 1], 1)?);
+    assert!(rt; ends_so(&mut node, &first, Step::Purge(2), [0, 0, 0], 0)?);
+    Ok(())
+}
+
+/// Makes a row, and lays pieces over it.
+fn lay_pieces<O: ObjStore>(node: &mut Tried<O>, strip: &Key) -> Result<(), StoreFault> {
+    node.create(strip, 1, 6, &[5, 6])?;
+    node.write(strip, 2, &[7, 8])?;
+    node.write(strip, 3, &[9, 0])?;
+    node.write(strip, 4094, &[4, 0])
+}
+
+/// The pairs of bytes from these offsets on, one behind another.
+fn pairs_at<O: ObjStore>(
+    alloc: Global,
+    node: &Tried<O>,
+    key: &Key,
+    offsets: &[u32],
+) -> Result<Vec<u8>, Fail> {
+    let mut bytes = Vec::new(alloc);
+    for offset in offsets {
+        bytes.extend_from_slice(&node.read(key, *offset)?)?;
+    }
+    Ok(bytes)
 }
 
 #[test]
 fn lays_pieces_over(rt: HostRuntime) -> Result<(), Fail> {
     let mut node = Tried::new(PlainStore::new(rt.alloc()));
     let strip = key(1, 0, 3);
-    node.create(&strip, 1, 6, &[5, 6])?;
-    node.write(&strip, 2, &[7, 8])?;
-    node.write(&strip, 3, &[9, 0])?;
-    node.write(&strip, 4094, &[4, 0])?;
-    let pairs = [
-        (0, [0, 0]),
-        (2, [7, 9]),
-        (4, [0, 0]),
-        (6, [5, 6]),
-        (7, [6, 0]),
-        (4094, [4, 0]),
-    ];
-    for (offset, bytes) in pairs {
-        assert_eq!(rt; node.read(&strip, offset), Ok(bytes), "at {offset}");
-    }
-    for (key, fault) in [
-        (strip, StoreFault::OutOfObject),
-        (key(1, 0, 2), StoreFault::NoObj),
-    ] {
-        assert_eq!(rt; node.write(&key, 4095, &[1, 2]), Err(fault));
-    }
+    lay_pieces(&mut node, &strip)?;
+    let pairs = pairs_at(rt.alloc(), &node, &strip, &[0, 2, 4, 6, 7, 4094])?;
+    let want = [0, 0, 7, 9, 0, 0, 5, 6, 6, 0, 4, 0];
+    assert_eq!(rt; pairs.as_slice(), want.as_slice());
+    Ok(())
+}
+
+#[test]
+fn refuses_to_write_past_the_row(rt: HostRuntime) -> Result<(), Fail> {
+    let mut node = Tried::new(PlainStore::new(rt.alloc()));
+    let strip = key(1, 0, 3);
+    lay_pieces(&mut node, &strip)?;
+    let past = node.write(&strip, 4095, &[1, 2]);
+    assert_eq!(rt; past, Err(StoreFault::OutOfObject));
+    let absent = node.write(&key(1, 0, 2), 4095, &[1, 2]);
+    assert_eq!(rt; absent, Err(StoreFault::NoObj));
+    Ok(())
+}
+
+/// Makes a row of the greatest length, and writes its last two bytes.
+fn make_longest<O: ObjStore>(node: &mut Tried<O>, key: &Key) -> Result<(), StoreFault> {
+    node.create_long(key, 1, 16_777_216, 0, &[3])?;
+    node.write(key, 16_777_214, &[5, 6])
+}
+
+#[test]
+fn reads_the_end_of_the_longest_row(rt: HostRuntime) -> Result<(), Fail> {
+    let mut node = Tried::new(PlainStore::new(rt.alloc()));
+    let last = key(1, 9, 0);
+    make_longest(&mut node, &last)?;
+    assert_eq!(rt; node.read(&last, 16_777_214), Ok([5, 6]));
+    assert_eq!(rt; node.read(&last, 16_777_215), Err(StoreFault::OutOfObject));
     Ok(())
 }
 
@@ -227,10 +268,7 @@ fn lays_pieces_over(rt: HostRuntime) -> Result<(), Fail> {
 fn keeps_a_row_of_the_greatest_length(rt: HostRuntime) -> Result<(), Fail> {
     let mut node = Tried::new(PlainStore::new(rt.alloc()));
     let last = key(1, 9, 0);
-    node.create_long(&last, 1, 16_777_216, 0, &[3])?;
-    node.write(&last, 16_777_214, &[5, 6])?;
-    assert_eq!(rt; node.read(&last, 16_777_214), Ok([5, 6]));
-    assert_eq!(rt; node.read(&last, 16_777_215), Err(StoreFault::OutOfObject));
+    make_longest(&mut node, &last)?;
     let row = node.row_at(&last, 1)?.ok_or(StoreFault::NoObj)?;
     assert_eq!(rt; row.bytes.as_slice().len(), 16_777_216);
     Ok(())
@@ -271,86 +309,122 @@ fn lists<O: ObjStore>(node: &Tried<O>, alloc: Global, oids: &[Oid]) -> Result<bo
     Ok(node.list()?.copy(alloc)?.as_slice() == oids)
 }
 
+/// Rows of disk 3 and of disk 2: only the second outlives the advance.
+fn three_keys() -> [Key; 3] {
+    [key(3, 0, 0), key(2, 1, 1), key(2, 0, 0)]
+}
+
+/// Makes the three rows, and advances. Another index of an object is another row.
+fn keep_second<O: ObjStore>(node: &mut Tried<O>) -> Result<(), StoreFault> {
+    for key in three_keys() {
+        node.create(&key, 1, 0, &[1])?;
+    }
+    node.advance(2, &[key(2, 1, 1), key(2, 0, 1)]);
+    Ok(())
+}
+
 #[test]
 fn keeps_the_rows_that_are_named(rt: HostRuntime) -> Result<(), Fail> {
     let mut node = Tried::new(PlainStore::new(rt.alloc()));
-    let [other, kept, closed] = [key(3, 0, 0), key(2, 1, 1), key(2, 0, 0)];
-    for key in [other, kept, closed] {
-        node.create(&key, 1, 0, &[1])?;
-    }
-    // Another index of an object is another row.
-    node.advance(2, &[kept, key(2, 0, 1)]);
+    keep_second(&mut node)?;
+    let [_, kept, closed] = three_keys();
     assert_eq!(rt; node.read(&kept, 0), Ok([1, 0]));
     assert_eq!(rt; node.read(&closed, 0), Err(StoreFault::NoObj));
+    Ok(())
+}
+
+#[test]
+fn lists_the_objects_that_have_rows(rt: HostRuntime) -> Result<(), Fail> {
+    let mut node = Tried::new(PlainStore::new(rt.alloc()));
+    keep_second(&mut node)?;
+    let [other, kept, closed] = three_keys();
     assert!(rt; lists(&node, rt.alloc(), &[closed.oid, kept.oid, other.oid])?);
     node.drop_vid(3);
     assert!(rt; lists(&node, rt.alloc(), &[closed.oid, kept.oid])?);
     Ok(())
 }
 
-#[test]
-fn gives_the_row_at_a_level(rt: HostRuntime) -> Result<(), Fail> {
-    let mut node = Tried::new(PlainStore::new(rt.alloc()));
-    let first = key(1, 0, 0);
-    // Rows from 2 to 3, from 4 to 4 (made anew in its epoch), and twice from 1 to 4.
+fn make_all<O: ObjStore>(node: &mut Tried<O>, steps: &[Step]) -> Result<(), StoreFault> {
+    for step in steps {
+        make(node, &key(1, 0, 0), *step)?;
+    }
+    Ok(())
+}
+
+/// Makes rows from 2 to 3, and from 4 to 4, made anew in its epoch.
+fn make_two_rows<O: ObjStore>(node: &mut Tried<O>) -> Result<(), StoreFault> {
     let steps = [
         Step::Create(2, 10),
         Step::Create(4, 20),
         Step::Create(4, 30),
         Step::Close(4),
-        Step::Create(1, 40),
-        Step::Close(4),
-        Step::Create(1, 50),
-        Step::Close(4),
     ];
-    for step in steps {
-        make(&mut node, &first, step)?;
+    make_all(node, &steps)
+}
+
+/// Makes a row from 1 to 4.
+fn make_a_long_row<O: ObjStore>(node: &mut Tried<O>, byte: u8) -> Result<(), StoreFault> {
+    make_all(node, &[Step::Create(1, byte), Step::Close(4)])
+}
+
+/// What `row_facts` says of levels 0 to 5, one behind another.
+fn facts_of_levels<O: ObjStore>(alloc: Global, node: &Tried<O>) -> Result<Vec<u32>, NoMemory> {
+    let mut facts = Vec::new(alloc);
+    for level in 0..6 {
+        facts.extend_from_slice(&row_facts(node, &key(1, 0, 0), level)?)?;
     }
-    let levels = [
-        (0, [0, 0, 0]),
-        (1, [1, 4, 50]),
-        (2, [2, 3, 10]),
-        (3, [2, 3, 10]),
-        (4, [4, 4, 30]),
-        (5, [0, 0, 0]),
-    ];
-    for (level, row) in levels {
-        assert_eq!(rt; row_facts(&node, &first, level)?, row, "at {level}");
-    }
+    Ok(facts)
+}
+
+#[test]
+fn gives_the_row_at_a_level(rt: HostRuntime) -> Result<(), Fail> {
+    let mut node = Tried::new(PlainStore::new(rt.alloc()));
+    make_two_rows(&mut node)?;
+    make_a_long_row(&mut node, 40)?;
+    make_a_long_row(&mut node, 50)?;
+    let facts = facts_of_levels(rt.alloc(), &node)?;
+    let want = [0, 0, 0, 1, 4, 50, 2, 3, 10, 2, 3, 10, 4, 4, 30, 0, 0, 0];
+    assert_eq!(rt; facts.as_slice(), want.as_slice());
     Ok(())
 }
 
-// The hash of `a` is the published one.
+/// The summary of a row of 4,096 bytes of which the first is `a`. The hash of `a` is the published one.
+fn summary(index: u8, from: u32, to: Option<Epoch>) -> RowSummary {
+    RowSummary {
+        index,
+        from: Epoch(from),
+        to,
+        length: 4096,
+        hash: 0xaf63_dc4c_8601_ec8c,
+    }
+}
+
+/// Makes two rows of one object, of which the first is closed, and one of another.
+fn make_three_rows<O: ObjStore>(node: &mut Tried<O>) -> Result<(), StoreFault> {
+    node.create(&key(1, 0, 0), 1, 0, b"a")?;
+    node.create(&key(1, 0, 0), 2, 0, b"b")?;
+    node.create(&key(2, 0, 3), 2, 0, b"a")
+}
+
 #[test]
 fn visits_rows_without_a_copy(rt: HostRuntime) -> Result<(), Fail> {
     let mut node = Tried::new(PlainStore::new(rt.alloc()));
-    let [first, second] = [key(1, 0, 0), key(2, 0, 3)];
-    node.create(&first, 1, 0, b"a")?;
-    node.create(&first, 2, 0, b"b")?;
-    node.create(&second, 2, 0, b"a")?;
+    make_three_rows(&mut node)?;
     assert_eq!(rt; node.row_count(), 3);
-    let closed = RowSummary {
-        index: 0,
-        from: Epoch(1),
-        to: Some(Epoch(1)),
-        length: 4096,
-        hash: 0xaf63_dc4c_8601_ec8c,
-    };
-    assert_eq!(rt; node.row_summary(&first, 0), Some(closed));
-    let open = RowSummary {
-        index: 3,
-        from: Epoch(2),
-        to: None,
-        ..closed
-    };
-    assert_eq!(rt; node.row_summary(&second, 0), Some(open));
-    assert_eq!(rt;
-        (
-            node.row_summary(&second, 1),
-            node.row_summary(&key(3, 0, 0), 0)
-        ),
-        (None, None)
-    );
+    let closed = node.row_summary(&key(1, 0, 0), 0);
+    assert_eq!(rt; closed, Some(summary(0, 1, Some(Epoch(1)))));
+    let open = node.row_summary(&key(2, 0, 3), 0);
+    assert_eq!(rt; open, Some(summary(3, 2, None)));
+    Ok(())
+}
+
+#[test]
+fn visits_no_other_rows(rt: HostRuntime) -> Result<(), Fail> {
+    let mut node = Tried::new(PlainStore::new(rt.alloc()));
+    make_three_rows(&mut node)?;
+    let past = node.row_summary(&key(2, 0, 3), 1);
+    let absent = node.row_summary(&key(3, 0, 0), 0);
+    assert_eq!(rt; (past, absent), (None, None));
     Ok(())
 }
 

@@ -1,8 +1,10 @@
 //! Logs whose answers come from outside, and what no clause says.
 
+mod reserving;
+mod telling;
+
 use crate::log::{EntryList, Log};
-use crate::tally::Tally;
-use object_id::{Bytes, Entry, Epoch, Member, NoMemory, NodeId, Origin, Policy, VdiSpec, Vid};
+use object_id::{Bytes, Entry, Epoch, Member, NoMemory, NodeId, Origin, Vid};
 use std::alloc::Global;
 use std::test::Fail;
 
@@ -199,110 +201,77 @@ fn answers_as_the_table(rt: HostRuntime) -> Result<(), Fail> {
     Ok(())
 }
 
-#[test]
-fn gives_its_entries(rt: HostRuntime) -> Result<(), Fail> {
-    let alloc = rt.alloc();
-    let Some(mut log) = log_of(alloc, b"ab", b"Lb--")? else {
-        return Ok(assert!(rt; false, "not a log"));
-    };
-    let reserve = Entry::Reserve {
+/// The log of two members; an error where they may not open one.
+fn short_log(alloc: Global, steps: &[u8]) -> Result<Log, NoMemory> {
+    match log_of(alloc, b"ab", steps)? {
+        Some(log) => Ok(log),
+        None => Err(NoMemory),
+    }
+}
+
+/// The log of two members that one has left, with a snapshot's name reserved; an error where that may not stand there.
+fn log_with_a_reserve(alloc: Global) -> Result<Log, NoMemory> {
+    let mut log = short_log(alloc, b"Lb--")?;
+    let reserve = reserve_of(alloc, b"vm", b"monday")?;
+    if !log.may_append(&reserve) {
+        return Err(NoMemory);
+    }
+    log.append(reserve)?;
+    Ok(log)
+}
+
+/// Node 0 reserves a name for a snapshot of a tag.
+fn reserve_of(alloc: Global, name: &[u8], tag: &[u8]) -> Result<Entry, NoMemory> {
+    let tag = Bytes::from_slice(alloc, tag)?;
+    Ok(Entry::Reserve {
         by: NodeId(0),
         session: 7,
-        name: Bytes::from_slice(alloc, b"vm")?,
-        origin: Origin::SnapshotOf {
-            tag: Bytes::from_slice(alloc, b"monday")?,
-        },
-    };
-    assert!(rt; log.may_append(&reserve));
-    log.append(reserve)?;
-    assert_eq!(rt; log.len(), 3);
+        name: Bytes::from_slice(alloc, name)?,
+        origin: Origin::SnapshotOf { tag },
+    })
+}
+
+/// A copy of the list of the log's first four entries.
+fn entries_of(alloc: Global, log: &Log) -> Result<EntryList, NoMemory> {
     let mut list = EntryList::new(alloc);
     for place in 0..4 {
         if let Some(entry) = log.entry(place) {
             list.push(entry.copy(alloc)?)?;
         }
     }
-    let copy = list.copy(alloc)?;
-    assert_eq!(rt; (copy.len(), log.entry(3).is_none()), (3, true));
+    list.copy(alloc)
+}
+
+/// Whether a reserve asks for this name in this session.
+fn is_reserve(entry: Option<&Entry>, number: u32, text: &[u8]) -> bool {
+    match entry {
+        Some(Entry::Reserve { session, name, .. }) => {
+            *session == number && name.as_slice() == text
+        }
+        _ => false,
+    }
+}
+
+#[test]
+fn has_three_entries(rt: HostRuntime) -> Result<(), Fail> {
+    let log = log_with_a_reserve(rt.alloc())?;
+    assert_eq!(rt; (log.len(), log.entry(3).is_none()), (3, true));
+    Ok(())
+}
+
+#[test]
+fn gives_its_entries(rt: HostRuntime) -> Result<(), Fail> {
+    let log = log_with_a_reserve(rt.alloc())?;
+    let copy = entries_of(rt.alloc(), &log)?;
+    assert_eq!(rt; copy.len(), 3);
     assert!(rt; matches!(copy.get(0), Some(Entry::Format { members }) if members.len() == 2));
     assert!(rt; matches!(copy.get(1), Some(Entry::Leave { node: NodeId(1) })));
-    match copy.get(2) {
-        Some(Entry::Reserve { session, name, .. }) => {
-            assert_eq!(rt; (*session, name.as_slice()), (7, b"vm".as_slice()));
-        }
-        _ => assert!(rt; false, "another entry"),
-    }
+    assert!(rt; is_reserve(copy.get(2), 7, b"vm"));
     Ok(())
 }
 
-// A name or a tag has 1 to 255 bytes, none of them 0. A disk has whole blocks of 512 bytes, in at most 2^20 objects of 2^12
-// to 2^24 bytes, and 1 to 31 copies or 2, 4, 8 or 16 strips with 1 to 15 of parity.
-#[test]
-fn asks_for_names_and_sizes(rt: HostRuntime) -> Result<(), Fail> {
-    let alloc = rt.alloc();
-    let Some(log) = log_of(alloc, b"ab", b"")? else {
-        return Ok(assert!(rt; false, "not a log"));
-    };
-    let long = [b'x'; 256];
-    let names: [(&[u8], bool); 5] = [
-        (b"vm", true),
-        (b"", false),
-        (b"v\0m", false),
-        (&long[..255], true),
-        (&long, false),
-    ];
-    for (name, want) in names {
-        let copy = Bytes::from_slice(alloc, name)?;
-        let tag = Bytes::from_slice(alloc, name)?;
-        let base = Bytes::from_slice(alloc, b"base")?;
-        let reserve = Entry::Reserve {
-            by: NodeId(0),
-            session: 1,
-            name: copy,
-            origin: Origin::CloneOf { base, tag },
-        };
-        assert_eq!(rt; log.may_append(&reserve), want);
-    }
-    let specs = [
-        (512, 12, Policy::Copies(1), true),
-        (0x1_0000_0000, 12, Policy::Copies(31), true),
-        (0x1_0000_0200, 12, Policy::Copies(3), false),
-        (0x1000_0000_0000, 24, Policy::Coded { d: 16, p: 15 }, true),
-        (0x1000_0000_0200, 24, Policy::Coded { d: 16, p: 15 }, false),
-        (0, 22, Policy::Copies(3), false),
-        (513, 22, Policy::Copies(3), false),
-        (512, 11, Policy::Copies(3), false),
-        (512, 25, Policy::Copies(3), false),
-        (512, 22, Policy::Copies(0), false),
-        (512, 22, Policy::Copies(32), false),
-        (512, 22, Policy::Coded { d: 6, p: 2 }, false),
-        (512, 22, Policy::Coded { d: 4, p: 0 }, false),
-        (512, 22, Policy::Coded { d: 4, p: 16 }, false),
-    ];
-    for (size, shift, policy, want) in specs {
-        let origin = Origin::Fresh {
-            spec: VdiSpec {
-                size,
-                policy,
-                shift,
-            },
-        };
-        let name = Bytes::from_slice(alloc, b"vm")?;
-        let reserve = Entry::Reserve {
-            by: NodeId(0),
-            session: 1,
-            name,
-            origin,
-        };
-        assert_eq!(rt; log.may_append(&reserve), want, "{size} {shift}");
-    }
-    Ok(())
-}
-
-// A body that gives up at many members would meet every contract.
-#[test]
-fn opens_with_all_the_members_that_there_may_be(rt: HostRuntime) -> Result<(), Fail> {
-    let alloc = rt.alloc();
+/// As many members as there may be, each of the greatest weight.
+fn full_roster(alloc: Global) -> Result<Vec<Member>, NoMemory> {
     let mut members = Vec::new(alloc);
     for number in 0..64 {
         members.push(Member {
@@ -311,17 +280,38 @@ fn opens_with_all_the_members_that_there_may_be(rt: HostRuntime) -> Result<(), F
             vnodes: 256,
         })?;
     }
+    Ok(members)
+}
+
+/// How many members the log of a full roster has, its first and its last; `None` where they may not open one.
+fn ends_of_full_log(alloc: Global) -> Result<Option<(usize, Member, Member)>, NoMemory> {
+    let members = full_roster(alloc)?;
     if !Log::may_open(members.as_slice()) {
-        return Ok(assert!(rt; false, "64 members may open a log"));
+        return Ok(None);
     }
     let log = Log::new(alloc, members.as_slice())?;
     let mut out = blank();
-    assert_eq!(rt; log.members(Epoch(1), &mut out), 64);
+    let count = log.members(Epoch(1), &mut out);
+    Ok(Some((count, out[0], out[63])))
+}
+
+// A body that gives up at many members would meet every contract.
+#[test]
+fn opens_with_all_the_members_that_there_may_be(rt: HostRuntime) -> Result<(), Fail> {
+    let Some((count, first, last)) = ends_of_full_log(rt.alloc())? else {
+        return Ok(assert!(rt; false, "64 members may open a log"));
+    };
+    assert_eq!(rt; count, 64);
     assert_eq!(rt;
-        (out[0].node, out[63].node, out[63].vnodes),
+        (first.node, last.node, last.vnodes),
         (NodeId(0), NodeId(63), 256)
     );
+    Ok(())
+}
 
+#[test]
+fn opens_with_no_more_members(rt: HostRuntime) -> Result<(), Fail> {
+    let mut members = full_roster(rt.alloc())?;
     members.push(Member {
         node: NodeId(64),
         zone: 0,
@@ -358,25 +348,43 @@ fn entry_at(place: u32) -> Entry {
     }
 }
 
-#[test]
-fn reads_a_long_log(rt: HostRuntime) -> Result<(), Fail> {
-    let alloc = rt.alloc();
-    let Some(mut log) = log_of(alloc, b"abc", b"")? else {
-        return Ok(assert!(rt; false, "not a log"));
-    };
+/// Adds the entry of a place, where it may stand there.
+fn append_at(log: &mut Log, place: u32) -> Result<bool, NoMemory> {
+    let entry = entry_at(place);
+    if !log.may_append(&entry) {
+        return Ok(false);
+    }
+    log.append(entry)?;
+    Ok(true)
+}
+
+/// How many members the newest epoch has, and the settled epoch: their sum.
+fn answers_at_end(log: &Log) -> u64 {
+    let newest = log.epoch_at(log.len());
+    let mut out = blank();
+    let count = log.members(newest, &mut out);
+    let settled = log.settled_at(log.len());
+    (count as u64).wrapping_add(u64::from(settled.0))
+}
+
+/// Adds the entries of the long log, and sums the answers after each; `None` where one may not stand there.
+fn fill(log: &mut Log) -> Result<Option<u64>, NoMemory> {
     let mut asked = 0_u64;
     for place in 1..100_000 {
-        let entry = entry_at(place);
-        if !log.may_append(&entry) {
-            return Ok(assert!(rt; false, "at {place}"));
+        if !append_at(log, place)? {
+            return Ok(None);
         }
-        log.append(entry)?;
-        let newest = log.epoch_at(log.len());
-        let mut out = blank();
-        asked = asked
-            .wrapping_add(log.members(newest, &mut out) as u64)
-            .wrapping_add(u64::from(log.settled_at(log.len()).0));
+        asked = asked.wrapping_add(answers_at_end(log));
     }
+    Ok(Some(asked))
+}
+
+#[test]
+fn reads_a_long_log(rt: HostRuntime) -> Result<(), Fail> {
+    let Some(mut log) = log_of(rt.alloc(), b"abc", b"")? else {
+        return Ok(assert!(rt; false, "not a log"));
+    };
+    let asked = fill(&mut log)?;
     assert_eq!(rt;
         (
             log.len(),
@@ -387,41 +395,6 @@ fn reads_a_long_log(rt: HostRuntime) -> Result<(), Fail> {
     );
     // Three members are asked for 99,999 times. Epoch 1 is settled after each of its 99 entries. Each later epoch has three
     // entries after which the one before it is the settled one, and 97 after which it is itself: 100 times its number, less 3.
-    assert_eq!(rt; asked, 299_997 + 99 + 100 * 500_499 - 3 * 999);
-    Ok(())
-}
-
-// A tally is told the entries that the log reads, and answers as the log does.
-#[test]
-fn counts_without_the_entries(rt: HostRuntime) -> Result<(), Fail> {
-    let alloc = rt.alloc();
-    let members = opening(alloc, b"ab")?;
-    if !Log::may_open(members.as_slice()) {
-        return Ok(assert!(rt; false, "two members may open a log"));
-    }
-    let mut log = Log::new(alloc, members.as_slice())?;
-    let mut tally = Tally::new(alloc, members.as_slice())?;
-    let leave = Entry::Leave { node: NodeId(0) };
-    assert!(rt; tally.may_count(log.entries(), &leave));
-    tally.count(alloc, log.entries(), &leave)?;
-    log.append(leave)?;
-    assert_eq!(rt;
-        (tally.epoch(log.entries()), tally.settled(log.entries())),
-        (Epoch(2), Epoch(1))
-    );
-    let recovered = Entry::Recovered {
-        node: NodeId(1),
-        epoch: Epoch(2),
-    };
-    assert!(rt; tally.may_count(log.entries(), &recovered));
-    tally.count(alloc, log.entries(), &recovered)?;
-    log.append(recovered)?;
-    assert_eq!(rt;
-        (tally.epoch(log.entries()), tally.settled(log.entries())),
-        (Epoch(2), Epoch(2))
-    );
-    assert_eq!(rt; tally.members(log.entries(), Epoch(2)).len(), 1);
-    assert_eq!(rt; tally.members(log.entries(), Epoch(1)).len(), 2);
-    assert!(rt; !tally.may_count(log.entries(), &Entry::Leave { node: NodeId(0) }));
+    assert_eq!(rt; asked, Some(299_997 + 99 + 100 * 500_499 - 3 * 999));
     Ok(())
 }

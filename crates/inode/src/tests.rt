@@ -94,6 +94,17 @@ fn cut(text: &[u8], separator: u8) -> (&[u8], &[u8]) {
     (text, b"")
 }
 
+/// Lays a run's bytes from its place on.
+fn lay(bytes: &mut [u8], first: usize, digits: &[u8]) {
+    let mut place = first;
+    for pair in digits.chunks_exact(2) {
+        if let ([high, low], Some(byte)) = (pair, bytes.get_mut(place)) {
+            *byte = digit(*high).wrapping_mul(16).wrapping_add(digit(*low));
+        }
+        place = place.wrapping_add(1);
+    }
+}
+
 /// The bytes that a row says: their number, then runs.
 fn bytes_of(alloc: Global, words: &[u8]) -> Result<Vec<u8>, Fail> {
     let (count, runs) = cut(words, b' ');
@@ -103,13 +114,7 @@ fn bytes_of(alloc: Global, words: &[u8]) -> Result<Vec<u8>, Fail> {
     }
     for run in runs.split(|letter| *letter == b' ') {
         let (place, digits) = cut(run, b':');
-        let mut place = number_of(place);
-        for pair in digits.chunks_exact(2) {
-            if let ([high, low], Some(byte)) = (pair, bytes.get_mut(place)) {
-                *byte = digit(*high).wrapping_mul(16).wrapping_add(digit(*low));
-            }
-            place = place.wrapping_add(1);
-        }
+        lay(bytes.as_mut_slice(), number_of(place), digits);
     }
     Ok(bytes)
 }
@@ -132,22 +137,31 @@ fn policy_text(alloc: Global, policy: Policy) -> Result<String, Fail> {
     })
 }
 
-fn inode_text(alloc: Global, inode: &Inode) -> Result<String, Fail> {
+fn names_text(alloc: Global, inode: &Inode) -> Result<String, Fail> {
     let name = text_of(alloc, inode.name())?;
     let tag = text_of(alloc, inode.tag())?;
-    let spec = inode.spec();
+    Ok(format!(in alloc; "{name} {tag}")?)
+}
+
+fn spec_text(alloc: Global, spec: VdiSpec) -> Result<String, Fail> {
     let policy = policy_text(alloc, spec.policy)?;
-    let front = format!(in alloc; "{name} {tag} {} {policy} {}", spec.size, spec.shift)?;
-    let mut text = format!(in alloc;
-        "{front} {} {} {}",
-        inode.snap_id(),
-        inode.vid().0,
-        inode.parent()
-    )?;
+    Ok(format!(in alloc; "{} {policy} {}", spec.size, spec.shift)?)
+}
+
+fn table_text(alloc: Global, inode: &Inode) -> Result<String, Fail> {
+    let mut text = String::new(alloc);
     for entry in inode.entries() {
         text.push_str(format!(in alloc; " {entry}")?.as_str())?;
     }
     Ok(text)
+}
+
+fn inode_text(alloc: Global, inode: &Inode) -> Result<String, Fail> {
+    let names = names_text(alloc, inode)?;
+    let spec = spec_text(alloc, inode.spec())?;
+    let table = table_text(alloc, inode)?;
+    let (snap_id, vid, parent) = (inode.snap_id(), inode.vid().0, inode.parent());
+    Ok(format!(in alloc; "{names} {spec} {snap_id} {vid} {parent}{table}")?)
 }
 
 /// What bytes are read as, and whether they are its spelling.
@@ -206,18 +220,22 @@ fn disk_a(alloc: Global) -> Result<Inode, Fail> {
     Ok(Inode::new(alloc, b"a", Vid(0x01_ec8c), 1, None, spec)?)
 }
 
-#[test]
-fn spells_a_new_inode(rt: HostRuntime) -> Result<(), Fail> {
-    let alloc = rt.alloc();
-    let bytes = disk_a(alloc)?.to_bytes(alloc)?;
-    let want = bytes_of(alloc, DISK_A)?;
-    assert_eq!(rt; bytes.as_slice(), want.as_slice());
-    Ok(())
+/// Whether a row has an inode's bytes.
+fn is_spelled_as(alloc: Global, inode: &Inode, row: &[u8]) -> Result<bool, Fail> {
+    let want = bytes_of(alloc, row)?;
+    let bytes = inode.to_bytes(alloc)?;
+    Ok(bytes.as_slice() == want.as_slice())
 }
 
 #[test]
-fn keeps_its_table(rt: HostRuntime) -> Result<(), Fail> {
-    let alloc = rt.alloc();
+fn spells_a_new_inode(rt: HostRuntime) -> Result<(), Fail> {
+    let inode = disk_a(rt.alloc())?;
+    assert!(rt; is_spelled_as(rt.alloc(), &inode, DISK_A)?);
+    Ok(())
+}
+
+/// The entries of a disk `b` once the second is set, a copy of its inode, and the inode once all three are set.
+fn tables_of_b(alloc: Global) -> Result<([u32; 3], Inode, Inode), Fail> {
     let spec = VdiSpec {
         size: 3 << 12,
         policy: Policy::Coded { d: 4, p: 2 },
@@ -225,31 +243,41 @@ fn keeps_its_table(rt: HostRuntime) -> Result<(), Fail> {
     };
     let mut inode = Inode::new(alloc, b"b", Vid(9), 2, Some(Vid(7)), spec)?;
     inode.set_entry(1, Vid(9));
-    assert_eq!(rt; (inode.entry(0), inode.entry(1), inode.entry(2)), (0, 9, 0));
+    let entries = [inode.entry(0), inode.entry(1), inode.entry(2)];
     let copy = inode.copy(alloc)?;
     inode.set_entries(&[7, 0, 7]);
-    assert_eq!(rt;
-        inode_text(alloc, &copy)?.as_str(),
-        "62 - 12288 4:2 12 2 9 7 0 9 0"
-    );
-    assert_eq!(rt;
-        inode_text(alloc, &inode)?.as_str(),
-        "62 - 12288 4:2 12 2 9 7 7 0 7"
-    );
+    Ok((entries, copy, inode))
+}
+
+/// Whether an inode is printed as this text.
+fn is_printed_as(alloc: Global, inode: Inode, text: &str) -> Result<bool, Fail> {
+    Ok(inode_text(alloc, &inode)?.as_str() == text)
+}
+
+#[test]
+fn keeps_its_table(rt: HostRuntime) -> Result<(), Fail> {
+    let (entries, copy, inode) = tables_of_b(rt.alloc())?;
+    assert_eq!(rt; entries, [0, 9, 0]);
+    assert!(rt; is_printed_as(rt.alloc(), copy, "62 - 12288 4:2 12 2 9 7 0 9 0")?);
+    assert!(rt; is_printed_as(rt.alloc(), inode, "62 - 12288 4:2 12 2 9 7 7 0 7")?);
     Ok(())
+}
+
+/// The disk `a` with its tag.
+fn disk_a_with_tag(alloc: Global) -> Result<Inode, Fail> {
+    let mut inode = disk_a(alloc)?;
+    inode.set_tag(alloc, b"monday")?;
+    Ok(inode)
 }
 
 #[test]
 fn writes_its_tag_behind_the_name(rt: HostRuntime) -> Result<(), Fail> {
-    let alloc = rt.alloc();
-    let mut inode = disk_a(alloc)?;
-    inode.set_tag(alloc, b"monday")?;
+    let inode = disk_a_with_tag(rt.alloc())?;
     assert_eq!(rt;
         (inode.name(), inode.tag()),
         (b"a".as_slice(), b"monday".as_slice())
     );
-    let want = bytes_of(alloc, DISK_A_WITH_TAG)?;
-    assert_eq!(rt; inode.to_bytes(alloc)?.as_slice(), want.as_slice());
+    assert!(rt; is_spelled_as(rt.alloc(), &inode, DISK_A_WITH_TAG)?);
     Ok(())
 }
 
@@ -264,20 +292,35 @@ fn reads_entries_of_short_bytes(rt: HostRuntime) -> Result<(), Fail> {
     Ok(())
 }
 
-/// Whether a fault is displayed as this text.
-fn is_said(alloc: Global, fault: InodeFault, text: &str) -> Result<bool, Fail> {
-    Ok(format!(in alloc; "{fault}")?.as_str() == text)
+/// What the faults say, a line each.
+fn faults_text(alloc: Global) -> Result<String, Fail> {
+    let mut text = String::new(alloc);
+    for fault in FAULTS {
+        text.push_str(format!(in alloc; "{fault}\n")?.as_str())?;
+    }
+    Ok(text)
 }
+
+const FAULTS: [InodeFault; 7] = [
+    InodeFault::ShortInode,
+    InodeFault::NameNotEnded,
+    InodeFault::BadShift,
+    InodeFault::BadPolicy,
+    InodeFault::BadSize,
+    InodeFault::BadEntry,
+    InodeFault::NoMemory,
+];
+
+const FAULTS_TEXT: &str = "the inode isn't whole\n\
+a name or tag has no end\n\
+the shift isn't 12 to 24\n\
+the policy isn't one\n\
+the size or the id isn't one\n\
+an entry is no disk's id\n\
+no memory\n";
 
 #[test]
 fn says_why_bytes_are_no_inode(rt: HostRuntime) -> Result<(), Fail> {
-    let alloc = rt.alloc();
-    assert!(rt; is_said(alloc, InodeFault::ShortInode, "the inode isn't whole")?);
-    assert!(rt; is_said(alloc, InodeFault::NameNotEnded, "a name or tag has no end")?);
-    assert!(rt; is_said(alloc, InodeFault::BadShift, "the shift isn't 12 to 24")?);
-    assert!(rt; is_said(alloc, InodeFault::BadPolicy, "the policy isn't one")?);
-    assert!(rt; is_said(alloc, InodeFault::BadSize, "the size or the id isn't one")?);
-    assert!(rt; is_said(alloc, InodeFault::BadEntry, "an entry is no disk's id")?);
-    assert!(rt; is_said(alloc, InodeFault::NoMemory, "no memory")?);
+    assert_eq!(rt; faults_text(rt.alloc())?.as_str(), FAULTS_TEXT);
     Ok(())
 }

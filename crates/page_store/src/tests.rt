@@ -6,6 +6,7 @@ ghost use Rattle.std.specs.FinMap as tree;
 use crate::PageStore;
 use object_id::{Epoch, NoMemory, Oid, Vid};
 use object_store::{Key, ObjStore, OidList, PlainStore, RowCopy, RowSummary, StoreFault};
+use std::alloc::Global;
 use std::marker::Model;
 use std::test::Fail;
 
@@ -124,33 +125,50 @@ fn key(vid: u32, object: u32, index: u8) -> Key {
     }
 }
 
+/// Makes a strip of three pages, with pieces over their bounds.
+fn lay_pieces<O: ObjStore>(node: &mut Tried<O>, strip: &Key) -> Result<(), StoreFault> {
+    node.create_long(strip, 1, 12_288, 6, &[5, 6])?;
+    node.write(strip, 4095, &[7, 8])?;
+    node.write(strip, 8191, &[9, 0])?;
+    node.write(strip, 12_286, &[4, 3])
+}
+
+/// The pairs of bytes from these offsets on, one behind another.
+fn pairs_at<O: ObjStore>(
+    alloc: Global,
+    node: &Tried<O>,
+    key: &Key,
+    offsets: &[u32],
+) -> Result<Vec<u8>, Fail> {
+    let mut bytes = Vec::new(alloc);
+    for offset in offsets {
+        bytes.extend_from_slice(&node.read(key, *offset)?)?;
+    }
+    Ok(bytes)
+}
+
 // The bytes of a piece that passes a page's end are in both pages, and what was never written is 0.
 #[test]
 fn lays_pieces_over_pages(rt: HostRuntime) -> Result<(), Fail> {
     let mut node = Tried::new(PageStore::new(rt.alloc()));
     let strip = key(1, 0, 3);
-    node.create_long(&strip, 1, 12_288, 6, &[5, 6])?;
-    node.write(&strip, 4095, &[7, 8])?;
-    node.write(&strip, 8191, &[9, 0])?;
-    node.write(&strip, 12_286, &[4, 3])?;
-    let pairs = [
-        (0, [0, 0]),
-        (6, [5, 6]),
-        (4094, [0, 7]),
-        (4096, [8, 0]),
-        (8190, [0, 9]),
-        (8192, [0, 0]),
-        (12_286, [4, 3]),
-    ];
-    for (offset, bytes) in pairs {
-        assert_eq!(rt; node.read(&strip, offset), Ok(bytes), "at {offset}");
-    }
-    for (key, fault) in [
-        (strip, StoreFault::OutOfObject),
-        (key(1, 0, 2), StoreFault::NoObj),
-    ] {
-        assert_eq!(rt; node.write(&key, 12_287, &[1, 2]), Err(fault));
-    }
+    lay_pieces(&mut node, &strip)?;
+    let offsets = [0, 6, 4094, 4096, 8190, 8192, 12_286];
+    let pairs = pairs_at(rt.alloc(), &node, &strip, &offsets)?;
+    let want = [0, 0, 5, 6, 0, 7, 8, 0, 0, 9, 0, 0, 4, 3];
+    assert_eq!(rt; pairs.as_slice(), want.as_slice());
+    Ok(())
+}
+
+#[test]
+fn refuses_to_write_past_the_row(rt: HostRuntime) -> Result<(), Fail> {
+    let mut node = Tried::new(PageStore::new(rt.alloc()));
+    let strip = key(1, 0, 3);
+    lay_pieces(&mut node, &strip)?;
+    let past = node.write(&strip, 12_287, &[1, 2]);
+    assert_eq!(rt; past, Err(StoreFault::OutOfObject));
+    let absent = node.write(&key(1, 0, 2), 12_287, &[1, 2]);
+    assert_eq!(rt; absent, Err(StoreFault::NoObj));
     Ok(())
 }
 
@@ -165,40 +183,91 @@ fn row_byte_at<O: ObjStore>(node: &Tried<O>, key: &Key, level: u32) -> Result<u8
     }
 }
 
+/// Makes a row in epoch 1 and again in epoch 2, and writes there.
+fn make_twice<O: ObjStore>(node: &mut Tried<O>, key: &Key) -> Result<(), StoreFault> {
+    node.create(key, 1, 0, &[1])?;
+    node.create(key, 2, 0, &[2])?;
+    node.write(key, 0, &[3])
+}
+
+/// The first byte of the row at levels 1 and 2.
+fn first_bytes<O: ObjStore>(node: &Tried<O>, key: &Key) -> Result<(u8, u8), NoMemory> {
+    let old = row_byte_at(node, key, 1)?;
+    Ok((old, row_byte_at(node, key, 2)?))
+}
+
 #[test]
 fn a_closed_row_stays_as_it_was(rt: HostRuntime) -> Result<(), Fail> {
     let mut node = Tried::new(PageStore::new(rt.alloc()));
     let first = key(1, 0, 0);
-    node.create(&first, 1, 0, &[1])?;
-    node.create(&first, 2, 0, &[2])?;
-    node.write(&first, 0, &[3])?;
-    for (level, byte) in [(1, 1), (2, 3)] {
-        assert_eq!(rt; row_byte_at(&node, &first, level), Ok(byte), "at {level}");
-    }
+    make_twice(&mut node, &first)?;
+    assert_eq!(rt; first_bytes(&node, &first), Ok((1, 3)));
     node.advance(3, &[]);
     assert_eq!(rt; node.read(&first, 0), Err(StoreFault::NoObj));
     assert_eq!(rt; row_byte_at(&node, &first, 3), Ok(0));
-    node.purge_below(2);
-    for (level, byte) in [(1, 0), (2, 3)] {
-        assert_eq!(rt; row_byte_at(&node, &first, level), Ok(byte), "at {level}");
-    }
     Ok(())
 }
 
-// The last byte that isn't 0 is in the second page; the third was written with zeros.
+#[test]
+fn purges_rows_below_the_settled_epoch(rt: HostRuntime) -> Result<(), Fail> {
+    let mut node = Tried::new(PageStore::new(rt.alloc()));
+    let first = key(1, 0, 0);
+    make_twice(&mut node, &first)?;
+    node.advance(3, &[]);
+    node.purge_below(2);
+    assert_eq!(rt; first_bytes(&node, &first), Ok((0, 3)));
+    Ok(())
+}
+
+/// Makes a strip with its last byte that isn't 0 in the second page; the third was written with zeros.
+fn lay_zeros<O: ObjStore>(node: &mut Tried<O>, strip: &Key) -> Result<(), StoreFault> {
+    node.create_long(strip, 1, 12_288, 4095, &[5, 0, 6, 0])?;
+    node.write(strip, 9000, &[0, 0])
+}
+
+/// The row at level 1.
+fn first_row<O: ObjStore>(node: &Tried<O>, key: &Key) -> Result<RowCopy, StoreFault> {
+    node.row_at(key, 1)?.ok_or(StoreFault::NoObj)
+}
+
 #[test]
 fn copies_up_to_the_last_byte(rt: HostRuntime) -> Result<(), Fail> {
     let mut node = Tried::new(PageStore::new(rt.alloc()));
     let strip = key(1, 0, 3);
-    node.create_long(&strip, 1, 12_288, 4095, &[5, 0, 6, 0])?;
-    node.write(&strip, 9000, &[0, 0])?;
-    let row = node.row_at(&strip, 1)?.ok_or(StoreFault::NoObj)?;
+    lay_zeros(&mut node, &strip)?;
+    let row = first_row(&node, &strip)?;
     assert_eq!(rt; (row.index, row.length), (3, 12_288));
+    let bytes = row.bytes.as_slice();
+    assert_eq!(rt;
+        (bytes.len(), bytes.last(), bytes.get(4095)),
+        (4098, Some(&6), Some(&5))
+    );
+    Ok(())
+}
+
+#[test]
+fn says_how_long_an_open_row_is(rt: HostRuntime) -> Result<(), Fail> {
+    let mut node = Tried::new(PageStore::new(rt.alloc()));
+    let strip = key(1, 0, 3);
+    lay_zeros(&mut node, &strip)?;
     assert_eq!(rt; node.open_length(&strip), Some(12_288));
     assert_eq!(rt; node.open_length(&key(1, 0, 2)), None);
-    assert_eq!(rt; row.bytes.as_slice().len(), 4098);
-    assert_eq!(rt; row.bytes.as_slice().last(), Some(&6));
-    assert_eq!(rt; row.bytes.as_slice().get(4095), Some(&5));
+    Ok(())
+}
+
+/// Makes a row of the greatest length, and writes its last two bytes.
+fn make_longest<O: ObjStore>(node: &mut Tried<O>, key: &Key) -> Result<(), StoreFault> {
+    node.create_long(key, 1, 16_777_216, 0, &[3])?;
+    node.write(key, 16_777_214, &[5, 6])
+}
+
+#[test]
+fn reads_the_end_of_the_longest_row(rt: HostRuntime) -> Result<(), Fail> {
+    let mut node = Tried::new(PageStore::new(rt.alloc()));
+    let last = key(1, 9, 0);
+    make_longest(&mut node, &last)?;
+    assert_eq!(rt; node.read(&last, 16_777_214), Ok([5, 6]));
+    assert_eq!(rt; node.read(&last, 16_777_215), Err(StoreFault::OutOfObject));
     Ok(())
 }
 
@@ -207,26 +276,41 @@ fn copies_up_to_the_last_byte(rt: HostRuntime) -> Result<(), Fail> {
 fn keeps_a_row_of_the_greatest_length(rt: HostRuntime) -> Result<(), Fail> {
     let mut node = Tried::new(PageStore::new(rt.alloc()));
     let last = key(1, 9, 0);
-    node.create_long(&last, 1, 16_777_216, 0, &[3])?;
-    node.write(&last, 16_777_214, &[5, 6])?;
-    assert_eq!(rt; node.read(&last, 16_777_214), Ok([5, 6]));
-    assert_eq!(rt; node.read(&last, 16_777_215), Err(StoreFault::OutOfObject));
-    let row = node.row_at(&last, 1)?.ok_or(StoreFault::NoObj)?;
+    make_longest(&mut node, &last)?;
+    let row = first_row(&node, &last)?;
     assert_eq!(rt; row.bytes.as_slice().len(), 16_777_216);
+    Ok(())
+}
+
+/// Rows of disk 3 and of disk 2: only the second outlives the advance.
+fn three_keys() -> [Key; 3] {
+    [key(3, 0, 0), key(2, 1, 1), key(2, 0, 0)]
+}
+
+/// Makes the three rows, and advances. Another index of an object is another row.
+fn keep_second<O: ObjStore>(node: &mut Tried<O>) -> Result<(), StoreFault> {
+    for key in three_keys() {
+        node.create(&key, 1, 0, &[1])?;
+    }
+    node.advance(2, &[key(2, 1, 1), key(2, 0, 1)]);
     Ok(())
 }
 
 #[test]
 fn keeps_the_rows_that_are_named(rt: HostRuntime) -> Result<(), Fail> {
     let mut node = Tried::new(PageStore::new(rt.alloc()));
-    let [other, kept, closed] = [key(3, 0, 0), key(2, 1, 1), key(2, 0, 0)];
-    for key in [other, kept, closed] {
-        node.create(&key, 1, 0, &[1])?;
-    }
-    // Another index of an object is another row.
-    node.advance(2, &[kept, key(2, 0, 1)]);
+    keep_second(&mut node)?;
+    let [_, kept, closed] = three_keys();
     assert_eq!(rt; node.read(&kept, 0), Ok([1, 0]));
     assert_eq!(rt; node.read(&closed, 0), Err(StoreFault::NoObj));
+    Ok(())
+}
+
+#[test]
+fn drops_a_disk_and_closes_all(rt: HostRuntime) -> Result<(), Fail> {
+    let mut node = Tried::new(PageStore::new(rt.alloc()));
+    keep_second(&mut node)?;
+    let [_, kept, closed] = three_keys();
     node.drop_vid(3);
     assert_eq!(rt; node.list()?.as_slice(), [closed.oid, kept.oid].as_slice());
     node.close_all(2);
@@ -264,10 +348,19 @@ fn hash_of<O: ObjStore>(node: &mut Tried<O>) -> Result<u64, StoreFault> {
     }
 }
 
+fn hash_in_pages(alloc: Global) -> Result<u64, StoreFault> {
+    let mut node = Tried::new(PageStore::new(alloc));
+    hash_of(&mut node)
+}
+
+fn hash_in_plain_store(alloc: Global) -> Result<u64, StoreFault> {
+    let mut node = Tried::new(PlainStore::new(alloc));
+    hash_of(&mut node)
+}
+
 #[test]
 fn hashes_as_a_plain_store_does(rt: HostRuntime) -> Result<(), Fail> {
-    let mut pages = Tried::new(PageStore::new(rt.alloc()));
-    let mut plain = Tried::new(PlainStore::new(rt.alloc()));
-    assert_eq!(rt; hash_of(&mut pages)?, hash_of(&mut plain)?);
+    let hash = hash_in_pages(rt.alloc())?;
+    assert_eq!(rt; hash, hash_in_plain_store(rt.alloc())?);
     Ok(())
 }

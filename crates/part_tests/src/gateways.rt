@@ -194,11 +194,15 @@ fn begun(
 }
 
 /// What comes of a reply to a message; `None` if it doesn't fit.
-fn replied(gateway: &mut Gateway, number: u32, say: PeerSay) -> Result<Option<Act>, NoMemory> {
+fn replied(
+    gateway: &mut Gateway,
+    number: u32,
+    say: Result<PeerSay, NoMemory>,
+) -> Result<Option<Act>, NoMemory> {
     let rsp = PeerRsp {
         number,
         epoch: Epoch(1),
-        say,
+        say: say?,
     };
     if gateway.fits(&rsp) {
         Ok(Some(gateway.on_reply(&rsp)?))
@@ -228,33 +232,52 @@ fn is_done(act: &Option<Act>, bytes: &[u8]) -> bool {
 }
 
 /// Whether a reply fits no message.
-fn fits_nothing(gateway: &mut Gateway, number: u32, say: PeerSay) -> Result<bool, NoMemory> {
-    Ok(replied(gateway, number, say)?.is_none())
+fn fits_nothing(gateway: &mut Gateway, number: u32, say: Result<PeerSay, NoMemory>) -> bool {
+    match replied(gateway, number, say) {
+        Ok(act) => act.is_none(),
+        Err(NoMemory) => false,
+    }
 }
 
 /// Whether the work goes on after a reply.
-fn waits_on(gateway: &mut Gateway, number: u32, say: PeerSay) -> Result<bool, NoMemory> {
-    Ok(is_wait(&replied(gateway, number, say)?))
+fn waits_on(gateway: &mut Gateway, number: u32, say: Result<PeerSay, NoMemory>) -> bool {
+    match replied(gateway, number, say) {
+        Ok(act) => is_wait(&act),
+        Err(NoMemory) => false,
+    }
 }
 
 /// Whether a reply ends the work, which gives these bytes.
-fn ends(gateway: &mut Gateway, number: u32, say: PeerSay, bytes: &[u8]) -> Result<bool, NoMemory> {
-    Ok(is_done(&replied(gateway, number, say)?, bytes))
+fn ends(gateway: &mut Gateway, number: u32, say: Result<PeerSay, NoMemory>, bytes: &[u8]) -> bool {
+    match replied(gateway, number, say) {
+        Ok(act) => is_done(&act, bytes),
+        Err(NoMemory) => false,
+    }
 }
 
-/// Whether a reply would end the work, which gives these bytes.
-fn would_end(gateway: &Gateway, number: u32, say: PeerSay, bytes: &[u8]) -> Result<bool, NoMemory> {
+/// What the work would give by a reply, if that ended it.
+fn done_by(
+    gateway: &Gateway,
+    number: u32,
+    say: Result<PeerSay, NoMemory>,
+) -> Result<Option<WorkDone>, NoMemory> {
     let rsp = PeerRsp {
         number,
         epoch: Epoch(1),
-        say,
+        say: say?,
     };
-    if !gateway.fits(&rsp) {
-        return Ok(false);
+    if gateway.fits(&rsp) {
+        gateway.work_done_by(&rsp)
+    } else {
+        Ok(None)
     }
-    match gateway.work_done_by(&rsp)? {
-        Some(done) => Ok(done.req == 4 && done.bytes.as_slice() == bytes),
-        None => Ok(false),
+}
+
+/// Whether a reply would end the work, which gives these bytes.
+fn would_end(gateway: &Gateway, number: u32, say: Result<PeerSay, NoMemory>, bytes: &[u8]) -> bool {
+    match &done_by(gateway, number, say) {
+        Ok(Some(done)) => done.req == 4 && done.bytes.as_slice() == bytes,
+        _ => false,
     }
 }
 
@@ -279,8 +302,11 @@ fn is_tried_again(gateway: &mut Gateway, place: &Placement) -> Result<bool, NoMe
 }
 
 /// Whether nobody waits for a message, so that its loss is none.
-fn loses_nothing(gateway: &mut Gateway, number: u32) -> Result<bool, NoMemory> {
-    Ok(lost(gateway, number)?.is_none())
+fn loses_nothing(gateway: &mut Gateway, number: u32) -> bool {
+    match lost(gateway, number) {
+        Ok(act) => act.is_none(),
+        Err(NoMemory) => false,
+    }
 }
 
 fn piece(alloc: Global, bytes: &[u8]) -> Result<PeerSay, NoMemory> {
@@ -299,26 +325,35 @@ fn a_write(alloc: Global) -> Result<ObjWork, NoMemory>
     })
 }
 
+/// A write that began among three nodes.
+fn begun_write(rt: &impl Abort, alloc: Global) -> Result<Gateway, NoMemory> {
+    begun(rt, alloc, 3, 8, a_write(alloc)?, 2)
+}
+
 #[test]
-fn writes_to_each_copy(rt: HostRuntime) -> Result<(), Fail> {
-    let alloc = rt.alloc();
-    let mut gateway = begun(&rt, alloc, 3, 8, a_write(alloc)?, 2)?;
+fn waits_for_each_copy(rt: HostRuntime) -> Result<(), Fail> {
+    let mut gateway = begun_write(&rt, rt.alloc())?;
     assert!(rt; gateway.waits_for(11));
     assert!(rt; !gateway.waits_for(12));
-    assert!(rt; fits_nothing(&mut gateway, 10, piece(alloc, b"data")?)?);
-    assert!(rt; waits_on(&mut gateway, 11, PeerSay::Success)?);
+    assert!(rt; fits_nothing(&mut gateway, 10, piece(rt.alloc(), b"data")));
+    Ok(())
+}
+
+#[test]
+fn writes_to_each_copy(rt: HostRuntime) -> Result<(), Fail> {
+    let mut gateway = begun_write(&rt, rt.alloc())?;
+    assert!(rt; waits_on(&mut gateway, 11, Ok(PeerSay::Success)));
     assert!(rt; !gateway.can_retry(Epoch(1)));
-    assert!(rt; ends(&mut gateway, 10, PeerSay::Success, &[])?);
+    assert!(rt; ends(&mut gateway, 10, Ok(PeerSay::Success), &[]));
     Ok(())
 }
 
 #[test]
 fn tries_again_after_a_loss(rt: HostRuntime) -> Result<(), Fail> {
-    let alloc = rt.alloc();
-    let mut gateway = begun(&rt, alloc, 3, 8, a_write(alloc)?, 2)?;
-    assert!(rt; outlives(&mut gateway, 10)?);
-    assert!(rt; loses_nothing(&mut gateway, 10)?);
-    assert!(rt; outlives(&mut gateway, 11)?);
+    let mut gateway = begun_write(&rt, rt.alloc())?;
+    assert!(rt; outlives(&mut gateway, 10) == Ok(true));
+    assert!(rt; loses_nothing(&mut gateway, 10));
+    assert!(rt; outlives(&mut gateway, 11) == Ok(true));
     assert!(rt; gateway.can_retry(Epoch(1)));
     Ok(())
 }
@@ -385,11 +420,11 @@ fn ones_and_twos(alloc: Global) -> Result<Vec<u8>, NoMemory> {
 #[test]
 fn reads_through_parity(rt: HostRuntime) -> Result<(), Fail> {
     let alloc = rt.alloc();
-    let mut gateway = begun(&rt, alloc, 3, 1, a_coded_read(), 3)?;
     let block = ones_and_twos(alloc)?;
-    assert!(rt; waits_on(&mut gateway, 12, piece(alloc, &[7; 256])?)?);
-    assert!(rt; outlives(&mut gateway, 10)?);
-    assert!(rt; ends(&mut gateway, 11, piece(alloc, &[2; 256])?, block.as_slice())?);
+    let mut gateway = begun(&rt, alloc, 3, 1, a_coded_read(), 3)?;
+    assert!(rt; waits_on(&mut gateway, 12, piece(alloc, &[7; 256])));
+    assert!(rt; outlives(&mut gateway, 10) == Ok(true));
+    assert!(rt; ends(&mut gateway, 11, piece(alloc, &[2; 256]), block.as_slice()));
     Ok(())
 }
 
@@ -409,9 +444,9 @@ fn reads_all_copies(rt: HostRuntime) -> Result<(), Fail> {
     let alloc = rt.alloc();
     let mut gateway = begun(&rt, alloc, 2, 1, a_read_of_all(), 2)?;
     assert_eq!(rt; gateway.asker(11), Some(4));
-    assert!(rt; waits_on(&mut gateway, 11, piece(alloc, b"2")?)?);
-    assert!(rt; would_end(&gateway, 10, piece(alloc, b"1")?, b"12")?);
-    assert!(rt; ends(&mut gateway, 10, piece(alloc, b"1")?, b"12")?);
+    assert!(rt; waits_on(&mut gateway, 11, piece(alloc, b"2")));
+    assert!(rt; would_end(&gateway, 10, piece(alloc, b"1"), b"12"));
+    assert!(rt; ends(&mut gateway, 10, piece(alloc, b"1"), b"12"));
     Ok(())
 }
 
@@ -438,7 +473,7 @@ fn is_refused_as_old(act: &Option<Act>) -> bool {
 fn refuses_with_the_cause(rt: HostRuntime) -> Result<(), Fail> {
     let mut gateway = begun(&rt, rt.alloc(), 2, 1, a_read(), 1)?;
     let old = PeerSay::Refused(Refusal::OldEpoch { own: Epoch(3) });
-    assert!(rt; is_refused_as_old(&replied(&mut gateway, 10, old)?));
+    assert!(rt; is_refused_as_old(&replied(&mut gateway, 10, Ok(old))?));
     assert!(rt; !gateway.can_retry(Epoch(1)));
     Ok(())
 }
@@ -479,6 +514,6 @@ fn halts_for_want_of_zones(rt: HostRuntime) -> Result<(), Fail> {
     let (mut gateway, act) = first_step(&rt, alloc, 2, 2, a_create(alloc))?;
     assert!(rt; is_halted(&act));
     assert!(rt; !gateway.can_retry(Epoch(2)));
-    assert!(rt; loses_nothing(&mut gateway, 10)?);
+    assert!(rt; loses_nothing(&mut gateway, 10));
     Ok(())
 }

@@ -20,26 +20,52 @@ use std::alloc::Global;
 use std::test::Fail;
 use vdi_directory::{Directory, nobody_holds_at_first};
 
-#[test]
-fn tells_what_became_of_requests(rt: HostRuntime) -> Result<(), Fail> {
-    let alloc = rt.alloc();
+/// The lines of requests that were answered.
+fn answered_lines(alloc: Global) -> Result<Vec<u8>, NoMemory> {
+    let piece = Bytes::from_slice(alloc, &[7, 7, 7, 0, 0, 171])?;
     let mut text = Vec::new(alloc);
     push_answered(&mut text, 1, &GuestRsp::Done)?;
     push_answered(&mut text, 2, &GuestRsp::Granted { vid: Vid(7) })?;
-    let piece = Bytes::from_slice(alloc, &[7, 7, 7, 0, 0, 171])?;
     push_answered(&mut text, 4, &GuestRsp::Piece(piece))?;
-    push_gone(&mut text, 10)?;
-    push_pending(&mut text, 11)?;
-    push_unsent(&mut text, 4_294_967_295)?;
-    let lines = b"1 ok\n2 ok\n4 ok 07*3 00*2 ab*1\n10 gone\n11 pending\n4294967295 unsent\n";
+    Ok(text)
+}
+
+#[test]
+fn tells_what_requests_gave(rt: HostRuntime) -> Result<(), Fail> {
+    let text = answered_lines(rt.alloc())?;
+    let lines = b"1 ok\n2 ok\n4 ok 07*3 00*2 ab*1\n";
     assert_eq!(rt; text.as_slice(), lines.as_slice());
     Ok(())
 }
 
+/// The lines of requests that weren't.
+fn unanswered_lines(alloc: Global) -> Result<Vec<u8>, NoMemory> {
+    let mut text = Vec::new(alloc);
+    push_gone(&mut text, 10)?;
+    push_pending(&mut text, 11)?;
+    push_unsent(&mut text, 4_294_967_295)?;
+    Ok(text)
+}
+
+#[test]
+fn tells_what_became_of_requests(rt: HostRuntime) -> Result<(), Fail> {
+    let text = unanswered_lines(rt.alloc())?;
+    let lines = b"10 gone\n11 pending\n4294967295 unsent\n";
+    assert_eq!(rt; text.as_slice(), lines.as_slice());
+    Ok(())
+}
+
+/// The lines of requests that were refused for these causes.
+fn refused_lines(alloc: Global, causes: [Cause; 3]) -> Result<Vec<u8>, NoMemory> {
+    let mut text = Vec::new(alloc);
+    for cause in causes {
+        push_answered(&mut text, 3, &GuestRsp::Refused(cause))?;
+    }
+    Ok(text)
+}
+
 #[test]
 fn tells_refusals(rt: HostRuntime) -> Result<(), Fail> {
-    let (node, own, peer) = (NodeId(2), Epoch(1), Epoch(3));
-    let oid = Oid::inode(Vid(0x01_ec8c));
     let causes = [
         Cause::VdiLocked { session: 1 },
         Cause::FullVdi,
@@ -47,34 +73,48 @@ fn tells_refusals(rt: HostRuntime) -> Result<(), Fail> {
             members: 2,
             wanted: 3,
         },
-        Cause::OldEpoch { node, own, peer },
-        Cause::Recovery { node, epoch: peer },
-        Cause::NoObj { node, oid },
     ];
-    let mut text = Vec::new(rt.alloc());
-    for cause in causes {
-        push_answered(&mut text, 3, &GuestRsp::Refused(cause))?;
-    }
+    let text = refused_lines(rt.alloc(), causes)?;
     let lines =
-        b"3 refused 07 VDI_LOCKED session 1\n3 refused 13 FULL_VDI\n3 refused 19 HALT members 2 wanted 3\n\
-3 refused 81 OLD_EPOCH node 2 own 1 peer 3\n3 refused 83 RECOVERY node 2 epoch 3\n\
-3 refused 02 NO_OBJ node 2 oid 8001ec8c00000000\n";
+        b"3 refused 07 VDI_LOCKED session 1\n3 refused 13 FULL_VDI\n3 refused 19 HALT members 2 wanted 3\n";
     assert_eq!(rt; text.as_slice(), lines.as_slice());
     Ok(())
 }
 
 #[test]
-fn tells_what_a_check_found(rt: HostRuntime) -> Result<(), Fail> {
-    let mut differed = OidList::new(rt.alloc());
+fn tells_refusals_by_a_node(rt: HostRuntime) -> Result<(), Fail> {
+    let (node, own, peer) = (NodeId(2), Epoch(1), Epoch(3));
+    let oid = Oid::inode(Vid(0x01_ec8c));
+    let causes = [
+        Cause::OldEpoch { node, own, peer },
+        Cause::Recovery { node, epoch: peer },
+        Cause::NoObj { node, oid },
+    ];
+    let text = refused_lines(rt.alloc(), causes)?;
+    let lines =
+        b"3 refused 81 OLD_EPOCH node 2 own 1 peer 3\n3 refused 83 RECOVERY node 2 epoch 3\n\
+3 refused 02 NO_OBJ node 2 oid 8001ec8c00000000\n";
+    assert_eq!(rt; text.as_slice(), lines.as_slice());
+    Ok(())
+}
+
+/// A check of three objects, of which two differed.
+fn a_check(alloc: Global) -> Result<Checked, NoMemory> {
+    let mut differed = OidList::new(alloc);
     differed.push(Oid::object(Vid(0x01_ec8c), 0))?;
     differed.push(Oid::object(Vid(0x01_ec8c), 16))?;
-    let found = Checked {
+    Ok(Checked {
         objects: 3,
         inherited: 12,
         differed,
-    };
+    })
+}
+
+#[test]
+fn tells_what_a_check_found(rt: HostRuntime) -> Result<(), Fail> {
+    let found = GuestRsp::Checked(a_check(rt.alloc())?);
     let mut text = Vec::new(rt.alloc());
-    push_answered(&mut text, 5, &GuestRsp::Checked(found))?;
+    push_answered(&mut text, 5, &found)?;
     let line = b"5 ok objects 3 inherited 12 differed 2 0001ec8c00000000 0001ec8c00000010\n";
     assert_eq!(rt; text.as_slice(), line.as_slice());
     Ok(())
@@ -133,67 +173,106 @@ fn reserve(alloc: Global, name: &[u8], origin: Origin) -> Result<Entry, NoMemory
     })
 }
 
-// A disk of three copies is opened and becomes a snapshot, and a coded disk is made.
-#[test]
-fn lists_disks(rt: HostRuntime) -> Result<(), Fail> {
-    let alloc = rt.alloc();
-    nobody_holds_at_first();
+fn opened_log(alloc: Global) -> Result<Log, NoMemory> {
     let opening = [member(0)];
     if !Log::may_open(&opening) {
-        return Ok(assert!(rt; false, "not a log"));
+        return Err(NoMemory);
     }
-    let log = Log::new(alloc, &opening)?;
-    let mut directory = Directory::new(alloc);
-    let mut locks = Locks::new(alloc);
-    let by = NodeId(0);
-    let spec = VdiSpec {
-        size: 0x10_0000,
-        policy: Policy::Copies(3),
-        shift: 22,
-    };
-    let (old, vid) = (Vid(0x01_ec8c), Vid(0x01_ec8d));
-    let fresh = reserve(alloc, b"a", Origin::Fresh { spec })?;
-    read(&log, &mut directory, &mut locks, &fresh)?;
-    read(
-        &log,
-        &mut directory,
-        &mut locks,
-        &Entry::Publish { by, vid: old },
-    )?;
+    Log::new(alloc, &opening)
+}
+
+const OLD: Vid = Vid(0x01_ec8c);
+
+/// Session 1 makes a disk `a` of three copies, and opens it.
+fn open_a_disk(
+    alloc: Global,
+    log: &Log,
+    directory: &mut Directory,
+    locks: &mut Locks,
+) -> Result<(), NoMemory>
+    requires { AreLocks (log_effects directory.old) locks.old }
+    ensures { OnOk result (AreLocks (log_effects directory.new) locks.new) }
+{
+    make_disk(alloc, log, directory, locks, b"a", OLD, COPIED)?;
     let lock = Entry::Lock {
-        by,
+        by: NodeId(0),
         session: 1,
         name: Bytes::from_slice(alloc, b"a")?,
         tag: None,
     };
-    read(&log, &mut directory, &mut locks, &lock)?;
+    read(log, directory, locks, &lock)
+}
+
+const COPIED: VdiSpec = VdiSpec {
+    size: 0x10_0000,
+    policy: Policy::Copies(3),
+    shift: 22,
+};
+
+const CODED: VdiSpec = VdiSpec {
+    size: 0x80_0000,
+    policy: Policy::Coded { d: 4, p: 2 },
+    shift: 20,
+};
+
+/// Session 1 makes a disk.
+fn make_disk(
+    alloc: Global,
+    log: &Log,
+    directory: &mut Directory,
+    locks: &mut Locks,
+    name: &[u8],
+    vid: Vid,
+    spec: VdiSpec,
+) -> Result<(), NoMemory>
+    requires { AreLocks (log_effects directory.old) locks.old }
+    ensures { OnOk result (AreLocks (log_effects directory.new) locks.new) }
+{
+    let fresh = reserve(alloc, name, Origin::Fresh { spec })?;
+    read(log, directory, locks, &fresh)?;
+    let by = NodeId(0);
+    read(log, directory, locks, &Entry::Publish { by, vid })
+}
+
+/// The disk `a` becomes a snapshot.
+fn make_snapshot(
+    alloc: Global,
+    log: &Log,
+    directory: &mut Directory,
+    locks: &mut Locks,
+) -> Result<(), NoMemory>
+    requires { AreLocks (log_effects directory.old) locks.old }
+    ensures { OnOk result (AreLocks (log_effects directory.new) locks.new) }
+{
     let tag = Bytes::from_slice(alloc, b"t1")?;
     let next = reserve(alloc, b"a", Origin::SnapshotOf { tag })?;
-    read(&log, &mut directory, &mut locks, &next)?;
-    read(
-        &log,
-        &mut directory,
-        &mut locks,
-        &Entry::Snapshot { by, old, vid },
-    )?;
-    let spec = VdiSpec {
-        size: 0x80_0000,
-        policy: Policy::Coded { d: 4, p: 2 },
-        shift: 20,
+    read(log, directory, locks, &next)?;
+    let snapshot = Entry::Snapshot {
+        by: NodeId(0),
+        old: OLD,
+        vid: Vid(0x01_ec8d),
     };
-    let coded = reserve(alloc, b"b", Origin::Fresh { spec })?;
-    read(&log, &mut directory, &mut locks, &coded)?;
-    read(
-        &log,
-        &mut directory,
-        &mut locks,
-        &Entry::Publish {
-            by,
-            vid: Vid(0x01_f1a5),
-        },
-    )?;
+    read(log, directory, locks, &snapshot)
+}
+
+/// A disk of three copies is opened and becomes a snapshot, and a coded disk is made.
+fn three_disks_lines(alloc: Global) -> Result<Vec<u8>, NoMemory> {
+    nobody_holds_at_first();
+    let log = opened_log(alloc)?;
+    let mut directory = Directory::new(alloc);
+    let mut locks = Locks::new(alloc);
+    open_a_disk(alloc, &log, &mut directory, &mut locks)?;
+    make_snapshot(alloc, &log, &mut directory, &mut locks)?;
+    let vid = Vid(0x01_f1a5);
+    make_disk(alloc, &log, &mut directory, &mut locks, b"b", vid, CODED)?;
     let mut text = Vec::new(alloc);
     push_vdis(&mut text, &directory, &locks)?;
+    Ok(text)
+}
+
+#[test]
+fn lists_disks(rt: HostRuntime) -> Result<(), Fail> {
+    let text = three_disks_lines(rt.alloc())?;
     let lines =
         b"vdi 01ec8c a t1 1048576 3 22 000000 snapshot\nvdi 01ec8d a - 1048576 3 22 01ec8c session 1\n\
 vdi 01f1a5 b - 8388608 4:2 20 000000 free\n";
@@ -207,22 +286,31 @@ fn fresh(alloc: Global) -> PeerState<PlainStore> {
     PeerState::new(alloc, store, Epoch(1))
 }
 
-#[test]
-fn lists_a_node_and_its_rows(rt: HostRuntime) -> Result<(), Fail> {
-    let alloc = rt.alloc();
+/// A peer of epoch 1 with three rows.
+fn peer_with_rows(alloc: Global) -> Result<PeerState<PlainStore>, NoMemory> {
     let mut peer = fresh(alloc);
     for number in [3, 0, 1] {
         let oid = Oid::object(Vid(0x01_ec8c), u32::from(number));
         peer.put_row(Key { oid, index: number }, 512, b"a\0")?;
     }
-    let mut text = Vec::new(alloc);
+    Ok(peer)
+}
+
+#[test]
+fn lists_a_node(rt: HostRuntime) -> Result<(), Fail> {
+    let peer = peer_with_rows(rt.alloc())?;
+    let mut text = Vec::new(rt.alloc());
     push_peer(&mut text, 64, &peer)?;
-    assert_eq!(rt;
-        text.as_slice(),
-        b" vnodes 64 epoch 1 rows 3 pending 0".as_slice()
-    );
-    text.clear();
-    push_stored(alloc, &mut text, NodeId(3), peer.store())?;
+    let line = b" vnodes 64 epoch 1 rows 3 pending 0";
+    assert_eq!(rt; text.as_slice(), line.as_slice());
+    Ok(())
+}
+
+#[test]
+fn lists_the_rows_of_a_node(rt: HostRuntime) -> Result<(), Fail> {
+    let peer = peer_with_rows(rt.alloc())?;
+    let mut text = Vec::new(rt.alloc());
+    push_stored(rt.alloc(), &mut text, NodeId(3), peer.store())?;
     let lines =
         b"row 3 0001ec8c00000000 0 1 - af63dc4c8601ec8c\nrow 3 0001ec8c00000001 1 1 - af63dc4c8601ec8c\n\
 row 3 0001ec8c00000003 3 1 - af63dc4c8601ec8c\n";

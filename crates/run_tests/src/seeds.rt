@@ -11,20 +11,20 @@ use sheep_world::{Run, World};
 use std::alloc::Global;
 use std::test::Fail;
 
-// A number, how many bytes its script has, and their hash.
-const SCRIPTS: [(u64, usize, u64); 3] = [
-    (0, 6679, 0x8447_0f60_394d_0f59),
-    (1, 6711, 0xa243_466c_3627_fffb),
-    (u64::MAX, 6752, 0x3fea_8930_b780_0f64),
-];
+/// How many bytes the script of a number has, and their hash.
+fn generated(alloc: Global, number: u64) -> Result<(usize, u64), Fail> {
+    let text = generated_text(alloc, number)?;
+    Ok((text.len(), fnv1a(text.as_slice())))
+}
 
 #[test]
 fn generates_whole_scripts(rt: HostRuntime) -> Result<(), Fail> {
-    for (number, bytes, hash) in SCRIPTS {
-        let text = generated_text(rt.alloc(), number)?;
-        assert_eq!(rt; text.len(), bytes, "{number}");
-        assert_eq!(rt; fnv1a(text.as_slice()), hash, "{number}");
-    }
+    assert_eq!(rt; generated(rt.alloc(), 0)?, (6679, 0x8447_0f60_394d_0f59));
+    assert_eq!(rt; generated(rt.alloc(), 1)?, (6711, 0xa243_466c_3627_fffb));
+    assert_eq!(rt;
+        generated(rt.alloc(), u64::MAX)?,
+        (6752, 0x3fea_8930_b780_0f64)
+    );
     Ok(())
 }
 
@@ -82,13 +82,16 @@ fn run_of(alloc: Global, text: &[u8], seed: u64) -> Result<Run, RunFault> {
     Ok(run_seeded(alloc, &script, seed)?)
 }
 
+/// Whether a seed gives the only run.
+fn makes_it(alloc: Global, seed: u64) -> Result<bool, RunFault> {
+    let run = run_of(alloc, ONE_DISK, seed)?;
+    Ok(run.events() == ONE_DISK_EVENTS.as_slice())
+}
+
 #[test]
 fn makes_the_only_run(rt: HostRuntime) {
     for seed in [0, 1, u64::MAX] {
-        match run_of(rt.alloc(), ONE_DISK, seed) {
-            Ok(run) => assert_eq!(rt; run.events(), ONE_DISK_EVENTS.as_slice(), "{seed}"),
-            Err(fault) => assert!(rt; false, "{fault:?}"),
-        }
+        assert_eq!(rt; makes_it(rt.alloc(), seed), Ok(true), "{seed}");
     }
 }
 
@@ -105,19 +108,22 @@ fn stop_of(alloc: Global, text: &[u8], events: &[Event]) -> Result<Option<u32>, 
     }
 }
 
+const GUEST: Event = Event::Guest { session: 1 };
+
+const PUT: Event = Event::Put { node: NODE };
+
+#[test]
+fn makes_events_that_may_happen(rt: HostRuntime) {
+    assert_eq!(rt; stop_of(rt.alloc(), ONE_DISK, &ONE_DISK_EVENTS), Ok(None));
+    assert_eq!(rt; stop_of(rt.alloc(), ONE_DISK, &[GUEST, PUT]), Ok(None));
+    assert_eq!(rt; stop_of(rt.alloc(), ONE_DISK, &[]), Ok(None));
+}
+
 #[test]
 fn makes_events_as_far_as_they_may_happen(rt: HostRuntime) {
-    let [guest, put, ..] = ONE_DISK_EVENTS;
-    let cases: [(&[Event], Option<u32>); 5] = [
-        (&ONE_DISK_EVENTS, None),
-        (&[guest, put], None),
-        (&[], None),
-        (&[guest, guest, put], Some(1)),
-        (&[put], Some(0)),
-    ];
-    for (events, stop) in cases {
-        assert_eq!(rt; stop_of(rt.alloc(), ONE_DISK, events), Ok(stop));
-    }
+    let stop = stop_of(rt.alloc(), ONE_DISK, &[GUEST, GUEST, PUT]);
+    assert_eq!(rt; stop, Ok(Some(1)));
+    assert_eq!(rt; stop_of(rt.alloc(), ONE_DISK, &[PUT]), Ok(Some(0)));
 }
 
 /// The first event of a seed's schedule, if there is one.
@@ -134,8 +140,7 @@ fn first_event(alloc: Global, text: &[u8], seed: u64) -> Result<Option<Event>, R
 
 #[test]
 fn makes_the_first_event(rt: HostRuntime) {
-    let guest = Event::Guest { session: 1 };
-    assert_eq!(rt; first_event(rt.alloc(), ONE_DISK, 0), Ok(Some(guest)));
+    assert_eq!(rt; first_event(rt.alloc(), ONE_DISK, 0), Ok(Some(GUEST)));
     assert_eq!(rt;
         first_event(rt.alloc(), b"cluster 1\nsettle\n", 0),
         Ok(Some(Event::Phase))

@@ -45,49 +45,47 @@ fn reads_what_was_printed(rt: HostRuntime) {
     assert_eq!(rt; lines.next(), None);
 }
 
-// By hand, from the rule that a line is read only as it would be printed.
-const NO_EVENTS: [&[u8]; 12] = [
-    b"guest 01",
-    b"guest +1",
-    b"guest  1",
-    b"guest 1 ",
-    b" guest 1",
-    b"guest 4294967296",
-    b"deliver 3",
-    b"deliver 3.17.0",
-    b"log 3.17",
-    b"phase 1",
-    b"phase\r",
-    b"",
-];
+// By hand, from the rule that a line is read only as it would be printed. The last of these has nothing.
+const NO_EVENTS: &[u8] =
+    b"guest 01|guest +1|guest  1|guest 1 | guest 1|guest 4294967296|deliver 3|deliver 3.17.0|log 3.17|phase 1|phase\r|";
 
 #[test]
 fn reads_no_other_line(rt: HostRuntime) {
-    for line in &NO_EVENTS {
+    let mut lines = 0_u32;
+    for line in NO_EVENTS.split(|byte| *byte == b'|') {
         assert_eq!(rt; event_in(line), None);
+        lines = lines.wrapping_add(1);
     }
+    assert_eq!(rt; lines, 12);
 }
 
-// An input, its script and its trace.
-const INPUTS: [(&[u8], &[u8], &[u8]); 5] = [
-    (
-        b"cluster 1\n trace\ntrace\nguest 1\n\nphase\n",
-        b"cluster 1\n trace",
-        b"guest 1\n\nphase\n",
-    ),
-    (b"cluster 1\ntrace", b"cluster 1", b""),
-    (b"trace\ntrace\n", b"", b"trace\n"),
-    (b"cluster 1\n", b"cluster 1\n", b""),
-    (b"", b"", b""),
-];
+// An input, its script and its trace. `@` is between rows.
+const INPUTS: &[u8] =
+    b"cluster 1\n trace\ntrace\nguest 1\n\nphase\n|cluster 1\n trace|guest 1\n\nphase\n@\
+cluster 1\ntrace|cluster 1|@\
+trace\ntrace\n||trace\n@\
+cluster 1\n|cluster 1\n|@\
+||";
+
+/// Whether the input of a row is cut so.
+fn is_cut(row: &[u8]) -> bool {
+    let mut fields = row.split(|byte| *byte == b'|');
+    let (Some(input), Some(script), Some(trace)) = (fields.next(), fields.next(), fields.next())
+    else {
+        return false;
+    };
+    let parts = input_parts(input);
+    parts.0 == script && parts.1 == trace
+}
 
 #[test]
 fn cuts_an_input_at_its_line_trace(rt: HostRuntime) {
-    for (input, script, trace) in &INPUTS {
-        let parts = input_parts(input);
-        assert_eq!(rt; parts.0, *script);
-        assert_eq!(rt; parts.1, *trace);
+    let mut rows = 0_u32;
+    for row in INPUTS.split(|byte| *byte == b'@') {
+        assert!(rt; is_cut(row), "row {rows}");
+        rows = rows.wrapping_add(1);
     }
+    assert_eq!(rt; rows, 5);
 }
 
 const ONE_DISK: &[u8] = b"cluster 1\nsession 1 node 0\n1 vdi create -c 1 a 512\n";
@@ -117,36 +115,40 @@ fn replays_a_whole_run(rt: HostRuntime) -> Result<(), Fail> {
     Ok(())
 }
 
-// A trace, and the place of its first bad line.
-const BAD_TRACES: [(&[u8], u32); 6] = [
-    (
-        b"guest 1\nguest 1\nput 0\nlog 0\ndeliver 0.0\ndeliver 0.0\nput 0\nlog 0\nphase\n",
-        2,
-    ),
-    (
-        b"guest 1\nput 0\nlog 0\ndeliver 0.0\ndeliver 0.0\nput 0\nlog 0\n",
-        8,
-    ),
-    (
-        b"guest 01\nput 0\nlog 0\ndeliver 0.0\ndeliver 0.0\nput 0\nlog 0\nphase\n",
-        1,
-    ),
-    (
-        b"guest 1\nput 0\nlog 0\ndeliver 0.0\ndeliver 0.0\nput 0\nlog 0\nphase\nphase\n",
-        9,
-    ),
-    (b"guest 1\nput 0\nlog 0\ndeliver 0.1\n", 4),
-    (b"", 1),
-];
+// A trace, and the place of its first bad line. `@` is between rows.
+const BAD_TRACES: &[u8] =
+    b"guest 1\nguest 1\nput 0\nlog 0\ndeliver 0.0\ndeliver 0.0\nput 0\nlog 0\nphase\n|2@\
+guest 1\nput 0\nlog 0\ndeliver 0.0\ndeliver 0.0\nput 0\nlog 0\n|8@\
+guest 01\nput 0\nlog 0\ndeliver 0.0\ndeliver 0.0\nput 0\nlog 0\nphase\n|1@\
+guest 1\nput 0\nlog 0\ndeliver 0.0\ndeliver 0.0\nput 0\nlog 0\nphase\nphase\n|9@\
+guest 1\nput 0\nlog 0\ndeliver 0.1\n|4@\
+|1";
+
+/// The place of the first bad line of a trace, if there is one.
+fn bad_place(alloc: Global, trace: &[u8]) -> Option<u32> {
+    match trace_again(alloc, ONE_DISK, trace) {
+        Err(TraceFault::Bad(BadEvent { place })) => Some(place),
+        _ => None,
+    }
+}
+
+/// Whether the first bad line of a row's trace is the row's.
+fn is_bad(alloc: Global, row: &[u8]) -> bool {
+    let mut fields = row.split(|byte| *byte == b'|');
+    let (Some(trace), Some([digit])) = (fields.next(), fields.next()) else {
+        return false;
+    };
+    bad_place(alloc, trace) == Some(u32::from(digit.wrapping_sub(b'0')))
+}
 
 #[test]
 fn names_the_first_bad_line(rt: HostRuntime) {
-    for (trace, place) in BAD_TRACES {
-        match trace_again(rt.alloc(), ONE_DISK, trace) {
-            Ok(_) => assert!(rt; false, "{place}"),
-            Err(fault) => assert_eq!(rt; fault, TraceFault::Bad(BadEvent { place })),
-        }
+    let mut rows = 0_u32;
+    for row in BAD_TRACES.split(|byte| *byte == b'@') {
+        assert!(rt; is_bad(rt.alloc(), row), "row {rows}");
+        rows = rows.wrapping_add(1);
     }
+    assert_eq!(rt; rows, 6);
 }
 
 // Without a phase the empty trace is a whole run.
@@ -159,12 +161,20 @@ fn replays_no_event(rt: HostRuntime) -> Result<(), Fail> {
     Ok(())
 }
 
+/// Whether a fault is displayed as this text.
+fn is_said(alloc: Global, fault: ApplyFault, text: &str) -> Result<bool, Fail> {
+    Ok(format!(in alloc; "{fault}")?.as_str() == text)
+}
+
 #[test]
 fn says_why_an_event_is_not_made(rt: HostRuntime) -> Result<(), Fail> {
-    let alloc = rt.alloc();
-    let barred = format!(in alloc; "{}", ApplyFault::NotEnabled)?;
-    assert_eq!(rt; barred.as_str(), "the event may not happen");
-    let spent = format!(in alloc; "{}", ApplyFault::NoMemory)?;
-    assert_eq!(rt; spent.as_str(), "no memory");
+    assert!(rt;
+        is_said(
+            rt.alloc(),
+            ApplyFault::NotEnabled,
+            "the event may not happen"
+        )?
+    );
+    assert!(rt; is_said(rt.alloc(), ApplyFault::NoMemory, "no memory")?);
     Ok(())
 }

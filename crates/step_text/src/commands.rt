@@ -197,31 +197,45 @@ fn refusals(ask: &VdiAsk, disk: &Inode) -> [Option<Cause>; 3] {
     ]
 }
 
-#[test]
-fn refuses_commands_on_the_spot(rt: HostRuntime) -> Result<(), Fail> {
-    let alloc = rt.alloc();
+/// The refusals of a command, with the inode of disk `a`.
+fn refusals_with_a(alloc: Global, ask: VdiAsk) -> Result<[Option<Cause>; 3], NoMemory> {
     let disk = Inode::new(alloc, b"a", Vid(A), 1, None, SPEC)?;
+    Ok(refusals(&ask, &disk))
+}
+
+#[test]
+fn refuses_to_open_a_second_disk(rt: HostRuntime) -> Result<(), Fail> {
     let attach = VdiAsk::Attach {
-        name: Bytes::from_slice(alloc, b"a")?,
+        name: Bytes::from_slice(rt.alloc(), b"a")?,
         tag: None,
     };
-    let snapshot = VdiAsk::Snapshot {
-        tag: Bytes::from_slice(alloc, b"t")?,
-    };
     assert_eq!(rt;
-        refusals(&attach, &disk),
+        refusals_with_a(rt.alloc(), attach)?,
         [None, Some(Cause::InvalidParms), Some(Cause::InvalidParms)]
     );
+    Ok(())
+}
+
+#[test]
+fn refuses_a_snapshot_of_a_snapshot(rt: HostRuntime) -> Result<(), Fail> {
+    let snapshot = VdiAsk::Snapshot {
+        tag: Bytes::from_slice(rt.alloc(), b"t")?,
+    };
     assert_eq!(rt;
-        refusals(&VdiAsk::Close, &disk),
+        refusals_with_a(rt.alloc(), snapshot)?,
+        [Some(Cause::VdiNotLocked), None, Some(Cause::Readonly)]
+    );
+    Ok(())
+}
+
+#[test]
+fn refuses_commands_on_the_spot(rt: HostRuntime) -> Result<(), Fail> {
+    assert_eq!(rt;
+        refusals_with_a(rt.alloc(), VdiAsk::Close)?,
         [Some(Cause::VdiNotLocked), None, None]
     );
     assert_eq!(rt;
-        refusals(&snapshot, &disk),
-        [Some(Cause::VdiNotLocked), None, Some(Cause::Readonly)]
-    );
-    assert_eq!(rt;
-        refusals(&VdiAsk::Check, &disk),
+        refusals_with_a(rt.alloc(), VdiAsk::Check)?,
         [Some(Cause::VdiNotLocked), None, Some(Cause::Readonly)]
     );
     Ok(())

@@ -116,63 +116,75 @@ fn copies_outputs(rt: HostRuntime) -> Result<(), Fail> {
     Ok(())
 }
 
-/// What the copies of a command's acts say.
-fn copied_op_acts(alloc: Global) -> Result<String, Fault> {
+/// Whether the copy of a command's act says this.
+fn is_copied(alloc: Global, act: OpAct, said: &str) -> Result<bool, Fault> {
+    let copy = act.copy(alloc)?;
     let mut told = String::new(alloc);
-    for act in [
-        OpAct::Append(an_entry()),
-        OpAct::Work(ObjWork::Read {
-            oid: Oid::inode(Vid(9)),
-            policy: Policy::Copies(3),
-            offset: 0,
-            length: 4_668,
-        }),
-        OpAct::Reply(GuestRsp::Refused(Cause::NoTag)),
-    ] {
-        write_op_act(&mut told, &act.copy(alloc)?)?;
+    write_op_act(&mut told, &copy)?;
+    Ok(told.as_str() == said)
+}
+
+fn a_read() -> ObjWork {
+    ObjWork::Read {
+        oid: Oid::inode(Vid(9)),
+        policy: Policy::Copies(3),
+        offset: 0,
+        length: 4_668,
     }
-    let end = OpEnd {
-        unlock: Some(an_entry()),
-        reply: GuestRsp::Refused(Cause::Link { node: NodeId(1) }),
-    };
-    write_end(&mut told, &end.copy(alloc)?)?;
-    Ok(told)
 }
 
 #[test]
 fn copies_acts_of_commands(rt: HostRuntime) -> Result<(), Fail> {
-    let told = copied_op_acts(rt.alloc())?;
-    assert_eq!(rt;
-        told.as_str(),
-        "append unlock 3 7 9;read 9223372075509481472 3 0 4668;reply refused NO_TAG;\
-         append unlock 3 7 9;reply refused LINK 1;"
-    );
+    let append = OpAct::Append(an_entry());
+    assert!(rt; is_copied(rt.alloc(), append, "append unlock 3 7 9;")?);
+    let read = OpAct::Work(a_read());
+    assert!(rt; is_copied(rt.alloc(), read, "read 9223372075509481472 3 0 4668;")?);
+    let reply = OpAct::Reply(GuestRsp::Refused(Cause::NoTag));
+    assert!(rt; is_copied(rt.alloc(), reply, "reply refused NO_TAG;")?);
     Ok(())
 }
 
-/// What the copies of the acts of a write say.
-fn copied_driver_acts(alloc: Global) -> Result<String, Fault> {
+/// What the copy of a command's end says.
+fn copied_end(alloc: Global) -> Result<String, Fault> {
+    let end = OpEnd {
+        unlock: Some(an_entry()),
+        reply: GuestRsp::Refused(Cause::Link { node: NodeId(1) }),
+    };
+    let copy = end.copy(alloc)?;
     let mut told = String::new(alloc);
-    for act in [
-        DriverAct::Work(ObjWork::Write {
-            oid: Oid::object(Vid(9), 2),
-            policy: Policy::Copies(3),
-            offset: 512,
-            bytes: Bytes::from_slice(alloc, b"piece")?,
-        }),
-        DriverAct::Reply(GuestRsp::Refused(Cause::Readonly)),
-    ] {
-        write_driver_act(&mut told, &act.copy(alloc)?)?;
-    }
+    write_end(&mut told, &copy)?;
     Ok(told)
 }
 
 #[test]
+fn copies_ends_of_commands(rt: HostRuntime) -> Result<(), Fail> {
+    let told = copied_end(rt.alloc())?;
+    assert_eq!(rt; told.as_str(), "append unlock 3 7 9;reply refused LINK 1;");
+    Ok(())
+}
+
+/// Whether the copy of an act of a read or write says this.
+fn is_driver_copied(alloc: Global, act: DriverAct, said: &str) -> Result<bool, Fault> {
+    let copy = act.copy(alloc)?;
+    let mut told = String::new(alloc);
+    write_driver_act(&mut told, &copy)?;
+    Ok(told.as_str() == said)
+}
+
+fn a_write(alloc: Global) -> Result<ObjWork, Fault> {
+    Ok(ObjWork::Write {
+        oid: Oid::object(Vid(9), 2),
+        policy: Policy::Copies(3),
+        offset: 512,
+        bytes: Bytes::from_slice(alloc, b"piece")?,
+    })
+}
+
+#[test]
 fn copies_acts_of_disk_requests(rt: HostRuntime) -> Result<(), Fail> {
-    let told = copied_driver_acts(rt.alloc())?;
-    assert_eq!(rt;
-        told.as_str(),
-        "write 38654705666 3 512 7069656365;reply refused READONLY;"
-    );
+    let write = DriverAct::Work(a_write(rt.alloc())?);
+    assert!(rt; is_driver_copied(rt.alloc(), write, "write 38654705666 3 512 7069656365;")?);
+    let reply = DriverAct::Reply(GuestRsp::Refused(Cause::Readonly));
+    assert!(rt; is_driver_copied(rt.alloc(), reply, "reply refused READONLY;")?);
     Ok(())
 }

@@ -155,30 +155,41 @@ fn reads_a_hole_and_its_parent(rt: HostRuntime) -> Result<(), Fail> {
     Ok(())
 }
 
-// A write on the parent's object copies it whole; the next one is written in place.
-#[test]
-fn copies_its_parents_object(rt: HostRuntime) -> Result<(), Fail> {
-    let alloc = rt.alloc();
+/// A write on the parent's object, which copies it whole: what is told, and the disk then.
+fn written_over_its_parent(alloc: Global) -> Result<(String, Disk), NoMemory> {
     let mut disk = small_disk(alloc, 0, 4, false)?;
     let old = runs(alloc, 512, &[1, 2, 3, 4, 5, 6, 7, 8])?;
-    let first = DiskAsk::Write {
+    let write = DiskAsk::Write {
         offset: 4_608,
         bytes: runs(alloc, 512, &[9])?,
     };
-    let first = told(alloc, &mut disk, first, old.as_slice())?;
+    let told = told(alloc, &mut disk, write, old.as_slice())?;
+    Ok((told, disk))
+}
+
+#[test]
+fn copies_its_parents_object(rt: HostRuntime) -> Result<(), Fail> {
+    let (told, _disk) = written_over_its_parent(rt.alloc())?;
     assert_eq!(rt;
-        first.as_str(),
+        told.as_str(),
         "read 17179869185 3 0 4096;disk 61 0 4 0;\
          create 21474836481 3 4096 0 01*512.09*512.03*512.04*512.05*512.06*512.07*512.08*512.;\
          disk 61 0 4 0;write 9223372058329612288 3 4668 05000000;disk 61 0 5 0;reply done;"
     );
-    let next = DiskAsk::Write {
+    Ok(())
+}
+
+// The next write is in place.
+#[test]
+fn writes_on_its_own_object(rt: HostRuntime) -> Result<(), Fail> {
+    let (_told, mut disk) = written_over_its_parent(rt.alloc())?;
+    let write = DiskAsk::Write {
         offset: 4_608,
-        bytes: runs(alloc, 512, &[6])?,
+        bytes: runs(rt.alloc(), 512, &[6])?,
     };
-    let next = told(alloc, &mut disk, next, &[])?;
+    let told = told(rt.alloc(), &mut disk, write, &[])?;
     assert_eq!(rt;
-        next.as_str(),
+        told.as_str(),
         "write 21474836481 3 512 06*512.;disk 61 0 5 0;reply done;"
     );
     Ok(())
@@ -209,45 +220,55 @@ fn refusals(
     Ok(told)
 }
 
-// A closed disk, a write on a snapshot, a read of a deleted one, and an end past the disk.
-#[test]
-fn refuses_on_the_spot(rt: HostRuntime) -> Result<(), Fail> {
-    let alloc = rt.alloc();
+/// The refusals of a request, by a disk of holes and by a snapshot of it.
+fn told_refusals(alloc: Global, ask: &DiskAsk) -> Result<String, NoMemory> {
     let disk = small_disk(alloc, 0, 0, false)?;
     let snapshot = small_disk(alloc, 0, 0, true)?;
-    for (offset, length, expected) in [
-        (
-            11_776,
-            512,
-            "refused VDI_NOT_LOCKED;none;none;refused NO_VDI;",
-        ),
-        (
-            11_776,
-            1_024,
-            "refused VDI_NOT_LOCKED;refused INVALID_PARMS;refused INVALID_PARMS;refused NO_VDI;",
-        ),
-        (
-            18_446_744_073_709_551_104,
-            512,
-            "refused VDI_NOT_LOCKED;refused INVALID_PARMS;refused INVALID_PARMS;refused NO_VDI;",
-        ),
-    ] {
-        let told = refusals(alloc, &DiskAsk::Read { offset, length }, &disk, &snapshot)?;
-        assert_eq!(rt; told.as_str(), expected);
-    }
+    refusals(alloc, ask, &disk, &snapshot)
+}
+
+// A closed disk, and a read of a deleted snapshot.
+#[test]
+fn refuses_on_the_spot(rt: HostRuntime) -> Result<(), Fail> {
+    let read = DiskAsk::Read {
+        offset: 11_776,
+        length: 512,
+    };
+    let told = told_refusals(rt.alloc(), &read)?;
+    assert_eq!(rt;
+        told.as_str(),
+        "refused VDI_NOT_LOCKED;none;none;refused NO_VDI;"
+    );
     Ok(())
 }
 
+/// What is told of a read that ends past the disk.
+const PAST_THE_END: &str =
+    "refused VDI_NOT_LOCKED;refused INVALID_PARMS;refused INVALID_PARMS;refused NO_VDI;";
+
+#[test]
+fn refuses_reads_past_the_end(rt: HostRuntime) -> Result<(), Fail> {
+    let read = DiskAsk::Read {
+        offset: 11_776,
+        length: 1_024,
+    };
+    assert_eq!(rt; told_refusals(rt.alloc(), &read)?.as_str(), PAST_THE_END);
+    let last = DiskAsk::Read {
+        offset: 18_446_744_073_709_551_104,
+        length: 512,
+    };
+    assert_eq!(rt; told_refusals(rt.alloc(), &last)?.as_str(), PAST_THE_END);
+    Ok(())
+}
+
+// A write on a snapshot.
 #[test]
 fn refuses_writes_on_the_spot(rt: HostRuntime) -> Result<(), Fail> {
-    let alloc = rt.alloc();
-    let disk = small_disk(alloc, 0, 0, false)?;
-    let snapshot = small_disk(alloc, 0, 0, true)?;
     let write = DiskAsk::Write {
         offset: 11_776,
-        bytes: runs(alloc, 512, &[1, 1])?,
+        bytes: runs(rt.alloc(), 512, &[1, 1])?,
     };
-    let told = refusals(alloc, &write, &disk, &snapshot)?;
+    let told = told_refusals(rt.alloc(), &write)?;
     assert_eq!(rt;
         told.as_str(),
         "refused VDI_NOT_LOCKED;refused INVALID_PARMS;refused READONLY;refused READONLY;"
@@ -304,25 +325,57 @@ fn started(queue: &mut InodeQueue) -> Option<u32> {
     }
 }
 
-// A work on the inode waits for the one that is open, in the order of coming; a work on a data object waits for none.
+fn on_the_inode() -> ObjWork
+    ensures { IsWork result }
+{
+    read_of(Oid::inode(Vid(5)))
+}
+
+fn on_a_block() -> ObjWork
+    ensures { IsWork result }
+{
+    read_of(Oid::object(Vid(5), 0))
+}
+
+#[test]
+fn a_new_queue_has_no_work(rt: HostRuntime) -> Result<(), Fail> {
+    let mut queue = InodeQueue::new(rt.alloc());
+    assert_eq!(rt; started(&mut queue), None);
+    assert!(rt; queue.may_open(&on_the_inode()));
+    Ok(())
+}
+
+/// A queue in which request 1 has a work open on the inode, and 2 and 3 wait for it.
+fn queue_of_three(alloc: Global) -> Result<InodeQueue, NoMemory> {
+    let mut queue = InodeQueue::new(alloc);
+    let inode = on_the_inode();
+    if queue.may_open(&inode) {
+        queue.open(1, &inode);
+    }
+    queue.wait(2, on_the_inode())?;
+    queue.wait(3, on_the_inode())?;
+    Ok(queue)
+}
+
+// A work on a data object waits for none.
+#[test]
+fn works_on_blocks_wait_for_none(rt: HostRuntime) -> Result<(), Fail> {
+    let mut queue = queue_of_three(rt.alloc())?;
+    assert!(rt; queue.may_open(&on_a_block()));
+    assert!(rt; !queue.may_open(&on_the_inode()));
+    queue.end(&on_a_block());
+    assert_eq!(rt; started(&mut queue), None);
+    Ok(())
+}
+
+// A work on the inode waits for the one that is open, in the order of coming.
 #[test]
 fn works_on_the_inode_go_in_line(rt: HostRuntime) -> Result<(), Fail> {
-    let mut queue = InodeQueue::new(rt.alloc());
-    let inode = read_of(Oid::inode(Vid(5)));
-    let block = read_of(Oid::object(Vid(5), 0));
-    assert_eq!(rt; started(&mut queue), None);
-    assert!(rt; queue.may_open(&inode));
-    queue.open(1, &inode);
-    assert!(rt; queue.may_open(&block));
-    assert!(rt; !queue.may_open(&inode));
-    queue.wait(2, read_of(Oid::inode(Vid(5))))?;
-    queue.wait(3, read_of(Oid::inode(Vid(5))))?;
-    queue.end(&block);
-    assert_eq!(rt; started(&mut queue), None);
-    queue.end(&inode);
+    let mut queue = queue_of_three(rt.alloc())?;
+    queue.end(&on_the_inode());
     assert_eq!(rt; started(&mut queue), Some(2));
     assert_eq!(rt; started(&mut queue), None);
-    queue.end(&inode);
+    queue.end(&on_the_inode());
     assert_eq!(rt; started(&mut queue), Some(3));
     Ok(())
 }

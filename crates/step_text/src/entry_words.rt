@@ -2,19 +2,23 @@
 
 use crate::fault::Fault;
 use crate::words::{Words, write_bytes, write_named, write_spec};
-use object_id::{Entry, Member, MemberList, Origin};
+use object_id::{Entry, Member, MemberList, NodeId, Origin};
 use std::alloc::AllocError;
 use std::fmt::Write;
+
+fn member(words: &mut Words) -> Result<Member, Fault> {
+    Ok(Member {
+        node: words.node()?,
+        zone: words.number()?,
+        vnodes: words.number()?,
+    })
+}
 
 fn members(words: &mut Words) -> Result<MemberList, Fault> {
     let count: u32 = words.number()?;
     let mut members = MemberList::new(words.alloc);
     for _ in 0..count {
-        members.push(Member {
-            node: words.node()?,
-            zone: words.number()?,
-            vnodes: words.number()?,
-        })?;
+        members.push(member(words)?)?;
     }
     Ok(members)
 }
@@ -27,10 +31,10 @@ fn origin(words: &mut Words) -> Result<Origin, Fault> {
         "snapshot" => Ok(Origin::SnapshotOf {
             tag: words.bytes()?,
         }),
-        "clone" => Ok(Origin::CloneOf {
-            base: words.bytes()?,
-            tag: words.bytes()?,
-        }),
+        "clone" => {
+            let (base, tag) = words.bytes_twice()?;
+            Ok(Origin::CloneOf { base, tag })
+        }
         _ => Err(Fault::Word),
     }
 }
@@ -41,11 +45,10 @@ pub(crate) fn read_entry(words: &mut Words) -> Result<Entry, Fault> {
         "format" => Ok(Entry::Format {
             members: members(words)?,
         }),
-        "join" => Ok(Entry::Join {
-            node: words.node()?,
-            zone: words.number()?,
-            vnodes: words.number()?,
-        }),
+        "join" => {
+            let Member { node, zone, vnodes } = member(words)?;
+            Ok(Entry::Join { node, zone, vnodes })
+        }
         "leave" => Ok(Entry::Leave {
             node: words.node()?,
         }),
@@ -61,6 +64,7 @@ pub(crate) fn read_entry(words: &mut Words) -> Result<Entry, Fault> {
     }
 }
 
+/// An entry of a node on disks.
 fn disk_entry(kind: &str, words: &mut Words) -> Result<Entry, Fault> {
     let by = words.node()?;
     match kind {
@@ -77,31 +81,49 @@ fn disk_entry(kind: &str, words: &mut Words) -> Result<Entry, Fault> {
             old: words.vid()?,
             vid: words.vid()?,
         }),
-        "reserve" => Ok(Entry::Reserve {
-            by,
-            session: words.number()?,
-            name: words.bytes()?,
-            origin: origin(words)?,
-        }),
-        "delete" => Ok(Entry::Delete {
-            by,
-            session: words.number()?,
-            name: words.bytes()?,
-            tag: words.tag()?,
-        }),
-        "lock" => Ok(Entry::Lock {
-            by,
-            session: words.number()?,
-            name: words.bytes()?,
-            tag: words.tag()?,
-        }),
+        kind => session_entry(kind, by, words),
+    }
+}
+
+/// An entry of a node's session on disks.
+fn session_entry(kind: &str, by: NodeId, words: &mut Words) -> Result<Entry, Fault> {
+    let session = words.number()?;
+    match kind {
+        "reserve" => reserve(by, session, words),
+        "delete" => {
+            let (name, tag) = words.named()?;
+            Ok(Entry::Delete {
+                by,
+                session,
+                name,
+                tag,
+            })
+        }
+        "lock" => {
+            let (name, tag) = words.named()?;
+            Ok(Entry::Lock {
+                by,
+                session,
+                name,
+                tag,
+            })
+        }
         "unlock" => Ok(Entry::Unlock {
             by,
-            session: words.number()?,
+            session,
             vid: words.vid()?,
         }),
         _ => Err(Fault::Word),
     }
+}
+
+fn reserve(by: NodeId, session: u32, words: &mut Words) -> Result<Entry, Fault> {
+    Ok(Entry::Reserve {
+        by,
+        session,
+        name: words.bytes()?,
+        origin: origin(words)?,
+    })
 }
 
 /// Writes an entry of the log: its kind, and its fields in order.

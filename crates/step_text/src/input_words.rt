@@ -6,7 +6,9 @@ use crate::words::{Words, write_bytes, write_named, write_spec};
 use crate::work_words::{read_work, write_work};
 use epoch_log::EntryList;
 use object_id::NoMemory;
-use peer_proto::{DiskAsk, VdiAsk, decode_ask, decode_say, encode_ask, encode_say};
+use peer_proto::{
+    DiskAsk, PeerReq, PeerRsp, VdiAsk, decode_ask, decode_say, encode_ask, encode_say,
+};
 use sheep_node::{Ask, Input};
 use std::alloc::{AllocError, Global};
 use std::fmt::Write;
@@ -26,14 +28,8 @@ pub(crate) fn read_input(kind: &str, words: &mut Words) -> Result<Input, Fault> 
             session: words.number()?,
             ask: read_ask(words)?,
         }),
-        "request" => {
-            let bytes = words.bytes()?;
-            Ok(Input::Request(decode_ask(words.alloc, bytes.as_slice())?))
-        }
-        "reply" => {
-            let bytes = words.bytes()?;
-            Ok(Input::Reply(decode_say(words.alloc, bytes.as_slice())?))
-        }
+        "request" => Ok(Input::Request(read_request(words)?)),
+        "reply" => Ok(Input::Reply(read_reply(words)?)),
         "lost" => Ok(Input::Lost {
             number: words.number()?,
         }),
@@ -46,6 +42,16 @@ pub(crate) fn read_input(kind: &str, words: &mut Words) -> Result<Input, Fault> 
         }),
         _ => Err(Fault::Word),
     }
+}
+
+fn read_request(words: &mut Words) -> Result<PeerReq, Fault> {
+    let bytes = words.bytes()?;
+    Ok(decode_ask(words.alloc, bytes.as_slice())?)
+}
+
+fn read_reply(words: &mut Words) -> Result<PeerRsp, Fault> {
+    let bytes = words.bytes()?;
+    Ok(decode_say(words.alloc, bytes.as_slice())?)
 }
 
 fn read_entries(words: &mut Words) -> Result<EntryList, Fault> {
@@ -87,26 +93,31 @@ fn read_command(words: &mut Words) -> Result<VdiAsk, Fault> {
             name: words.bytes()?,
             spec: words.spec()?,
         }),
-        "open" => Ok(VdiAsk::Attach {
-            name: words.bytes()?,
-            tag: words.tag()?,
-        }),
+        "open" => {
+            let (name, tag) = words.named()?;
+            Ok(VdiAsk::Attach { name, tag })
+        }
         "close" => Ok(VdiAsk::Close),
         "snapshot" => Ok(VdiAsk::Snapshot {
             tag: words.bytes()?,
         }),
-        "clone" => Ok(VdiAsk::Clone {
-            base: words.bytes()?,
-            tag: words.bytes()?,
-            name: words.bytes()?,
-        }),
-        "delete" => Ok(VdiAsk::Delete {
-            name: words.bytes()?,
-            tag: words.tag()?,
-        }),
+        "clone" => read_clone(words),
+        "delete" => {
+            let (name, tag) = words.named()?;
+            Ok(VdiAsk::Delete { name, tag })
+        }
         "check" => Ok(VdiAsk::Check),
         _ => Err(Fault::Word),
     }
+}
+
+fn read_clone(words: &mut Words) -> Result<VdiAsk, Fault> {
+    let (base, tag) = words.bytes_twice()?;
+    Ok(VdiAsk::Clone {
+        base,
+        tag,
+        name: words.bytes()?,
+    })
 }
 
 /// Writes an input as `input_of` reads it.

@@ -40,21 +40,35 @@ impl OneNode {
         let alloc = self.alloc;
         self.push("guest", format!(in alloc; "{req} 1 {ask}")?.as_str())?;
         for _ in 0..STEPS_MAX {
-            match self.inputs.pop_front() {
-                Some(input) => {
-                    let outputs = self.life.step(input.as_str())?;
-                    self.hand_on(outputs.as_str())?;
-                }
-                None => match self.life.step("put") {
-                    Ok(outputs) => {
-                        self.kinds.push_str("put ")?;
-                        self.hand_on(outputs.as_str())?;
-                    }
-                    Err(_) => return Ok(()),
-                },
+            if !self.go_on()? {
+                return Ok(());
             }
         }
         Ok(())
+    }
+
+    /// Makes the next step: on what is on its way, or else a put. Whether there is one.
+    fn go_on(&mut self) -> Result<bool, Fault> {
+        match self.inputs.pop_front() {
+            Some(input) => {
+                let outputs = self.life.step(input.as_str())?;
+                self.hand_on(outputs.as_str())?;
+                Ok(true)
+            }
+            None => self.put(),
+        }
+    }
+
+    /// Whether the node puts an entry.
+    fn put(&mut self) -> Result<bool, Fault> {
+        match self.life.step("put") {
+            Ok(outputs) => {
+                self.kinds.push_str("put ")?;
+                self.hand_on(outputs.as_str())?;
+                Ok(true)
+            }
+            Err(_) => Ok(false),
+        }
     }
 
     fn push(&mut self, kind: &str, words: &str) -> Result<(), Fault> {
@@ -67,16 +81,21 @@ impl OneNode {
     /// Gives outputs back as inputs, and keeps replies.
     fn hand_on(&mut self, outputs: &str) -> Result<(), Fault> {
         for output in outputs.split(';') {
-            match output.split_once(' ') {
-                Some(("send", request)) => match request.split_once(' ') {
-                    Some((_, bytes)) => self.push("request", bytes)?,
-                    None => return Err(Fault::Word),
-                },
-                Some(("say", bytes)) => self.push("reply", bytes)?,
-                Some(("put", entry)) => self.push("log", entry)?,
-                Some(("reply", reply)) => write!(self.replies, "{reply};")?,
-                _ => {}
-            }
+            self.hand_one_on(output)?;
+        }
+        Ok(())
+    }
+
+    fn hand_one_on(&mut self, output: &str) -> Result<(), Fault> {
+        match output.split_once(' ') {
+            Some(("send", request)) => match request.split_once(' ') {
+                Some((_, bytes)) => self.push("request", bytes)?,
+                None => return Err(Fault::Word),
+            },
+            Some(("say", bytes)) => self.push("reply", bytes)?,
+            Some(("put", entry)) => self.push("log", entry)?,
+            Some(("reply", reply)) => write!(self.replies, "{reply};")?,
+            _ => {}
         }
         Ok(())
     }

@@ -2,8 +2,8 @@
 
 use crate::entry_words::write_entry;
 use crate::words::write_bytes;
-use object_id::{Cause, NoMemory};
-use peer_proto::{Checked, GuestRsp, encode_ask, encode_say};
+use object_id::{Cause, NoMemory, NodeId};
+use peer_proto::{Checked, GuestRsp, PeerReq, encode_ask, encode_say};
 use sheep_node::Outputs;
 use std::alloc::{AllocError, Global};
 use std::fmt::Write;
@@ -11,27 +11,48 @@ use std::fmt::Write;
 /// The outputs of a step on one line: what it sends, says, replies and puts, each ended by `;`. Messages stand as their bytes.
 pub fn outputs_line(alloc: Global, given: &Outputs) -> Result<String, NoMemory> {
     let mut out = String::new(alloc);
+    write_messages(alloc, &mut out, given)?;
+    write_told(&mut out, given)?;
+    Ok(out)
+}
+
+/// Writes what a step sends and says.
+fn write_messages(alloc: Global, out: &mut String, given: &Outputs) -> Result<(), NoMemory> {
     for (to, request) in given.sends.as_slice() {
-        write!(out, "send {} ", to.0)?;
-        write_bytes(&mut out, encode_ask(alloc, request)?.as_slice())?;
-        out.push(';')?;
+        write_send(alloc, out, *to, request)?;
     }
     if let Some(reply) = &given.say {
         out.push_str("say ")?;
-        write_bytes(&mut out, encode_say(alloc, reply)?.as_slice())?;
+        write_bytes(out, encode_say(alloc, reply)?.as_slice())?;
         out.push(';')?;
     }
+    Ok(())
+}
+
+fn write_send(
+    alloc: Global,
+    out: &mut String,
+    to: NodeId,
+    request: &PeerReq,
+) -> Result<(), NoMemory> {
+    write!(out, "send {} ", to.0)?;
+    write_bytes(out, encode_ask(alloc, request)?.as_slice())?;
+    Ok(out.push(';')?)
+}
+
+/// Writes what a step replies and puts.
+fn write_told(out: &mut String, given: &Outputs) -> Result<(), AllocError> {
     for (req, reply) in given.replies.as_slice() {
         write!(out, "reply {req} ")?;
-        write_reply(&mut out, reply)?;
+        write_reply(out, reply)?;
         out.push(';')?;
     }
     if let Some(entry) = &given.put {
         out.push_str("put ")?;
-        write_entry(&mut out, entry)?;
+        write_entry(out, entry)?;
         out.push(';')?;
     }
-    Ok(out)
+    Ok(())
 }
 
 /// Writes a guest's reply: its kind, and what it gives.

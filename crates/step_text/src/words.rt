@@ -87,6 +87,18 @@ impl<'a> Words<'a> {
         }
     }
 
+    /// Two byte strings.
+    pub(crate) fn bytes_twice(&mut self) -> Result<(Bytes, Bytes), Fault> {
+        let first = self.bytes()?;
+        Ok((first, self.bytes()?))
+    }
+
+    /// A name and a tag.
+    pub(crate) fn named(&mut self) -> Result<(Bytes, Option<Bytes>), Fault> {
+        let name = self.bytes()?;
+        Ok((name, self.tag()?))
+    }
+
     fn bytes_of(&self, word: &str) -> Result<Bytes, Fault> {
         let mut bytes = Vec::new(self.alloc);
         if word != "-" {

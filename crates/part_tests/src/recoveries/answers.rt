@@ -59,71 +59,67 @@ fn answers(
 }
 
 /// Whether such a row answers message 9.
-fn fits(
-    alloc: Global,
-    from: u32,
-    to: Option<Epoch>,
-    index: u8,
-    length: u32,
-) -> Result<bool, NoMemory> {
-    Ok(answers(alloc, from, to, index, length)? == Some(true))
+fn fits(alloc: Global, from: u32, to: Option<Epoch>, index: u8, length: u32) -> bool {
+    answers(alloc, from, to, index, length) == Ok(Some(true))
 }
 
 /// Whether message 9 is awaited, and such a row doesn't answer it.
-fn misfits(
-    alloc: Global,
-    from: u32,
-    to: Option<Epoch>,
-    index: u8,
-    length: u32,
-) -> Result<bool, NoMemory> {
-    Ok(answers(alloc, from, to, index, length)? == Some(false))
+fn misfits(alloc: Global, from: u32, to: Option<Epoch>, index: u8, length: u32) -> bool {
+    answers(alloc, from, to, index, length) == Ok(Some(false))
 }
 
 #[test]
-fn takes_rows_of_the_level(rt: HostRuntime) -> Result<(), Fail> {
+fn takes_rows_of_the_level(rt: HostRuntime) {
     let alloc = rt.alloc();
-    assert!(rt; fits(alloc, 1, None, 0, 512)?);
-    assert!(rt; fits(alloc, 2, Some(Epoch(2)), 1, 512)?);
-    assert!(rt; fits(alloc, 2, Some(Epoch(9)), 1, 512)?);
-    Ok(())
+    assert!(rt; fits(alloc, 1, None, 0, 512));
+    assert!(rt; fits(alloc, 2, Some(Epoch(2)), 1, 512));
+    assert!(rt; fits(alloc, 2, Some(Epoch(9)), 1, 512));
 }
 
 #[test]
-fn takes_no_rows_of_other_levels(rt: HostRuntime) -> Result<(), Fail> {
+fn takes_no_rows_of_other_levels(rt: HostRuntime) {
     let alloc = rt.alloc();
-    assert!(rt; misfits(alloc, 3, None, 0, 512)?);
-    assert!(rt; misfits(alloc, 3, Some(Epoch(2)), 0, 512)?);
-    assert!(rt; misfits(alloc, 1, Some(Epoch(1)), 0, 512)?);
-    Ok(())
+    assert!(rt; misfits(alloc, 3, None, 0, 512));
+    assert!(rt; misfits(alloc, 3, Some(Epoch(2)), 0, 512));
+    assert!(rt; misfits(alloc, 1, Some(Epoch(1)), 0, 512));
 }
 
 #[test]
-fn takes_no_rows_of_other_indexes_and_lengths(rt: HostRuntime) -> Result<(), Fail> {
+fn takes_no_rows_of_other_indexes_and_lengths(rt: HostRuntime) {
     let alloc = rt.alloc();
-    assert!(rt; misfits(alloc, 1, None, 2, 512)?);
-    assert!(rt; misfits(alloc, 1, None, 0, 511)?);
-    assert!(rt; misfits(alloc, 1, None, 0, 513)?);
-    Ok(())
+    assert!(rt; misfits(alloc, 1, None, 2, 512));
+    assert!(rt; misfits(alloc, 1, None, 0, 511));
+    assert!(rt; misfits(alloc, 1, None, 0, 513));
+}
+
+/// Whether an answer to a message is taken.
+fn takes(trial: &mut Trial, number: u32, say: PeerSay) -> bool {
+    trial.answer(number, say) == Ok(true)
+}
+
+/// Whether it isn't.
+fn leaves(trial: &mut Trial, number: u32, say: PeerSay) -> bool {
+    trial.answer(number, say) == Ok(false)
 }
 
 #[test]
 fn takes_no_other_answers_to_a_request_for_a_row(rt: HostRuntime) -> Result<(), Fail> {
     let alloc = rt.alloc();
+    let objects = PeerSay::Objects(objects(alloc, 1)?);
     let mut trial = searching(alloc)?.ok_or("no trial")?;
-    assert!(rt; !trial.answer(9, PeerSay::Success)?);
-    assert!(rt; !trial.answer(9, PeerSay::Piece(Bytes::new(alloc)))?);
-    assert!(rt; !trial.answer(9, PeerSay::Objects(objects(alloc, 1)?))?);
-    assert!(rt; trial.answer(9, PeerSay::NoRow)?);
+    assert!(rt; leaves(&mut trial, 9, PeerSay::Success));
+    assert!(rt; leaves(&mut trial, 9, PeerSay::Piece(Bytes::new(alloc))));
+    assert!(rt; leaves(&mut trial, 9, objects));
+    assert!(rt; takes(&mut trial, 9, PeerSay::NoRow));
     Ok(())
 }
 
 #[test]
 fn takes_one_answer_to_each_message(rt: HostRuntime) -> Result<(), Fail> {
     let mut trial = searching(rt.alloc())?.ok_or("no trial")?;
-    assert!(rt; !trial.answer(8, PeerSay::NoRow)?);
-    assert!(rt; !trial.answer(11, PeerSay::NoRow)?);
-    assert!(rt; trial.answer(9, PeerSay::NoRow)?);
-    assert!(rt; !trial.answer(9, PeerSay::NoRow)?);
+    assert!(rt; leaves(&mut trial, 8, PeerSay::NoRow));
+    assert!(rt; leaves(&mut trial, 11, PeerSay::NoRow));
+    assert!(rt; takes(&mut trial, 9, PeerSay::NoRow));
+    assert!(rt; leaves(&mut trial, 9, PeerSay::NoRow));
     Ok(())
 }

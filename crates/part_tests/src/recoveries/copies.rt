@@ -27,19 +27,14 @@ pub fn a_trial(alloc: Global) -> Result<Option<Trial>, NoMemory> {
 }
 
 /// The other members name their objects, node 1 the first so many.
-fn lists_come(
-    rt: &impl Abort,
-    trial: &mut Trial,
-    alloc: Global,
-    count: u32,
-) -> Result<(), NoMemory> {
+fn lists_come(rt: &impl Abort, trial: &mut Trial, alloc: Global, count: u32) {
     let steps = [
         (Step::Begin, Waits::Tick),
         (Step::Lists(7, 2), Waits::Answers),
         (Step::Objects(8, count), Waits::Answers),
         (Step::Objects(7, 1), Waits::Tick),
     ];
-    runs(rt, trial, alloc, None, &steps)
+    runs(rt, trial, alloc, None, &steps);
 }
 
 // The first of two rows in the order of the targets is taken, though it came last.
@@ -47,12 +42,12 @@ fn lists_come(
 fn recovers_a_copy(rt: HostRuntime) -> Result<(), Fail> {
     let alloc = rt.alloc();
     let mut trial = a_trial(alloc)?.ok_or("no trial")?;
-    lists_come(&rt, &mut trial, alloc, 1)?;
+    lists_come(&rt, &mut trial, alloc, 1);
     let rows = [
         (Step::Rows(9, 0, 2), Waits::Answers),
         (Step::Row(10, 1, 2, 6), Waits::Answers),
     ];
-    runs(&rt, &mut trial, alloc, None, &rows)?;
+    runs(&rt, &mut trial, alloc, None, &rows);
     assert!(rt;
         leads(
             &mut trial,
@@ -60,14 +55,14 @@ fn recovers_a_copy(rt: HostRuntime) -> Result<(), Fail> {
             Step::Row(9, 1, 2, 5),
             Waits::Nothing,
             Some(5)
-        )?
+        )
     );
     assert!(rt; !trial.is_missing(object(0)));
     Ok(())
 }
 
 /// A member whose List was lost is asked again.
-fn a_list_is_lost(rt: &impl Abort, trial: &mut Trial, alloc: Global) -> Result<(), NoMemory> {
+fn a_list_is_lost(rt: &impl Abort, trial: &mut Trial, alloc: Global) {
     let steps = [
         (Step::Begin, Waits::Tick),
         (Step::Lists(7, 2), Waits::Answers),
@@ -76,11 +71,11 @@ fn a_list_is_lost(rt: &impl Abort, trial: &mut Trial, alloc: Global) -> Result<(
         (Step::Lists(9, 1), Waits::Answers),
         (Step::Objects(9, 0), Waits::Tick),
     ];
-    runs(rt, trial, alloc, None, &steps)
+    runs(rt, trial, alloc, None, &steps);
 }
 
 /// A level of which a message was lost is asked again.
-fn a_row_is_lost(rt: &impl Abort, trial: &mut Trial, alloc: Global) -> Result<(), NoMemory> {
+fn a_row_is_lost(rt: &impl Abort, trial: &mut Trial, alloc: Global) {
     let steps = [
         (Step::Rows(10, 0, 2), Waits::Answers),
         (Step::NoRow(10), Waits::Answers),
@@ -89,11 +84,11 @@ fn a_row_is_lost(rt: &impl Abort, trial: &mut Trial, alloc: Global) -> Result<()
         (Step::NoRow(13), Waits::Answers),
         (Step::NoRow(12), Waits::Tick),
     ];
-    runs(rt, trial, alloc, None, &steps)
+    runs(rt, trial, alloc, None, &steps);
 }
 
 /// A level of which a message was refused is asked again. One answer is still to come.
-fn a_row_is_refused(rt: &impl Abort, trial: &mut Trial, alloc: Global) -> Result<(), NoMemory> {
+fn a_row_is_refused(rt: &impl Abort, trial: &mut Trial, alloc: Global) {
     let steps = [
         (Step::Rows(14, 0, 1), Waits::Answers),
         (Step::Refused(14), Waits::Answers),
@@ -101,7 +96,7 @@ fn a_row_is_refused(rt: &impl Abort, trial: &mut Trial, alloc: Global) -> Result
         (Step::Rows(16, 0, 1), Waits::Answers),
         (Step::NoRow(17), Waits::Answers),
     ];
-    runs(rt, trial, alloc, None, &steps)
+    runs(rt, trial, alloc, None, &steps);
 }
 
 // Below the settled epoch the object is missing.
@@ -109,17 +104,17 @@ fn a_row_is_refused(rt: &impl Abort, trial: &mut Trial, alloc: Global) -> Result
 fn gives_up_below_the_settled_epoch(rt: HostRuntime) -> Result<(), Fail> {
     let alloc = rt.alloc();
     let mut trial = a_trial(alloc)?.ok_or("no trial")?;
-    a_list_is_lost(&rt, &mut trial, alloc)?;
-    a_row_is_lost(&rt, &mut trial, alloc)?;
-    a_row_is_refused(&rt, &mut trial, alloc)?;
+    a_list_is_lost(&rt, &mut trial, alloc);
+    a_row_is_lost(&rt, &mut trial, alloc);
+    a_row_is_refused(&rt, &mut trial, alloc);
     assert!(rt; !trial.is_missing(object(0)));
-    assert!(rt; leads(&mut trial, alloc, Step::NoRow(16), Waits::Nothing, None)?);
+    assert!(rt; leads(&mut trial, alloc, Step::NoRow(16), Waits::Nothing, None));
     assert!(rt; trial.is_missing(object(0)));
     Ok(())
 }
 
 /// A recovery begins while another one waits for lists.
-fn begins_before_lists(rt: &impl Abort, trial: &mut Trial, alloc: Global) -> Result<(), NoMemory> {
+fn begins_before_lists(rt: &impl Abort, trial: &mut Trial, alloc: Global) {
     let steps = [
         (Step::Begin, Waits::Tick),
         (Step::Lists(7, 2), Waits::Answers),
@@ -127,11 +122,11 @@ fn begins_before_lists(rt: &impl Abort, trial: &mut Trial, alloc: Global) -> Res
         (Step::Objects(7, 1), Waits::Answers),
         (Step::Lost(8), Waits::Tick),
     ];
-    runs(rt, trial, alloc, None, &steps)
+    runs(rt, trial, alloc, None, &steps);
 }
 
 /// A recovery begins while another one waits for a row.
-fn begins_before_a_row(rt: &impl Abort, trial: &mut Trial, alloc: Global) -> Result<(), NoMemory> {
+fn begins_before_a_row(rt: &impl Abort, trial: &mut Trial, alloc: Global) {
     let steps = [
         (Step::Lists(9, 2), Waits::Answers),
         (Step::Objects(9, 1), Waits::Answers),
@@ -141,11 +136,11 @@ fn begins_before_a_row(rt: &impl Abort, trial: &mut Trial, alloc: Global) -> Res
         (Step::Begin, Waits::Answers),
         (Step::NoRow(12), Waits::Tick),
     ];
-    runs(rt, trial, alloc, None, &steps)
+    runs(rt, trial, alloc, None, &steps);
 }
 
 /// The newest recovery searches. One answer is still to come.
-fn searches_anew(rt: &impl Abort, trial: &mut Trial, alloc: Global) -> Result<(), NoMemory> {
+fn searches_anew(rt: &impl Abort, trial: &mut Trial, alloc: Global) {
     let steps = [
         (Step::Lists(13, 2), Waits::Answers),
         (Step::Objects(13, 1), Waits::Answers),
@@ -153,7 +148,7 @@ fn searches_anew(rt: &impl Abort, trial: &mut Trial, alloc: Global) -> Result<()
         (Step::Rows(15, 0, 4), Waits::Answers),
         (Step::NoRow(15), Waits::Answers),
     ];
-    runs(rt, trial, alloc, None, &steps)
+    runs(rt, trial, alloc, None, &steps);
 }
 
 // An older message only becomes answered.
@@ -161,9 +156,9 @@ fn searches_anew(rt: &impl Abort, trial: &mut Trial, alloc: Global) -> Result<()
 fn begins_again_in_each_newer_epoch(rt: HostRuntime) -> Result<(), Fail> {
     let alloc = rt.alloc();
     let mut trial = a_trial(alloc)?.ok_or("no trial")?;
-    begins_before_lists(&rt, &mut trial, alloc)?;
-    begins_before_a_row(&rt, &mut trial, alloc)?;
-    searches_anew(&rt, &mut trial, alloc)?;
+    begins_before_lists(&rt, &mut trial, alloc);
+    begins_before_a_row(&rt, &mut trial, alloc);
+    searches_anew(&rt, &mut trial, alloc);
     assert!(rt;
         leads(
             &mut trial,
@@ -171,15 +166,15 @@ fn begins_again_in_each_newer_epoch(rt: HostRuntime) -> Result<(), Fail> {
             Step::Row(16, 1, 4, 4),
             Waits::Nothing,
             Some(4)
-        )?
+        )
     );
-    assert!(rt; leads(&mut trial, alloc, Step::Begin, Waits::Tick, None)?);
-    assert!(rt; !trial.lose(16)?);
+    assert!(rt; leads(&mut trial, alloc, Step::Begin, Waits::Tick, None));
+    assert!(rt; trial.lose(16) == Ok(false));
     Ok(())
 }
 
 /// A Create is served for the object that is searched: its row stays when the last answer comes, and the next object is searched.
-fn a_create_comes(rt: &impl Abort, trial: &mut Trial, alloc: Global) -> Result<(), NoMemory> {
+fn a_create_comes(rt: &impl Abort, trial: &mut Trial, alloc: Global) {
     let steps = [
         (Step::Create(8), Waits::Answers),
         (Step::Row(10, 1, 2, 6), Waits::Answers),
@@ -188,17 +183,17 @@ fn a_create_comes(rt: &impl Abort, trial: &mut Trial, alloc: Global) -> Result<(
         (Step::Row(11, 2, 2, 3), Waits::Answers),
         (Step::NoRow(12), Waits::Nothing),
     ];
-    runs(rt, trial, alloc, Some(8), &steps)
+    runs(rt, trial, alloc, Some(8), &steps);
 }
 
 #[test]
 fn leaves_a_row_that_a_create_made(rt: HostRuntime) -> Result<(), Fail> {
     let alloc = rt.alloc();
     let mut trial = a_trial(alloc)?.ok_or("no trial")?;
-    lists_come(&rt, &mut trial, alloc, 2)?;
-    assert!(rt; leads(&mut trial, alloc, Step::Rows(9, 0, 2), Waits::Answers, None)?);
-    a_create_comes(&rt, &mut trial, alloc)?;
-    assert!(rt; trial.first_byte(key(1))? == Some(3));
+    lists_come(&rt, &mut trial, alloc, 2);
+    assert!(rt; leads(&mut trial, alloc, Step::Rows(9, 0, 2), Waits::Answers, None));
+    a_create_comes(&rt, &mut trial, alloc);
+    assert!(rt; trial.first_byte(key(1)) == Ok(Some(3)));
     Ok(())
 }
 
@@ -217,8 +212,8 @@ fn a_trial_with_a_row(alloc: Global) -> Result<Option<Trial>, NoMemory> {
 fn takes_its_own_row_if_it_is_alone(rt: HostRuntime) -> Result<(), Fail> {
     let alloc = rt.alloc();
     let mut trial = a_trial_with_a_row(alloc)?.ok_or("no trial")?;
-    assert!(rt; trial.begin(&[NodeId(2)])?);
-    assert!(rt; shows(&trial, Waits::Tick, None)?);
+    assert!(rt; trial.begin(&[NodeId(2)]) == Ok(true));
+    assert!(rt; shows(&trial, Waits::Tick, None));
     assert!(rt;
         leads(
             &mut trial,
@@ -226,7 +221,7 @@ fn takes_its_own_row_if_it_is_alone(rt: HostRuntime) -> Result<(), Fail> {
             Step::Lists(7, 0),
             Waits::Nothing,
             Some(9)
-        )?
+        )
     );
     Ok(())
 }

@@ -149,24 +149,13 @@ fn makes(trial: &mut Trial, alloc: Global, step: Step) -> Result<bool, NoMemory>
 }
 
 /// Whether a recovery waits for this, and the first object's open row begins with the byte; `None` if there is to be none.
-pub fn shows(trial: &Trial, waits: Waits, byte: Option<u8>) -> Result<bool, NoMemory> {
-    let first = trial.first_byte(key(0))?;
-    Ok(trial.waits() == waits && first == byte)
+pub fn shows(trial: &Trial, waits: Waits, byte: Option<u8>) -> bool {
+    trial.waits() == waits && trial.first_byte(key(0)) == Ok(byte)
 }
 
 /// Whether a step may come, asks what it is to ask, and leads to what is to be shown.
-pub fn leads(
-    trial: &mut Trial,
-    alloc: Global,
-    step: Step,
-    waits: Waits,
-    byte: Option<u8>,
-) -> Result<bool, NoMemory> {
-    if makes(trial, alloc, step)? {
-        shows(trial, waits, byte)
-    } else {
-        Ok(false)
-    }
+pub fn leads(trial: &mut Trial, alloc: Global, step: Step, waits: Waits, byte: Option<u8>) -> bool {
+    makes(trial, alloc, step) == Ok(true) && shows(trial, waits, byte)
 }
 
 /// Makes steps in turn, each with what the recovery waits for then. After each of them the first object's open row begins with the byte.
@@ -176,10 +165,9 @@ pub fn runs(
     alloc: Global,
     byte: Option<u8>,
     steps: &[(Step, Waits)],
-) -> Result<(), NoMemory> {
+) {
     for place in 0..steps.len() {
         let (step, waits) = steps[place];
-        assert!(rt; leads(trial, alloc, step, waits, byte)?, "at {place}");
+        assert!(rt; leads(trial, alloc, step, waits, byte), "at {place}");
     }
-    Ok(())
 }

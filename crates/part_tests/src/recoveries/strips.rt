@@ -133,41 +133,45 @@ fn rows_come(
     Ok(true)
 }
 
-/// Whether each step may come, and node 2 recovers the strip of an index from these, one that begins with the byte; `None` if it is to
-/// recover none.
-fn recovers(
+/// The first byte of the strip of an index that node 2 recovers from these; `None` in it if it recovers none, and `None` if a step may not
+/// come.
+fn recovered(
     alloc: Global,
     policy: Policy,
     own: u8,
     strips: &[Strip],
-    byte: Option<u8>,
-) -> Result<bool, NoMemory> {
+) -> Result<Option<Option<u8>>, NoMemory> {
     let oid = Oid::object(Vid(1), 0);
     let length = strip_bytes(policy);
     let Some(mut trial) = a_trial(alloc, policy, length, own)? else {
-        return Ok(false);
+        return Ok(None);
     };
     if !asks_for_rows(&mut trial, alloc, oid)? || !rows_come(&mut trial, alloc, length, strips)? {
-        return Ok(false);
+        return Ok(None);
     }
-    Ok(trial.first_byte(Key { oid, index: own })? == byte)
+    Ok(Some(trial.first_byte(Key { oid, index: own })?))
+}
+
+/// Whether each step may come, and node 2 recovers the strip of an index from these, one that begins with the byte; `None` if it is to
+/// recover none.
+fn recovers(alloc: Global, policy: Policy, own: u8, strips: &[Strip], byte: Option<u8>) -> bool {
+    recovered(alloc, policy, own, strips) == Ok(Some(byte))
 }
 
 // The blocks are of strips of one byte each: 1 and 2, whose parity is 7; 17 and 238, with 242, 13 and 202; 1 to 4, with 69 and 94; and
 // 128, 64, 32 and 16, with 117 and 175.
 
 #[test]
-fn recovers_each_strip_of_three(rt: HostRuntime) -> Result<(), Fail> {
+fn recovers_each_strip_of_three(rt: HostRuntime) {
     let alloc = rt.alloc();
-    assert!(rt; recovers(alloc, CODED_2_1, 0, &[(1, 1, 2), (2, 2, 7)], Some(1))?);
-    assert!(rt; recovers(alloc, CODED_2_1, 1, &[(0, 0, 1), (2, 2, 7)], Some(2))?);
-    assert!(rt; recovers(alloc, CODED_2_1, 2, &[(0, 0, 1), (1, 1, 2)], Some(7))?);
-    Ok(())
+    assert!(rt; recovers(alloc, CODED_2_1, 0, &[(1, 1, 2), (2, 2, 7)], Some(1)));
+    assert!(rt; recovers(alloc, CODED_2_1, 1, &[(0, 0, 1), (2, 2, 7)], Some(2)));
+    assert!(rt; recovers(alloc, CODED_2_1, 2, &[(0, 0, 1), (1, 1, 2)], Some(7)));
 }
 
 // Of two strips of one index the first in the order of the targets counts, and the other doesn't.
 #[test]
-fn takes_one_strip_of_an_index(rt: HostRuntime) -> Result<(), Fail> {
+fn takes_one_strip_of_an_index(rt: HostRuntime) {
     let alloc = rt.alloc();
     assert!(rt;
         recovers(
@@ -176,18 +180,17 @@ fn takes_one_strip_of_an_index(rt: HostRuntime) -> Result<(), Fail> {
             1,
             &[(0, 0, 1), (1, 0, 9), (2, 2, 7)],
             Some(2)
-        )?
+        )
     );
-    assert!(rt; recovers(alloc, CODED_2_1, 2, &[(0, 0, 1), (1, 0, 9)], None)?);
-    Ok(())
+    assert!(rt; recovers(alloc, CODED_2_1, 2, &[(0, 0, 1), (1, 0, 9)], None));
 }
 
 // In the last case there are more strips than are needed: the smallest indexes are taken.
 #[test]
-fn recovers_strips_of_five(rt: HostRuntime) -> Result<(), Fail> {
+fn recovers_strips_of_five(rt: HostRuntime) {
     let alloc = rt.alloc();
-    assert!(rt; recovers(alloc, CODED_2_3, 0, &[(3, 3, 13), (4, 4, 202)], Some(17))?);
-    assert!(rt; recovers(alloc, CODED_2_3, 2, &[(0, 0, 17), (4, 4, 202)], Some(242))?);
+    assert!(rt; recovers(alloc, CODED_2_3, 0, &[(3, 3, 13), (4, 4, 202)], Some(17)));
+    assert!(rt; recovers(alloc, CODED_2_3, 2, &[(0, 0, 17), (4, 4, 202)], Some(242)));
     assert!(rt;
         recovers(
             alloc,
@@ -195,25 +198,23 @@ fn recovers_strips_of_five(rt: HostRuntime) -> Result<(), Fail> {
             3,
             &[(0, 0, 17), (1, 1, 238), (4, 4, 0)],
             Some(13)
-        )?
+        )
     );
-    Ok(())
 }
 
 #[test]
-fn recovers_strips_of_six(rt: HostRuntime) -> Result<(), Fail> {
+fn recovers_strips_of_six(rt: HostRuntime) {
     let alloc = rt.alloc();
     let data = [(0, 0, 1), (1, 1, 2), (2, 2, 3), (4, 4, 69)];
-    assert!(rt; recovers(alloc, CODED_4_2, 3, &data, Some(4))?);
+    assert!(rt; recovers(alloc, CODED_4_2, 3, &data, Some(4)));
     let all = [(0, 0, 1), (1, 1, 2), (2, 2, 3), (3, 3, 4), (4, 4, 69)];
-    assert!(rt; recovers(alloc, CODED_4_2, 5, &all, Some(94))?);
+    assert!(rt; recovers(alloc, CODED_4_2, 5, &all, Some(94)));
     let later = [(1, 1, 2), (2, 2, 3), (3, 3, 4), (4, 4, 69)];
-    assert!(rt; recovers(alloc, CODED_4_2, 0, &later, Some(1))?);
-    Ok(())
+    assert!(rt; recovers(alloc, CODED_4_2, 0, &later, Some(1)));
 }
 
 #[test]
-fn recovers_nothing_from_too_few_strips(rt: HostRuntime) -> Result<(), Fail> {
+fn recovers_nothing_from_too_few_strips(rt: HostRuntime) {
     let alloc = rt.alloc();
     assert!(rt;
         recovers(
@@ -222,17 +223,15 @@ fn recovers_nothing_from_too_few_strips(rt: HostRuntime) -> Result<(), Fail> {
             3,
             &[(0, 0, 1), (1, 1, 2), (2, 2, 3)],
             None
-        )?
+        )
     );
-    Ok(())
 }
 
 #[test]
-fn recovers_strips_of_another_block(rt: HostRuntime) -> Result<(), Fail> {
+fn recovers_strips_of_another_block(rt: HostRuntime) {
     let alloc = rt.alloc();
     let in_place = [(0, 0, 128), (2, 2, 32), (3, 3, 16), (4, 4, 117)];
-    assert!(rt; recovers(alloc, CODED_4_2, 1, &in_place, Some(64))?);
+    assert!(rt; recovers(alloc, CODED_4_2, 1, &in_place, Some(64)));
     let moved = [(0, 4, 117), (1, 3, 16), (2, 2, 32), (3, 0, 128)];
-    assert!(rt; recovers(alloc, CODED_4_2, 5, &moved, Some(175))?);
-    Ok(())
+    assert!(rt; recovers(alloc, CODED_4_2, 5, &moved, Some(175)));
 }
