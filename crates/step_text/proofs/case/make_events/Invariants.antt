@@ -6,7 +6,7 @@ use Rattle.step_text.proofs.case.make_events.Given as goal
 abbrev pub invariant-loop-line : goal.invariant-loop-line
 invariant-loop-line l = record {
   live : l.world.spent ≡ false;
-  within : (line : List ℕ) → Contains l.lines line → Contains (lines_in l.fn.trace.now) line;
+  within : (line : List ℕ) → Contains l.lines line → Contains (lines_in l.fn.trace) line;
 }
 
 abbrev pub decreases-loop-line : goal.decreases-loop-line
