@@ -1,1 +1,3 @@
 pub mod Lives
+pub mod Traces
+pub mod Cases

@@ -1,14 +1,21 @@
-//! Steps of nodes as text, for tests: a line is a node that opens, `new NODE TRIES`, or the words of an input on which the last node
-//! steps, and what it gives is a line too. [`Life`] keeps the node from one line to the next.
+//! Steps of nodes and events of worlds as text, for tests.
+//!
+//! Of a node: a line is a node that opens, `new NODE TRIES`, or the words of an input on which the last node steps, and what it gives is
+//! a line too. [`Life`] keeps the node from one line to the next. Of a world: a case is a script, a line `trace`, and a line for each event
+//! that is to be made, and [`end_of`] tells what the events give and the world that they end with.
 //!
 //! Messages stand as the bytes that `peer_proto` gives them, with repeats counted, and everything else as words: numbers, names in
 //! hex, an entry with its kind and fields in order. The crate makes each step by `Node::step` of `sheep_node`, if `Node::may` lets it:
 //! a line opens a node or makes such a step, or leaves the node (`specs/Lives.antt`). That the words say what they should is seen by
-//! `node_steps`, whose list another program recorded.
+//! `node_steps` and `world_ends`, whose lists another program recorded. Events stand in the words of `trace_text`, and rows in those of
+//! `dog_report`; the world is made by `World::new` and each event by `World::apply` of `sheep_world`, and it is read through its public
+//! readers.
 #![tactic(auto)]
 
 #[cfg(test)]
 mod act_words;
+mod case;
+mod case_fault;
 #[cfg(test)]
 mod commands;
 #[cfg(test)]
@@ -17,6 +24,7 @@ mod copies;
 mod disk_requests;
 mod entry_words;
 mod fault;
+mod history_words;
 mod input_words;
 mod life;
 #[cfg(test)]
@@ -26,6 +34,13 @@ mod output_words;
 mod trial;
 mod words;
 mod work_words;
+mod world_words;
 
+pub use case::end_of;
+pub use case_fault::CaseFault;
+pub use entry_words::write_entry;
 pub use fault::Fault;
+pub use input_words::write_input;
 pub use life::Life;
+pub use output_words::{outputs_line, write_reply};
+pub use words::write_bytes;

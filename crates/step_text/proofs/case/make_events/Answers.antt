@@ -1,0 +1,13 @@
+use Rattle.std.proofs.Common.{◌≡◌, ℕ, List, [], ◌∷◌, Contains, sym, subst}
+use Rattle.std.proofs.lemmas.List.Elements.{Contains-append_right}
+use Rattle.step_text.proofs.case.make_events.Goals as goal
+
+-- what is left behind a line was left before it
+pub loop-line-preserved : goal.loop-line-preserved
+loop-line-preserved c = record {
+  live = c.in_ok-make_event.ensures.live;
+  within = λ line has.
+      c.loop-line.invariant.within line
+      (subst (λ (lines : List (List ℕ)). Contains lines line) (sym c.in-Some.ensures)
+      (Contains-append_right (c.in-Some.line.now ∷ []) c.next.new.self line has));
+}
