@@ -45,3 +45,11 @@ pub mod TiedInRuns
 pub mod PastInRuns
 pub mod EpochsInRuns
 pub mod JoinsInRuns
+pub mod GrantedEpochs
+pub mod KnownDisks
+pub mod KnownCommands
+pub mod KnownDiskSteps
+pub mod KnownDisksInRuns
+pub mod NewAttempts
+pub mod LogsGrow
+pub mod ShapedAttempts

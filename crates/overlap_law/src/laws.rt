@@ -30,6 +30,7 @@ ghost use Rattle.overlap_law.specs.Flight.{FlyInThePast, RequestsAreOfThePast};
 ghost use Rattle.overlap_law.specs.NodeEpochs.{TheUpAreMembers, NodesHaveRead, SettledIsRead};
 ghost use Rattle.overlap_law.specs.RequestsOfScript.{JoinsAreNew};
 ghost use Rattle.overlap_law.specs.TiedAttempts.{IsTied};
+ghost use Rattle.overlap_law.specs.ShapedAttempts.{AreShaped};
 
 /// A made attempt isn't doomed, and whatever is told of a message leaves it made.
 pub fn what_is_made_stays_made()
@@ -179,4 +180,17 @@ pub fn what_nodes_have_read_is_of_the_log()
 pub fn who_joins_is_new()
     ensures { (script : List Statement) (events : List Event) (moment : MomentWithPast) → IsScript script
         → run_with_past script events ≡ Some moment → JoinsAreNew script moment.world }
+{}
+
+/// Each attempt is to create or write, by the policy of its object's disk, whose id was reserved in the attempt's epoch or before; and it
+/// went to the targets of its epoch, as many as are wanted. So it is when a script opens, each change of a moment and each event keeps it,
+/// and so it is in each run in range.
+pub fn the_attempts_are_shaped()
+    ensures opening { (script : List Statement) → AreShaped (first_moment script) }
+    ensures change { (script : List Statement) (start before after : MomentWithPast) → RunsAreInRange script → Began script start.world
+        → MomentChange script start before after → AreShaped before → AreShaped after }
+    ensures event { (script : List Statement) (event : Event) (before after : MomentWithPast) → RunsAreInRange script
+        → Began script before.world → next_moment script event before ≡ Some after → AreShaped before → AreShaped after }
+    ensures run { (script : List Statement) (events : List Event) (moment : MomentWithPast) → RunsAreInRange script
+        → run_with_past script events ≡ Some moment → AreShaped moment }
 {}
