@@ -46,6 +46,7 @@ pub mod PastInRuns
 pub mod EpochsInRuns
 pub mod JoinsInRuns
 pub mod GrantedEpochs
+pub mod LeavesOfLog
 pub mod KnownDisks
 pub mod KnownCommands
 pub mod KnownDiskSteps
@@ -53,3 +54,9 @@ pub mod KnownDisksInRuns
 pub mod NewAttempts
 pub mod LogsGrow
 pub mod ShapedAttempts
+pub mod SaidEpochs
+pub mod TrafficRepliers
+pub mod AwaitedPackets
+pub mod RecoveryMessages
+pub mod GoneInRuns
+pub mod WireInRuns

@@ -26,7 +26,8 @@ ghost use Rattle.overlap_law.specs.Fates.{AttemptsAreOrdered};
 ghost use Rattle.overlap_law.specs.OpenWorks.{OpenAttemptsAreLatest};
 ghost use Rattle.overlap_law.specs.Sessions.{WorksAreApart};
 ghost use Rattle.overlap_law.specs.Writers.{OnlyTheWriterWrites};
-ghost use Rattle.overlap_law.specs.Flight.{FlyInThePast, RequestsAreOfThePast};
+ghost use Rattle.overlap_law.specs.Flight.{FlyInThePast, RequestsAreOfThePast, PacketsAreAwaited, RepliersHaveCome, RepliesAreOfTheirEpoch};
+ghost use Rattle.overlap_law.specs.Flight.{TheGoneAreFenced};
 ghost use Rattle.overlap_law.specs.NodeEpochs.{TheUpAreMembers, NodesHaveRead, SettledIsRead};
 ghost use Rattle.overlap_law.specs.RequestsOfScript.{JoinsAreNew};
 ghost use Rattle.overlap_law.specs.TiedAttempts.{IsTied};
@@ -193,4 +194,20 @@ pub fn the_attempts_are_shaped()
         → Began script before.world → next_moment script event before ≡ Some after → AreShaped before → AreShaped after }
     ensures run { (script : List Statement) (events : List Event) (moment : MomentWithPast) → RunsAreInRange script
         → run_with_past script events ≡ Some moment → AreShaped moment }
+{}
+
+/// In each run in range what is in the wire of a node that isn't lost is something that it waits for, and all that it waits for is there
+/// while it has numbers left; the messages of a recovery are of its epoch, and those of its search of the search's level. A reply is of the
+/// epoch that its say needs, and its node came to that epoch, which each change of a moment keeps. And the requests of a node that was lost
+/// and left are of epochs below that of its `Leave`.
+pub fn the_wire_is_linked()
+    ensures linked { (script : List Statement) (events : List Event) (moment : MomentWithPast) → RunsAreInRange script
+        → run_with_past script events ≡ Some moment → PacketsAreAwaited moment.world.hosts moment.world.wire }
+    ensures change { (script : List Statement) (start before after : MomentWithPast) → RunsAreInRange script → Began script start.world
+        → MomentChange script start before after → RepliersHaveCome before.world.hosts before.world.wire
+        → RepliersHaveCome after.world.hosts after.world.wire }
+    ensures said { (script : List Statement) (events : List Event) (moment : MomentWithPast) → RunsAreInRange script
+        → run_with_past script events ≡ Some moment → RepliesAreOfTheirEpoch moment.world.hosts moment.world.wire }
+    ensures fenced { (script : List Statement) (events : List Event) (moment : MomentWithPast) → RunsAreInRange script
+        → run_with_past script events ≡ Some moment → TheGoneAreFenced moment.world.log moment.world.hosts moment.world.wire }
 {}
