@@ -60,3 +60,9 @@ pub mod AwaitedPackets
 pub mod RecoveryMessages
 pub mod GoneInRuns
 pub mod WireInRuns
+pub mod OpenStatuses
+pub mod KnownFates
+pub mod KnownFatesLater
+pub mod ToldFates
+pub mod WorkedSteps
+pub mod WorkedInRuns

@@ -23,7 +23,7 @@ ghost use Rattle.overlap_law.specs.StepMoments.{SteppingNode, IsStepping, StepsB
 ghost use Rattle.overlap_law.specs.MomentChanges.{MomentChange, RunsAreInRange, EventsAreTrails};
 ghost use Rattle.overlap_law.specs.Traffic.{TrafficBetween, BeginsInTurn, OpenAttemptsHaveMessages};
 ghost use Rattle.overlap_law.specs.Fates.{AttemptsAreOrdered};
-ghost use Rattle.overlap_law.specs.OpenWorks.{OpenAttemptsAreLatest};
+ghost use Rattle.overlap_law.specs.OpenWorks.{OpenAttemptsAreLatest, WorksKnowTheirFates};
 ghost use Rattle.overlap_law.specs.Sessions.{WorksAreApart};
 ghost use Rattle.overlap_law.specs.Writers.{OnlyTheWriterWrites};
 ghost use Rattle.overlap_law.specs.Flight.{FlyInThePast, RequestsAreOfThePast, PacketsAreAwaited, RepliersHaveCome, RepliesAreOfTheirEpoch};
@@ -210,4 +210,11 @@ pub fn the_wire_is_linked()
         → run_with_past script events ≡ Some moment → RepliesAreOfTheirEpoch moment.world.hosts moment.world.wire }
     ensures fenced { (script : List Statement) (events : List Event) (moment : MomentWithPast) → RunsAreInRange script
         → run_with_past script events ≡ Some moment → TheGoneAreFenced moment.world.log moment.world.hosts moment.world.wire }
+{}
+
+/// In each run in range what a node that may step knows of the messages of its open creates and writes is so: one of which it has no word is
+/// in the wire; one that succeeded was served, one that was refused is doomed, and one that was lost doesn't fly.
+pub fn gateways_know_the_fates()
+    ensures { (script : List Statement) (events : List Event) (moment : MomentWithPast) → RunsAreInRange script
+        → run_with_past script events ≡ Some moment → WorksKnowTheirFates moment.world.hosts moment.world.wire moment.past.attempts }
 {}
