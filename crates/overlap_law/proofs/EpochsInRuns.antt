@@ -39,7 +39,7 @@ members_there entries (suc most) epoch is = by_tie (suc most == epoch) refl is (
     by_tie false tie is earlier = let (below, so) = earlier is in (omega (arith, below), so)
 
 -- and no later entry changes them
-members_read : (entries rest : List Entry) (epoch : ℕ) → is_entered (epochs_of entries) epoch ≡ true
+pub members_read : (entries rest : List Entry) (epoch : ℕ) → is_entered (epochs_of entries) epoch ≡ true
     → members_at (epochs_of entries) epoch ≡ members_in (entries ++ rest) epoch
 members_read [] rest epoch is = absurd (cc (is))
 members_read (first ∷ later) rest epoch is =

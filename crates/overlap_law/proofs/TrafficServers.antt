@@ -79,7 +79,7 @@ served_from node (target ∷ targets) (fate ∷ fates) (suc place) among served 
 abbrev epoch_in : Option Host → ℕ
 epoch_in o = option_map_or (λ (host : Host). host.node.peer.epoch) o 0
 
-reached_still : (hosts hosts_after : Hosts) → EpochsRise hosts hosts_after → (epoch : ℕ) (node : NodeId) → has_reached hosts epoch node ≡ true
+pub reached_still : (hosts hosts_after : Hosts) → EpochsRise hosts hosts_after → (epoch : ℕ) (node : NodeId) → has_reached hosts epoch node ≡ true
     → has_reached hosts_after epoch node ≡ true
 reached_still hosts hosts_after rise epoch node has = by_host (tree.get hosts node.0) refl has
   where

@@ -86,12 +86,16 @@ IsSaidSo asked told (says.Row row) = told ≡ asked
 IsSaidSo asked told says.NoRow = told ≡ asked
 IsSaidSo asked told (says.Refused refusal) = IsRefusedSo asked told refusal
 
+-- who replied came to the epoch of the reply
+abbrev pub RepliersHaveCome : Hosts → Wire → Type 0
+RepliersHaveCome hosts wire = (name : MessageName) (from : NodeId) (reply : PeerRsp)
+    → IsAnswering wire name from reply → has_reached hosts reply.epoch.0 from ≡ true
+
 -- a reply in the wire is of the epoch that its say needs, and its node came to that epoch
 pub record RepliesAreOfTheirEpoch (hosts : Hosts) (wire : Wire) : Type 0 where
   pub said : EachUp hosts (λ n node. (to : NodeId) (request : PeerReq) (reply : PeerRsp) → IsAwaitedReply node to request
       → IsAnswering wire (message_name n request.number) to reply → IsSaidSo request.epoch.0 reply.epoch.0 reply.say)
-  pub reached : (name : MessageName) (from : NodeId) (reply : PeerRsp)
-      → IsAnswering wire name from reply → has_reached hosts reply.epoch.0 from ≡ true
+  pub reached : RepliersHaveCome hosts wire
 
 -- a reply to an attempt's message is Success exactly where the target has served it
 pub record FatesAreTold (wire : Wire) (attempts : List AttemptRecord) : Type 0 where

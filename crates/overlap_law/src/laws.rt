@@ -23,13 +23,15 @@ ghost use Rattle.overlap_law.specs.StepMoments.{SteppingNode, IsStepping, StepsB
 ghost use Rattle.overlap_law.specs.MomentChanges.{MomentChange, RunsAreInRange, EventsAreTrails};
 ghost use Rattle.overlap_law.specs.Traffic.{TrafficBetween, BeginsInTurn, OpenAttemptsHaveMessages};
 ghost use Rattle.overlap_law.specs.Fates.{AttemptsAreOrdered};
-ghost use Rattle.overlap_law.specs.OpenWorks.{OpenAttemptsAreLatest};
+ghost use Rattle.overlap_law.specs.OpenWorks.{OpenAttemptsAreLatest, WorksKnowTheirFates};
 ghost use Rattle.overlap_law.specs.Sessions.{WorksAreApart};
 ghost use Rattle.overlap_law.specs.Writers.{OnlyTheWriterWrites};
-ghost use Rattle.overlap_law.specs.Flight.{FlyInThePast, RequestsAreOfThePast};
+ghost use Rattle.overlap_law.specs.Flight.{FlyInThePast, RequestsAreOfThePast, PacketsAreAwaited, RepliersHaveCome, RepliesAreOfTheirEpoch};
+ghost use Rattle.overlap_law.specs.Flight.{TheGoneAreFenced};
 ghost use Rattle.overlap_law.specs.NodeEpochs.{TheUpAreMembers, NodesHaveRead, SettledIsRead};
 ghost use Rattle.overlap_law.specs.RequestsOfScript.{JoinsAreNew};
 ghost use Rattle.overlap_law.specs.TiedAttempts.{IsTied};
+ghost use Rattle.overlap_law.specs.ShapedAttempts.{AreShaped};
 
 /// A made attempt isn't doomed, and whatever is told of a message leaves it made.
 pub fn what_is_made_stays_made()
@@ -179,4 +181,40 @@ pub fn what_nodes_have_read_is_of_the_log()
 pub fn who_joins_is_new()
     ensures { (script : List Statement) (events : List Event) (moment : MomentWithPast) → IsScript script
         → run_with_past script events ≡ Some moment → JoinsAreNew script moment.world }
+{}
+
+/// Each attempt is to create or write, by the policy of its object's disk, whose id was reserved in the attempt's epoch or before; and it
+/// went to the targets of its epoch, as many as are wanted. So it is when a script opens, each change of a moment and each event keeps it,
+/// and so it is in each run in range.
+pub fn the_attempts_are_shaped()
+    ensures opening { (script : List Statement) → AreShaped (first_moment script) }
+    ensures change { (script : List Statement) (start before after : MomentWithPast) → RunsAreInRange script → Began script start.world
+        → MomentChange script start before after → AreShaped before → AreShaped after }
+    ensures event { (script : List Statement) (event : Event) (before after : MomentWithPast) → RunsAreInRange script
+        → Began script before.world → next_moment script event before ≡ Some after → AreShaped before → AreShaped after }
+    ensures run { (script : List Statement) (events : List Event) (moment : MomentWithPast) → RunsAreInRange script
+        → run_with_past script events ≡ Some moment → AreShaped moment }
+{}
+
+/// In each run in range what is in the wire of a node that isn't lost is something that it waits for, and all that it waits for is there
+/// while it has numbers left; the messages of a recovery are of its epoch, and those of its search of the search's level. A reply is of the
+/// epoch that its say needs, and its node came to that epoch, which each change of a moment keeps. And the requests of a node that was lost
+/// and left are of epochs below that of its `Leave`.
+pub fn the_wire_is_linked()
+    ensures linked { (script : List Statement) (events : List Event) (moment : MomentWithPast) → RunsAreInRange script
+        → run_with_past script events ≡ Some moment → PacketsAreAwaited moment.world.hosts moment.world.wire }
+    ensures change { (script : List Statement) (start before after : MomentWithPast) → RunsAreInRange script → Began script start.world
+        → MomentChange script start before after → RepliersHaveCome before.world.hosts before.world.wire
+        → RepliersHaveCome after.world.hosts after.world.wire }
+    ensures said { (script : List Statement) (events : List Event) (moment : MomentWithPast) → RunsAreInRange script
+        → run_with_past script events ≡ Some moment → RepliesAreOfTheirEpoch moment.world.hosts moment.world.wire }
+    ensures fenced { (script : List Statement) (events : List Event) (moment : MomentWithPast) → RunsAreInRange script
+        → run_with_past script events ≡ Some moment → TheGoneAreFenced moment.world.log moment.world.hosts moment.world.wire }
+{}
+
+/// In each run in range what a node that may step knows of the messages of its open creates and writes is so: one of which it has no word is
+/// in the wire; one that succeeded was served, one that was refused is doomed, and one that was lost doesn't fly.
+pub fn gateways_know_the_fates()
+    ensures { (script : List Statement) (events : List Event) (moment : MomentWithPast) → RunsAreInRange script
+        → run_with_past script events ≡ Some moment → WorksKnowTheirFates moment.world.hosts moment.world.wire moment.past.attempts }
 {}
