@@ -38,3 +38,4 @@ pub mod StepMoments
 pub mod MomentChanges
 pub mod Traffic
 pub mod TiedAttempts
+pub mod RoomOfScripts

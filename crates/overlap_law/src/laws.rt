@@ -13,23 +13,26 @@ ghost use Rattle.sheep_node.specs.Step.{is_due};
 ghost use Rattle.sheep_node.specs.StepState.{StepState};
 ghost use Rattle.sheep_world.specs.Began.{Began};
 ghost use Rattle.sheep_world.specs.Run.{run};
-ghost use Rattle.sheep_world.specs.World.{Host};
+ghost use Rattle.sheep_world.specs.World.{Host, World};
+ghost use Rattle.sheep_world.specs.LogHolds.{MayGrow};
 ghost use Rattle.overlap_law.specs.Attempts.{MessageFate, Flying, Served, AttemptRecord, has_message, attempt_with_fate};
 ghost use Rattle.overlap_law.specs.Words.{Hosts, is_beyond, is_made, is_doomed, has_served, unit_start, unit_end, covers_unit, base_of};
 ghost use Rattle.overlap_law.specs.Words.{own_base_of};
 ghost use Rattle.overlap_law.specs.Headline.{OtherEpochsChangeNothing};
 ghost use Rattle.overlap_law.specs.Past.{MomentWithPast, run_with_past, without_past, next_moment, first_moment};
 ghost use Rattle.overlap_law.specs.StepMoments.{SteppingNode, IsStepping, StepsByChanges, IsWithinStep, moment_in_step, attempts_of_change};
-ghost use Rattle.overlap_law.specs.MomentChanges.{MomentChange, RunsAreInRange, EventsAreTrails};
+ghost use Rattle.overlap_law.specs.MomentChanges.{MomentChange, MomentTrail, RunsAreInRange, EventsAreTrails};
 ghost use Rattle.overlap_law.specs.Traffic.{TrafficBetween, BeginsInTurn, OpenAttemptsHaveMessages};
 ghost use Rattle.overlap_law.specs.Fates.{AttemptsAreOrdered};
 ghost use Rattle.overlap_law.specs.OpenWorks.{OpenAttemptsAreLatest};
 ghost use Rattle.overlap_law.specs.Sessions.{WorksAreApart};
 ghost use Rattle.overlap_law.specs.Writers.{OnlyTheWriterWrites};
 ghost use Rattle.overlap_law.specs.Flight.{FlyInThePast, RequestsAreOfThePast};
-ghost use Rattle.overlap_law.specs.NodeEpochs.{TheUpAreMembers, NodesHaveRead, SettledIsRead};
+ghost use Rattle.overlap_law.specs.NodeEpochs.{TheUpAreMembers, NodesHaveRead, SettledIsRead, TheUpHaveStayed, LeaversAreBeyond};
+ghost use Rattle.overlap_law.specs.NodeEpochs.{RecoveriesArePresent, AnswerersHaveCome, TheRecoveredHaveAll, TheUnfinishedAreUnsettled};
 ghost use Rattle.overlap_law.specs.RequestsOfScript.{JoinsAreNew};
 ghost use Rattle.overlap_law.specs.TiedAttempts.{IsTied};
+ghost use Rattle.overlap_law.specs.RoomOfScripts.{HasFewControls};
 
 /// A made attempt isn't doomed, and whatever is told of a message leaves it made.
 pub fn what_is_made_stays_made()
@@ -179,4 +182,44 @@ pub fn what_nodes_have_read_is_of_the_log()
 pub fn who_joins_is_new()
     ensures { (script : List Statement) (events : List Event) (moment : MomentWithPast) → IsScript script
         → run_with_past script events ≡ Some moment → JoinsAreNew script moment.world }
+{}
+
+/// In each run in range a member stays one until it is lost: a member of an epoch that is neither lost nor beyond it is a member of each
+/// later one, and one that is none of a later epoch is lost or came to that. So it is at each moment on the way of an event, and at its
+/// end.
+pub fn members_stay_until_they_are_lost()
+    ensures stayed { (script : List Statement) (events : List Event) (start moment : MomentWithPast) → RunsAreInRange script
+        → run_with_past script events ≡ Some start → MomentTrail script start moment
+        → TheUpHaveStayed moment.world.log moment.world.hosts }
+    ensures left { (script : List Statement) (events : List Event) (start moment : MomentWithPast) → RunsAreInRange script
+        → run_with_past script events ≡ Some start → MomentTrail script start moment
+        → LeaversAreBeyond moment.world.log moment.world.hosts }
+{}
+
+/// In each run in range a recovery has the members of its epoch, and is of the one in which its node is, if the node is a member of that; and
+/// a member that it doesn't wait for came to its epoch. So it is at each moment on the way of an event, and at its end.
+pub fn recoveries_are_of_members_that_came()
+    ensures present { (script : List Statement) (events : List Event) (start moment : MomentWithPast) → RunsAreInRange script
+        → run_with_past script events ≡ Some start → MomentTrail script start moment
+        → RecoveriesArePresent moment.world.log moment.world.hosts }
+    ensures answered { (script : List Statement) (events : List Event) (start moment : MomentWithPast) → RunsAreInRange script
+        → run_with_past script events ≡ Some start → MomentTrail script start moment → AnswerersHaveCome moment.world.hosts }
+{}
+
+/// In each run in range whose `Recovered` of an epoch is in the log or still to be put came to that epoch, as did each member of it, and while
+/// it is there its list is finished and nothing is pending; and the settled epoch is below that of a node that isn't lost and recovers. So
+/// it is at each moment on the way of an event, and at its end.
+pub fn the_recovered_have_all()
+    ensures recovered { (script : List Statement) (events : List Event) (start moment : MomentWithPast) → RunsAreInRange script
+        → run_with_past script events ≡ Some start → MomentTrail script start moment
+        → TheRecoveredHaveAll moment.world.log moment.world.hosts }
+    ensures unsettled { (script : List Statement) (events : List Event) (start moment : MomentWithPast) → RunsAreInRange script
+        → run_with_past script events ≡ Some start → MomentTrail script start moment
+        → TheUnfinishedAreUnsettled moment.world.log moment.world.hosts }
+{}
+
+/// In each world that a run of a script with few controls reaches there is room for one epoch more: an epoch begins only by a control, or by
+/// the leave of a member, which was there at first or came by a control.
+pub fn scripts_of_few_controls_have_room()
+    ensures { (script : List Statement) (world : World) → IsScript script → HasFewControls script → Began script world → MayGrow world }
 {}

@@ -21,8 +21,10 @@ mod overlap;
 pub use laws::{
     a_base_is_made, an_attempt_begins_where_one_opens, an_event_is_a_trail_of_changes,
     each_change_is_of_a_kind_of_traffic, each_target_has_its_fate,
-    no_read_of_what_was_borne_is_left_out, other_attempts_hear_nothing,
-    peers_of_another_epoch_change_nothing, the_attempts_stay_in_order, the_past_follows_the_run,
+    members_stay_until_they_are_lost, no_read_of_what_was_borne_is_left_out,
+    other_attempts_hear_nothing, peers_of_another_epoch_change_nothing,
+    recoveries_are_of_members_that_came, scripts_of_few_controls_have_room,
+    the_attempts_stay_in_order, the_past_follows_the_run, the_recovered_have_all,
     the_wire_and_the_attempts_stay_tied, units_follow_each_other, what_becomes_of_an_attempt,
     what_is_asked_is_of_the_past, what_is_doomed_stays_doomed, what_is_made_stays_made,
     what_nodes_have_read_is_of_the_log, who_joins_is_new,
