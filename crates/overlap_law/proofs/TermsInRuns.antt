@@ -5,9 +5,12 @@ use Rattle.sheep_node.specs.declared.event.Event.{Event}
 use Rattle.sheep_world.specs.Began.{Began}
 use Rattle.overlap_law.specs.Past.{MomentWithPast, run_with_past}
 use Rattle.overlap_law.specs.MomentChanges.{MomentTrail, Still, Then, RunsAreInRange, KeptByChanges}
+use Rattle.overlap_law.specs.Groups.{TermsAreKept}
 use Rattle.overlap_law.specs.NodeEpochs.{TheUpHaveStayed, LeaversAreBeyond, RecoveriesArePresent, AnswerersHaveCome, TheRecoveredHaveAll, TheUnfinishedAreUnsettled}
+use Rattle.overlap_law.proofs.EpochsInRuns.{members-in_run, read-in_run, settled-in_run}
 use Rattle.overlap_law.proofs.FinishedInMoments.{TermsHold, kept_terms}
 use Rattle.overlap_law.proofs.NoRecoveredDue.{began-with_past}
+use Rattle.overlap_law.proofs.OverlapLemmas.{settled-recovered}
 use Rattle.overlap_law.proofs.ReadInMoments.{are_present}
 use Rattle.overlap_law.proofs.RecoveredInMoments.{have_all}
 use Rattle.overlap_law.proofs.RunsByChanges.{run-kept}
@@ -45,3 +48,20 @@ module _ (script : List Statement) (range : RunsAreInRange script) (events : Lis
 
   pub unsettled-on_the_way : TheUnfinishedAreUnsettled moment.world.log moment.world.hosts
   unsettled-on_the_way = are_unsettled moment terms
+
+-- and at the end of each event the whole group does
+module _ (script : List Statement) (range : RunsAreInRange script) (events : List Event) (moment : MomentWithPast)
+    (is : run_with_past script events ≡ Some moment) where
+  pub terms-in_run : TermsAreKept moment.world.log moment.world.hosts
+  terms-in_run = record {
+    up_member = members-in_run script range events moment is;
+    stayed = stayed-on_the_way script range events moment moment is Still;
+    left = left-on_the_way script range events moment moment is Still;
+    read = read-in_run script range events moment is;
+    present = present-on_the_way script range events moment moment is Still;
+    answered = answered-on_the_way script range events moment moment is Still;
+    recovered = recovered-on_the_way script range events moment moment is Still;
+    unsettled = unsettled-on_the_way script range events moment moment is Still;
+    settled_read = settled-in_run script range events moment is;
+    settles = settled-recovered moment.world.log moment.world.hosts;
+  }

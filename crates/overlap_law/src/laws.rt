@@ -30,6 +30,7 @@ ghost use Rattle.overlap_law.specs.Writers.{OnlyTheWriterWrites};
 ghost use Rattle.overlap_law.specs.Flight.{FlyInThePast, RequestsAreOfThePast};
 ghost use Rattle.overlap_law.specs.NodeEpochs.{TheUpAreMembers, NodesHaveRead, SettledIsRead, TheUpHaveStayed, LeaversAreBeyond};
 ghost use Rattle.overlap_law.specs.NodeEpochs.{RecoveriesArePresent, AnswerersHaveCome, TheRecoveredHaveAll, TheUnfinishedAreUnsettled};
+ghost use Rattle.overlap_law.specs.Groups.{TermsAreKept};
 ghost use Rattle.overlap_law.specs.RequestsOfScript.{JoinsAreNew};
 ghost use Rattle.overlap_law.specs.TiedAttempts.{IsTied};
 ghost use Rattle.overlap_law.specs.RoomOfScripts.{HasFewControls};
@@ -216,6 +217,12 @@ pub fn the_recovered_have_all()
     ensures unsettled { (script : List Statement) (events : List Event) (start moment : MomentWithPast) → RunsAreInRange script
         → run_with_past script events ≡ Some start → MomentTrail script start moment
         → TheUnfinishedAreUnsettled moment.world.log moment.world.hosts }
+{}
+
+/// The group of epochs and nodes of the invariant holds in each run in range.
+pub fn epochs_and_nodes_are_kept()
+    ensures { (script : List Statement) (events : List Event) (moment : MomentWithPast) → RunsAreInRange script
+        → run_with_past script events ≡ Some moment → TermsAreKept moment.world.log moment.world.hosts }
 {}
 
 /// In each world that a run of a script with few controls reaches there is room for one epoch more: an epoch begins only by a control, or by
