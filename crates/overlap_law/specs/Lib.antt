@@ -39,3 +39,4 @@ pub mod MomentChanges
 pub mod Traffic
 pub mod TiedAttempts
 pub mod ShapedAttempts
+pub mod RoomOfScripts

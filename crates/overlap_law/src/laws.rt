@@ -13,14 +13,15 @@ ghost use Rattle.sheep_node.specs.Step.{is_due};
 ghost use Rattle.sheep_node.specs.StepState.{StepState};
 ghost use Rattle.sheep_world.specs.Began.{Began};
 ghost use Rattle.sheep_world.specs.Run.{run};
-ghost use Rattle.sheep_world.specs.World.{Host};
+ghost use Rattle.sheep_world.specs.World.{Host, World};
+ghost use Rattle.sheep_world.specs.LogHolds.{MayGrow};
 ghost use Rattle.overlap_law.specs.Attempts.{MessageFate, Flying, Served, AttemptRecord, has_message, attempt_with_fate};
 ghost use Rattle.overlap_law.specs.Words.{Hosts, is_beyond, is_made, is_doomed, has_served, unit_start, unit_end, covers_unit, base_of};
 ghost use Rattle.overlap_law.specs.Words.{own_base_of};
 ghost use Rattle.overlap_law.specs.Headline.{OtherEpochsChangeNothing};
 ghost use Rattle.overlap_law.specs.Past.{MomentWithPast, run_with_past, without_past, next_moment, first_moment};
 ghost use Rattle.overlap_law.specs.StepMoments.{SteppingNode, IsStepping, StepsByChanges, IsWithinStep, moment_in_step, attempts_of_change};
-ghost use Rattle.overlap_law.specs.MomentChanges.{MomentChange, RunsAreInRange, EventsAreTrails};
+ghost use Rattle.overlap_law.specs.MomentChanges.{MomentChange, MomentTrail, RunsAreInRange, EventsAreTrails};
 ghost use Rattle.overlap_law.specs.Traffic.{TrafficBetween, BeginsInTurn, OpenAttemptsHaveMessages};
 ghost use Rattle.overlap_law.specs.Fates.{AttemptsAreOrdered};
 ghost use Rattle.overlap_law.specs.OpenWorks.{OpenAttemptsAreLatest, WorksKnowTheirFates};
@@ -28,10 +29,13 @@ ghost use Rattle.overlap_law.specs.Sessions.{WorksAreApart};
 ghost use Rattle.overlap_law.specs.Writers.{OnlyTheWriterWrites};
 ghost use Rattle.overlap_law.specs.Flight.{FlyInThePast, RequestsAreOfThePast, PacketsAreAwaited, RepliersHaveCome, RepliesAreOfTheirEpoch};
 ghost use Rattle.overlap_law.specs.Flight.{TheGoneAreFenced};
-ghost use Rattle.overlap_law.specs.NodeEpochs.{TheUpAreMembers, NodesHaveRead, SettledIsRead};
+ghost use Rattle.overlap_law.specs.NodeEpochs.{TheUpAreMembers, NodesHaveRead, SettledIsRead, TheUpHaveStayed, LeaversAreBeyond};
+ghost use Rattle.overlap_law.specs.NodeEpochs.{RecoveriesArePresent, AnswerersHaveCome, TheRecoveredHaveAll, TheUnfinishedAreUnsettled};
 ghost use Rattle.overlap_law.specs.RequestsOfScript.{JoinsAreNew};
 ghost use Rattle.overlap_law.specs.TiedAttempts.{IsTied};
 ghost use Rattle.overlap_law.specs.ShapedAttempts.{AreShaped};
+ghost use Rattle.overlap_law.specs.Groups.{TermsAreKept};
+ghost use Rattle.overlap_law.specs.RoomOfScripts.{HasFewControls};
 
 /// A made attempt isn't doomed, and whatever is told of a message leaves it made.
 pub fn what_is_made_stays_made()
@@ -217,4 +221,49 @@ pub fn the_wire_is_linked()
 pub fn gateways_know_the_fates()
     ensures { (script : List Statement) (events : List Event) (moment : MomentWithPast) → RunsAreInRange script
         → run_with_past script events ≡ Some moment → WorksKnowTheirFates moment.world.hosts moment.world.wire moment.past.attempts }
+
+/// In each run in range a member stays one until it is lost: a member of an epoch that is neither lost nor beyond it is a member of each
+/// later one, and one that is none of a later epoch is lost or came to that. So it is at each moment on the way of an event, and at its
+/// end.
+pub fn members_stay_until_they_are_lost()
+    ensures stayed { (script : List Statement) (events : List Event) (start moment : MomentWithPast) → RunsAreInRange script
+        → run_with_past script events ≡ Some start → MomentTrail script start moment
+        → TheUpHaveStayed moment.world.log moment.world.hosts }
+    ensures left { (script : List Statement) (events : List Event) (start moment : MomentWithPast) → RunsAreInRange script
+        → run_with_past script events ≡ Some start → MomentTrail script start moment
+        → LeaversAreBeyond moment.world.log moment.world.hosts }
+{}
+
+/// In each run in range a recovery has the members of its epoch, and is of the one in which its node is, if the node is a member of that; and
+/// a member that it doesn't wait for came to its epoch. So it is at each moment on the way of an event, and at its end.
+pub fn recoveries_are_of_members_that_came()
+    ensures present { (script : List Statement) (events : List Event) (start moment : MomentWithPast) → RunsAreInRange script
+        → run_with_past script events ≡ Some start → MomentTrail script start moment
+        → RecoveriesArePresent moment.world.log moment.world.hosts }
+    ensures answered { (script : List Statement) (events : List Event) (start moment : MomentWithPast) → RunsAreInRange script
+        → run_with_past script events ≡ Some start → MomentTrail script start moment → AnswerersHaveCome moment.world.hosts }
+{}
+
+/// In each run in range whose `Recovered` of an epoch is in the log or still to be put came to that epoch, as did each member of it, and while
+/// it is there its list is finished and nothing is pending; and the settled epoch is below that of a node that isn't lost and recovers. So
+/// it is at each moment on the way of an event, and at its end.
+pub fn the_recovered_have_all()
+    ensures recovered { (script : List Statement) (events : List Event) (start moment : MomentWithPast) → RunsAreInRange script
+        → run_with_past script events ≡ Some start → MomentTrail script start moment
+        → TheRecoveredHaveAll moment.world.log moment.world.hosts }
+    ensures unsettled { (script : List Statement) (events : List Event) (start moment : MomentWithPast) → RunsAreInRange script
+        → run_with_past script events ≡ Some start → MomentTrail script start moment
+        → TheUnfinishedAreUnsettled moment.world.log moment.world.hosts }
+{}
+
+/// The group of epochs and nodes of the invariant holds in each run in range.
+pub fn epochs_and_nodes_are_kept()
+    ensures { (script : List Statement) (events : List Event) (moment : MomentWithPast) → RunsAreInRange script
+        → run_with_past script events ≡ Some moment → TermsAreKept moment.world.log moment.world.hosts }
+{}
+
+/// In each world that a run of a script with few controls reaches there is room for one epoch more: an epoch begins only by a control, or by
+/// the leave of a member, which was there at first or came by a control.
+pub fn scripts_of_few_controls_have_room()
+    ensures { (script : List Statement) (world : World) → IsScript script → HasFewControls script → Began script world → MayGrow world }
 {}

@@ -12,7 +12,8 @@
 //!
 //! An event is taken apart into small changes of a moment (`specs/StepMoments.antt`, `specs/MomentChanges.antt`), each of one kind by
 //! what it makes of the wire and the attempts (`specs/Traffic.antt`). So what each of them keeps holds of every run in range: that the
-//! wire and the attempts stay tied (`specs/TiedAttempts.antt`), and that what is asked is of the past.
+//! wire and the attempts stay tied (`specs/TiedAttempts.antt`), that what is asked is of the past, and the group of
+//! epochs and nodes (`specs/NodeEpochs.antt`).
 #![tactic(auto)]
 
 mod laws;
@@ -20,13 +21,7 @@ mod overlap;
 
 pub use laws::{
     a_base_is_made, an_attempt_begins_where_one_opens, an_event_is_a_trail_of_changes,
-    each_change_is_of_a_kind_of_traffic, each_target_has_its_fate, gateways_know_the_fates,
-    no_read_of_what_was_borne_is_left_out, other_attempts_hear_nothing,
-    peers_of_another_epoch_change_nothing, the_attempts_are_shaped, the_attempts_stay_in_order,
-    the_past_follows_the_run, the_wire_and_the_attempts_stay_tied, the_wire_is_linked,
-    units_follow_each_other, what_becomes_of_an_attempt, what_is_asked_is_of_the_past,
-    what_is_doomed_stays_doomed, what_is_made_stays_made, what_nodes_have_read_is_of_the_log,
-    who_joins_is_new,
+    each_change_is_of_a_kind_of_traffic, each_target_has_its_fate, epochs_and_nodes_are_kept, gateways_know_the_fates, members_stay_until_they_are_lost, no_read_of_what_was_borne_is_left_out, other_attempts_hear_nothing, peers_of_another_epoch_change_nothing, recoveries_are_of_members_that_came, scripts_of_few_controls_have_room, the_attempts_are_shaped, the_attempts_stay_in_order, the_past_follows_the_run, the_recovered_have_all, the_wire_and_the_attempts_stay_tied, the_wire_is_linked, units_follow_each_other, what_becomes_of_an_attempt, what_is_asked_is_of_the_past, what_is_doomed_stays_doomed, what_is_made_stays_made, what_nodes_have_read_is_of_the_log, who_joins_is_new,
 };
 pub use overlap::{
     the_messages_of_the_gone_are_fenced, the_overlap_gives_complete_lists,

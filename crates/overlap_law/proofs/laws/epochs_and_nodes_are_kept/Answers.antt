@@ -1,0 +1,5 @@
+use Rattle.overlap_law.proofs.TermsInRuns.{terms-in_run}
+use Rattle.overlap_law.proofs.laws.epochs_and_nodes_are_kept.Goals as goal
+
+pub returns : goal.returns
+returns c = λ script events moment range is. terms-in_run script range events moment is
