@@ -67,35 +67,35 @@ same_open old req work current there stage = record {
 
 -- ---- works that go, or stay as they are
 
-abbrev Fewer : Works → Works → Type 0
+abbrev pub Fewer : Works → Works → Type 0
 Fewer old new = (q : ℕ) (work : Work) → tree.get new q ≡ Some work → tree.get old q ≡ Some work
 
-gone_fewer : (works : Works) (req : ℕ) → Fewer works (tree.remove works req)
+pub gone_fewer : (works : Works) (req : ℕ) → Fewer works (tree.remove works req)
 gone_fewer works req q work got = ⊎_elim
     (λ (own : q ≡ req). let none = ap (tree.get (tree.remove works req)) own ∙ get-remove_same works req in absurd (cc (got, none)))
     (λ (other : q ≢ req). sym (get-remove_other works req q other) ∙ got)
     (cases_eq q req)
 
 -- the works of a node in its step, against earlier ones
-abbrev FewerIn : Works → StepState → Type 0
+abbrev pub FewerIn : Works → StepState → Type 0
 FewerIn works so_far = Fewer works so_far.node.gateway.works
 
-ended_fewer : (works : Works) (session req : ℕ) (reply : GuestRsp) (so_far : StepState) → FewerIn works so_far → FewerIn works (request_ended session req reply so_far)
+pub ended_fewer : (works : Works) (session req : ℕ) (reply : GuestRsp) (so_far : StepState) → FewerIn works so_far → FewerIn works (request_ended session req reply so_far)
 unfolding request_ended
 ended_fewer works session req reply so_far less = less
 
-refused_fewer : (works : Works) (session req : ℕ) (cause : Cause) (course : Course) (so_far : StepState) → FewerIn works so_far
+pub refused_fewer : (works : Works) (session req : ℕ) (cause : Cause) (course : Course) (so_far : StepState) → FewerIn works so_far
     → FewerIn works (course_refused session req cause course so_far)
 refused_fewer works = course_refused-keeps (FewerIn works) (ended_fewer works) (λ entry before less. less)
 
-denied_fewer : (works : Works) (req : ℕ) (cause : Cause) (request : Option Request) (so_far : StepState) → FewerIn works so_far
+pub denied_fewer : (works : Works) (req : ℕ) (cause : Cause) (request : Option Request) (so_far : StepState) → FewerIn works so_far
     → FewerIn works (option_map_or (λ (request : Request). course_refused request.session req cause request.course so_far) request so_far)
 denied_fewer works = request_refused-keeps (FewerIn works) (ended_fewer works) (λ entry before less. less)
 
-all_stay : (works : Works) → Fewer works works
+pub all_stay : (works : Works) → Fewer works works
 all_stay works q work got = got
 
-steps_fewer : {input : Input} {node : Node} → (so_far : StepState) (session req : ℕ) (next : Outcome) (moved : StepState) → RequestSteps input node so_far session req next moved
+pub steps_fewer : {input : Input} {node : Node} → (so_far : StepState) (session req : ℕ) (next : Outcome) (moved : StepState) → RequestSteps input node so_far session req next moved
     → FewerIn so_far.node.gateway.works moved
 steps_fewer so_far session req next moved (DiskBegins ask disk there on may) = all_stay so_far.node.gateway.works
 steps_fewer so_far session req next moved (DiskGoesOn number work attempt status bytes driver disk step ends on is) = gone_fewer so_far.node.gateway.works req
@@ -109,7 +109,7 @@ steps_fewer so_far session req next moved (ObjectIsDone number work attempt stat
 steps_fewer so_far session req next moved (EntryBegins entry arrival) = all_stay so_far.node.gateway.works
 steps_fewer so_far session req next moved (EntryDecided entry wanted from read there waits) = all_stay so_far.node.gateway.works
 
-next_fewer : {input : Input} {node : Node} → (so_far : StepState) (session req : ℕ) (asked : Work) (lined : StepState) → WorkIsNext input node so_far session req asked lined
+pub next_fewer : {input : Input} {node : Node} → (so_far : StepState) (session req : ℕ) (asked : Work) (lined : StepState) → WorkIsNext input node so_far session req asked lined
     → FewerIn so_far.node.gateway.works lined
 next_fewer so_far session req asked lined (AtOnce work moved steps begins) = steps_fewer so_far session req (ToWork work) moved steps
 next_fewer so_far session req asked lined (InTurn work later none is) = all_stay so_far.node.gateway.works
