@@ -197,8 +197,7 @@ module _ {input : Input} {node : Node} where
       → QueuesAre (at_first node) → QueuesAreOnce (at_first node) → QueuesAre so_far × QueuesAreOnce so_far
   once_so_far sound leads queued all =
       kept_by_chain (λ so_far. QueuesAre so_far × QueuesAreOnce so_far)
-      (λ so_far next change both. (change_keeps_queues so_far next change sound both.0, change_once sound so_far next change both.0 both.1)) leads
-      (
+      (λ so_far next change both. (change_keeps_queues so_far next change sound both.0, change_once sound so_far next change both.0 both.1)) leads (
         received_keeps (λ works requests sessions. AreDiskRequests requests sessions) none_queued input node queued,
         received_keeps (λ works requests sessions. AreOnceIn sessions) none_once input node all,
       )

@@ -20,7 +20,7 @@ use Rattle.overlap_law.proofs.UnansweredRequests.{requests_tied}
 at_place : {X : Type 0} (xs : List X) (x : X) → Contains xs x → (place : ℕ) × (slice_get xs place ≡ Some x)
 at_place [] x there = absurd (Contains-nil x there)
 at_place (y ∷ ys) x there = elim (Contains-cons_cases y ys x there) [
-  inl same ↦ (zero, ap Some same)
+  | inl same ↦ (zero, ap Some same)
   | inr behind ↦ (let (place, got) = at_place ys x behind in (suc place, got))
 ]
 

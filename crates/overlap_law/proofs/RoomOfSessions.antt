@@ -156,7 +156,7 @@ once_distinct (first ∷ later) is = (apart_numbers first.req later is.0, once_d
 number_in : (q : ℕ) (queue : List Queued) → Contains (map (λ (one : Queued). one.req) queue) q → (one : Queued) × Contains queue one × (one.req ≡ q)
 number_in q [] there = absurd (Contains-nil q there)
 number_in q (first ∷ later) there = elim (Contains-cons_cases first.req (map (λ (one : Queued). one.req) later) q there) [
-  inl same ↦ (first, Contains-head first later, same)
+  | inl same ↦ (first, Contains-head first later, same)
   | inr behind ↦ (let (one, among, is) = number_in q later behind in (one, Contains-cons first later one among, is))
 ]
 
