@@ -1,15 +1,13 @@
--- In each run in range a session has one open work on its inode, and its reads and writes that have begun meet on no index.
-use Rattle.std.proofs.Common.{◌≡◌, ◌≢◌, arith, ℕ, ◌<◌, ◌≤◌, Bool, true, false, List, slice_get, Option, Some, refl, sym, ap, subst, ◌∙◌, ⊎_elim}
+-- In each run in range reads and writes of a session that have begun meet on no index.
+use Rattle.std.proofs.Common.{◌≡◌, ◌≢◌, arith, ℕ, ◌<◌, ◌≤◌, true, List, slice_get, Option, Some, refl, sym, ap, subst, ◌∙◌, ⊎_elim}
 use Rattle.std.specs.Prelude.{unwrap_or, IfSome}
 use Rattle.std.specs.FinMap as tree
 use Rattle.std.proofs.lemmas.Bool.{cases_lt}
 use Rattle.std.proofs.lemmas.Option.{same_Some}
 use Rattle.cluster_script.specs.declared.statement.Statement.{Statement}
-use Rattle.gateway.specs.State.{Work}
 use Rattle.gateway_queue.specs.declared.queue.Queued.{Queued}
 use Rattle.gateway_queue.specs.Queue.{may_run, AreApart}
 use Rattle.guest_driver.specs.Driver.{Driver}
-use Rattle.guest_driver.specs.InodeQueue.{is_on_inode}
 use Rattle.sheep_node.specs.declared.event.Event.{Event}
 use Rattle.sheep_node.specs.declared.course.Request.{Request}
 use Rattle.sheep_node.specs.declared.course.Course.TheVariants.{Driving}
@@ -18,24 +16,10 @@ use Rattle.sheep_node.specs.State.{Node, new_session}
 use Rattle.sheep_node.specs.SessionQueues.{queue_in, IsInTurn}
 use Rattle.overlap_law.specs.Past.{MomentWithPast, run_with_past}
 use Rattle.overlap_law.specs.MomentChanges.{RunsAreInRange}
-use Rattle.overlap_law.specs.Sessions.{AreOpen, AreOfOneSession, HaveBegun, SessionsHaveOneInodeWork, BegunRequestsAreApart}
+use Rattle.overlap_law.specs.Sessions.{HaveBegun, BegunRequestsAreApart}
 use Rattle.overlap_law.proofs.NoRecoveredDue.{began-with_past}
 use Rattle.overlap_law.proofs.QueueOnce.{IsOnce, runs_apart}
 use Rattle.overlap_law.proofs.RoomOfSessions.{HasSoundGuests, guests_sound}
-
--- two open works on inodes of one session would both be in front of its line
-one_inode_work : (node : Node) → HasSoundGuests node → (session req other : ℕ) (work second : Work) (request another : Request) → AreOpen node req work other second
-    → AreOfOneSession node session req request other another → is_on_inode work.work ≡ true → is_on_inode second.work ≡ false
-one_inode_work node sound session req other work second request another opened of on = by_test (is_on_inode second.work) refl
-  where
-    by_test : (b : Bool) → is_on_inode second.work ≡ b → is_on_inode second.work ≡ false
-    by_test false is = is
-    by_test true is =
-        let here = (sound.lines.current session req).1
-        (record { work = work; there = opened.first_one; on_inode = on; request = request; asked = of.first_one; session = of.first_of }) in
-        let there = (sound.lines.current session other).1
-        (record { work = second; there = opened.second_one; on_inode = is; request = another; asked = of.second_one; session = of.second_of }) in
-        absurd (opened.apart (same_Some req other (sym here ∙ there)))
 
 -- a read or write that has begun may run
 may_run_begun : (node : Node) → HasSoundGuests node → (number req : ℕ) (driver : Driver)
@@ -64,10 +48,6 @@ begun_apart node sound number session one two there begun =
 
 module _ (script : List Statement) (range : RunsAreInRange script) (events : List Event) (moment : MomentWithPast)
     (is : run_with_past script events ≡ Some moment) where
-  pub inode_works-in_run : SessionsHaveOneInodeWork moment.world.hosts
-  inode_works-in_run n host there up =
-      one_inode_work host.node (guests_sound script range moment.world (began-with_past script events moment is) n host there)
-
   pub begun_apart-in_run : BegunRequestsAreApart moment.world.hosts
   begun_apart-in_run n host there up =
       begun_apart host.node (guests_sound script range moment.world (began-with_past script events moment is) n host there)

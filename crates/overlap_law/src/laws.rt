@@ -29,7 +29,7 @@ ghost use Rattle.overlap_law.specs.MomentChanges.{MomentChange, RunsAreInRange, 
 ghost use Rattle.overlap_law.specs.Traffic.{TrafficBetween, BeginsInTurn, OpenAttemptsHaveMessages};
 ghost use Rattle.overlap_law.specs.Fates.{AttemptsAreOrdered};
 ghost use Rattle.overlap_law.specs.OpenWorks.{OpenAttemptsAreLatest};
-ghost use Rattle.overlap_law.specs.Sessions.{SessionsHaveOneInodeWork, BegunRequestsAreApart, WorksAreApart};
+ghost use Rattle.overlap_law.specs.Sessions.{BegunRequestsAreApart, WorksAreApart};
 ghost use Rattle.overlap_law.specs.Writers.{OnlyTheWriterWrites, ThereIsOneWriter, AttemptsHaveBegun, WritersTakeTurns};
 ghost use Rattle.overlap_law.specs.Flight.{FlyInThePast, RequestsAreOfThePast};
 ghost use Rattle.overlap_law.specs.NodeEpochs.{TheUpAreMembers, NodesHaveRead, SettledIsRead};
@@ -202,11 +202,9 @@ pub fn the_refused_are_answered()
         → TheRefusedAreAnswered script moment.world moment.past.refused }
 {}
 
-/// In each run in range a session has one open work on its inode, and its reads and writes that have begun have no index in common.
-pub fn works_of_a_session_are_apart()
-    ensures inodes { (script : List Statement) (events : List Event) (moment : MomentWithPast) → RunsAreInRange script
-        → run_with_past script events ≡ Some moment → SessionsHaveOneInodeWork moment.world.hosts }
-    ensures indexes { (script : List Statement) (events : List Event) (moment : MomentWithPast) → RunsAreInRange script
+/// In each run in range reads and writes of a session that have begun have no index in common.
+pub fn begun_requests_are_apart()
+    ensures { (script : List Statement) (events : List Event) (moment : MomentWithPast) → RunsAreInRange script
         → run_with_past script events ≡ Some moment → BegunRequestsAreApart moment.world.hosts }
 {}
 
