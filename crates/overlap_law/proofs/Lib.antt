@@ -66,3 +66,4 @@ pub mod OneWriterAtEntries
 pub mod LogsOfMoments
 pub mod EpochsOfAttempts
 pub mod TrafficWriters
+pub mod TurnsOfWriters

@@ -49,7 +49,7 @@ use Rattle.sheep_node.proofs.WantedChanges.{works_wanted_at_opening, works_stay_
 use Rattle.sheep_world.specs.declared.progress.StartedRequest.{StartedRequest}
 use Rattle.sheep_world.specs.World.{Host, World, progress_at, is_host_up}
 use Rattle.sheep_world.specs.Conditions.{is_disk_request_at, fits_beside}
-use Rattle.sheep_world.specs.Opening.{format_entry}
+use Rattle.sheep_world.specs.Opening.{format_entry, initial_world}
 use Rattle.sheep_world.specs.NodeCauses.{NodeCause, GuestAsks, RequestComes, ReplyComes, LossIsTold, EntryIsRead, EntryIsPut, RecoveryTicks, WorkIsRetried, input_of_cause, IsCause}
 use Rattle.sheep_world.specs.EventKinds.{log_after_return}
 use Rattle.sheep_world.specs.HostChanges.{HostsKeep}
@@ -65,7 +65,7 @@ use Rattle.overlap_law.proofs.GuestsOfScript.{guest_asks}
 use Rattle.overlap_law.proofs.KnownSteps.{together}
 use Rattle.overlap_law.proofs.QueueOnce.{IsOnce, AreOnceIn, QueuesAreOnce, none_once, once_so_far}
 use Rattle.overlap_law.proofs.RequestsInSteps.{is_disk_ask}
-use Rattle.overlap_law.proofs.UnansweredRequests.{Guests, unanswered_in, IsTied, RequestsAreTied, requests_tied}
+use Rattle.overlap_law.proofs.UnansweredRequests.{Guests, unanswered_in, IsTied, RequestsAreTied, brings_tied, requests_tied}
 
 -- what sessions have is sound: their queues are their reads and writes, each once, any other request is alone, a read or write that began
 -- is apart from the earlier ones and on the open disk, and works are those that are waited for
@@ -278,6 +278,7 @@ module _ (script : List Statement) (range : RunsAreInRange script) where
           may_sound inputs.RetryTick host.node (steps_on_may script world n host WorkIsRetried may ready tt) ready.driven is
 
   guests_kept : HostsKeep script (Began script) (λ (world : World) (n : ℕ) (host : Host). HasSoundGuests host.node)
+  unfolding initial_world
   guests_kept = record {
     opens = λ member.
         let node = nodes.initial_node member.node (tries_of script) in

@@ -17,6 +17,7 @@ use Rattle.overlap_law.specs.Attempts.{AttemptRecord, object_of}
 use Rattle.overlap_law.specs.Words.{Hosts}
 use Rattle.overlap_law.specs.Each.{EachUp, EachAttempt}
 use Rattle.overlap_law.specs.Packets.{Wire, IsQuiet}
+use Rattle.overlap_law.specs.Fates.{AreInOrder}
 use Rattle.overlap_law.specs.Grants.{granted_in, writer_of, takes_writer, leave_of}
 
 -- a session of a node
@@ -95,3 +96,9 @@ pub record WritersTakeTurns (log log_after : List Entry) (wire : Wire) (attempts
       IsUnderTheGrant log attempt (vid_of (object_of attempt))
       → takes_writer (vid_of (object_of attempt)) attempt.gateway (outcome (log_effects log) entry).effect ≡ true
       → EndsInOrder log entry wire attempt)
+
+-- an attempt begins in the turn of its own session: behind each other attempt on the object that is the same session's under the same grant
+pub record IsInOwnTurn (log : List Entry) (wire : Wire) (attempts : List AttemptRecord) (attempt : AttemptRecord) : Type 0 where
+  pub under : IsUnderTheGrant log attempt (vid_of (object_of attempt))
+  pub behind : EachAttempt attempts (λ j other. object_of other ≡ object_of attempt → other.gateway.0 ≡ attempt.gateway.0
+      → other.session ≡ attempt.session → granted_in log (vid_of (object_of attempt)) ≤ other.epoch → AreInOrder wire other attempt)

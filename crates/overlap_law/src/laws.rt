@@ -1,5 +1,5 @@
 //! Laws of the definitions, for the proofs of the layers above: each is the contract of a function that does nothing.
-ghost use Rattle.std.specs.Prelude.{◌≡◌, ◌≢◌, ◌⊎◌, ◌≤◌, ℕ, ◌+◌, ◌-◌, true, false, List, [], ◌++◌, length, slice_get, Some};
+ghost use Rattle.std.specs.Prelude.{◌≡◌, ◌≢◌, ◌⊎◌, ◌≤◌, ℕ, ◌+◌, ◌-◌, true, false, List, [], ◌∷◌, ◌++◌, length, slice_get, Some};
 ghost use Rattle.std.specs.List.{list_all, AllByRecursion};
 ghost use Rattle.std.specs.FinMap.{get};
 ghost use Rattle.std.specs.Option.{option_map};
@@ -23,14 +23,15 @@ ghost use Rattle.overlap_law.specs.Words.{Hosts, is_beyond, is_made, is_doomed, 
 ghost use Rattle.overlap_law.specs.Words.{own_base_of};
 ghost use Rattle.overlap_law.specs.Headline.{OtherEpochsChangeNothing};
 ghost use Rattle.overlap_law.specs.Grants.{gives, reserved_in, granted_in, published_in, writer_of, takes_writer, given_to};
+ghost use Rattle.overlap_law.specs.Packets.{Wire};
 ghost use Rattle.overlap_law.specs.Past.{MomentWithPast, run_with_past, without_past, next_moment, first_moment};
 ghost use Rattle.overlap_law.specs.StepMoments.{SteppingNode, IsStepping, StepsByChanges, IsWithinStep, moment_in_step, attempts_of_change};
 ghost use Rattle.overlap_law.specs.MomentChanges.{MomentChange, RunsAreInRange, EventsAreTrails};
-ghost use Rattle.overlap_law.specs.Traffic.{TrafficBetween, BeginsInTurn, OpenAttemptsHaveMessages};
+ghost use Rattle.overlap_law.specs.Traffic.{TrafficBetween, IsInTurn, BeginsInTurn, OpenAttemptsHaveMessages};
 ghost use Rattle.overlap_law.specs.Fates.{AttemptsAreOrdered};
 ghost use Rattle.overlap_law.specs.OpenWorks.{OpenAttemptsAreLatest};
 ghost use Rattle.overlap_law.specs.Sessions.{BegunRequestsAreApart, WorksAreApart};
-ghost use Rattle.overlap_law.specs.Writers.{OnlyTheWriterWrites, ThereIsOneWriter, AttemptsHaveBegun, WritersTakeTurns};
+ghost use Rattle.overlap_law.specs.Writers.{OnlyTheWriterWrites, ThereIsOneWriter, AttemptsHaveBegun, WritersTakeTurns, IsInOwnTurn};
 ghost use Rattle.overlap_law.specs.Flight.{FlyInThePast, RequestsAreOfThePast};
 ghost use Rattle.overlap_law.specs.NodeEpochs.{TheUpAreMembers, NodesHaveRead, SettledIsRead};
 ghost use Rattle.overlap_law.specs.RequestsOfScript.{RequestsAreWithoutReply, AttemptsAreTheScripts, TheRefusedAreAnswered, JoinsAreNew};
@@ -270,4 +271,11 @@ pub fn there_stays_one_writer()
         → WritersTakeTurns before.world.log after.world.log before.world.wire before.past.attempts after.past.attempts
         → ThereIsOneWriter before.world.log before.world.wire before.past.attempts
         → ThereIsOneWriter after.world.log after.world.wire after.past.attempts }
+{}
+
+/// Where there is one writer, an attempt that begins does so in its turn, if it is the writer's and does so among the attempts of its own
+/// session. So the order of attempts needs of other sessions no more than that there is one writer.
+pub fn the_writer_begins_in_turn()
+    ensures { (log : List Entry) (wire : Wire) (attempts : List AttemptRecord) (attempt : AttemptRecord)
+        → ThereIsOneWriter log wire attempts → IsInOwnTurn log wire attempts attempt → IsInTurn wire attempts attempt }
 {}
