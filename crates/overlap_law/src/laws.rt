@@ -235,8 +235,7 @@ pub fn grants_are_of_epochs_that_began()
 {}
 
 /// Each open create or write has a message: so it is when a script opens, each change of a moment keeps it, and so it is in each run in
-/// range. So a law above
-/// needs less from the group of writers.
+/// range. So `the_attempts_stay_in_order` needs less from the group of writers.
 pub fn open_works_have_messages()
     ensures opening { (script : List Statement) → OpenAttemptsHaveMessages (first_moment script).world.hosts }
     ensures change { (script : List Statement) (start before after : MomentWithPast) → RunsAreInRange script → Began script start.world
