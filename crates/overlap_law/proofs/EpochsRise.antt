@@ -129,7 +129,7 @@ module _ (script : List Statement) (range : RunsAreInRange script) (start : Mome
   first_rises stepping is =
       subst (λ (peer : Peer). stepping.host.node.peer.epoch ≤ peer.epoch) (step_peer (input_of_cause stepping.cause) stepping.host.node) (step_rises stepping is)
 
-  same_so_far : (stepping : SteppingNode) (so_far : StepState) → LeadsInStep stepping (first_in_step stepping) so_far
+  pub same_so_far : (stepping : SteppingNode) (so_far : StepState) → LeadsInStep stepping (first_in_step stepping) so_far
       → so_far.node.peer ≡ (first_in_step stepping).node.peer
   same_so_far stepping so_far leads = ap (λ (u : Untouched). u.peer) (in_order_so_far so_far leads).same
 

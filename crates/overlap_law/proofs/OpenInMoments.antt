@@ -100,7 +100,7 @@ same_works before after n host node there me gateway req work current up got sta
 
 -- ---- what leaves the gateway as it is
 
-received_gateway : (cause : NodeCause) (node : Node) → StepsByChanges cause → (input_received (input_of_cause cause) (at_first node)).node.gateway ≡ node.gateway
+pub received_gateway : (cause : NodeCause) (node : Node) → StepsByChanges cause → (input_received (input_of_cause cause) (at_first node)).node.gateway ≡ node.gateway
 unfolding entry_read
 received_gateway (GuestAsks session req ask) node by = refl
 received_gateway (RequestComes name to request) node by = absurd by
@@ -123,7 +123,7 @@ put_gateway : (outbox : List Entry) (node : Node) → (on_put outbox (at_first n
 put_gateway [] node = refl
 put_gateway (entry ∷ later) node = refl
 
-made_gateway : (cause : NodeCause) (node : Node) → StepsAtOnce cause → (node_step (input_of_cause cause) node).node.gateway ≡ node.gateway
+pub made_gateway : (cause : NodeCause) (node : Node) → StepsAtOnce cause → (node_step (input_of_cause cause) node).node.gateway ≡ node.gateway
 unfolding node_step on_input on_request on_recover_tick
 made_gateway (GuestAsks session req ask) node by = absurd by
 made_gateway (RequestComes name to request) node by = due_gateway (on_request request (at_first node))

@@ -1,7 +1,8 @@
 -- Where in the log an id was reserved, given to its writer and published, and where an incarnation of a node left: by epochs.
-use Rattle.std.specs.Prelude.{ℕ, ◌+◌, ◌-◌, ◌==◌, Bool, false, List, length, map, fold, zip, Option, Some, None, slice_get, if◌then◌else◌}
+use Rattle.std.specs.Prelude.{ℕ, ◌+◌, ◌-◌, ◌==◌, ◌||◌, Bool, false, List, length, map, fold, zip, Option, Some, None, slice_get, if◌then◌else◌}
 use Rattle.std.specs.Option.{option_map_or}
 use Rattle.std.specs.List.{filter_map, range_with_len}
+use Rattle.object_id.specs.declared.node.NodeId.{NodeId}
 use Rattle.object_id.specs.declared.entry.Entry.{Entry}
 use Rattle.epoch_log.specs.Epochs.{epoch_at}
 use Rattle.disk_lock.specs.declared.holder.Holder.{Holder}
@@ -75,6 +76,30 @@ writer_of effects vid =
     (λ (reservation : Reservation). Some (reserver reservation))
     (reservation_on (record { 0 = vid }) (reservations_of effects))
     (holder_of effects vid)
+
+-- whether an effect takes an id from a session of the node that may write it
+abbrev pub takes_writer : ℕ → NodeId → Effect → Bool
+takes_writer vid node Nothing = false
+takes_writer vid node (Reserved grant) = false
+takes_writer vid node (Published of name) = of.0 == vid
+takes_writer vid node (Snapped snap) = snap.old.0 == vid || snap.vid.0 == vid
+takes_writer vid node (Deleted of name) = false
+takes_writer vid node (Held of holder) = false
+takes_writer vid node (Freed of) = of.0 == vid
+takes_writer vid node (Withdrawn of) = of.0 == vid
+takes_writer vid node (Left of) = node.0 == of.0
+
+-- the session to which an effect gives an id, if it gives one
+abbrev pub given_to : Effect → Option Holder
+given_to Nothing = None
+given_to (Reserved grant) = Some (reserver grant.reservation)
+given_to (Published of name) = None
+given_to (Snapped snap) = Some snap.holder
+given_to (Deleted of name) = None
+given_to (Held of holder) = Some holder
+given_to (Freed of) = None
+given_to (Withdrawn of) = None
+given_to (Left node) = None
 
 -- the epoch of an effect that is the node's `Leave`
 abbrev pub leave_epoch_of : ℕ → ℕ → Effect → Option ℕ

@@ -134,8 +134,8 @@ IsCourseOfAsk asked opened began (Checking check) = IsCheckOfAsk asked opened be
 IsCourseOfAsk asked opened began (DoingWork work) = ⊥
 IsCourseOfAsk asked opened began (AwaitingDecision entry) = ⊥
 
--- a request of a node is the script's of its number
-pub record IsRequestOfScript (script : List Statement) (world : World) (n : ℕ) (host : Host) (req : ℕ) (request : Request) : Type 0 where
+-- a request of a node is the script's of its number, of a session that asks at this node in this incarnation of it, and has no reply there
+pub record IsWithoutReply (script : List Statement) (world : World) (n : ℕ) (host : Host) (req : ℕ) (request : Request) : Type 0 where
   pub session : ScriptSession
   pub statement : Statement
   pub place : ℕ
@@ -147,7 +147,16 @@ pub record IsRequestOfScript (script : List Statement) (world : World) (n : ℕ)
   pub own : session_of statement ≡ Some request.session
   pub unanswered : slice_get (progress_at request.session world).unanswered place ≡ Some started
   pub number : started.req ≡ req
-  pub course : IsCourseOfAsk (ask_of_statement statement) (session_at request.session host.node).disk started.disk request.course
+
+-- each request of a node is
+pub record RequestsAreWithoutReply (script : List Statement) (world : World) : Type 0 where
+  pub each : (n req : ℕ) (host : Host) (request : Request) → host_at n world ≡ Some host → tree.get host.node.requests req ≡ Some request
+      → IsWithoutReply script world n host req request
+
+-- and it is where its statement, the open disk and the disk on which it began allow
+pub record IsRequestOfScript (script : List Statement) (world : World) (n : ℕ) (host : Host) (req : ℕ) (request : Request) : Type 0 where
+  pub asked : IsWithoutReply script world n host req request
+  pub course : IsCourseOfAsk (ask_of_statement asked.statement) (session_at request.session host.node).disk asked.started.disk request.course
 
 -- each request of a node that isn't lost is one of the script, but for a client's
 pub record RequestsAreTheScripts (script : List Statement) (world : World) : Type 0 where

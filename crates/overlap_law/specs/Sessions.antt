@@ -60,16 +60,25 @@ pub record HaveBegun (node : Node) (session : Session) (number : ℕ) (one two :
   pub driving : tree.get node.requests one.req ≡ Some (record { session = number; course = Driving first })
   pub driving_too : tree.get node.requests two.req ≡ Some (record { session = number; course = Driving second })
 
+-- a session has one open work on its inode
+abbrev pub SessionsHaveOneInodeWork : Hosts → Type 0
+SessionsHaveOneInodeWork hosts =
+    EachUp hosts (λ n node. (session req other : ℕ) (work second : Work) (request another : Request) → AreOpen node req work other second
+    → AreOfOneSession node session req request other another → is_on_inode work.work ≡ true → is_on_inode second.work ≡ false)
+
+-- reads and writes of a session that have begun meet on no index
+abbrev pub BegunRequestsAreApart : Hosts → Type 0
+BegunRequestsAreApart hosts =
+    EachUp hosts (λ n node. (number : ℕ) (session : Session) (one two : Queued) → tree.get node.sessions number ≡ Some session
+    → HaveBegun node session number one two → AreApart one two)
+
 -- a node's open works are on different objects, but for reads; a session has one open on its inode; and what has begun of a
 -- session meets on no index
 pub record WorksAreApart (hosts : Hosts) : Type 0 where
   pub objects : EachUp hosts (λ n node. (req other : ℕ) (work second : Work) → AreOpen node req work other second
       → oid_of work.work ≡ oid_of second.work → (is_making work.work ≡ false) × (is_making second.work ≡ false))
-  pub inodes : EachUp hosts (λ n node. (session req other : ℕ) (work second : Work) (request another : Request)
-      → AreOpen node req work other second
-      → AreOfOneSession node session req request other another → is_on_inode work.work ≡ true → is_on_inode second.work ≡ false)
-  pub indexes : EachUp hosts (λ n node. (number : ℕ) (session : Session) (one two : Queued) → tree.get node.sessions number ≡ Some session
-      → HaveBegun node session number one two → AreApart one two)
+  pub inodes : SessionsHaveOneInodeWork hosts
+  pub indexes : BegunRequestsAreApart hosts
 
 -- a session holds its disk by the whole log, and its node has read that
 pub record HoldsDisk (log : List Entry) (n session vid : ℕ) (node : Node) : Type 0 where

@@ -1,5 +1,5 @@
 -- The one writer of an id: which works it may have open, and what every other attempt has come to.
-use Rattle.std.specs.Prelude.{◌≡◌, ◌⊎◌, ℕ, ◌≤◌, ◌<◌, ◌==◌, ◌&&◌, Bool, true, false, List, Some, is_some, if◌then◌else◌}
+use Rattle.std.specs.Prelude.{◌≡◌, ◌⊎◌, ℕ, ◌≤◌, ◌<◌, ◌==◌, ◌&&◌, Bool, true, false, List, [], ◌∷◌, ◌++◌, Some, is_some, if◌then◌else◌}
 use Rattle.std.specs.List.{list_any}
 use Rattle.std.specs.FinMap as tree
 use Rattle.object_id.specs.declared.entry.Entry.{Entry}
@@ -7,7 +7,7 @@ use Rattle.object_id.specs.declared.entry.Entry.TheVariants.{Unlock}
 use Rattle.object_id.specs.Oid.{vid_of}
 use Rattle.epoch_log.specs.Epochs.{epoch_of}
 use Rattle.disk_lock.specs.declared.holder.Holder.{Holder}
-use Rattle.vdi_directory.specs.Decisions.{log_effects}
+use Rattle.vdi_directory.specs.Decisions.{outcome, log_effects}
 use Rattle.peer_proto.specs.Work.{oid_of}
 use Rattle.gateway.specs.Work.{is_making}
 use Rattle.gateway.specs.State.{Work}
@@ -17,7 +17,8 @@ use Rattle.overlap_law.specs.Attempts.{AttemptRecord, object_of}
 use Rattle.overlap_law.specs.Words.{Hosts}
 use Rattle.overlap_law.specs.Each.{EachUp, EachAttempt}
 use Rattle.overlap_law.specs.Packets.{Wire, IsQuiet}
-use Rattle.overlap_law.specs.Grants.{granted_in, writer_of, leave_of}
+use Rattle.overlap_law.specs.Fates.{AreInOrder}
+use Rattle.overlap_law.specs.Grants.{granted_in, writer_of, takes_writer, leave_of}
 
 -- a session of a node
 abbrev pub session_holder : ℕ → ℕ → Holder
@@ -73,3 +74,31 @@ pub record ThereIsOneWriter (log : List Entry) (wire : Wire) (attempts : List At
   pub each : EachAttempt attempts (λ j attempt. IsUnderTheGrant log attempt (vid_of (object_of attempt))
       ⊎ (HasEnded wire attempt (bound_of log (vid_of (object_of attempt)))
       ⊎ IsFencedOff log attempt (bound_of log (vid_of (object_of attempt)))))
+
+-- each attempt is of an epoch that has begun
+abbrev pub AttemptsHaveBegun : List Entry → List AttemptRecord → Type 0
+AttemptsHaveBegun log attempts = EachAttempt attempts (λ j attempt. attempt.epoch ≤ epoch_of log)
+
+-- what an entry owes an attempt whose writer loses the id by it: nothing of the attempt is in flight, or the incarnation of its gateway
+-- left by the entry
+abbrev pub EndsInOrder : List Entry → Entry → Wire → AttemptRecord → Type 0
+EndsInOrder log entry wire attempt =
+    IsQuiet wire attempt
+    ⊎ ((leave_of (log ++ entry ∷ []) attempt.gateway.0 attempt.incarnation ≡ Some (epoch_of (log ++ entry ∷ [])))
+    × (epoch_of log < epoch_of (log ++ entry ∷ [])))
+
+-- what a change of a moment owes, so that there stays one writer: an attempt that begins is the writer's, and one whose writer loses the id
+-- by an entry ends in order
+pub record WritersTakeTurns (log log_after : List Entry) (wire : Wire) (attempts attempts_after : List AttemptRecord) : Type 0 where
+  pub begins : (attempt : AttemptRecord) → attempts_after ≡ attempts ++ attempt ∷ []
+      → IsUnderTheGrant log_after attempt (vid_of (object_of attempt))
+  pub ends : (entry : Entry) → log_after ≡ log ++ entry ∷ [] → EachAttempt attempts (λ j attempt.
+      IsUnderTheGrant log attempt (vid_of (object_of attempt))
+      → takes_writer (vid_of (object_of attempt)) attempt.gateway (outcome (log_effects log) entry).effect ≡ true
+      → EndsInOrder log entry wire attempt)
+
+-- an attempt begins in the turn of its own session: behind each other attempt on the object that is the same session's under the same grant
+pub record IsInOwnTurn (log : List Entry) (wire : Wire) (attempts : List AttemptRecord) (attempt : AttemptRecord) : Type 0 where
+  pub under : IsUnderTheGrant log attempt (vid_of (object_of attempt))
+  pub behind : EachAttempt attempts (λ j other. object_of other ≡ object_of attempt → other.gateway.0 ≡ attempt.gateway.0
+      → other.session ≡ attempt.session → granted_in log (vid_of (object_of attempt)) ≤ other.epoch → AreInOrder wire other attempt)

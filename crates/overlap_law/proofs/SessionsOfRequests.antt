@@ -1,0 +1,112 @@
+-- In every world of a run each request of a node is one of the session that the script has it ask in, at this node in this incarnation; and
+-- so it is in the middle of a step, and of each request to which a step replies.
+use Rattle.std.proofs.Common.{◌≡◌, ℕ, ◌+◌, Bool, List, [], ◌∷◌, Contains, Option, Some, None, refl, sym, ap, subst, ◌∙◌}
+use Rattle.std.specs.Option.{option_and_then}
+use Rattle.std.specs.Ordering.{nat_cmp}
+use Rattle.std.specs.FinMap as tree
+use Rattle.proof_tools.proofs.Lists.{Contains-nil}
+use Rattle.object_id.specs.declared.entry.Entry.{Entry}
+use Rattle.cluster_script.specs.declared.statement.Statement.{Statement}
+use Rattle.cluster_script.specs.NumberedRequests.{session_of}
+use Rattle.cluster_script.specs.Sessions.{ScriptSession, session_numbered}
+use Rattle.cluster_script.specs.Settings.{tries_of}
+use Rattle.sheep_node.specs.declared.ask.Ask.{Ask}
+use Rattle.sheep_node.specs.declared.input.Input.{Input}
+use Rattle.sheep_node.specs.declared.input.Input.TheVariants as inputs
+use Rattle.sheep_node.specs.declared.course.Request.{Request}
+use Rattle.sheep_node.specs.State as nodes
+use Rattle.sheep_node.specs.State.{Node}
+use Rattle.sheep_node.specs.StepState.{StepState, at_first}
+use Rattle.sheep_node.specs.Step.{node_step}
+use Rattle.sheep_node.specs.LogReading.{on_back}
+use Rattle.sheep_node.specs.Changes.{input_received, Leads}
+use Rattle.sheep_node.proofs.StepChain.{kept_by_chain, step_chain}
+use Rattle.sheep_world.specs.World.{Host, World}
+use Rattle.sheep_world.specs.Opening.{format_entry}
+use Rattle.sheep_world.specs.Asking.{session_asking}
+use Rattle.sheep_world.specs.NodeCauses.{NodeCause, GuestAsks, RequestComes, ReplyComes, LossIsTold, EntryIsRead, EntryIsPut, RecoveryTicks, WorkIsRetried, input_of_cause, IsCause}
+use Rattle.sheep_world.specs.HostChanges.{NodesKeep}
+use Rattle.sheep_world.specs.Began.{Began}
+use Rattle.sheep_world.proofs.BegunWorlds.{each_began}
+use Rattle.sheep_world.proofs.HostChangeLaws.{hosts_of_nodes}
+use Rattle.overlap_law.proofs.RequestsInSteps.{received_replies, KnownIn, received_none, change_known}
+
+-- a request is one of a session, which asks at this node, in this incarnation of it
+pub record IsAskedIn (script : List Statement) (n incarnation req session : ℕ) : Type 0 where
+  pub asking : session_asking script req ≡ Some session
+  pub of : ScriptSession
+  pub declared : session_numbered script session ≡ Some of
+  pub of_node : of.node ≡ n
+  pub of_incarnation : of.incarnation ≡ incarnation
+
+abbrev pub IsAsked : List Statement → ℕ → ℕ → ℕ → ℕ → Bool → Type 0
+IsAsked script n incarnation req session disk = IsAskedIn script n incarnation req session
+
+-- each request of a node is
+abbrev pub AreAskedIn : List Statement → ℕ → ℕ → Node → Type 0
+AreAskedIn script n incarnation node = (req : ℕ) (request : Request) → tree.get node.requests req ≡ Some request
+    → IsAskedIn script n incarnation req request.session
+
+module _ (script : List Statement) where
+  -- the request that a cause brings is asked in its session
+  pub brought : (world : World) (n : ℕ) (host : Host) (cause : NodeCause) → IsCause script world n host cause
+      → (req session : ℕ) (ask : Ask) → input_of_cause cause ≡ inputs.Guest req session ask → IsAskedIn script n host.incarnation req session
+  brought world n host (GuestAsks session begins asks) asked req number ask from =
+      let same : begins ≡ req = cc (from) in
+      let own : session.number ≡ number = cc (from) in
+      subst (λ (k : ℕ). IsAskedIn script n host.incarnation k number) same
+      (subst (IsAskedIn script n host.incarnation begins) own (record {
+        asking = ap (option_and_then session_of) asked.stands ∙ asked.own;
+        of = session;
+        declared = asked.declared;
+        of_node = asked.gateway;
+        of_incarnation = asked.lived;
+      }))
+  brought world n host (RequestComes name to request) so req number ask from = absurd (cc (from))
+  brought world n host (ReplyComes name to rsp) so req number ask from = absurd (cc (from))
+  brought world n host (LossIsTold name packet) so req number ask from = absurd (cc (from))
+  brought world n host (EntryIsRead entry) so req number ask from = absurd (cc (from))
+  brought world n host (EntryIsPut entry) so req number ask from = absurd (cc (from))
+  brought world n host RecoveryTicks so req number ask from = absurd (cc (from))
+  brought world n host WorkIsRetried so req number ask from = absurd (cc (from))
+
+  none_asked : (n incarnation : ℕ) (req : ℕ) (request : Request) → tree.get (tree.empty {X = Request} {R = nat_cmp}) req ≡ Some request
+      → IsAskedIn script n incarnation req request.session
+  none_asked n incarnation req request got = let none = tree.get-empty {X = Request} nat_cmp req in absurd (cc (none, got))
+
+  -- along a step that a guest's request may begin
+  pub asked_so_far : (n incarnation : ℕ) (input : Input) (node : Node)
+      → ((req session : ℕ) (ask : Ask) → input ≡ inputs.Guest req session ask → IsAskedIn script n incarnation req session)
+      → AreAskedIn script n incarnation node → {so_far : StepState} → Leads input node (input_received input (at_first node)) so_far
+      → KnownIn (IsAsked script n incarnation) so_far
+  asked_so_far n incarnation input node brings are leads =
+      kept_by_chain (KnownIn (IsAsked script n incarnation)) (change_known (IsAsked script n incarnation) input node brings) leads
+      (received_none (IsAsked script n incarnation) input node (received_replies input node) are)
+
+  -- a node that comes back has no request that it had
+  back_asked : (n incarnation : ℕ) (entries : List Entry) (node : Node) → AreAskedIn script n incarnation (node_step (inputs.Back entries) node).node
+  unfolding on_back
+  back_asked n incarnation entries node =
+      (kept_by_chain (KnownIn (IsAsked script n incarnation))
+      (change_known (IsAsked script n incarnation) (inputs.Back entries) node (λ req session ask from. absurd (cc (from)))) (step_chain (inputs.Back entries) node)
+      (record {
+        asked = none_asked n incarnation;
+        replied = λ one there. absurd (Contains-nil one there);
+      })).asked
+
+  asked_kept : NodesKeep script (AreAskedIn script)
+  asked_kept = record {
+    opens = λ member.
+        (asked_so_far member.node.0 1 (inputs.LogEntry (format_entry script)) (nodes.initial_node member.node (tries_of script))
+        (λ req session ask from. absurd (cc (from))) (none_asked member.node.0 1)
+        (step_chain (inputs.LogEntry (format_entry script)) (nodes.initial_node member.node (tries_of script)))).asked;
+    steps = λ world n host cause caused are.
+        (asked_so_far n host.incarnation (input_of_cause cause) host.node (brought world n host cause caused) are (step_chain (input_of_cause cause) host.node)).asked;
+    returns = λ log n incarnation node are. back_asked n (incarnation + 1) log node;
+    joins = λ n. none_asked n 1;
+  }
+
+  pub are_asked : (world : World) → Began script world → (n : ℕ) (host : Host) → tree.get world.hosts n ≡ Some host
+      → AreAskedIn script n host.incarnation host.node
+  are_asked = each_began script (λ (world : World) (n : ℕ) (host : Host). AreAskedIn script n host.incarnation host.node)
+      (hosts_of_nodes script (AreAskedIn script) asked_kept)
