@@ -222,8 +222,8 @@ pub fn the_wire_is_linked()
         → run_with_past script events ≡ Some moment → TheGoneAreFenced moment.world.log moment.world.hosts moment.world.wire }
 {}
 
-/// In each run in range what a node that may step knows of the messages of its open creates and writes is so: one of which it has no word is
-/// in the wire; one that succeeded was served, one that was refused is doomed, and one that was lost doesn't fly.
+/// In each run in range what a node that may step knows of the messages of its open creates and writes is so: one of which it has no word
+/// is in the wire; one that succeeded was served, one that was refused is doomed, and one that was lost doesn't fly.
 pub fn gateways_know_the_fates()
     ensures { (script : List Statement) (events : List Event) (moment : MomentWithPast) → RunsAreInRange script
         → run_with_past script events ≡ Some moment → WorksKnowTheirFates moment.world.hosts moment.world.wire moment.past.attempts }
@@ -240,8 +240,8 @@ pub fn members_stay_until_they_are_lost()
         → LeaversAreBeyond moment.world.log moment.world.hosts }
 {}
 
-/// In each run in range a recovery has the members of its epoch, and is of the one in which its node is, if the node is a member of that; and
-/// a member that it doesn't wait for came to its epoch. So it is at each moment on the way of an event, and at its end.
+/// In each run in range a recovery has the members of its epoch, and is of the one in which its node is, if the node is a member of that;
+/// and a member that it doesn't wait for came to its epoch. So it is at each moment on the way of an event, and at its end.
 pub fn recoveries_are_of_members_that_came()
     ensures present { (script : List Statement) (events : List Event) (start moment : MomentWithPast) → RunsAreInRange script
         → run_with_past script events ≡ Some start → MomentTrail script start moment
@@ -250,9 +250,9 @@ pub fn recoveries_are_of_members_that_came()
         → run_with_past script events ≡ Some start → MomentTrail script start moment → AnswerersHaveCome moment.world.hosts }
 {}
 
-/// In each run in range whose `Recovered` of an epoch is in the log or still to be put came to that epoch, as did each member of it, and while
-/// it is there its list is finished and nothing is pending; and the settled epoch is below that of a node that isn't lost and recovers. So
-/// it is at each moment on the way of an event, and at its end.
+/// In each run in range whose `Recovered` of an epoch is in the log or still to be put came to that epoch, as did each member of it, and
+/// while it is there its list is finished and nothing is pending; and the settled epoch is below that of a node that isn't lost and
+/// recovers. So it is at each moment on the way of an event, and at its end.
 pub fn the_recovered_have_all()
     ensures recovered { (script : List Statement) (events : List Event) (start moment : MomentWithPast) → RunsAreInRange script
         → run_with_past script events ≡ Some start → MomentTrail script start moment
@@ -268,8 +268,8 @@ pub fn epochs_and_nodes_are_kept()
         → run_with_past script events ≡ Some moment → TermsAreKept moment.world.log moment.world.hosts }
 {}
 
-/// In each world that a run of a script with few controls reaches there is room for one epoch more: an epoch begins only by a control, or by
-/// the leave of a member, which was there at first or came by a control.
+/// In each world that a run of a script with few controls reaches there is room for one epoch more: an epoch begins only by a control, or
+/// by the leave of a member, which was there at first or came by a control.
 pub fn scripts_of_few_controls_have_room()
     ensures { (script : List Statement) (world : World) → IsScript script → HasFewControls script → Began script world → MayGrow world }
 

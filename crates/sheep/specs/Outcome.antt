@@ -35,7 +35,8 @@ takes_words (Some Replay) = true
 takes_words (Some (Gen number)) = true
 takes_words (Some (Live trace)) = false
 
--- events are a run of a script, in which every phase is ended, and made this history, in which the replies that its report prints were given
+-- events are a run of a script, in which every phase is ended, and made this history, in which the replies that its report prints were
+-- given
 pub record MakesRun (statements : List Statement) (events : List Event) (history : List HistEvent) : Type 0 where
   pub whole : IsWholeRun statements events
   pub kept : history_of statements events ≡ Some history

@@ -121,7 +121,7 @@ fn read_clone(words: &mut Words) -> Result<VdiAsk, Fault> {
 }
 
 /// Writes an input as `input_of` reads it.
-pub fn write_input(alloc: Global, out: &mut String, input: &Input) -> Result<(), NoMemory> {
+pub(crate) fn write_input(alloc: Global, out: &mut String, input: &Input) -> Result<(), NoMemory> {
     match input {
         Input::Guest { req, session, ask } => {
             write!(out, "guest {req} {session} ")?;

@@ -38,9 +38,5 @@ mod world_words;
 
 pub use case::end_of;
 pub use case_fault::CaseFault;
-pub use entry_words::write_entry;
 pub use fault::Fault;
-pub use input_words::write_input;
 pub use life::Life;
-pub use output_words::{outputs_line, write_reply};
-pub use words::write_bytes;

@@ -144,7 +144,7 @@ where
 }
 
 /// Writes a byte string as `Words::bytes` reads it. A byte that stands up to three times in a row is spelled each time.
-pub fn write_bytes(out: &mut String, bytes: &[u8]) -> Result<(), AllocError> {
+pub(crate) fn write_bytes(out: &mut String, bytes: &[u8]) -> Result<(), AllocError> {
     if bytes.is_empty() {
         return out.push('-');
     }
