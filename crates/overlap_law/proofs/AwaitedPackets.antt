@@ -1,6 +1,6 @@
 -- In each world of a run in range what is in the wire of a node that isn't lost goes with what the node waits for: it is waited for, as it was
 -- sent or as a reply that fits.
-use Rattle.std.proofs.Common.{◌≡◌, ◌≢◌, ⊎_elim, arith, ℕ, ◌+◌, ◌≤◌, ◌<◌, not, Bool, true, false, List, [], fold, length, Contains, Option, Some, None, Ok, is_some, refl, sym, ap, subst, ◌∙◌}
+use Rattle.std.proofs.Common.{◌≡◌, ◌≢◌, ⊎_elim, arith, ℕ, ◌<◌, not, Bool, true, false, List, fold, Contains, Option, Some, None, Ok, is_some, refl, sym, ap, subst, ◌∙◌}
 use Rattle.std.specs.FinMap as tree
 use Rattle.std.proofs.lemmas.Bool.{and_parts, not-true}
 use Rattle.std.proofs.lemmas.Option.{same_Some}
@@ -10,7 +10,7 @@ use Rattle.cluster_script.specs.declared.statement.Statement.{Statement}
 use Rattle.cluster_script.specs.declared.statement.Statement.TheVariants as lines
 use Rattle.peer_proto.specs.declared.ask.PeerReq.{PeerReq}
 use Rattle.peer_proto.specs.declared.say.PeerRsp.{PeerRsp}
-use Rattle.peer_proto.specs.Ask.{ask_in, ask_bytes}
+use Rattle.peer_proto.specs.Ask.{ask_in}
 use Rattle.peer_proto.specs.Say.{say_in, say_bytes}
 use Rattle.peer_service.specs.Serve.{reply_to}
 use Rattle.message_wire.specs.declared.name.MessageName.{MessageName}
@@ -18,12 +18,11 @@ use Rattle.message_wire.specs.declared.packet.Packet.{Packet}
 use Rattle.message_wire.specs.declared.packet.Packet.TheVariants.{Request, Reply}
 use Rattle.message_wire.specs.Message.{name_cmp, message_name, without_replies}
 use Rattle.sheep_node.specs.declared.event.Event.{Event}
-use Rattle.sheep_node.specs.declared.input.Input.TheVariants as inputs
 use Rattle.sheep_node.specs.State.{Node}
 use Rattle.sheep_node.specs.May.{has_numbers, node_awaits}
 use Rattle.sheep_node.specs.Step.{node_step}
 use Rattle.sheep_node.proofs.MessageNumbers.{numbers_within}
-use Rattle.sheep_world.specs.World.{Host, World, host_at, is_host_up}
+use Rattle.sheep_world.specs.World.{Host, World, is_host_up}
 use Rattle.sheep_world.specs.Opening.{initial_world}
 use Rattle.sheep_world.specs.Messages.{wire_with_reply}
 use Rattle.sheep_world.specs.MembershipChanges.{lost_host}
@@ -31,10 +30,9 @@ use Rattle.sheep_world.specs.NodeSteps.{request_name, wire_with_request}
 use Rattle.sheep_world.specs.Step.{EventOutcome, step}
 use Rattle.sheep_world.specs.Began.{Began}
 use Rattle.sheep_world.specs.WireMatch.{asked_by, IsNumberGiven, IsInFlight}
-use Rattle.sheep_world.specs.NodeCauses.{NodeCause, GuestAsks, RequestComes, ReplyComes, LossIsTold, EntryIsRead, EntryIsPut, RecoveryTicks, WorkIsRetried, input_of_cause, event_of_cause, IsCause, wire_at_cause, wire_after_cause, is_up_among, host_with_node, world_after_cause}
+use Rattle.sheep_world.specs.NodeCauses.{NodeCause, GuestAsks, RequestComes, ReplyComes, LossIsTold, EntryIsRead, EntryIsPut, RecoveryTicks, WorkIsRetried, input_of_cause, event_of_cause, IsCause, wire_at_cause, is_up_among, host_with_node, world_after_cause}
 use Rattle.sheep_world.specs.EventKinds.{outcome_of_step, log_after_return, EventKind, NodeStep, UntoldLoss, UnreadDelivery, NodeLoss, NodeLeave, NodeReweight, NodeJoin, NodeReturn, PhaseEnd}
 use Rattle.sheep_world.specs.HostChanges.{host_after_return, joined_host}
-use Rattle.sheep_world.specs.HoldsTogether.{HoldsTogether}
 use Rattle.sheep_world.proofs.BegunWorlds.{by_induction, goes_on}
 use Rattle.sheep_world.proofs.ControlLaws.{next_fits}
 use Rattle.sheep_world.proofs.EventInversion.{happens}

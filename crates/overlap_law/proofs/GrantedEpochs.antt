@@ -1,13 +1,12 @@
 -- Where a log that grows has an id reserved, and what disk the id is of: no later entry changes it. And where incarnations left.
-use Rattle.std.proofs.Common.{◌≡◌, ⊎_elim, arith, ℕ, zero, suc, ◌+◌, ◌≤◌, ◌<◌, ◌==◌, ◌||◌, Bool, true, false, cond, List, [], ◌∷◌, ◌++◌, length, map, fold, filter, zip, take, Option, Some, None, is_some, refl, sym, ap, subst, ◌∙◌, append_assoc, append-nil, length-append}
-use Rattle.std.specs.Option.{option_map, option_to_list}
+use Rattle.std.proofs.Common.{◌≡◌, arith, ℕ, zero, suc, ◌+◌, ◌≤◌, ◌<◌, ◌==◌, ◌||◌, Bool, true, false, cond, List, [], ◌∷◌, ◌++◌, length, map, fold, filter, zip, Option, Some, None, is_some, refl, sym, ap, subst, ◌∙◌, append_assoc, append-nil}
+use Rattle.std.specs.Option.{option_map}
 use Rattle.std.specs.List.{filter_map, range_with_len}
 use Rattle.std.proofs.lemmas.Bool.{eqb-true}
 use Rattle.std.proofs.lemmas.List.{take-append-le, take_all, length_push}
 use Rattle.std.proofs.lemmas.List.Elements.{filter_map-append}
 use Rattle.std.proofs.lemmas.List.FromFn.{map-range_with_len_more, length-map-range_with_len}
 use Rattle.std.proofs.lemmas.List.Sums.{fold-append}
-use Rattle.proof_tools.proofs.Booleans.{cond_either}
 use Rattle.object_id.specs.declared.entry.Entry.{Entry}
 use Rattle.object_id.specs.declared.entry.VdiSpec.{VdiSpec}
 use Rattle.epoch_log.specs.Epochs.{begins_epoch, epoch_of, epoch_at}
@@ -17,11 +16,11 @@ use Rattle.vdi_directory.specs.declared.effect.Effect.{Effect}
 use Rattle.vdi_directory.specs.declared.effect.Effect.TheVariants as effects
 use Rattle.vdi_directory.specs.declared.effect.Grant.{Grant}
 use Rattle.vdi_directory.specs.Effects.{grants, is_used, header_after, header_of}
-use Rattle.vdi_directory.specs.Decisions.{outcome, happens, log_effects}
+use Rattle.vdi_directory.specs.Decisions.{outcome, log_effects}
 use Rattle.vdi_directory.proofs.DecisionLaws.{grant_outcome-unused}
 use Rattle.vdi_directory.proofs.LineLemmas.{line-log_effects}
 use Rattle.vdi_directory.proofs.StateLemmas.{log_effects-none, log_effects-push, is_used-push, header_of-push}
-use Rattle.overlap_law.specs.Grants.{epochs_at_entries, dated_effects, later_if, last_epoch, reserved_in, leave_epoch_of, leaves_of}
+use Rattle.overlap_law.specs.Grants.{epochs_at_entries, dated_effects, later_if, reserved_in, leave_epoch_of, leaves_of}
 
 -- what each entry more keeps, all later ones keep
 pub from_front : (P : List Entry → Type 0) → ((log : List Entry) (entry : Entry) → P log → P (log ++ entry ∷ [])) → (log later : List Entry) → P log

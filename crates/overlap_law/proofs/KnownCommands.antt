@@ -1,5 +1,5 @@
 -- What a command of a node comes to is on disks that the node knows, and so is what it leaves open.
-use Rattle.std.proofs.Common.{◌≡◌, arith, ℕ, ◌≤◌, true, false, cond, List, [], length, Option, Some, None, IfSome, option_map, option_and_then, refl, ap}
+use Rattle.std.proofs.Common.{◌≡◌, arith, ℕ, ◌≤◌, true, false, List, length, Option, Some, None, IfSome, option_map, option_and_then, refl, ap}
 use Rattle.object_id.specs.declared.entry.Entry.{Entry}
 use Rattle.object_id.specs.declared.entry.Entry.TheVariants.{Format, Join, Leave, Reweight, Recovered, Reserve, Publish, Clone, Snapshot, Delete, Lock, Unlock}
 use Rattle.object_id.specs.declared.entry.Origin.TheVariants.{Fresh, SnapshotOf, CloneOf}

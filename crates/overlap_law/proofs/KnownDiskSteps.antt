@@ -1,5 +1,5 @@
 -- Each change of a node leaves what it has at work on disks that it knows: so it is in the middle of a step, and at its end.
-use Rattle.std.proofs.Common.{◌≡◌, ◌≢◌, ⊎_elim, arith, ℕ, ◌+◌, ◌*◌, List, [], ◌∷◌, ◌++◌, length, All, Option, Some, None, IfSome, IsTrue, sym, ap, subst, ◌∙◌}
+use Rattle.std.proofs.Common.{◌≡◌, ◌≢◌, ⊎_elim, arith, ℕ, ◌+◌, ◌*◌, List, [], ◌∷◌, length, All, Option, Some, None, IfSome, IsTrue, sym, ap, subst, ◌∙◌}
 use Rattle.std.specs.FinMap as tree
 use Rattle.std.proofs.lemmas.Bool.{cases_eq}
 use Rattle.std.proofs.lemmas.List.Elements.{All-weaker}
@@ -54,7 +54,7 @@ use Rattle.sheep_node.proofs.StepResults.{step_reads}
 use Rattle.sheep_node.proofs.ValidityChanges as walk
 use Rattle.sheep_node.proofs.ValidityChanges.{AnySent, none_is, IsValidStepBy, IsKeptBy, session_valid, disk_valid, inode_valid, course_valid, sole_put, freed_valid, driven_valid, commanded_valid}
 use Rattle.overlap_law.proofs.GrantedEpochs.{spec_known, spec_stays}
-use Rattle.overlap_law.proofs.KnownDisks.{IsKnownDisk, IsKnownInode, IsOnKnownDisk, IsKnownWork, IsKnownTask, IsKnownChange, IsKnownStage, IsKnownCheck, IsKnownCourse, known_validity, IsKnownOutcome, driver_begins-known, driver_goes_on-known, check_begins-known, check_goes_on-known}
+use Rattle.overlap_law.proofs.KnownDisks.{IsKnownDisk, IsKnownInode, IsOnKnownDisk, IsKnownWork, IsKnownTask, IsKnownChange, IsKnownStage, IsKnownCourse, known_validity, IsKnownOutcome, driver_begins-known, driver_goes_on-known, check_begins-known, check_goes_on-known}
 use Rattle.overlap_law.proofs.KnownCommands.{IsKnownCommandStep, command_begins-known, command_goes_on-known, command_decided-known, left_open}
 
 -- a node's works, requests and sessions are on disks that are known

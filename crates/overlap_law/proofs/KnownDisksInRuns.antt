@@ -1,5 +1,5 @@
 -- In each world of a run in range what nodes have at work is on disks that they know.
-use Rattle.std.proofs.Common.{◌≡◌, arith, ℕ, zero, suc, ◌==◌, ◌%◌, ◌&&◌, not, Bool, true, false, List, [], ◌∷◌, ◌++◌, length, All, Some, IsTrue, sym, ap, subst, ◌∙◌}
+use Rattle.std.proofs.Common.{◌≡◌, arith, ℕ, zero, suc, ◌==◌, ◌%◌, ◌&&◌, not, Bool, List, [], ◌∷◌, ◌++◌, All, Some, IsTrue, sym, ap, subst, ◌∙◌}
 use Rattle.std.specs.FinMap as tree
 use Rattle.std.proofs.lemmas.Bool.{eq-eqb, ne_eqb}
 use Rattle.std.proofs.lemmas.List.Elements.{All-nil, All-cons, All-filter}

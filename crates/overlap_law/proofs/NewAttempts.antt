@@ -1,5 +1,5 @@
 -- The attempts after a change of a moment: each was there before, but for its fates, or is one that a node has just opened in its step.
-use Rattle.std.proofs.Common.{◌≡◌, ◌⊎◌, inl, inr, ⊎_elim, ℕ, ◌&&◌, Bool, true, false, cond, List, [], ◌∷◌, ◌++◌, length, Option, Some, None, option_map, slice_get, refl, sym, ap, subst, ◌∙◌, append-nil}
+use Rattle.std.proofs.Common.{◌≡◌, ◌⊎◌, inl, inr, ⊎_elim, ℕ, ◌&&◌, Bool, true, false, cond, List, [], ◌++◌, length, Option, Some, None, option_map, slice_get, refl, sym, ap, subst, ◌∙◌, append-nil}
 use Rattle.std.specs.Option.{option_to_list}
 use Rattle.std.specs.FinMap as tree
 use Rattle.std.proofs.lemmas.Option.{same_Some}
@@ -23,7 +23,7 @@ use Rattle.sheep_world.specs.NodeCauses.{NodeCause, GuestAsks, RequestComes, Rep
 use Rattle.overlap_law.specs.Attempts.{AttemptRecord, MessageFate, Doomed, attempts_with_fate, fate_of_say, is_first, beginning, beginning_with}
 use Rattle.overlap_law.specs.BegunAttempts.{attempts_after}
 use Rattle.overlap_law.specs.Past.{MomentWithPast, past_after_event, moment_after}
-use Rattle.overlap_law.specs.StepMoments.{SteppingNode, IsStepping, StepsByChanges, StepsAtOnce, first_in_step, last_in_step, LeadsInStep, IsWithinStep, moment_in_step, attempts_with_loss, attempts_at_cause, attempts_of_change}
+use Rattle.overlap_law.specs.StepMoments.{SteppingNode, IsStepping, StepsByChanges, first_in_step, last_in_step, LeadsInStep, moment_in_step, attempts_with_loss, attempts_at_cause, attempts_of_change}
 use Rattle.overlap_law.specs.MomentChanges as moments
 use Rattle.overlap_law.specs.MomentChanges.{MomentChange, RunsAreInRange}
 use Rattle.overlap_law.proofs.AttemptLists.{got_more, got_marked, fates_told}

@@ -1,6 +1,6 @@
 -- What a node knows of the messages of its open attempts after a step: each was open before, with what was known of its messages then, or what the
 -- input told; or it began in the step, and nothing came of its messages yet.
-use Rattle.std.proofs.Common.{◌≡◌, ◌≢◌, ◌⊎◌, inl, inr, ⊎_elim, arith, ℕ, zero, suc, ◌+◌, ◌≤◌, ◌<◌, ◌==◌, Bool, true, false, cond, List, [], ◌∷◌, map, Option, Some, None, slice_get, refl, sym, ap, subst, ◌∙◌}
+use Rattle.std.proofs.Common.{◌≡◌, ◌≢◌, ◌⊎◌, inl, inr, ⊎_elim, arith, ℕ, zero, suc, ◌+◌, ◌≤◌, ◌<◌, ◌==◌, Bool, true, false, cond, List, [], ◌∷◌, Some, slice_get, refl, sym, ap, subst, ◌∙◌}
 use Rattle.std.specs.List.{enumerate_from}
 use Rattle.std.specs.Ordering.{nat_cmp}
 use Rattle.std.specs.FinMap as tree
@@ -10,7 +10,6 @@ use Rattle.proof_tools.proofs.Booleans.{cond_either}
 use Rattle.proof_tools.proofs.FiniteMaps.{get-insert_cases}
 use Rattle.object_id.specs.declared.cause.Cause.TheVariants.{Halt}
 use Rattle.object_id.specs.declared.entry.Entry.{Entry}
-use Rattle.object_id.specs.declared.node.NodeId.{NodeId}
 use Rattle.peer_proto.specs.Work.{oid_of, policy_of}
 use Rattle.vnode_table.specs.Targets.{targets_in}
 use Rattle.gateway.specs.declared.message.Message.{Message}
@@ -21,7 +20,7 @@ use Rattle.gateway.specs.Attempt as gateways
 use Rattle.gateway.specs.Attempt.{message_for}
 use Rattle.gateway.specs.State as gateway_states
 use Rattle.gateway.specs.State.{Work, Open, Ended, WaitsForMembers, is_awaited_in}
-use Rattle.gateway.specs.Step.{with_work, attempt_with_status}
+use Rattle.gateway.specs.Step.{attempt_with_status}
 use Rattle.recovery.specs.Steps as recovery_steps
 use Rattle.sheep_node.specs.declared.input.Input.{Input}
 use Rattle.sheep_node.specs.declared.input.Input.TheVariants as inputs
@@ -41,7 +40,7 @@ use Rattle.sheep_world.proofs.AskedWorks.{ToldIsBelow, AsksOn, StepAsksOn, asks_
 use Rattle.overlap_law.specs.Attempts.{receivers}
 use Rattle.overlap_law.proofs.AttemptLists.{got_map}
 use Rattle.overlap_law.proofs.MarkedMessages.{number-marked, receivers-marked}
-use Rattle.overlap_law.proofs.OpenAttempts.{WasOpen, Fewer, FewerIn, open_of, gone_fewer, ended_fewer, refused_fewer, denied_fewer, all_stay, steps_fewer, next_fewer}
+use Rattle.overlap_law.proofs.OpenAttempts.{WasOpen, Fewer, open_of, gone_fewer, ended_fewer, refused_fewer, denied_fewer, all_stay, steps_fewer, next_fewer}
 use Rattle.overlap_law.proofs.SendsOfChanges.{SendsNothing, next_sends_nothing, count_above}
 
 -- what was open between was open before

@@ -1,10 +1,10 @@
 -- The messages of a recovery are of its epoch, and those for the object of its search are of the search's level: so it is as a recovery
 -- begins, and so it stays at each step of its node.
-use Rattle.std.proofs.Common.{◌≡◌, arith, ℕ, ◌+◌, ◌==◌, ◌||◌, map, Bool, true, false, not, ◌&&◌, cond, List, [], ◌∷◌, ◌++◌, length, All, Contains, Option, Some, None, IfSome, refl, sym, ap, subst, ◌∙◌, slice_get}
+use Rattle.std.proofs.Common.{◌≡◌, arith, ℕ, ◌+◌, ◌==◌, ◌||◌, map, Bool, true, false, not, cond, List, [], ◌∷◌, ◌++◌, length, All, Contains, Option, Some, None, IfSome, refl, sym, ap, subst, ◌∙◌, slice_get}
 use Rattle.std.specs.Option.{option_map_or}
 use Rattle.std.specs.List.{list_any}
 use Rattle.std.proofs.lemmas.Bool.{eq-eqb, eqb-true, cond_both, and_parts}
-use Rattle.std.proofs.lemmas.List.Elements.{All-nil, All-cons, All-append, All-filter, All-weaker, All-contains, All-contains_itself, All-get_or}
+use Rattle.std.proofs.lemmas.List.Elements.{All-nil, All-cons, All-filter, All-weaker, All-contains, All-contains_itself, All-get_or}
 use Rattle.std.proofs.lemmas.Option.{get_or_from_slice_get, slice_get_within}
 use Rattle.proof_tools.proofs.Booleans.{cond_either}
 use Rattle.proof_tools.proofs.Lists.{list_any-none}

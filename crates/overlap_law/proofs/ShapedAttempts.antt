@@ -1,6 +1,6 @@
 -- Each attempt is shaped: it goes to the targets of its epoch, on an object of a disk that is known. It is so as it is opened, and stays so as
 -- the log grows.
-use Rattle.std.proofs.Common.{◌≡◌, ⊎_elim, arith, ℕ, zero, suc, ◌+◌, ◌≤◌, ◌==◌, ◌||◌, Bool, true, false, List, [], ◌∷◌, ◌++◌, length, filter, map, Option, Some, None, slice_get, refl, sym, ap, subst, ◌∙◌, ltb-false}
+use Rattle.std.proofs.Common.{◌≡◌, ⊎_elim, arith, ℕ, zero, suc, ◌+◌, ◌≤◌, ◌||◌, Bool, true, List, [], ◌∷◌, ◌++◌, length, filter, map, Option, Some, None, slice_get, refl, sym, ap, subst, ◌∙◌, ltb-false}
 use Rattle.std.specs.Prelude.{min}
 use Rattle.std.specs.Option.{option_map}
 use Rattle.std.specs.List.{enumerate_from}

@@ -1,14 +1,10 @@
 -- In each run in range the wire goes with what nodes wait for: what they wait for is linked with it, replies are of the epochs that their says
 -- need, and the gone are fenced.
-use Rattle.std.proofs.Common.{◌≡◌, ℕ, ◌<◌, true, List, Some, sym, subst, ◌∙◌, arith, refl}
-use Rattle.std.specs.FinMap as tree
-use Rattle.object_id.specs.declared.node.NodeId.{NodeId}
+use Rattle.std.proofs.Common.{◌≡◌, ℕ, List, Some, sym, subst, ◌∙◌, arith, refl}
 use Rattle.cluster_script.specs.declared.statement.Statement.{Statement}
 use Rattle.cluster_script.specs.Settings.{tries_of}
-use Rattle.peer_proto.specs.declared.ask.PeerReq.{PeerReq}
 use Rattle.peer_proto.specs.declared.say.PeerRsp.{PeerRsp}
-use Rattle.message_wire.specs.declared.packet.Packet.TheVariants.{Request, Reply}
-use Rattle.message_wire.specs.declared.name.MessageName.{MessageName}
+use Rattle.message_wire.specs.declared.packet.Packet.TheVariants.{Reply}
 use Rattle.recovery.specs.State as recoveries
 use Rattle.sheep_node.specs.declared.event.Event.{Event}
 use Rattle.sheep_node.specs.declared.input.Input.TheVariants as inputs
@@ -24,7 +20,7 @@ use Rattle.sheep_world.proofs.BegunWorlds.{each_began}
 use Rattle.sheep_world.proofs.RecoveryMessages.{same_said}
 use Rattle.overlap_law.specs.Flight.{PacketsAreAwaited, RepliersHaveCome, IsSaidSo, RepliesAreOfTheirEpoch, TheGoneAreFenced}
 use Rattle.overlap_law.specs.MomentChanges.{MomentChange, RunsAreInRange, KeptByChanges}
-use Rattle.overlap_law.specs.Past.{MomentWithPast, first_moment, run_with_past}
+use Rattle.overlap_law.specs.Past.{MomentWithPast, run_with_past}
 use Rattle.overlap_law.proofs.AttemptMessages.{contains_at}
 use Rattle.overlap_law.proofs.AwaitedPackets.{packets_go}
 use Rattle.overlap_law.proofs.EpochsRise.{epochs_rise}

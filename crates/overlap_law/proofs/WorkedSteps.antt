@@ -37,7 +37,6 @@ use Rattle.sheep_node.proofs.StepChain.{kept_by_chain, step_chain}
 use Rattle.sheep_world.specs.World.{Host, World, is_host_up}
 use Rattle.sheep_world.specs.Opening.{format_entry}
 use Rattle.sheep_world.specs.NodeSteps.{wire_with_request}
-use Rattle.sheep_world.specs.Step.{step}
 use Rattle.sheep_world.specs.Began.{Began}
 use Rattle.sheep_world.specs.HostChanges.{HostsKeep}
 use Rattle.sheep_world.specs.NodeCauses.{NodeCause, GuestAsks, RequestComes, ReplyComes, LossIsTold, EntryIsRead, EntryIsPut, RecoveryTicks, WorkIsRetried, input_of_cause, IsCause, host_with_node, world_after_cause}

@@ -227,6 +227,7 @@ pub fn the_wire_is_linked()
 pub fn gateways_know_the_fates()
     ensures { (script : List Statement) (events : List Event) (moment : MomentWithPast) → RunsAreInRange script
         → run_with_past script events ≡ Some moment → WorksKnowTheirFates moment.world.hosts moment.world.wire moment.past.attempts }
+{}
 
 /// In each run in range a member stays one until it is lost: a member of an epoch that is neither lost nor beyond it is a member of each
 /// later one, and one that is none of a later epoch is lost or came to that. So it is at each moment on the way of an event, and at its
@@ -272,6 +273,7 @@ pub fn epochs_and_nodes_are_kept()
 /// by the leave of a member, which was there at first or came by a control.
 pub fn scripts_of_few_controls_have_room()
     ensures { (script : List Statement) (world : World) → IsScript script → HasFewControls script → Began script world → MayGrow world }
+{}
 
 /// An attempt is for a request of the script, of a session of its gateway's incarnation: each change of a moment keeps that, and so it is
 /// in each run in range.

@@ -12,8 +12,9 @@
 //!
 //! An event is taken apart into small changes of a moment (`specs/StepMoments.antt`, `specs/MomentChanges.antt`), each of one kind by
 //! what it makes of the wire and the attempts (`specs/Traffic.antt`). So what each of them keeps holds of every run in range: that the
-//! wire and the attempts stay tied (`specs/TiedAttempts.antt`), that what is asked is of the past, and the group of
-//! epochs and nodes (`specs/NodeEpochs.antt`).
+//! wire and the attempts stay tied (`specs/TiedAttempts.antt`), that what is asked is of the past, that attempts are of their shape
+//! (`specs/ShapedAttempts.antt`), that the wire is linked with what nodes wait for, that gateways know the fates of their attempts, what
+//! the group of epochs and nodes says (`specs/NodeEpochs.antt`), and some of the group of writers (`specs/Writers.antt`).
 #![tactic(auto)]
 
 mod laws;
