@@ -40,7 +40,7 @@ ghost use Rattle.overlap_law.specs.NodeEpochs.{RecoveriesArePresent, AnswerersHa
 ghost use Rattle.overlap_law.specs.RequestsOfScript.{JoinsAreNew, RequestsAreWithoutReply, AttemptsAreTheScripts, TheRefusedAreAnswered};
 ghost use Rattle.overlap_law.specs.TiedAttempts.{IsTied};
 ghost use Rattle.overlap_law.specs.ShapedAttempts.{AreShaped};
-ghost use Rattle.overlap_law.specs.Groups.{TermsAreKept};
+ghost use Rattle.overlap_law.specs.Groups.{TermsAreKept, FlightIsKept};
 ghost use Rattle.overlap_law.specs.RoomOfScripts.{HasFewControls};
 
 /// A made attempt isn't doomed, and whatever is told of a message leaves it made.
@@ -220,6 +220,13 @@ pub fn the_wire_is_linked()
         → run_with_past script events ≡ Some moment → RepliesAreOfTheirEpoch moment.world.hosts moment.world.wire }
     ensures fenced { (script : List Statement) (events : List Event) (moment : MomentWithPast) → RunsAreInRange script
         → run_with_past script events ≡ Some moment → TheGoneAreFenced moment.world.log moment.world.hosts moment.world.wire }
+{}
+
+/// The group of the wire of the invariant holds in each run in range.
+pub fn the_wire_is_kept()
+    ensures { (script : List Statement) (events : List Event) (moment : MomentWithPast) → RunsAreInRange script
+        → run_with_past script events ≡ Some moment
+        → FlightIsKept moment.world.log moment.world.hosts moment.world.wire moment.past.attempts }
 {}
 
 /// In each run in range what a node that may step knows of the messages of its open creates and writes is so: one of which it has no word

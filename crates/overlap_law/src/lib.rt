@@ -30,10 +30,10 @@ pub use laws::{
     recoveries_are_of_members_that_came, requests_of_nodes_are_without_reply,
     scripts_of_few_controls_have_room, the_attempts_are_shaped, the_attempts_stay_in_order,
     the_past_follows_the_run, the_recovered_have_all, the_refused_are_answered,
-    the_wire_and_the_attempts_stay_tied, the_wire_is_linked, the_writer_begins_in_turn,
-    there_stays_one_writer, units_follow_each_other, what_becomes_of_an_attempt,
-    what_is_asked_is_of_the_past, what_is_doomed_stays_doomed, what_is_made_stays_made,
-    what_nodes_have_read_is_of_the_log, who_joins_is_new,
+    the_wire_and_the_attempts_stay_tied, the_wire_is_kept, the_wire_is_linked,
+    the_writer_begins_in_turn, there_stays_one_writer, units_follow_each_other,
+    what_becomes_of_an_attempt, what_is_asked_is_of_the_past, what_is_doomed_stays_doomed,
+    what_is_made_stays_made, what_nodes_have_read_is_of_the_log, who_joins_is_new,
 };
 pub use overlap::{
     the_messages_of_the_gone_are_fenced, the_overlap_gives_complete_lists,
