@@ -18,7 +18,7 @@ use Rattle.sheep_node.specs.declared.check_write.CheckWrite.{CheckWrite}
 use Rattle.sheep_world.specs.World.{World}
 use Rattle.sheep_world.specs.HistoryAdditions.{block_in, is_on_disk, block_written, block_checked, check_write_adds}
 use Rattle.sheep_world.specs.ClientAsks.{answer_of}
-use Rattle.sheep_world.specs.ClientSteps.{ask_effect, brings_answers, next_driven, world_with_event, world_driven}
+use Rattle.sheep_world.specs.ClientSteps.{ask_effect, brings_answers, next_driven, world_with_event, world_turned, world_driven}
 use Rattle.sheep_world.specs.Enabled.{enabled_events}
 use Rattle.sheep_world.specs.Run.{Moment, next, run_from, initial_moment, run}
 use Rattle.sheep_world.specs.RunsWithAsks.{Move, Happens, Asks, may_read_object, next_move, moves_from, run_with_asks, BeganWithAsks}
@@ -54,10 +54,10 @@ pub asks-silent : (statements : List Statement) (node : NodeId) (ask : Ask) (mom
     → next_move statements (Asks node ask) moment ≡ Some after → after.history ≡ moment.history
 asks-silent statements node ask moment after = by_may (may_read_object node ask moment)
   where
-    by_may : (b : Bool) → cond b (Some (record moment { world = ask_effect statements node.0 ask moment.world })) None ≡ Some after
+    by_may : (b : Bool) → cond b (Some (record moment { world = ask_effect node.0 ask moment.world })) None ≡ Some after
         → after.history ≡ moment.history
     by_may true is =
-        ap (λ (m : Moment). m.history) (sym (same_Some (record moment { world = ask_effect statements node.0 ask moment.world }) after is))
+        ap (λ (m : Moment). m.history) (sym (same_Some (record moment { world = ask_effect node.0 ask moment.world }) after is))
     by_may false is = absurd (cc (is))
 
 -- ---- the events that bring an answer
@@ -71,22 +71,35 @@ pub driven-answered : (statements : List Statement) (turns : ℕ) (world : World
 unfolding world_driven
 driven-answered statements zero world is = refl
 driven-answered statements (suc turns) world is =
-    ap (λ (b : Bool). cond b world (option_map_or
-    (λ (event : Event). world_driven statements turns (world_with_event statements event world))
-    (next_driven statements world) world)) is
+    ap (λ (b : Bool). cond b world (world_driven statements turns (world_turned statements world))) is
+
+pub turned-still : (statements : List Statement) (world : World) → next_driven statements world ≡ None
+    → world_turned statements world ≡ world
+turned-still statements world none =
+    ap (λ (o : Option Event). option_map_or (λ (event : Event). world_with_event statements event world) o world) none
 
 pub driven-still : (statements : List Statement) (turns : ℕ) (world : World) → next_driven statements world ≡ None
     → world_driven statements turns world ≡ world
 unfolding world_driven
 driven-still statements zero world none = refl
 driven-still statements (suc turns) world none =
-    ap (λ (o : Option Event). cond (is_some (answer_of world)) world (option_map_or
-    (λ (event : Event). world_driven statements turns (world_with_event statements event world)) o world)) none
+    ap (λ (after : World). cond (is_some (answer_of world)) world (world_driven statements turns after)) (turned-still statements world none)
+    ∙ ap (λ (after : World). cond (is_some (answer_of world)) world after) (driven-still statements turns world none)
     ∙ either (is_some (answer_of world))
   where
     either : (b : Bool) → cond b world world ≡ world
     either true = refl
     either false = refl
+
+pub driven-zero : (statements : List Statement) (world : World) → world_driven statements 0 world ≡ world
+unfolding world_driven
+driven-zero statements world = refl
+
+pub driven-turn : (statements : List Statement) (turns : ℕ) (world : World) → is_some (answer_of world) ≡ false
+    → world_driven statements (suc turns) world ≡ world_driven statements turns (world_turned statements world)
+unfolding world_driven
+driven-turn statements turns world is =
+    ap (λ (b : Bool). cond b world (world_driven statements turns (world_turned statements world))) is
 
 -- ---- the write of a check
 

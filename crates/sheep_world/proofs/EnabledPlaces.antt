@@ -131,7 +131,7 @@ module _ (statements : List Statement) (world : World) where
   abbrev pub behind_guests : List Event
   behind_guests = messages ++ behind_messages
 
-  looked_at-parts : looked_at statements world ≡ guest_events statements ++ behind_guests
+  pub looked_at-parts : looked_at statements world ≡ guest_events statements ++ behind_guests
   looked_at-parts =
       append_assoc (guest_events statements ++ messages) nodes last
       ∙ append_assoc (guest_events statements) messages (nodes ++ last)

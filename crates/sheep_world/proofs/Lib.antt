@@ -51,6 +51,9 @@ pub mod SenderEvents
 pub mod SessionEvents
 pub mod EventEffects
 mod ClientLaws
+mod DrivenEvents
+mod FirstDriven
+mod AskReplies
 mod ScriptLookUps
 mod HistoryBlocks
 mod CheckHistory

@@ -1,5 +1,5 @@
 -- What a client's ask makes of the world, and the events that bring its reply.
-use Rattle.std.specs.Prelude.{ℕ, zero, suc, Bool, true, false, not, List, find, Option, Some, None, is_some, if◌then◌else◌}
+use Rattle.std.specs.Prelude.{ℕ, zero, suc, Bool, true, false, not, List, [], find, Option, Some, None, is_some, if◌then◌else◌}
 use Rattle.std.specs.Option.{option_map_or}
 use Rattle.cluster_script.specs.declared.statement.Statement.{Statement}
 use Rattle.sheep_node.specs.declared.ask.Ask.{Ask}
@@ -17,9 +17,10 @@ use Rattle.sheep_world.specs.Step.{EventOutcome, step}
 abbrev pub ask_begun : World → World
 ask_begun world = record (at_rest world) { asked = Some (record { req = next_ask_number world; reply = None }) }
 
--- ask: the node steps on it as on a guest's request, of session 0, which no script has
-unfoldable pub ask_effect : List Statement → ℕ → Ask → World → World
-ask_effect statements node ask world = node_stepped statements node (inputs.Guest (next_ask_number world) 0 ask) (ask_begun world)
+-- ask: the node steps on it as on a guest's request, of session 0; no script has that session, so the step is as with no statements, and
+-- its reply is told to the client alone
+unfoldable pub ask_effect : ℕ → Ask → World → World
+ask_effect node ask world = node_stepped [] node (inputs.Guest (next_ask_number world) 0 ask) (ask_begun world)
 
 -- whether both ends of a message in the wire are up
 abbrev pub is_between_up : MessageName → World → Bool
@@ -51,14 +52,16 @@ next_driven statements world = find (brings_answers world) (enabled_events state
 abbrev pub world_with_event : List Statement → Event → World → World
 world_with_event statements event world = option_map_or (λ (made : EventOutcome). made.world) (step statements event world) world
 
+-- the world after the first of them that may happen; where none may, it stays
+abbrev pub world_turned : List Statement → World → World
+world_turned statements world =
+    option_map_or (λ (event : Event). world_with_event statements event world) (next_driven statements world) world
+
 -- the world after so many of them at most, each the first that may happen then, up to the answer
 unfoldable pub world_driven : List Statement → ℕ → World → World
 world_driven statements zero world = world
 world_driven statements (suc turns) world =
-    if is_some (answer_of world) then world
-    else option_map_or
-    (λ (event : Event). world_driven statements turns (world_with_event statements event world))
-    (next_driven statements world) world
+    if is_some (answer_of world) then world else world_driven statements turns (world_turned statements world)
 
 -- whether there is an answer then
 abbrev pub is_driven_to_answer : List Statement → ℕ → World → Bool

@@ -40,7 +40,7 @@ may_read_object node ask moment =
 abbrev pub next_move : List Statement → Move → Moment → Option Moment
 next_move statements (Happens event) moment = next statements event moment
 next_move statements (Asks node ask) moment =
-    if may_read_object node ask moment then Some (record moment { world = ask_effect statements node.0 ask moment.world }) else None
+    if may_read_object node ask moment then Some (record moment { world = ask_effect node.0 ask moment.world }) else None
 
 -- one move after another; none where one may not be made in its turn
 unfoldable pub moves_from : List Statement → List Move → Moment → Option Moment

@@ -147,7 +147,7 @@ impl WorldState {
     }
 
     /// Passes what each node may do. Costs a few steps for each node.
-    fn pass_nodes(&self, script: &Script, place: usize) -> ControlFlow<Event, usize>
+    pub fn pass_nodes(&self, script: &Script, place: usize) -> ControlFlow<Event, usize>
         ensures { result ≡ place_behind_enabled script.now self.now (flat_map node_events (tree.keys self.now.hosts)) place }
     {
         let mut left = place;
@@ -323,7 +323,7 @@ impl WorldState {
     }
 
     /// Passes the events of all messages. Costs what their senders cost.
-    fn pass_messages(&self, script: &Script, place: usize) -> ControlFlow<Event, usize>
+    pub fn pass_messages(&self, script: &Script, place: usize) -> ControlFlow<Event, usize>
         ensures { result ≡ place_behind_enabled script.now self.now (flat_map message_events (tree.entries self.now.wire)) place }
     {
         let mut left = place;

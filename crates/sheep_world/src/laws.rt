@@ -1,6 +1,7 @@
 //! Laws of the definitions, for the proofs of the layers above: each is the contract of a function that does nothing.
 ghost use Rattle.std.specs.Prelude.{◌≡◌, ◌≢◌, ◌+◌, ◌/◌, map, flat_map, cond, ◌<◌, ℕ, true, false, List, [], ◌∷◌, ◌++◌, Contains, length};
-ghost use Rattle.std.specs.Prelude.{slice_get, Some, None, Ok, is_some, Bool, Option};
+ghost use Rattle.std.specs.Prelude.{slice_get, Some, None, Ok, is_some, Bool, Option, not, ◌&&◌};
+ghost use Rattle.std.specs.FinMap as tree;
 ghost use Rattle.std.specs.Prelude.{All, ◌^◌, ◌≤◌};
 ghost use Rattle.object_id.specs.Node.{IsNode};
 ghost use Rattle.object_id.specs.declared.node.NodeId.{NodeId};
@@ -23,8 +24,9 @@ ghost use Rattle.sheep_node.specs.declared.event.Event.{Event};
 ghost use Rattle.sheep_node.specs.declared.event.Event.TheVariants as events;
 ghost use Rattle.sheep_node.specs.declared.ask.Ask.{Ask};
 ghost use Rattle.sheep_node.specs.declared.input.Input.TheVariants as inputs;
-ghost use Rattle.sheep_node.specs.May.{MayRead, May, may_tick};
-ghost use Rattle.sheep_node.specs.State.{Node};
+ghost use Rattle.sheep_node.specs.May.{MayRead, May, may_tick, has_room_for};
+ghost use Rattle.sheep_node.specs.MayTests.{may};
+ghost use Rattle.sheep_node.specs.State.{Node, session_at};
 ghost use Rattle.sheep_node.specs.Step.{node_step};
 ghost use Rattle.sheep_node.specs.Changes.{attempt_in};
 ghost use Rattle.gateway.specs.Attempt.{send_of};
@@ -59,8 +61,9 @@ ghost use Rattle.sheep_node.specs.WorkRange.{IsWorkInRange};
 ghost use Rattle.sheep_world.specs.BegunRequests.{RequestsWereBegun};
 ghost use Rattle.sheep_world.specs.OneWork.{NodesHaveOneWorkPerRequest, IsSentInRange, IsNewRequest};
 ghost use Rattle.sheep_world.specs.RunsWithAsks.{Happens, Asks, next_move, run_with_asks, BeganWithAsks};
-ghost use Rattle.sheep_world.specs.ClientAsks.{answer_of};
-ghost use Rattle.sheep_world.specs.ClientSteps.{brings_answers, next_driven, world_driven};
+ghost use Rattle.sheep_world.specs.ClientAsks.{next_ask_number, answer_of, may_client_ask, may_be_asked};
+ghost use Rattle.sheep_world.specs.ClientSteps.{ask_begun, ask_effect, brings_answers, next_driven, world_driven};
+ghost use Rattle.sheep_world.specs.NodeSteps.{node_stepped};
 ghost use Rattle.sheep_node.specs.declared.check_write.CheckWrite.{CheckWrite};
 
 /// An event makes something exactly where it may happen.
@@ -260,6 +263,21 @@ pub fn asks_stand_between_the_events_of_a_run()
     ensures began { (statements : List Statement) (world : World) → Began statements world → BeganWithAsks statements world }
     ensures silent { (statements : List Statement) (node : NodeId) (ask : Ask) (moment after : Moment)
         → next_move statements (Asks node ask) moment ≡ Some after → after.history ≡ moment.history }
+{}
+
+/// A client's ask is the step that it would be with any script that has no request of its number: its reply is told to no session.
+pub fn an_ask_is_told_to_no_session()
+    ensures { (statements : List Statement) (node : ℕ) (ask : Ask) (world : World) → request_at statements (next_ask_number world) ≡ None
+        → ask_effect node ask world
+        ≡ node_stepped statements node (inputs.Guest (next_ask_number world) 0 ask) (ask_begun world) }
+{}
+
+/// A node that takes a client's ask, which is as it may be, may step on it exactly if the client's session there has room for it, and no
+/// request has its number.
+pub fn a_node_may_step_on_an_ask()
+    ensures { (node : ℕ) (ask : Ask) (world : World) (host : Host) → host_at node world ≡ Some host → may_client_ask node world ≡ true
+        → may_be_asked ask node world ≡ true → may (inputs.Guest (next_ask_number world) 0 ask) host.node
+        ≡ (has_room_for ask (session_at 0 host.node) && not (tree.contains_key host.node.requests (next_ask_number world))) }
 {}
 
 /// What brings an answer is an event that may happen: no session asks, no control is taken, and no message is lost between nodes that are

@@ -18,7 +18,8 @@
 //! (`script_requests.rt`), when each event may happen (`conditions.rt`, with `request_conditions.rt`) and the list of these
 //! (`enabled_list.rt`), and what each makes (`made_worlds.rt`, over `node_steps.rt`, `guest_event.rt`, `message_events.rt` with
 //! `delivery.rt`, `log_events.rt`, `membership_events.rt`) and adds to the history (`granted.rt`, `history_blocks.rt`, `reply_history.rt`,
-//! `check_history.rt`, `lost_writers.rt`).
+//! `check_history.rt`, `lost_writers.rt`). A client without a script asks a node ([`World::ask`]; `client_asks.rt`, over
+//! `specs/ClientAsks.antt` and `specs/ClientSteps.antt`), and events are made until it has its answer ([`World::drive`]; `drive.rt`).
 //!
 //! The laws of `laws.rt` say what these mean. An event is made exactly if it may happen, and is of one of nine kinds
 //! (`specs/EventKinds.antt`), of which the step of a node has eight causes (`specs/NodeCauses.antt`); so a proof goes by
@@ -31,10 +32,12 @@
 #![tactic(auto)]
 
 mod check_history;
+mod client_asks;
 mod cluster_log;
 mod conditions;
 mod control;
 mod delivery;
+mod drive;
 mod enabled_list;
 mod fault;
 mod granted;
@@ -66,14 +69,14 @@ mod written_checks;
 pub use fault::ApplyFault;
 pub use laws::{
     a_check_reads_what_it_writes, a_history_only_grows, a_lost_node_gets_no_reply,
-    a_phase_brings_its_losses, a_run_is_cut_anywhere, a_small_world_worked_out,
-    a_write_begins_each_block_once, an_answer_is_brought_by_events,
-    asks_stand_between_the_events_of_a_run, each_event_is_of_a_kind, lives_worked_out,
-    members_make_no_disk, nodes_and_wire_stay_together, nodes_have_read_fronts_of_the_log,
-    nodes_step_on_what_they_may, recoveries_stay_in_range, requests_have_inputs,
-    requests_were_begun, the_controls_to_come_fit, the_enabled_list_has_what_may_happen,
-    the_enabled_list_is_in_parts, the_log_holds, what_is_asked_can_be_spelled,
-    what_is_in_the_wire_was_spelled, what_may_happen_is_made,
+    a_node_may_step_on_an_ask, a_phase_brings_its_losses, a_run_is_cut_anywhere,
+    a_small_world_worked_out, a_write_begins_each_block_once, an_answer_is_brought_by_events,
+    an_ask_is_told_to_no_session, asks_stand_between_the_events_of_a_run, each_event_is_of_a_kind,
+    lives_worked_out, members_make_no_disk, nodes_and_wire_stay_together,
+    nodes_have_read_fronts_of_the_log, nodes_step_on_what_they_may, recoveries_stay_in_range,
+    requests_have_inputs, requests_were_begun, the_controls_to_come_fit,
+    the_enabled_list_has_what_may_happen, the_enabled_list_is_in_parts, the_log_holds,
+    what_is_asked_can_be_spelled, what_is_in_the_wire_was_spelled, what_may_happen_is_made,
 };
 pub use progress::{ClientAsk, SessionProgress, StartedRequest};
 pub use run::Run;

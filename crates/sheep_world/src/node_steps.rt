@@ -1,7 +1,7 @@
 //! One node's step in the world: what it sends enters the wire, and what it replied to is answered.
 
 ghost use Rattle.std.specs.Prelude.{◌≡◌, ◌++◌, fold, None, IfOk};
-ghost use Rattle.sheep_world.specs.StepsInParts.{with_outputs};
+ghost use Rattle.sheep_world.specs.StepsInParts.{with_client_outputs, with_outputs};
 ghost use Rattle.sheep_world.specs.HistoryAdditions.{replies_grown};
 ghost use Rattle.sheep_world.specs.RepliesInParts.{AreRepliesAdded};
 ghost use Rattle.sheep_world.specs.NodeSteps.{request_name, wire_with_request, node_stepped};
@@ -53,6 +53,31 @@ fn wire_with_sends(alloc: Global, wire: Wire, sends: &SendList) -> Result<Wire, 
 }
 
 impl WorldState {
+    /// What a step has given is told to all but the sessions: its requests enter the wire, and a client's ask is answered, if it was
+    /// replied to.
+    pub fn with_client_outputs(self, input: Input, outputs: Outputs) -> Result<WorldState, NoMemory>
+        ensures { IfOk result (λ after. after ≡ with_client_outputs input outputs self) }
+    {
+        let WorldState {
+            alloc,
+            wire,
+            asked,
+            ..
+        } = self;
+        let asked = match asked {
+            Some(ask) => Some(ask.after_replies(alloc, &outputs.replies)?),
+            None => None,
+        };
+        let wire = wire_with_sends(alloc, wire, &outputs.sends)?;
+        Ok(WorldState {
+            wire,
+            asked,
+            input: Some(input),
+            outputs,
+            ..self
+        })
+    }
+
     /// What a step has given is told: its requests enter the wire, and what it replied to is answered.
     fn with_outputs(
         self,
@@ -64,25 +89,12 @@ impl WorldState {
     {
         let WorldState {
             alloc,
-            wire,
             mut guests,
-            asked,
             ..
         } = self;
         guests.after_replies(alloc, script, &outputs.replies)?;
-        let asked = match asked {
-            Some(ask) => Some(ask.after_replies(alloc, &outputs.replies)?),
-            None => None,
-        };
-        let wire = wire_with_sends(alloc, wire, &outputs.sends)?;
-        Ok(WorldState {
-            wire,
-            guests,
-            asked,
-            input: Some(input),
-            outputs,
-            ..self
-        })
+        let world = WorldState { guests, ..self };
+        world.with_client_outputs(input, outputs)
     }
 
     /// A node steps on an input; behind the earlier events of the history stands what its replies add, where the check of this request

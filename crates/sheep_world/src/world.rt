@@ -4,14 +4,16 @@ ghost use Rattle.std.specs.Prelude.{◌≡◌, ◌↔◌, true, false, Some, Err
 ghost use Rattle.sheep_world.specs.declared.fault.ApplyFault.TheVariants as faults;
 ghost use Rattle.sheep_world.specs.Opening.{initial_world};
 ghost use Rattle.sheep_world.specs.Enabled.{is_enabled};
+ghost use Rattle.sheep_world.specs.ClientAsks.{may_client_ask, may_be_asked};
+ghost use Rattle.sheep_world.specs.ClientSteps.{ask_effect};
 ghost use Rattle.sheep_world.specs.Step.{step};
 
 use crate::fault::ApplyFault;
 use crate::world_state::WorldState;
 use cluster_script::Script;
 use disk_history::HistList;
-use object_id::NoMemory;
-use sheep_node::Event;
+use object_id::{NoMemory, NodeId};
+use sheep_node::{Ask, Event};
 use std::alloc::Global;
 use std::marker::Model;
 
@@ -89,7 +91,7 @@ impl World {
     }
 
     /// Makes an event that may happen, with what it adds to the history.
-    fn make(&mut self, script: &Script, event: Event) -> Result<HistList, NoMemory>
+    pub(crate) fn make(&mut self, script: &Script, event: Event) -> Result<HistList, NoMemory>
         requires live { self.old.spent ≡ false }
         requires enabled { is_enabled script.now self.old.world event ≡ true }
         ensures live { OnOk result (self.new.spent ≡ false) }
@@ -120,6 +122,40 @@ impl World {
         }
         match self.make(script, event) {
             Ok(grown) => Ok(grown),
+            Err(NoMemory) => Err(ApplyFault::NoMemory),
+        }
+    }
+
+    /// Makes a client's ask.
+    fn make_ask(&mut self, node: NodeId, ask: Ask) -> Result<(), NoMemory>
+        requires { self.old.spent ≡ false }
+        ensures live { OnOk result (self.new.spent ≡ false) }
+        ensures made { OnOk result (self.new.world ≡ ask_effect node.0 ask self.old.world) }
+        ensures spent { OnErr result (self.new.spent ≡ true) }
+    {
+        let state = self.state.take().unwrap();
+        self.state = Some(state.client_asked(node.0, ask)?);
+        Ok(())
+    }
+
+    /// A client without a script asks something of a node: a request numbered from 10,001 up, of session 0, which no script has. It is
+    /// taken exactly where the node is up, and a member by what it has read, and the last ask has its reply; else the world stays. What is
+    /// asked has to be as it may be then. An ask is no event of a run, and adds nothing to a history. Costs what the node's step costs,
+    /// and a look-up for each message that it gives.
+    pub fn ask(&mut self, node: NodeId, ask: Ask) -> Result<(), ApplyFault>
+        requires live { self.old.spent ≡ false }
+        requires asked { may_client_ask node.0 self.old.world ≡ true → may_be_asked ask node.0 self.old.world ≡ true }
+        ensures refused { (result ≡ Err faults.NotEnabled) ↔ (may_client_ask node.0 self.old.world ≡ false) }
+        ensures unchanged { result ≡ Err faults.NotEnabled → self.new ≡ self.old }
+        ensures live { OnOk result (self.new.spent ≡ false) }
+        ensures made { OnOk result (self.new.world ≡ ask_effect node.0 ask self.old.world) }
+        ensures spent { result ≡ Err faults.NoMemory → self.new.spent ≡ true }
+    {
+        if !self.state().may_client_ask(node.0) {
+            return Err(ApplyFault::NotEnabled);
+        }
+        match self.make_ask(node, ask) {
+            Ok(()) => Ok(()),
             Err(NoMemory) => Err(ApplyFault::NoMemory),
         }
     }
