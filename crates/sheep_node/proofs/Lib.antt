@@ -70,4 +70,4 @@ pub mod SoundLaws
 pub mod AttemptRange
 pub mod SpelledSends
 mod LineParts
-mod LineChanges
+pub mod LineChanges
