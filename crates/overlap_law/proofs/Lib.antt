@@ -98,6 +98,7 @@ pub mod UnansweredRequests
 pub mod GuestsOfScript
 pub mod RoomOfSessions
 pub mod ApartInRuns
+pub mod OneInodeWork
 pub mod WriterChanges
 pub mod DatedEffects
 pub mod MessagesOfOpenWorks

@@ -33,12 +33,14 @@ use Rattle.sheep_node.specs.Step.{on_request, is_due, with_recovered, recovered_
 use Rattle.sheep_node.specs.LogReading.{on_back}
 use Rattle.sheep_node.specs.May.{is_disk_course, queued_at_most, has_room_for, May}
 use Rattle.sheep_node.specs.OneWork.{HasOneWorkPerRequest}
+use Rattle.sheep_node.specs.OpenLines.{LinesAreOpen}
 use Rattle.sheep_node.specs.SessionQueues.{is_disk_request_of, queue_in, command_in, AreDiskRequests, HaveSoleCommands, AreInTurn, IsSoleRequestOf}
 use Rattle.sheep_node.specs.DrivenDisks.{AreOnDisks}
 use Rattle.sheep_node.specs.WantedWorks.{HaveWantedWorks}
 use Rattle.sheep_node.specs.Changes.{IsSoundStep, input_received}
 use Rattle.sheep_node.proofs.AwaitedWorks.{Works}
 use Rattle.sheep_node.proofs.DrivenChanges.{on_disks_at_opening, stay_on_disks}
+use Rattle.sheep_node.proofs.LineChanges.{lines_open_at_opening, lines_stay_open}
 use Rattle.sheep_node.proofs.NumberChanges.{meets_numbers, one_work_at_opening}
 use Rattle.sheep_node.proofs.OneWorkParts.{Requests, Sessions}
 use Rattle.sheep_node.proofs.QueueChanges.{none_queued}
@@ -68,7 +70,7 @@ use Rattle.overlap_law.proofs.RequestsInSteps.{is_disk_ask}
 use Rattle.overlap_law.proofs.UnansweredRequests.{Guests, unanswered_in, IsTied, RequestsAreTied, brings_tied, requests_tied}
 
 -- what sessions have is sound: their queues are their reads and writes, each once, any other request is alone, a read or write that began
--- is apart from the earlier ones and on the open disk, and works are those that are waited for
+-- is apart from the earlier ones and on the open disk, works are those that are waited for, and its line is open as its works are
 pub record AreSoundGuests (works : Works) (requests : Requests) (sessions : Sessions) : Type 0 where
   pub queues : AreDiskRequests requests sessions
   pub once : AreOnceIn sessions
@@ -76,6 +78,7 @@ pub record AreSoundGuests (works : Works) (requests : Requests) (sessions : Sess
   pub in_turn : AreInTurn requests sessions
   pub wanted : HaveWantedWorks works requests sessions
   pub on_disks : AreOnDisks requests sessions
+  pub lines : LinesAreOpen works requests sessions
 
 abbrev pub HasSoundGuests : Node → Type 0
 HasSoundGuests node = AreSoundGuests node.gateway.works node.requests node.sessions
@@ -88,6 +91,7 @@ opening_sound me tries = record {
   in_turn = in_turn_at_opening me tries;
   wanted = works_wanted_at_opening me tries;
   on_disks = on_disks_at_opening me tries;
+  lines = lines_open_at_opening me tries;
 }
 
 -- a step that the node may take
@@ -102,6 +106,7 @@ may_sound input node may driven is =
       in_turn = stay_in_turn input node is.in_turn;
       wanted = works_stay_wanted input node may driven is.queues is.alone is.wanted;
       on_disks = stay_on_disks input node may is.queues is.alone is.on_disks;
+      lines = lines_stay_open input node may driven is.lines;
     }
 
 -- a request that is served leaves them, and so does a node that comes back

@@ -31,7 +31,7 @@ ghost use Rattle.overlap_law.specs.MomentChanges.{MomentChange, MomentTrail, Run
 ghost use Rattle.overlap_law.specs.Traffic.{TrafficBetween, BeginsInTurn, OpenAttemptsHaveMessages, IsInTurn};
 ghost use Rattle.overlap_law.specs.Fates.{AttemptsAreOrdered};
 ghost use Rattle.overlap_law.specs.OpenWorks.{OpenAttemptsAreLatest, WorksKnowTheirFates};
-ghost use Rattle.overlap_law.specs.Sessions.{WorksAreApart, BegunRequestsAreApart};
+ghost use Rattle.overlap_law.specs.Sessions.{SessionsHaveOneInodeWork, WorksAreApart, BegunRequestsAreApart};
 ghost use Rattle.overlap_law.specs.Writers.{OnlyTheWriterWrites, ThereIsOneWriter, AttemptsHaveBegun, WritersTakeTurns, IsInOwnTurn};
 ghost use Rattle.overlap_law.specs.Flight.{FlyInThePast, RequestsAreOfThePast, PacketsAreAwaited, RepliersHaveCome, RepliesAreOfTheirEpoch};
 ghost use Rattle.overlap_law.specs.Flight.{TheGoneAreFenced};
@@ -296,6 +296,12 @@ pub fn each_attempt_is_for_a_request()
 pub fn the_refused_are_answered()
     ensures { (script : List Statement) (events : List Event) (moment : MomentWithPast) → run_with_past script events ≡ Some moment
         → TheRefusedAreAnswered script moment.world moment.past.refused }
+{}
+
+/// In each run in range a session has one open work on its inode at most.
+pub fn a_session_has_one_inode_work()
+    ensures { (script : List Statement) (events : List Event) (moment : MomentWithPast) → RunsAreInRange script
+        → run_with_past script events ≡ Some moment → SessionsHaveOneInodeWork moment.world.hosts }
 {}
 
 /// In each run in range reads and writes of a session that have begun have no index in common.

@@ -21,19 +21,20 @@ mod laws;
 mod overlap;
 
 pub use laws::{
-    a_base_is_made, an_attempt_begins_where_one_opens, an_event_is_a_trail_of_changes,
-    attempts_are_of_epochs_that_began, begun_requests_are_apart, each_attempt_is_for_a_request,
-    each_change_is_of_a_kind_of_traffic, each_target_has_its_fate, epochs_and_nodes_are_kept,
-    few_effects_change_the_writer, gateways_know_the_fates, grants_are_of_epochs_that_began,
-    members_stay_until_they_are_lost, no_read_of_what_was_borne_is_left_out,
-    open_works_have_messages, other_attempts_hear_nothing, peers_of_another_epoch_change_nothing,
-    recoveries_are_of_members_that_came, requests_of_nodes_are_without_reply,
-    scripts_of_few_controls_have_room, the_attempts_are_shaped, the_attempts_stay_in_order,
-    the_past_follows_the_run, the_recovered_have_all, the_refused_are_answered,
-    the_wire_and_the_attempts_stay_tied, the_wire_is_kept, the_wire_is_linked,
-    the_writer_begins_in_turn, there_stays_one_writer, units_follow_each_other,
-    what_becomes_of_an_attempt, what_is_asked_is_of_the_past, what_is_doomed_stays_doomed,
-    what_is_made_stays_made, what_nodes_have_read_is_of_the_log, who_joins_is_new,
+    a_base_is_made, a_session_has_one_inode_work, an_attempt_begins_where_one_opens,
+    an_event_is_a_trail_of_changes, attempts_are_of_epochs_that_began, begun_requests_are_apart,
+    each_attempt_is_for_a_request, each_change_is_of_a_kind_of_traffic, each_target_has_its_fate,
+    epochs_and_nodes_are_kept, few_effects_change_the_writer, gateways_know_the_fates,
+    grants_are_of_epochs_that_began, members_stay_until_they_are_lost,
+    no_read_of_what_was_borne_is_left_out, open_works_have_messages, other_attempts_hear_nothing,
+    peers_of_another_epoch_change_nothing, recoveries_are_of_members_that_came,
+    requests_of_nodes_are_without_reply, scripts_of_few_controls_have_room,
+    the_attempts_are_shaped, the_attempts_stay_in_order, the_past_follows_the_run,
+    the_recovered_have_all, the_refused_are_answered, the_wire_and_the_attempts_stay_tied,
+    the_wire_is_kept, the_wire_is_linked, the_writer_begins_in_turn, there_stays_one_writer,
+    units_follow_each_other, what_becomes_of_an_attempt, what_is_asked_is_of_the_past,
+    what_is_doomed_stays_doomed, what_is_made_stays_made, what_nodes_have_read_is_of_the_log,
+    who_joins_is_new,
 };
 pub use overlap::{
     the_messages_of_the_gone_are_fenced, the_overlap_gives_complete_lists,

@@ -71,4 +71,4 @@ pub mod SoundLaws
 pub mod AttemptRange
 pub mod SpelledSends
 mod LineParts
-mod LineChanges
+pub mod LineChanges
