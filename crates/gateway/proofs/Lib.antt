@@ -1,5 +1,6 @@
 mod GivenLemmas
 mod StepLemmas
+mod RefusalLemmas
 mod AskersKept
 mod WorkLemmas
 mod AskerLemmas

@@ -1,5 +1,5 @@
 -- What the code of a gateway makes in parts is the step of the definitions.
-use Rattle.std.proofs.Common.{◌≡◌, ℕ, ◌+◌, nat_lt, nat_le, ◌&&◌, not, Bool, true, false, cond, List, Option, Some, None, IfSome, refl, sym, ap, ap₂, ◌∙◌}
+use Rattle.std.proofs.Common.{◌≡◌, ℕ, ◌+◌, nat_lt, nat_le, ◌&&◌, not, Bool, true, false, cond, List, Option, Some, None, IfSome, refl, sym, ap, ap₂, subst, ◌∙◌}
 use Rattle.std.specs.Ordering.{nat_cmp, eq_by_cmp}
 use Rattle.std.specs.Cmp.{nat_cmp_total}
 use Rattle.std.specs.FinMap as tree
@@ -229,3 +229,14 @@ pub refused-short : (epochs : List EpochMembers) (gateway : Gateway) (req : ℕ)
     → nat_lt (zone_count (members_at epochs epoch.0)) (zones_for work) ≡ true
 unfolding start_step attempt_step
 refused-short epochs gateway req work first epoch = by_short (nat_lt (zone_count (members_at epochs epoch.0)) (zones_for work)) _ _ (λ refuses. refuses)
+
+-- so would one that is refused as it is tried again
+pub refused-short-again : (epochs : List EpochMembers) (gateway : Gateway) (req : ℕ) (work : Work) (first : ℕ) (epoch : Epoch)
+    → next_req epoch gateway.works ≡ Some req → tree.get gateway.works req ≡ Some work
+    → RefusesWork (retry_step epochs gateway first epoch).act
+    → nat_lt (zone_count (members_at epochs epoch.0)) (zones_for work.work) ≡ true
+unfolding retry_step attempt_step
+refused-short-again epochs gateway req work first epoch next at refuses =
+    by_short (nat_lt (zone_count (members_at epochs epoch.0)) (zones_for work.work)) _ _ (λ wrong. wrong)
+    (subst (λ (found : Option (ℕ × Work)). RefusesWork (retry_step_of epochs gateway first epoch found).act)
+    (next-found epoch gateway.works req work (next_try epoch gateway) refl next at) refuses)

@@ -68,6 +68,13 @@ outcome_with work epoch messages may_refuse =
     else (if may_refuse then failure_outcome (first_failure work epoch messages) else outcomes.Failed))
     else outcomes.Awaited
 
+-- an attempt comes to this without what its messages gave
+abbrev pub IsUndone : Outcome → Type 0
+IsUndone outcomes.Awaited = Unit {0}
+IsUndone outcomes.Failed = Unit {0}
+IsUndone (outcomes.Done bytes) = ⊥
+IsUndone (outcomes.Refused cause) = Unit {0}
+
 -- its request may be refused when so many attempts have ended, and it is untouched
 abbrev pub outcome_of : ℕ → Bool → Work → Attempt → Outcome
 outcome_of tries touched work attempt =

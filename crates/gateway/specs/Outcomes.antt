@@ -10,6 +10,8 @@ use Rattle.peer_proto.specs.declared.ask.PeerReq.{PeerReq}
 use Rattle.peer_proto.specs.declared.work.ObjWork.{ObjWork}
 use Rattle.peer_proto.specs.declared.work.ObjWork.TheVariants.{Create, Write, Read, ReadAll}
 use Rattle.peer_proto.specs.declared.work.WorkDone.{WorkDone}
+use Rattle.peer_proto.specs.declared.say.PeerSay.{PeerSay}
+use Rattle.peer_proto.specs.declared.say.PeerSay.TheVariants as says
 use Rattle.gateway.specs.declared.act.Act.{Act}
 use Rattle.gateway.specs.declared.act.Act.TheVariants as acts
 use Rattle.gateway.specs.declared.message.Message.{Message}
@@ -76,6 +78,15 @@ RefusesWork (acts.Send sends) = ⊥
 RefusesWork acts.Wait = ⊥
 RefusesWork (acts.Done ended done) = ⊥
 RefusesWork (acts.Refused ended number cause) = Unit {0}
+
+-- what a reply says has no piece of an object's bytes
+abbrev pub HasNoPiece : PeerSay → Type 0
+HasNoPiece says.Success = Unit {0}
+HasNoPiece (says.Piece bytes) = ⊥
+HasNoPiece (says.Objects objects) = Unit {0}
+HasNoPiece (says.Row row) = Unit {0}
+HasNoPiece says.NoRow = Unit {0}
+HasNoPiece (says.Refused refusal) = Unit {0}
 
 -- a work that is told done gave as many bytes as it gives by its kind and size
 abbrev pub GivesItsBytes : Act → Type 0

@@ -7,7 +7,7 @@ ghost use Rattle.gateway.specs.State.{initial_gateway, asker, has_work, gateway_
 ghost use Rattle.gateway.specs.State.{Work as TheWork, MaySend, MayStart};
 ghost use Rattle.gateway.specs.Messages.{IsPieceFor};
 ghost use Rattle.gateway.specs.Kept.{next_req, may_be_done_by};
-ghost use Rattle.gateway.specs.Outcomes.{RefusesWork, GivesItsBytes, work_done_in, IsWorkDone};
+ghost use Rattle.gateway.specs.Outcomes.{RefusesWork, HasNoPiece, GivesItsBytes, work_done_in, IsWorkDone};
 ghost use Rattle.gateway.specs.Step.{start_step, retry_step, message_ended, gateway_on_reply, gateway_on_loss, without_touch};
 
 use crate::act::Act;
@@ -92,7 +92,8 @@ fn fits_work(work: &ObjWork, say: &PeerSay) -> bool
 
 /// What a reply says of its message. Takes the bytes of a piece.
 fn status_by(alloc: Global, say: &PeerSay) -> Result<Status, NoMemory>
-    ensures { IfOk result (λ status. status ≡ status_by say.now) }
+    ensures ok { IfOk result (λ status. status ≡ status_by say.now) }
+    ensures memory { HasNoPiece say.now → IsOk result }
 {
     Ok(match say {
         PeerSay::Success => Status::Succeeded(Bytes::new(alloc)),
@@ -281,10 +282,11 @@ impl Gateway {
     }
 
     /// Tries the work again that may be tried in the epoch, of the smallest request. Looks at each work up to that one, and costs
-    /// and takes what [`Gateway::start`] does. Without memory nothing changes.
+    /// and takes what [`Gateway::start`] does; where its request is refused it takes no memory. Without memory nothing changes.
     pub fn retry(&mut self, first: u32, epoch: Epoch, place: &Placement) -> Result<Act, NoMemory>
         requires may_send { MaySend self.old place.now first epoch }
         ensures ok { IfOk result (λ act. retry_step place.now self.old first epoch ≡ record { gateway = self.new; act = act }) }
+        ensures memory { RefusesWork (retry_step place.now self.old first epoch).act → IsOk result }
         ensures err { OnErr result (self.new ≡ self.old) }
     {
         match self.works.next_try(epoch) {
@@ -304,21 +306,19 @@ impl Gateway {
         requires may_send { MaySend self.old place.now first epoch }
         requires next { next_req epoch self.old.works ≡ Some req }
         ensures ok { IfOk result (λ act. retry_step place.now self.old first epoch ≡ record { gateway = self.new; act = act }) }
+        ensures memory { RefusesWork (retry_step place.now self.old first epoch).act → IsOk result }
         ensures err { OnErr result (self.new ≡ self.old) }
     {
         let Some(work) = self.works.get(req) else {
             return Ok(Act::Wait);
         };
-        // An attempt that no count has room for is answered as out of memory.
-        if work.ended() == u64::MAX {
-            return Err(NoMemory);
-        }
+        let count = work.ended();
         let touched = self.touched.has(req);
         let beginning = begin_attempt(
             self.alloc,
             self.me,
             work.work(),
-            work.ended(),
+            count,
             touched,
             first,
             epoch,
@@ -326,6 +326,10 @@ impl Gateway {
         )?;
         match beginning {
             Beginning::Sends { messages, sends } => {
+                // An attempt that no count has room for is answered as out of memory.
+                if count == u64::MAX {
+                    return Err(NoMemory);
+                }
                 self.askers.put_all(messages.as_slice(), req)?;
                 self.works.set_stage(req, Stage::Open { epoch, messages });
                 Ok(Act::Send(sends))
@@ -339,23 +343,26 @@ impl Gateway {
     }
 
     /// A reply to a message came. Costs two look-ups, and looks at each message of the attempt. It takes the bytes of a piece, for the
-    /// end of a read also the read's bytes, and the touch of a request. Without memory nothing changes.
+    /// end of a read also the read's bytes, and the touch of a request: where the request is refused, the bytes of a piece alone. Without
+    /// memory nothing changes.
     pub fn on_reply(&mut self, rsp: &PeerRsp) -> Result<Act, NoMemory>
         requires { IsTrue (fits_gateway rsp.now self.old) }
         ensures ok { IfOk result (λ act. gateway_on_reply self.old rsp.now ≡ record { gateway = self.new; act = act }) }
         ensures given { IfOk result GivesItsBytes }
+        ensures memory { HasNoPiece rsp.now.say → RefusesWork (gateway_on_reply self.old rsp.now).act → IsOk result }
         ensures err { OnErr result (self.new ≡ self.old) }
     {
         let status = status_by(self.alloc, &rsp.say)?;
         self.message_ended(rsp.number, status)
     }
 
-    /// A message, or the reply to it, was lost. Costs and takes what [`Gateway::on_reply`] does, without the piece. Without memory
-    /// nothing changes.
+    /// A message, or the reply to it, was lost. Costs and takes what [`Gateway::on_reply`] does, without the piece: so it takes nothing
+    /// where the request is refused. Without memory nothing changes.
     pub fn on_lost(&mut self, number: u32) -> Result<Act, NoMemory>
         requires { IsTrue (gateway_awaits number self.old) }
         ensures ok { IfOk result (λ act. gateway_on_loss self.old number ≡ record { gateway = self.new; act = act }) }
         ensures given { IfOk result GivesItsBytes }
+        ensures memory { RefusesWork (gateway_on_loss self.old number).act → IsOk result }
         ensures err { OnErr result (self.new ≡ self.old) }
     {
         self.message_ended(number, Status::Lost)
@@ -367,6 +374,7 @@ impl Gateway {
         requires piece { IfSome (asker number self.old) (λ found. IsPieceFor found.1.work status) }
         ensures ok { IfOk result (λ act. message_ended self.old number status ≡ record { gateway = self.new; act = act }) }
         ensures given { IfOk result GivesItsBytes }
+        ensures memory { RefusesWork (message_ended self.old number status).act → IsOk result }
         ensures err { OnErr result (self.new ≡ self.old) }
     {
         let Some((req, work)) = self.asked(number) else {

@@ -5,7 +5,7 @@ ghost use Rattle.gateway.specs.Attempt.{is_unanswered, messages_with_status};
 ghost use Rattle.gateway.specs.State.{is_awaited_in, may_try};
 ghost use Rattle.gateway.specs.Messages.{AreMessagesFor, IsPieceFor};
 ghost use Rattle.gateway.specs.Stage.{work_stage, IsStageFor, IsOpenWork, IsOpenStage};
-ghost use Rattle.gateway.specs.Kept.{stage_with_status, work_with_status, work_failed, work_by, outcome_with, outcome_at, failure_outcome};
+ghost use Rattle.gateway.specs.Kept.{stage_with_status, work_with_status, work_failed, work_by, outcome_with, outcome_at, failure_outcome, IsUndone};
 ghost use Rattle.gateway.specs.Kept.{bytes_if_done, bytes_if_done_at, may_be_done_at};
 
 use crate::given::bytes_given;
@@ -140,6 +140,7 @@ impl OpenWork {
     fn outcome(&self, alloc: Global, tries: u32, touched: bool) -> Result<Outcome, NoMemory>
         ensures ok { IfOk result (λ outcome. outcome ≡ outcome_at tries touched self.now self.now.stage) }
         ensures memory { is_making self.now.work ≡ true → IsOk result }
+        ensures undone { IsUndone (outcome_at tries touched self.now self.now.stage) → IsOk result }
     {
         match &self.stage {
             Stage::Open { epoch, messages } => {
@@ -168,6 +169,7 @@ impl OpenWork {
         ensures ok { IfOk result (λ outcome. self.new ≡ work_by outcome (work_with_status number status self.old)) }
         ensures err { OnErr result (self.new ≡ self.old) }
         ensures memory { is_making self.old.work ≡ true → IsOk result }
+        ensures undone { IsUndone (outcome_at tries touched self.old (work_with_status number status self.old).stage) → IsOk result }
     {
         let _ = &self.work;
         self.set_status(number, status);
@@ -265,6 +267,7 @@ fn outcome_of(
     requires messages { AreMessagesFor work.now messages.now }
     ensures ok { IfOk result (λ outcome. outcome ≡ outcome_with work.now epoch messages.now may_refuse) }
     ensures memory { is_making work.now ≡ true → IsOk result }
+    ensures undone { IsUndone (outcome_with work.now epoch messages.now may_refuse) → IsOk result }
 {
     if !is_over(messages) {
         Ok(Outcome::Awaited)

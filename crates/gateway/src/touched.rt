@@ -1,4 +1,4 @@
-ghost use Rattle.std.specs.Prelude.{◌≡◌, OnOk, OnErr, if◌then◌else◌};
+ghost use Rattle.std.specs.Prelude.{◌≡◌, false, IsOk, OnOk, OnErr, if◌then◌else◌};
 ghost use Rattle.std.specs.FinSet as set;
 
 use object_id::NoMemory;
@@ -46,10 +46,11 @@ impl Touched {
         self.requests.contains(&req)
     }
 
-    /// Touches a request, if something of it may have been made.
+    /// Touches a request, if something of it may have been made; else it takes no memory.
     pub fn touch(&mut self, req: u32, made: bool) -> Result<(), NoMemory>
         ensures ok { OnOk result (self.new ≡ (if made then set.insert self.old req else self.old)) }
         ensures err { OnErr result (self.new ≡ self.old) }
+        ensures memory { made ≡ false → IsOk result }
     {
         if made {
             self.requests.insert(req)?;

@@ -7,7 +7,7 @@ ghost use Rattle.gateway.specs.Attempt.{is_unanswered};
 ghost use Rattle.gateway.specs.State.{is_awaited_in};
 ghost use Rattle.gateway.specs.Messages.{IsPieceFor};
 ghost use Rattle.gateway.specs.Stage.{work_stage, IsStageFor};
-ghost use Rattle.gateway.specs.Kept.{work_with_status, work_by, works_left, outcome_at, act_by, next_req, MessageEnds};
+ghost use Rattle.gateway.specs.Kept.{work_with_status, work_by, works_left, outcome_at, act_by, next_req, IsUndone, MessageEnds};
 
 use crate::act::Act;
 use crate::message::Status;
@@ -118,6 +118,8 @@ impl Works {
             ≡ tree.insert self.old req (work_by outcome (work_with_status number status work)))) }
         ensures err { OnErr result (self.new ≡ self.old) }
         ensures memory { IfSome (tree.get self.old req) (λ work. is_making work.work ≡ true → IsOk result) }
+        ensures undone { IfSome (tree.get self.old req) (λ work.
+            IsUndone (outcome_at tries touched work (work_with_status number status work).stage) → IsOk result) }
     {
         let Some(work) = self.by_request.get_mut(&req) else {
             return Ok(Outcome::Awaited);
@@ -177,6 +179,8 @@ impl Works {
             MessageEnds req number status tries touched work self.old self.new act)) }
         ensures err { OnErr result (self.new ≡ self.old) }
         ensures memory { IfSome (tree.get self.old req) (λ work. is_making work.work ≡ true → IsOk result) }
+        ensures undone { IfSome (tree.get self.old req) (λ work.
+            IsUndone (outcome_at tries touched work (work_with_status number status work).stage) → IsOk result) }
     {
         let outcome = self.end_message(alloc, req, number, status, tries, touched)?;
         Ok(self.tell(req, outcome))

@@ -97,7 +97,7 @@ impl<B: RowBytes> ObjectRows<B> {
         Ok(())
     }
 
-    /// Gives a piece of the open row of an index room.
+    /// Gives a piece of the open row of an index room. With memory or without, no row changes, and each piece that had room has it.
     pub fn reserve(
         &mut self,
         alloc: Global,

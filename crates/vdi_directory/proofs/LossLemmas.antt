@@ -1,8 +1,8 @@
 -- Which ids lose their last reference.
-use Rattle.std.proofs.Common.{◌≡◌, ◌≢◌, ◌⊎◌, inl, inr, ℕ, ◌+◌, ◌-◌, ◌<◌, ◌≤◌, ◌==◌, ◌||◌, ◌&&◌, nat_lt, Bool, true, false, cond, List, [], ◌∷◌, ◌++◌, Option, Some, unwrap_or, refl, ap, sym, ◌∙◌, arith}
+use Rattle.std.proofs.Common.{◌≡◌, ◌≢◌, ◌⊎◌, inl, inr, ℕ, ◌+◌, ◌-◌, ◌<◌, ◌≤◌, ◌==◌, ◌||◌, ◌&&◌, nat_lt, Bool, true, false, cond, List, [], ◌∷◌, ◌++◌, Option, Some, unwrap_or, refl, ap, sym, subst, ◌∙◌, arith}
 use Rattle.std.specs.Ordering.{nat_cmp}
 use Rattle.std.specs.BTreeMap.{BTreeMap, get}
-use Rattle.std.proofs.lemmas.Bool.{cases_eq, eqb-true, eq-eqb, ne_eqb, lt-ltb}
+use Rattle.std.proofs.lemmas.Bool.{cases_eq, eqb-true, eq-eqb, ne_eqb, lt-ltb, both_ways}
 use Rattle.std.proofs.lemmas.List.Folds.{list_any-append}
 use Rattle.std.proofs.Math.Bool.{or-false}
 use Rattle.object_id.specs.declared.oid.Vid.{Vid}
@@ -10,7 +10,7 @@ use Rattle.object_id.specs.declared.node.NodeId.{NodeId}
 use Rattle.vdi_directory.specs.declared.effect.Effect.{Effect}
 use Rattle.vdi_directory.specs.declared.effect.Effect.TheVariants as effects
 use Rattle.vdi_directory.specs.declared.directory_state.DirectoryState.{DirectoryState}
-use Rattle.vdi_directory.specs.References.{one, child_references, parent_in, count_in, left_in, has_vid, AreLosses}
+use Rattle.vdi_directory.specs.References.{one, child_references, parent_in, count_in, left_in, has_vid, IdsDiffer, AreLosses}
 use Rattle.vdi_directory.specs.DirectoryState.{lost_by, IsDeadList}
 use Rattle.vdi_directory.proofs.ReferenceLemmas.{one-other}
 
@@ -44,6 +44,26 @@ has-when : (vid : ℕ) (b : Bool) (ids : List Vid) (id : Vid) → has_vid vid (c
 has-when vid true ids id = has-push vid ids id
 has-when vid false ids id = sym (or-false (has_vid vid ids))
 
+-- a new id behind others of which it is none
+differ-push : (ids : List Vid) (id : Vid) → IdsDiffer ids → has_vid id.0 ids ≡ false → IdsDiffer (ids ++ id ∷ [])
+differ-push [] id differ new = (refl, tt)
+differ-push (x ∷ xs) id differ new = (
+  has-push x.0 xs id ∙ ap (λ b. b || id.0 == x.0) (differ.0) ∙ apart (x.0 == id.0) refl new,
+  differ-push xs id (differ.1) (others (x.0 == id.0) new),
+)
+  where
+    others : (b : Bool) → (b || has_vid id.0 xs) ≡ false → has_vid id.0 xs ≡ false
+    others true is = cc
+    others false is = is
+
+    apart : (b : Bool) → (x.0 == id.0) ≡ b → (b || has_vid id.0 xs) ≡ false → (id.0 == x.0) ≡ false
+    apart true same is = cc
+    apart false not_same is = ne_eqb id.0 x.0 (λ same. both_ways (x.0 == id.0) not_same (eq-eqb x.0 id.0 (sym same)))
+
+differ-when : (b : Bool) (ids : List Vid) (id : Vid) → IdsDiffer ids → (b ≡ true → has_vid id.0 ids ≡ false) → IdsDiffer (cond b (ids ++ id ∷ []) ids)
+differ-when true ids id differ new = differ-push ids id differ (new refl)
+differ-when false ids id differ new = differ
+
 and-false : (b : Bool) → (b && false) ≡ false
 and-false true = refl
 and-false false = refl
@@ -51,8 +71,13 @@ and-false false = refl
 -- an id loses one of those that it has left
 module _ (counts old new : ℕ → ℕ) (dead later : List Vid) (x : Vid) (are : AreLosses counts old dead) (some : 0 < old x.0)
     (taken : (vid : ℕ) → old vid ≡ new vid + one x.0 vid) (is : later ≡ cond (new x.0 == 0) (dead ++ x ∷ []) dead) where
+  not-yet : has_vid x.0 dead ≡ false
+  not-yet =
+      are.lost x.0 ∙ ap (λ b. nat_lt 0 (counts x.0) && b) (ne_eqb (old x.0) 0 (λ none. (omega (arith, some, none)))) ∙ and-false (nat_lt 0 (counts x.0))
+
   pub losses-more : AreLosses counts new later
   losses-more = record {
+    once = subst IdsDiffer (sym is) (differ-when (new x.0 == 0) dead x are.once (λ last. not-yet));
     most = λ vid. (let was : old vid ≤ counts vid = are.most vid in let less : old vid ≡ new vid + one x.0 vid = taken vid in omega (arith, was, less));
     lost = λ vid. ap (has_vid vid) is ∙ has-when vid (new x.0 == 0) dead x ∙ by_place vid (cases_eq x.0 vid);
   }
@@ -60,9 +85,7 @@ module _ (counts old new : ℕ → ℕ) (dead later : List Vid) (x : Vid) (are :
       by_place : (vid : ℕ) → (x.0 ≡ vid) ⊎ (x.0 ≢ vid) → (has_vid vid dead || (new x.0 == 0 && x.0 == vid)) ≡ (nat_lt 0 (counts vid) && new vid == 0)
       by_place vid (inl same) =
           let was : old x.0 ≤ counts x.0 = are.most x.0 in
-          let not_yet : has_vid vid dead ≡ false
-          = are.lost vid ∙ ap (λ b. nat_lt 0 (counts vid) && b) (ap (λ v. old v == 0) (sym same) ∙ ne_eqb (old x.0) 0 (λ none. (omega (arith, some, none))))
-          ∙ and-false (nat_lt 0 (counts vid)) in
+          let not_yet : has_vid vid dead ≡ false = subst (λ v. has_vid v dead ≡ false) same not-yet in
           let counted : nat_lt 0 (counts vid) ≡ true = ap (λ v. nat_lt 0 (counts v)) (sym same) ∙ lt-ltb 0 (counts x.0) (omega (arith, some, was)) in
           ap (λ b. b || (new x.0 == 0 && x.0 == vid)) not_yet
           ∙ ap (λ b. new x.0 == 0 && b) (eq-eqb x.0 vid same) ∙ and-true (new x.0 == 0)
@@ -79,6 +102,7 @@ module _ (counts old new : ℕ → ℕ) (dead later : List Vid) (x : Vid) (are :
 -- nothing is lost yet
 pub losses-none : (counts left : ℕ → ℕ) (dead : List Vid) → ((vid : ℕ) → left vid ≡ counts vid) → dead ≡ [] → AreLosses counts left dead
 losses-none counts left dead same none = record {
+  once = subst IdsDiffer (sym none) tt;
   most = λ vid. (let is = same vid in omega (arith, is));
   lost = λ vid. ap (has_vid vid) none ∙ sym (ap (λ n. nat_lt 0 (counts vid) && n == 0) (same vid) ∙ by_place vid (cases_eq (counts vid) 0));
 }

@@ -103,7 +103,13 @@ left_in references left vid = unwrap_or (get nat_cmp left vid) (count_in referen
 abbrev pub has_vid : ℕ → List Vid → Bool
 has_vid vid ids = list_any (λ (id : Vid). id.0 == vid) ids
 
--- no id has more left than it had, and the list has those that have lost their last one
+-- no id is there twice
+abbrev pub IdsDiffer : List Vid → Type 0
+IdsDiffer [] = Unit {0}
+IdsDiffer (id ∷ ids) = (has_vid id.0 ids ≡ false) × IdsDiffer ids
+
+-- no id has more left than it had, and the list has those that have lost their last one, each once
 pub record AreLosses (counts left : ℕ → ℕ) (dead : List Vid) : Type 0 where
+  pub once : IdsDiffer dead
   pub most : (vid : ℕ) → left vid ≤ counts vid
   pub lost : (vid : ℕ) → has_vid vid dead ≡ (nat_lt 0 (counts vid) && left vid == 0)

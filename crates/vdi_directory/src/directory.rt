@@ -8,7 +8,7 @@ ghost use Rattle.vdi_directory.specs.Effects.{header_of, live_of};
 ghost use Rattle.vdi_directory.specs.Decisions.{log_effects, decision_after, disk_found};
 ghost use Rattle.vdi_directory.specs.States.{state_of};
 ghost use Rattle.vdi_directory.specs.Known.{IsHeaderOf};
-ghost use Rattle.vdi_directory.specs.References.{parent_of as the_parent, has_vid};
+ghost use Rattle.vdi_directory.specs.References.{parent_of as the_parent, has_vid, IdsDiffer};
 ghost use Rattle.vdi_directory.specs.Chains.{chain_of};
 ghost use Rattle.vdi_directory.specs.Dead.{is_gone, IsDead, is_dead};
 ghost use Rattle.vdi_directory.specs.DirectoryState.{AreLocks};
@@ -104,8 +104,9 @@ impl Directory {
     /// entry, and costs the logarithm of the known ids for each, and for each reservation that a leave frees.
     pub fn dead_by(&self, entry: &Entry, locks: &Locks) -> Result<Vec<Vid>, NoMemory>
         requires { AreLocks (log_effects self.now) locks.now }
-        ensures { IfOk result (λ dead. (vid : ℕ) → has_vid vid dead.items
+        ensures dead { IfOk result (λ dead. (vid : ℕ) → has_vid vid dead.items
             ≡ (is_dead (log_effects (self.now ++ entry.now ∷ [])) vid && not (is_dead (log_effects self.now) vid))) }
+        ensures once { IfOk result (λ dead. IdsDiffer dead.items) }
     {
         let outcome = self.outcome(entry, locks)?;
         self.state.dead_by(self.alloc, &outcome.effect)

@@ -71,7 +71,7 @@ impl Names {
         }
     }
 
-    /// Makes a place for a name. No name stands for anything else then.
+    /// Makes a place for a name. With memory or without, each name stands for what it stood for.
     pub fn add(&mut self, alloc: Global, name: &[u8]) -> Result<(), NoMemory>
         ensures same { (other : List ℕ) → name_in self.new.rows other ≡ name_in self.old.rows other }
         ensures there { OnOk result (IsSome (name_row_of self.new.rows name.now)) }

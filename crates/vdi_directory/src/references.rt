@@ -22,7 +22,7 @@ pub fn count_of(references: &BTreeMap<u32, usize>, vid: Vid) -> usize
     }
 }
 
-/// Makes a place for an id's count, which stays as it was.
+/// Makes a place for an id's count. With memory or without, each count stays as it was.
 pub fn add_place(references: &mut BTreeMap<u32, usize>, vid: Vid) -> Result<(), NoMemory>
     ensures same { (other : ℕ) → count_in references.new other ≡ count_in references.old other }
     ensures there { OnOk result (IsSome (get nat_cmp references.new vid.0)) }

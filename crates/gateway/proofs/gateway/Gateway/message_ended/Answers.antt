@@ -7,12 +7,14 @@ use Rattle.peer_proto.specs.declared.work.ObjWork.{ObjWork}
 use Rattle.gateway.specs.Work.{is_making}
 use Rattle.gateway.specs.Attempt.{may_be_made}
 use Rattle.gateway.specs.Step.{touched_by, message_ended}
-use Rattle.gateway.specs.Kept.{AreAskers, MessageEnds}
+use Rattle.gateway.specs.Outcomes.{RefusesWork}
+use Rattle.gateway.specs.Kept.{AreAskers, MessageEnds, work_with_status, outcome_at, act_by, IsUndone}
 use Rattle.gateway.proofs.AskersKept.{AreAskers-told}
 use Rattle.gateway.specs.Messages.{IsPieceFor}
 use Rattle.gateway.specs.State.{Work, Gateway, asker, is_awaited_in, is_touched}
 use Rattle.gateway.proofs.AskerLemmas.{asker-has, on_err}
 use Rattle.gateway.proofs.StepLemmas.{message_ended-none, told-step}
+use Rattle.gateway.proofs.RefusalLemmas.{refused-undone, refused-untouched, refusal-told, touched-now}
 use Rattle.gateway.proofs.WorkLemmas.{if_some, some_if, told-gives}
 use Rattle.gateway.proofs.gateway.Gateway.message_ended.Goals as goal
 
@@ -39,6 +41,52 @@ end_and_tell-requires-clause-piece c =
     = ap (λ (g : Gateway). tree.get g.works c.in-Some.req) c.self.view_is ∙ has.0 in
     if_some (tree.get c.self.inside.works c.in-Some.req) (λ (work : Work). IsPieceFor work.work c.args.status) c.in-Some.work.now at
     (some_if (asker c.args.number c.args.self.now) (λ (f : ℕ × Work). IsPieceFor f.1.work c.args.status) (c.in-Some.req, c.in-Some.work.now) found c.requires.piece)
+
+pub returns-in_err-touch-clause-memory : goal.returns-in_err-touch-clause-memory
+returns-in_err-touch-clause-memory c refuses =
+    let number : ℕ = c.args.number in
+    let req : ℕ = c.in-Some.req in
+    let work : Work = c.in-Some.work.now in
+    let gateway : Gateway = c.args.self.now in
+    let found : asker number gateway ≡ Some (req, work) = sym c.asked.ensures ∙ ap (option_map (λ found. (found.0, found.1.now))) c.in-Some.is in
+    let has = asker-has number gateway req work found in
+    let made_is : c.touches-made.result ≡ (is_making work.work && may_be_made c.args.status)
+    = c.touches-made.ensures ∙ ap (λ (w : ObjWork). is_making w && may_be_made c.args.status) c.work.ensures.value in
+    by_made c.touches-made.result refl c.in_err-touch.ensures.memory
+    (λ made. refused-untouched req gateway.tries (is_touched req (touched_by req work.work c.args.status gateway)) work
+    (work_with_status number c.args.status work).stage
+    (touched-now gateway req work.work c.args.status (sym made_is ∙ made))
+    (refusal-told gateway number c.args.status req work found has.1 refuses))
+  where
+    by_made : {A : Type 0} (b : Bool) → b ≡ b → (b ≡ false → A) → (b ≡ true → ⊥) → A
+    by_made true _ none some = absurd (some refl)
+    by_made false _ none some = none refl
+
+pub returns-in_err-act-clause-memory : goal.returns-in_err-act-clause-memory
+returns-in_err-act-clause-memory c refuses =
+    let number : ℕ = c.args.number in
+    let req : ℕ = c.in-Some.req in
+    let work : Work = c.in-Some.work.now in
+    let seen : Gateway = record { me = c.self.inside.me; tries = c.self.inside.tries; works = c.self.inside.works; touched = c.self.inside.touched } in
+    let found : asker number seen ≡ Some (req, work)
+    = ap (asker number) c.self.view_is ∙ sym c.asked.ensures ∙ ap (option_map (λ found. (found.0, found.1.now))) c.in-Some.is in
+    let has = asker-has number seen req work found in
+    let touched_is : c.touch.new.self ≡ (touched_by req work.work c.args.status seen).touched
+    = c.in_ok-touch.ensures.ok
+    ∙ ap (λ (b : Bool). cond b (set.insert c.self.inside.touched req) c.self.inside.touched)
+    (c.touches-made.ensures ∙ ap (λ (w : ObjWork). is_making w && may_be_made c.args.status) c.work.ensures.value) in
+    let touched : c.has-touched.result ≡ is_touched req (touched_by req work.work c.args.status seen)
+    = c.has-touched.ensures ∙ ap (λ (t : set.FinSet nat_cmp). set.contains t req) touched_is in
+    let told = refusal-told seen number c.args.status req work found has.1
+    (subst (λ (g : Gateway). RefusesWork (message_ended g number c.args.status).act) (sym c.self.view_is) refuses) in
+    let undone : IsUndone (outcome_at c.self.inside.tries c.has-touched.result work (work_with_status number c.args.status work).stage)
+    = refused-undone req work.work _ (subst (λ (b : Bool). RefusesWork (act_by req work.work
+    (outcome_at c.self.inside.tries b work (work_with_status number c.args.status work).stage))) (sym touched) told) in
+    let ok : IsOk c.end_and_tell.result
+    = some_if (tree.get c.self.inside.works req) (λ (w : Work).
+    IsUndone (outcome_at c.self.inside.tries c.has-touched.result w (work_with_status number c.args.status w).stage) → IsOk c.end_and_tell.result)
+    work has.0 c.end_and_tell.ensures.undone undone in
+    absurd (cc (ok, c.in_err-act.was))
 
 pub returns-clause-ok : goal.returns-clause-ok
 returns-clause-ok c =

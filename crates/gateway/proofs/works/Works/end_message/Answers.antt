@@ -82,3 +82,10 @@ returns-clause-memory c =
     ap (λ (m : tree.FinMap nat_cmp Work). tree.get m c.args.req) (sym c.self.view_is) ∙ get-from_entries c.self.inside.by_request.entries c.args.req
     ∙ sym c.get_mut.ensures.value ∙ ap option_copied_mut c.in-Some.is in
     if_some (tree.get c.args.self.now c.args.req) _ c.in-Some.work.now found c.end_message.ensures.memory
+
+pub returns-clause-undone : goal.returns-clause-undone
+returns-clause-undone c =
+    let found : tree.get c.args.self.now c.args.req ≡ Some c.in-Some.work.now =
+    ap (λ (m : tree.FinMap nat_cmp Work). tree.get m c.args.req) (sym c.self.view_is) ∙ get-from_entries c.self.inside.by_request.entries c.args.req
+    ∙ sym c.get_mut.ensures.value ∙ ap option_copied_mut c.in-Some.is in
+    if_some (tree.get c.args.self.now c.args.req) _ c.in-Some.work.now found c.end_message.ensures.undone

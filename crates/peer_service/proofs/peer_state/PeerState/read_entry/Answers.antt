@@ -14,7 +14,7 @@ returns-clause-ok g c =
     let pending = c.self.inside.pending in
     read_made c.in_ok-dead.dead.items c.as_slice.result.now c.args.entry.now (peer_of epoch settled rows pending c.self.inside.directory)
     (peer_of epoch settled rows pending c.read_entry.new.self) c.drop_disks.new.self
-    (ap (peer_of epoch settled rows pending) c.in_ok-decision.ensures.ok) c.as_slice.ensures.value c.in_ok-dead.ensures c.drop_disks.ensures
+    (ap (peer_of epoch settled rows pending) c.in_ok-decision.ensures.ok) c.as_slice.ensures.value c.in_ok-dead.ensures.dead c.drop_disks.ensures
     ∙ ap (read_entry c.args.entry.now) c.self.view_is
 
 pub returns-clause-locks : goal.returns-clause-locks

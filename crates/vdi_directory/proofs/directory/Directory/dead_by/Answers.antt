@@ -19,8 +19,8 @@ dead_by-requires c =
     (can-make (log_effects entries) (sound-log_effects entries) (reserved-log_effects entries) (line-log_effects entries) c.self.inside.state state
     (outcome_of (log_effects entries) c.args.entry.now).effect (lawful-outcome (log_effects entries) (sound-log_effects entries) c.args.entry.now))
 
-pub returns : goal.returns
-returns c =
+pub returns-clause-dead : goal.returns-clause-dead
+returns-clause-dead c =
     let entries : List Entry = c.args.self.now in
     let state : IsDirectoryState (log_effects entries) c.self.inside.state
     = subst (λ (all : List Entry). IsDirectoryState (log_effects all) c.self.inside.state) c.self.view_is c.self.invariant in
@@ -28,3 +28,6 @@ returns c =
     (λ dead list vid. dead-by entries c.args.entry.now c.self.inside.state state vid dead.items
     (subst (λ (o : Outcome). IsDeadList (lost_by o.effect c.self.inside.state.reservations.items) c.self.inside.state dead.items) c.in_ok-outcome.ensures.ok list))
     c.dead_by.ensures
+
+pub returns-clause-once : goal.returns-clause-once
+returns-clause-once c = IfOk-weaker c.dead_by.result _ _ (λ dead list. list.are.once) c.dead_by.ensures
