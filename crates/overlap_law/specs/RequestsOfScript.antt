@@ -156,7 +156,8 @@ pub record RequestsAreWithoutReply (script : List Statement) (world : World) : T
 -- and it is where its statement, the open disk and the disk on which it began allow
 pub record IsRequestOfScript (script : List Statement) (world : World) (n : ℕ) (host : Host) (req : ℕ) (request : Request) : Type 0 where
   pub asked : IsWithoutReply script world n host req request
-  pub course : IsCourseOfAsk (ask_of_statement asked.statement) (session_at request.session host.node).disk asked.started.disk request.course
+  pub course : IsCourseOfAsk (ask_of_statement asked.statement) (session_at request.session host.node).disk asked.started.disk
+      request.course
 
 -- each request of a node that isn't lost is one of the script, but for a client's
 pub record RequestsAreTheScripts (script : List Statement) (world : World) : Type 0 where

@@ -60,7 +60,8 @@ pub record IsBegunBy (hosts hosts_after : Hosts) (n : ℕ) (sends : List (NodeId
   pub opened : IsOpenAs sent_by.after.node attempt.req work current attempt
 
 -- the answer of the node that a request goes to, by what that node has: it can be read, and is on its way where the sender is up
-pub record IsAnswer (hosts hosts_after : Hosts) (name : MessageName) (to : NodeId) (bytes : List ℕ) (up : Bool) (rsp : PeerRsp) : Type 0 where
+pub record IsAnswer (hosts hosts_after : Hosts) (name : MessageName) (to : NodeId) (bytes : List ℕ) (up : Bool) (rsp : PeerRsp)
+    : Type 0 where
   pub host : Host
   pub there : tree.get hosts to.0 ≡ Some host
   pub request : PeerReq

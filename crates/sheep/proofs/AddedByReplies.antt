@@ -36,7 +36,7 @@ use Rattle.message_wire.specs.declared.name.MessageName.{MessageName}
 use Rattle.message_wire.specs.Message.{without_replies}
 use Rattle.sheep.specs.PrintedReplies.{IsGiven, world_without_reply, check_write_at, world_asked, disk_begun_on, reply_added, HasPart}
 use Rattle.sheep.proofs.ReplyLists.{flat_map-part, part-between, part-contains}
-use Rattle.sheep.proofs.StepReplies.{put-silent, back-silent}
+use Rattle.sheep_node.proofs.StepReplies.{put-silent, back-silent}
 
 module _ (statements : List Statement) where
   -- ---- events that reply nothing

@@ -53,7 +53,7 @@ use Rattle.sheep_world.proofs.BegunRequestLaws.{Grows, guests_grow, were_begun, 
 use Rattle.sheep_world.proofs.ControlLaws.{next_fits}
 use Rattle.sheep_world.proofs.ScriptControls.{controls-fit}
 use Rattle.dog_report.specs.Report.{is_lost_request}
-use Rattle.sheep.proofs.StepReplies.{IsOwn, replied-once, back-silent}
+use Rattle.sheep_node.proofs.StepReplies.{IsOwn, replied-once, back-silent}
 
 -- ---- what sessions have begun grows as replies are counted
 

@@ -1,6 +1,5 @@
 pub mod ReplyLists
 pub mod RunInduction
-pub mod StepReplies
 pub mod EndedRequests
 pub mod GivenReplies
 pub mod PrintedReplies

@@ -10,6 +10,7 @@ pub mod OneWorkChanges
 pub mod ReachedSteps
 pub mod EndedWorks
 pub mod StepChain
+pub mod StepReplies
 pub mod MessageNumbers
 pub mod NumberChanges
 pub mod OwnEntryChanges

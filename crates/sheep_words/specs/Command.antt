@@ -33,5 +33,6 @@ live_app = with_rule (plain_app (codes "live")) trace_rule
 abbrev pub sheep_app : App
 sheep_app =
     with_subcommand (with_subcommand (with_subcommand (with_subcommand
-    (on_top (λ shape. record shape { no_binary_name = true; disable_help_flag = true; disable_help_subcommand = true }) (new_app (codes "sheep")))
+    (on_top (λ shape. record shape { no_binary_name = true; disable_help_flag = true; disable_help_subcommand = true })
+    (new_app (codes "sheep")))
     run_app.top) replay_app.top) gen_app.top) live_app.top
