@@ -86,6 +86,7 @@ pub mod FinishedInMoments
 pub mod UnsettledInMoments
 pub mod TermsInRuns
 pub mod RoomOfScripts
+pub mod ControlsOfText
 pub mod RequestsInSteps
 pub mod SessionsOfRequests
 pub mod EachAttemptKept
