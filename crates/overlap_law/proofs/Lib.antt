@@ -109,3 +109,5 @@ pub mod LogsOfMoments
 pub mod EpochsOfAttempts
 pub mod TrafficWriters
 pub mod TurnsOfWriters
+pub mod RunsWithOneMore
+pub mod KeptSoFar
