@@ -110,3 +110,5 @@ pub mod LogsOfMoments
 pub mod EpochsOfAttempts
 pub mod TrafficWriters
 pub mod TurnsOfWriters
+pub mod RunsWithOneMore
+pub mod KeptSoFar
