@@ -109,3 +109,9 @@ pub mod LogsOfMoments
 pub mod EpochsOfAttempts
 pub mod TrafficWriters
 pub mod TurnsOfWriters
+pub mod UnansweredMessages
+pub mod UnansweredStay
+pub mod UnansweredInMoments
+pub mod TrafficAttempts
+pub mod AwaitedInMoments
+pub mod LostMessages

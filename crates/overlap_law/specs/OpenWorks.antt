@@ -18,7 +18,7 @@ use Rattle.overlap_law.specs.Attempts.{MessageFate, Flying, Served, Doomed, Atte
 use Rattle.overlap_law.specs.Words.{Hosts, is_mute}
 use Rattle.overlap_law.specs.Holders.{is_object_among}
 use Rattle.overlap_law.specs.Each.{EachUp, EachAble, EachAttempt}
-use Rattle.overlap_law.specs.Packets.{Wire, message_name_at, is_name_in_wire, IsAnswering, IsQuiet}
+use Rattle.overlap_law.specs.Packets.{Wire, message_name_at, is_name_in_wire, IsAnswering, IsQuiet, HasPacket}
 
 -- the attempt that a gateway has open is this one
 pub record IsTheSame (node : Node) (req : ℕ) (asked : ObjWork) (current : gateways.Attempt) (attempt : AttemptRecord) : Type 0 where
@@ -40,6 +40,20 @@ pub record IsOpenAs (node : Node) (req : ℕ) (work : Work) (current : gateways.
   pub making : is_making work.work ≡ true
   pub stage : work.stage ≡ Open current
   pub same : IsTheSame node req work.work current attempt
+
+-- nothing came yet of an attempt's message to the target at a place, as far as its gateway knows, which has the attempt open
+pub record IsAwaitedAt (node : Node) (attempt : AttemptRecord) (place : ℕ) : Type 0 where
+  pub work : Work
+  pub current : gateways.Attempt
+  pub opened : IsOpenAs node attempt.req work current attempt
+  pub message : Message
+  pub at : slice_get current.messages place ≡ Some message
+  pub unanswered : message.status ≡ Unanswered
+
+-- what is in the wire of an attempt of a node that isn't lost is awaited by the attempt's own work
+pub record PacketsAreOfOpenWorks (hosts : Hosts) (wire : Wire) (attempts : List AttemptRecord) : Type 0 where
+  pub each : EachUp hosts (λ n node. EachAttempt attempts (λ j attempt. attempt.gateway.0 ≡ n → (place : ℕ) (target : NodeId)
+      → HasPacket wire attempt place target → IsAwaitedAt node attempt place))
 
 -- the attempt that a create or write has open is the last on its object
 pub record OpenAttemptsAreLatest (hosts : Hosts) (attempts : List AttemptRecord) : Type 0 where

@@ -30,7 +30,7 @@ ghost use Rattle.overlap_law.specs.StepMoments.{SteppingNode, IsStepping, StepsB
 ghost use Rattle.overlap_law.specs.MomentChanges.{MomentChange, MomentTrail, RunsAreInRange, EventsAreTrails};
 ghost use Rattle.overlap_law.specs.Traffic.{TrafficBetween, BeginsInTurn, OpenAttemptsHaveMessages, IsInTurn};
 ghost use Rattle.overlap_law.specs.Fates.{AttemptsAreOrdered};
-ghost use Rattle.overlap_law.specs.OpenWorks.{OpenAttemptsAreLatest, WorksKnowTheirFates};
+ghost use Rattle.overlap_law.specs.OpenWorks.{OpenAttemptsAreLatest, WorksKnowTheirFates, PacketsAreOfOpenWorks};
 ghost use Rattle.overlap_law.specs.Sessions.{SessionsHaveOneInodeWork, WorksAreApart, BegunRequestsAreApart};
 ghost use Rattle.overlap_law.specs.Writers.{OnlyTheWriterWrites, ThereIsOneWriter, AttemptsHaveBegun, WritersTakeTurns, IsInOwnTurn};
 ghost use Rattle.overlap_law.specs.Flight.{FlyInThePast, RequestsAreOfThePast, PacketsAreAwaited, RepliersHaveCome, RepliesAreOfTheirEpoch};
@@ -378,4 +378,19 @@ pub fn there_stays_one_writer()
 pub fn the_writer_begins_in_turn()
     ensures { (log : List Entry) (wire : Wire) (attempts : List AttemptRecord) (attempt : AttemptRecord)
         → ThereIsOneWriter log wire attempts → IsInOwnTurn log wire attempts attempt → IsInTurn wire attempts attempt }
+{}
+
+/// What is in the wire of an attempt of a node that isn't lost is awaited by the attempt's own work: its message is an unanswered one of
+/// the open work of its request. So it is when a script opens, each change of a moment at which the attempts are tied keeps it, and so it
+/// is in each run in range.
+pub fn packets_are_of_open_works()
+    ensures opening { (script : List Statement) → PacketsAreOfOpenWorks (first_moment script).world.hosts (first_moment script).world.wire
+        (first_moment script).past.attempts }
+    ensures change { (script : List Statement) (start before after : MomentWithPast) → RunsAreInRange script → Began script start.world
+        → MomentChange script start before after → IsTied before
+        → PacketsAreOfOpenWorks before.world.hosts before.world.wire before.past.attempts
+        → PacketsAreOfOpenWorks after.world.hosts after.world.wire after.past.attempts }
+    ensures run { (script : List Statement) (events : List Event) (moment : MomentWithPast) → RunsAreInRange script
+        → run_with_past script events ≡ Some moment
+        → PacketsAreOfOpenWorks moment.world.hosts moment.world.wire moment.past.attempts }
 {}
