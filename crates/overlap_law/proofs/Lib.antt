@@ -114,4 +114,11 @@ pub mod UnansweredStay
 pub mod UnansweredInMoments
 pub mod TrafficAttempts
 pub mod AwaitedInMoments
+pub mod TouchedStay
+pub mod StartedAttempts
+pub mod TouchedInMoments
 pub mod LostMessages
+pub mod FreshRequests
+pub mod DueMessages
+pub mod TouchedInRuns
+pub mod WorkedCourses

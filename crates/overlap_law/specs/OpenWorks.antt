@@ -1,5 +1,5 @@
 -- The works of gateways against the attempts: which attempt is a work's, what is known of its messages, and what is touched.
-use Rattle.std.specs.Prelude.{◌≡◌, ◌≢◌, ◌⊎◌, ℕ, ◌+◌, ◌≤◌, true, false, List, map, slice_get, Some}
+use Rattle.std.specs.Prelude.{◌≡◌, ◌≢◌, ◌⊎◌, ℕ, ◌+◌, ◌≤◌, true, false, List, Contains, map, slice_get, Some}
 use Rattle.std.specs.FinMap as tree
 use Rattle.object_id.specs.declared.node.NodeId.{NodeId}
 use Rattle.peer_proto.specs.declared.work.ObjWork.{ObjWork}
@@ -90,6 +90,16 @@ pub record ServedRequestsAreTouched (hosts : Hosts) (wire : Wire) (attempts : Li
 pub record LosersAreTouched (hosts : Hosts) (lost : List MessageName) (attempts : List AttemptRecord) : Type 0 where
   pub each : EachAble hosts (λ n node. EachAttempt attempts (λ j attempt. attempt.gateway.0 ≡ n
       → tree.contains_key node.requests attempt.req ≡ true → has_lost lost attempt ≡ true → is_touched attempt.req node.gateway ≡ true))
+
+-- a message of an attempt was served, or it or the reply to it was lost
+abbrev pub MayTouch : List MessageName → AttemptRecord → ℕ → Type 0
+MayTouch lost attempt place = (slice_get attempt.fates place ≡ Some Served) ⊎ Contains lost (message_name_at attempt place)
+
+-- a request without reply is touched by each such message, or nothing came of it yet as far as its gateway knows, which isn't lost
+pub record MessagesTouchOrAreAwaited (hosts : Hosts) (lost : List MessageName) (attempts : List AttemptRecord) : Type 0 where
+  pub each : EachUp hosts (λ n node. EachAttempt attempts (λ j attempt. attempt.gateway.0 ≡ n
+      → tree.contains_key node.requests attempt.req ≡ true → (place : ℕ) (target : NodeId) → slice_get attempt.targets place ≡ Some target
+      → MayTouch lost attempt place → (is_touched attempt.req node.gateway ≡ true) ⊎ IsAwaitedAt node attempt place))
 
 -- no attempt of a refused request was served or will be
 pub record RefusedRequestsAreMute (wire : Wire) (refused : List ℕ) (attempts : List AttemptRecord) : Type 0 where

@@ -31,6 +31,7 @@ ghost use Rattle.overlap_law.specs.MomentChanges.{MomentChange, MomentTrail, Run
 ghost use Rattle.overlap_law.specs.Traffic.{TrafficBetween, BeginsInTurn, OpenAttemptsHaveMessages, IsInTurn};
 ghost use Rattle.overlap_law.specs.Fates.{AttemptsAreOrdered};
 ghost use Rattle.overlap_law.specs.OpenWorks.{OpenAttemptsAreLatest, WorksKnowTheirFates, PacketsAreOfOpenWorks};
+ghost use Rattle.overlap_law.specs.OpenWorks.{MessagesTouchOrAreAwaited, ServedRequestsAreTouched, LosersAreTouched};
 ghost use Rattle.overlap_law.specs.Sessions.{SessionsHaveOneInodeWork, WorksAreApart, BegunRequestsAreApart};
 ghost use Rattle.overlap_law.specs.Writers.{OnlyTheWriterWrites, ThereIsOneWriter, AttemptsHaveBegun, WritersTakeTurns, IsInOwnTurn};
 ghost use Rattle.overlap_law.specs.Flight.{FlyInThePast, RequestsAreOfThePast, PacketsAreAwaited, RepliersHaveCome, RepliesAreOfTheirEpoch};
@@ -393,4 +394,19 @@ pub fn packets_are_of_open_works()
     ensures run { (script : List Statement) (events : List Event) (moment : MomentWithPast) → RunsAreInRange script
         → run_with_past script events ≡ Some moment
         → PacketsAreOfOpenWorks moment.world.hosts moment.world.wire moment.past.attempts }
+{}
+
+/// In each run in range a request without reply, at a gateway that isn't lost, is touched by each message of an attempt that was served, or
+/// that was lost or of which the reply was; or nothing came of the message yet, as far as the gateway knows. So it is at each moment on the
+/// way of an event, and at its end. There, at a gateway that may step, the success of each served message of an attempt is in the wire still
+/// where the request isn't touched, and what was lost has touched it.
+pub fn messages_touch_their_requests()
+    ensures within { (script : List Statement) (events : List Event) (start moment : MomentWithPast) → RunsAreInRange script
+        → run_with_past script events ≡ Some start → MomentTrail script start moment
+        → MessagesTouchOrAreAwaited moment.world.hosts moment.past.lost moment.past.attempts }
+    ensures served { (script : List Statement) (events : List Event) (moment : MomentWithPast) → RunsAreInRange script
+        → run_with_past script events ≡ Some moment
+        → ServedRequestsAreTouched moment.world.hosts moment.world.wire moment.past.attempts }
+    ensures lost { (script : List Statement) (events : List Event) (moment : MomentWithPast) → RunsAreInRange script
+        → run_with_past script events ≡ Some moment → LosersAreTouched moment.world.hosts moment.past.lost moment.past.attempts }
 {}

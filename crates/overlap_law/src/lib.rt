@@ -26,7 +26,7 @@ pub use laws::{
     begun_requests_are_apart, each_attempt_is_for_a_request,
     each_change_is_of_a_kind_of_traffic, each_target_has_its_fate, epochs_and_nodes_are_kept,
     few_effects_change_the_writer, gateways_know_the_fates, grants_are_of_epochs_that_began,
-    members_stay_until_they_are_lost,
+    members_stay_until_they_are_lost, messages_touch_their_requests,
     no_read_of_what_was_borne_is_left_out, open_works_have_messages, other_attempts_hear_nothing,
     packets_are_of_open_works, peers_of_another_epoch_change_nothing,
     recoveries_are_of_members_that_came, requests_of_nodes_are_without_reply,
