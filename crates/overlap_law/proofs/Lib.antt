@@ -119,6 +119,13 @@ pub mod StartedAttempts
 pub mod TouchedInMoments
 pub mod LostMessages
 pub mod FreshRequests
+pub mod DrivenInMoments
 pub mod DueMessages
+pub mod RefusedInMoments
+pub mod AskedInMoments
+pub mod RefusedMute
 pub mod TouchedInRuns
 pub mod WorkedCourses
+pub mod RefusingNothing
+pub mod RefusedUntouched
+pub mod UntouchedInRuns

@@ -32,6 +32,7 @@ ghost use Rattle.overlap_law.specs.Traffic.{TrafficBetween, BeginsInTurn, OpenAt
 ghost use Rattle.overlap_law.specs.Fates.{AttemptsAreOrdered};
 ghost use Rattle.overlap_law.specs.OpenWorks.{OpenAttemptsAreLatest, WorksKnowTheirFates, PacketsAreOfOpenWorks};
 ghost use Rattle.overlap_law.specs.OpenWorks.{MessagesTouchOrAreAwaited, ServedRequestsAreTouched, LosersAreTouched};
+ghost use Rattle.overlap_law.specs.OpenWorks.{RefusedRequestsAreMute};
 ghost use Rattle.overlap_law.specs.Sessions.{SessionsHaveOneInodeWork, WorksAreApart, BegunRequestsAreApart};
 ghost use Rattle.overlap_law.specs.Writers.{OnlyTheWriterWrites, ThereIsOneWriter, AttemptsHaveBegun, WritersTakeTurns, IsInOwnTurn};
 ghost use Rattle.overlap_law.specs.Flight.{FlyInThePast, RequestsAreOfThePast, PacketsAreAwaited, RepliersHaveCome, RepliesAreOfTheirEpoch};
@@ -409,4 +410,15 @@ pub fn messages_touch_their_requests()
         → ServedRequestsAreTouched moment.world.hosts moment.world.wire moment.past.attempts }
     ensures lost { (script : List Statement) (events : List Event) (moment : MomentWithPast) → RunsAreInRange script
         → run_with_past script events ≡ Some moment → LosersAreTouched moment.world.hosts moment.past.lost moment.past.attempts }
+{}
+
+/// In each run in range the attempts of a refused request are mute, and nothing of them is in flight. So it is at each moment on the way of
+/// an event, and at its end.
+pub fn attempts_of_the_refused_are_mute()
+    ensures within { (script : List Statement) (events : List Event) (start moment : MomentWithPast) → RunsAreInRange script
+        → run_with_past script events ≡ Some start → MomentTrail script start moment
+        → RefusedRequestsAreMute moment.world.wire moment.past.refused moment.past.attempts }
+    ensures run { (script : List Statement) (events : List Event) (moment : MomentWithPast) → RunsAreInRange script
+        → run_with_past script events ≡ Some moment
+        → RefusedRequestsAreMute moment.world.wire moment.past.refused moment.past.attempts }
 {}

@@ -23,7 +23,7 @@ mod overlap;
 pub use laws::{
     a_base_is_made, a_session_has_one_inode_work, an_attempt_begins_where_one_opens,
     an_event_is_a_trail_of_changes, attempts_are_of_epochs_that_began,
-    begun_requests_are_apart, each_attempt_is_for_a_request,
+    attempts_of_the_refused_are_mute, begun_requests_are_apart, each_attempt_is_for_a_request,
     each_change_is_of_a_kind_of_traffic, each_target_has_its_fate, epochs_and_nodes_are_kept,
     few_effects_change_the_writer, gateways_know_the_fates, grants_are_of_epochs_that_began,
     members_stay_until_they_are_lost, messages_touch_their_requests,
