@@ -96,7 +96,7 @@ more_sends before after k old new hosts was incarnation sends = one_host before 
       renewed = λ less. absurd (omega (arith, incarnation, less));
     }))
 
-none_there : {P : Type 0} (o : Option Host) (host : Host) → is_some o ≡ false → o ≡ Some host → P
+pub none_there : {P : Type 0} (o : Option Host) (host : Host) → is_some o ≡ false → o ≡ Some host → P
 none_there None host none is = absurd (cc (is))
 none_there (Some other) host none is = absurd (cc (none))
 

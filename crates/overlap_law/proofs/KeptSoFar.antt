@@ -15,6 +15,9 @@ use Rattle.overlap_law.proofs.PastInRuns.{past_in_run}
 use Rattle.overlap_law.proofs.WireInRuns.{linked-in_run, said-in_run, fenced-in_run}
 use Rattle.overlap_law.proofs.TermsInRuns.{terms-in_run}
 use Rattle.overlap_law.proofs.WorkedInRuns.{worked-in_run}
+use Rattle.overlap_law.proofs.AwaitedInMoments.{awaited-in_run}
+use Rattle.overlap_law.proofs.TouchedInRuns.{touched-in_run, losers-in_run}
+use Rattle.overlap_law.proofs.UntouchedInRuns.{untouched-in_run}
 use Rattle.overlap_law.proofs.MessagesInMoments.{messages_in_run}
 use Rattle.overlap_law.proofs.EpochsOfAttempts.{begun_in_run}
 use Rattle.overlap_law.proofs.AttemptsOfScript.{attempts_of_script}
@@ -47,6 +50,10 @@ kept_so_far script range events moment is = record {
   tied = run-kept script IsTied (kept_tied script range) events moment is;
   shaped = run-kept script AreShaped (kept_shaped script range) events moment is;
   fates = worked-in_run script range events moment is;
+  works = awaited-in_run script range events moment is;
+  touched = touched-in_run script range events moment is;
+  losers = losers-in_run script range events moment is;
+  untouched = untouched-in_run script range events moment is;
   messages = messages_in_run script range events moment is;
   begun = begun_in_run script range events moment is;
   scripts = attempts_of_script script range events moment is;

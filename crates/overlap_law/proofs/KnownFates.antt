@@ -104,31 +104,44 @@ got_either [] ys j x got = inr (j, got)
 got_either (y ∷ xs) ys zero x got = inl got
 got_either (y ∷ xs) ys (suc j) x got = got_either xs ys j x got
 
--- what begins is by a number that was given, and of the node
-record IsBegunOf (host : Host) (low : ℕ) (attempt : AttemptRecord) : Type 0 where
+-- what begins is by a number that was given, of the node, and for a request of it
+pub record IsBegunOf (host : Host) (low : ℕ) (attempt : AttemptRecord) : Type 0 where
   pub above : low ≤ attempt.first
   pub gateway : attempt.gateway ≡ host.node.me
+  pub request : Request
+  pub asked : tree.get host.node.requests attempt.req ≡ Some request
 
-begun_with : (host : Host) (number : ℕ) (attempt : AttemptRecord) → attempt_begun_with host number ≡ Some attempt → (attempt.first ≡ number) × (attempt.gateway ≡ host.node.me)
+-- by a number
+record IsBegunWith (host : Host) (number : ℕ) (attempt : AttemptRecord) : Type 0 where
+  first_so : attempt.first ≡ number
+  gateway : attempt.gateway ≡ host.node.me
+  request : Request
+  asked : tree.get host.node.requests attempt.req ≡ Some request
+
+begun_with : (host : Host) (number : ℕ) (attempt : AttemptRecord) → attempt_begun_with host number ≡ Some attempt → IsBegunWith host number attempt
 begun_with host number attempt = by_found (asker number host.node.gateway)
   where
-    by_request : (req : ℕ) (work : ObjWork) (current : gateways.Attempt) (making first : Bool) (o : Option Request)
-        → cond (making && first) (option_map (beginning host number req work current) o) None ≡ Some attempt → (attempt.first ≡ number) × (attempt.gateway ≡ host.node.me)
-    by_request req work current true true None is = absurd (cc (is))
-    by_request req work current true true (Some request) is =
+    by_request : (req : ℕ) (work : ObjWork) (current : gateways.Attempt) (making first : Bool) (o : Option Request) → tree.get host.node.requests req ≡ o
+        → cond (making && first) (option_map (beginning host number req work current) o) None ≡ Some attempt → IsBegunWith host number attempt
+    by_request req work current true true None got is = absurd (cc (is))
+    by_request req work current true true (Some request) got is =
         let same = same_Some (beginning host number req work current request) attempt is in
-        (sym (ap (λ (a : AttemptRecord). a.first) same), sym (ap (λ (a : AttemptRecord). a.gateway) same))
-    by_request req work current true false o is = absurd (cc (is))
-    by_request req work current false first o is = absurd (cc (is))
+        record {
+          first_so = sym (ap (λ (a : AttemptRecord). a.first) same);
+          gateway = sym (ap (λ (a : AttemptRecord). a.gateway) same);
+          request = request;
+          asked = sym (ap (λ (a : AttemptRecord). tree.get host.node.requests a.req) same) ∙ got;
+        }
+    by_request req work current true false o got is = absurd (cc (is))
+    by_request req work current false first o got is = absurd (cc (is))
 
-    by_stage : (req : ℕ) (work : ObjWork) (stage : WorkStage) → beginning_with host number req work stage ≡ Some attempt
-        → (attempt.first ≡ number) × (attempt.gateway ≡ host.node.me)
-    by_stage req work (Open current) is = by_request req work current (is_making work) (is_first number current.messages) (tree.get host.node.requests req) is
+    by_stage : (req : ℕ) (work : ObjWork) (stage : WorkStage) → beginning_with host number req work stage ≡ Some attempt → IsBegunWith host number attempt
+    by_stage req work (Open current) is = by_request req work current (is_making work) (is_first number current.messages) (tree.get host.node.requests req) refl is
     by_stage req work Ended is = absurd (cc (is))
     by_stage req work (WaitsForMembers epoch) is = absurd (cc (is))
 
     by_found : (o : Option (ℕ × Work)) → option_and_then (λ (found : ℕ × Work). beginning_with host number found.0 found.1.work found.1.stage) o ≡ Some attempt
-        → (attempt.first ≡ number) × (attempt.gateway ≡ host.node.me)
+        → IsBegunWith host number attempt
     by_found None is = absurd (cc (is))
     by_found (Some found) is = by_stage found.0 found.1.work found.1.stage is
 
@@ -139,8 +152,8 @@ first_begun host low attempt rest None is later k got = later k got
 first_begun host low attempt rest (Some first) is later zero got =
     let same = same_Some first attempt got in
     let own = begun_with host low attempt (is ∙ ap Some same) in
-    let at = own.0 in
-    record { above = omega (arith, at); gateway = own.1 }
+    let at = own.first_so in
+    record { above = omega (arith, at); gateway = own.gateway; request = own.request; asked = own.asked }
 first_begun host low attempt rest (Some first) is later (suc k) got = later k got
 
 got_begun : (host : Host) (low count k : ℕ) (attempt : AttemptRecord)
@@ -151,7 +164,7 @@ got_begun host low (suc count) k attempt got =
     (λ place here.
     let is = got_begun host (low + 1) count place attempt here in
     let above = is.above in
-    record { above = omega (arith, above); gateway = is.gateway }) k got
+    record { above = omega (arith, above); gateway = is.gateway; request = is.request; asked = is.asked }) k got
 
 -- an attempt that a step began has numbers that were given in it
 pub begun_above : (old new : Host) (k : ℕ) (attempt : AttemptRecord) → slice_get (attempts_begun_by old new) k ≡ Some attempt
@@ -160,3 +173,11 @@ unfolding attempts_begun_by
 begun_above old new k attempt got =
     let is = got_begun new old.node.sends (new.node.sends - old.node.sends) k attempt got in
     (is.above, is.gateway)
+
+-- and is for a request that the node has
+pub begun_asked : (old new : Host) (k : ℕ) (attempt : AttemptRecord) → slice_get (attempts_begun_by old new) k ≡ Some attempt
+    → (request : Request) × (tree.get new.node.requests attempt.req ≡ Some request)
+unfolding attempts_begun_by
+begun_asked old new k attempt got =
+    let is = got_begun new old.node.sends (new.node.sends - old.node.sends) k attempt got in
+    (is.request, is.asked)

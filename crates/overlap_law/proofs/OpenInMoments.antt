@@ -139,7 +139,7 @@ none_open works req work empty got =
     let none = ap (λ (works : Works). tree.get works req) empty ∙ tree.get-empty {X = Work} nat_cmp req in absurd (cc (got, none))
 
 -- a node of a number
-same_node : (one other : NodeId) (n : ℕ) → one.0 ≡ n → other.0 ≡ n → one ≡ other
+pub same_node : (one other : NodeId) (n : ℕ) → one.0 ≡ n → other.0 ≡ n → one ≡ other
 same_node one other n is too = λ i. record { 0 = (is ∙ sym too) i }
 
 -- ---- every change

@@ -20,7 +20,7 @@ use Rattle.peer_proto.specs.Ask.{ask_in, ask_bytes}
 use Rattle.peer_proto.specs.declared.work.ObjWork.{ObjWork}
 use Rattle.gateway.specs.Outcomes.{AreNumberedFrom}
 use Rattle.gateway.specs.declared.message.Message.{Message}
-use Rattle.gateway.specs.Work.{is_making, ask_for}
+use Rattle.gateway.specs.Work.{is_making, targets_asked, ask_for}
 use Rattle.gateway.specs.Attempt as gateways
 use Rattle.gateway.specs.Attempt.{message_for, send_of}
 use Rattle.gateway.specs.State.{Work, Open}
@@ -176,6 +176,9 @@ module _ (script : List Statement) (world : World) (stepping : SteppingNode) (kn
           work = record asked { stage = Open current };
           current = current;
           opened = opened_so;
+          unanswered = λ place message got.
+              let (target, found, is) = got_map (message_for work) (enumerate_from lined.node.sends (targets_asked work asked.ended targets)) place message got in
+              sym (ap (λ (m : Message). m.status) is);
         }
 
       pub opening_traffic : (wire : Wire) (attempts : List AttemptRecord)

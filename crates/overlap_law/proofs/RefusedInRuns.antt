@@ -79,7 +79,7 @@ grown_answered req (Some session) guests =
     grown_with guests session (progress_without_request req (unwrap_or (tree.get guests session) no_progress)) (omega arith)
 
 module _ (script : List Statement) where
-  replies_grow : (replies : List (ℕ × GuestRsp)) (guests : Guests) → Grows guests (fold (progress_after_reply script) guests replies)
+  pub replies_grow : (replies : List (ℕ × GuestRsp)) (guests : Guests) → Grows guests (fold (progress_after_reply script) guests replies)
   replies_grow [] guests = λ q. omega arith
   replies_grow (reply ∷ later) guests = λ q.
       let one : begun_count q guests ≤ begun_count q (progress_after_reply script guests reply)
@@ -88,7 +88,7 @@ module _ (script : List Statement) where
       = replies_grow later (progress_after_reply script guests reply) q in
       omega (arith, one, rest)
 
-  still_begun : (guests later : Guests) → Grows guests later → (session req : ℕ) → WasBegun script guests session req → WasBegun script later session req
+  pub still_begun : (guests later : Guests) → Grows guests later → (session req : ℕ) → WasBegun script guests session req → WasBegun script later session req
   still_begun guests later grows session req begun = record {
     place = begun.place;
     before =
@@ -109,10 +109,10 @@ module _ (script : List Statement) where
 
   -- ---- what is refused, and what has no reply
 
-  record AreAnswered (guests : Guests) (refused : List ℕ) : Type 0 where
-    started : (req : ℕ) → is_object_among req refused ≡ true → (session : ℕ) × WasBegun script guests session req
-    answered : (session : ℕ) (started : StartedRequest) → Contains (unanswered_in session guests) started → is_object_among started.req refused ≡ false
-    unanswered : (session : ℕ) (started : StartedRequest) → Contains (unanswered_in session guests) started → WasBegun script guests session started.req
+  pub record AreAnswered (guests : Guests) (refused : List ℕ) : Type 0 where
+    pub started : (req : ℕ) → is_object_among req refused ≡ true → (session : ℕ) × WasBegun script guests session req
+    pub answered : (session : ℕ) (started : StartedRequest) → Contains (unanswered_in session guests) started → is_object_among started.req refused ≡ false
+    pub unanswered : (session : ℕ) (started : StartedRequest) → Contains (unanswered_in session guests) started → WasBegun script guests session started.req
 
   -- a session begins its next request
   module _ (guests : Guests) (refused : List ℕ) (number : ℕ) (new : StartedRequest)
@@ -291,7 +291,7 @@ module _ (script : List Statement) where
         = cc (begun_asking world.guests begun.session.number req begun.begun, asked.asking) in
         subst (λ (k : ℕ). WasBegun script world.guests k req) same begun.begun
 
-    found_grows : (cause : NodeCause) → Grows world.guests (progress_at_cause cause world)
+    pub found_grows : (cause : NodeCause) → Grows world.guests (progress_at_cause cause world)
     found_grows (GuestAsks session req ask) =
         grown_with world.guests session.number
         (progress_with_started (record { req = req; disk = disk_open session world }) (progress_at session.number world)) (omega arith)
@@ -346,7 +346,7 @@ module _ (script : List Statement) where
         (found_answered refused cause caused are) (replies_begun cause caused)
 
   -- a node that comes back replies to nobody
-  back_silent : (log : List Entry) (node : Node) (reply : ℕ × GuestRsp) → Contains (node_step (inputs.Back log) node).outputs.replies reply → ⊥
+  pub back_silent : (log : List Entry) (node : Node) (reply : ℕ × GuestRsp) → Contains (node_step (inputs.Back log) node).outputs.replies reply → ⊥
   unfolding on_back
   back_silent log node reply there =
       ((kept_by_chain (KnownIn (λ req session disk. ⊥)) (change_known (λ req session disk. ⊥) (inputs.Back log) node (λ req session ask from. absurd (cc (from))))
@@ -380,15 +380,15 @@ module _ (script : List Statement) where
           (λ reply there. absurd (back_silent (log_after_return script h.n world) h.host.node reply there)))
       by_kind (PhaseEnd h) = subst (AnsweredThen refused) h.made_so (still_answered world.guests refused are)
 
-  abbrev Holds : MomentWithPast → Type 0
-  Holds moment = AreAnswered moment.world.guests moment.past.refused
+  abbrev pub AreAnsweredAt : MomentWithPast → Type 0
+  AreAnsweredAt moment = AreAnswered moment.world.guests moment.past.refused
 
   none_unanswered : (session : ℕ) (started : StartedRequest) → Contains (unanswered_in session tree.empty) started → ⊥
   none_unanswered session started there =
       Contains-nil started
       (subst (λ (o : Option SessionProgress). Contains (unwrap_or o no_progress).unanswered started) (tree.get-empty {X = SessionProgress} nat_cmp session) there)
 
-  opens_answered : Holds (first_moment script)
+  pub opens_answered : AreAnsweredAt (first_moment script)
   unfolding initial_world
   opens_answered = record {
     started = λ req is. absurd (cc (is));
@@ -396,7 +396,7 @@ module _ (script : List Statement) where
     unanswered = λ session started there. absurd (none_unanswered session started there);
   }
 
-  events_answered : KeptByEvents script Holds
+  pub events_answered : KeptByEvents script AreAnsweredAt
   unfolding past_after_event
   events_answered event before made began is are =
       kind_answered event before.world made before.past.refused began (happens script event before.world made is) are
@@ -404,7 +404,7 @@ module _ (script : List Statement) where
   pub refused_in_run : (events : List Event) (moment : MomentWithPast) → run_with_past script events ≡ Some moment
       → TheRefusedAreAnswered script moment.world moment.past.refused
   refused_in_run events moment is =
-      let are = run-kept_by_events script Holds opens_answered events_answered events moment is in
+      let are = run-kept_by_events script AreAnsweredAt opens_answered events_answered events moment is in
       record {
         started = are.started;
         answered = λ session place started got. are.answered session started (contains_at (progress_at session moment.world).unanswered place started got);

@@ -22,7 +22,7 @@ use Rattle.sheep_node.specs.State.{Node}
 use Rattle.sheep_node.specs.StepState.{StepState, at_first, replies_in_order, request_ended}
 use Rattle.sheep_node.specs.Step.{node_step}
 use Rattle.sheep_node.specs.Changes as changes
-use Rattle.sheep_node.specs.Changes.{IsSoundStep, Arrival, Outcome, ToWork, ToEntry, ToReply, RequestSteps, DiskBegins, DiskGoesOn, CommandBegins, CommandGoesOn, CommandDecided, CheckBegins, CheckGoesOn, ObjectBegins, ObjectIsDone, EntryBegins, EntryDecided, WorkIsNext, AtOnce, InTurn, Again, AgainAlone, input_received, Change}
+use Rattle.sheep_node.specs.Changes.{Leads, IsSoundStep, Arrival, Outcome, ToWork, ToEntry, ToReply, RequestSteps, DiskBegins, DiskGoesOn, CommandBegins, CommandGoesOn, CommandDecided, CheckBegins, CheckGoesOn, ObjectBegins, ObjectIsDone, EntryBegins, EntryDecided, WorkIsNext, AtOnce, InTurn, Again, AgainAlone, input_received, Change}
 use Rattle.sheep_node.proofs.OneWorkParts.{Requests}
 use Rattle.sheep_node.proofs.RefusedCourses.{course_refused-keeps, request_refused-keeps}
 use Rattle.sheep_node.proofs.StepChain.{kept_by_chain, step_chain}
@@ -137,8 +137,12 @@ module _ (input : Input) (node : Node) where
       (replies-in_order (req, refusals.Refused cause) so_far.outputs.replies one replied)
   change_apart sound so_far next (changes.Recovers due) apart = apart
 
-  -- at the end of a sound step
-  pub step_apart : IsSoundStep input node → ApartIn (node_step input node)
-  step_apart sound =
-      kept_by_chain ApartIn (change_apart sound) (step_chain input node)
+  -- at each point of a sound step
+  pub apart_so_far : IsSoundStep input node → {so_far : StepState} → Leads input node (input_received input (at_first node)) so_far → ApartIn so_far
+  apart_so_far sound leads =
+      kept_by_chain ApartIn (change_apart sound) leads
       (none_apart (input_received input (at_first node)).node.requests (input_received input (at_first node)).outputs.replies (received_replies input node))
+
+  -- and at its end
+  pub step_apart : IsSoundStep input node → ApartIn (node_step input node)
+  step_apart sound = apart_so_far sound (step_chain input node)

@@ -185,13 +185,13 @@ module _ (script : List Statement) (world : World) (n : ℕ) (host : Host) (atte
 
 module _ (script : List Statement) (range : RunsAreInRange script) (start : MomentWithPast) (began : Began script start.world) where
   -- the wire of a moment in a step that goes by changes
-  wire-in_step : (stepping : SteppingNode) → StepsByChanges stepping.cause → (so_far : StepState)
+  pub wire-in_step : (stepping : SteppingNode) → StepsByChanges stepping.cause → (so_far : StepState)
       → (moment_in_step script stepping start so_far).world.wire ≡ fold wire_with_request (wire_at_cause stepping.cause start.world.wire) so_far.outputs.sends
   wire-in_step stepping by so_far = wire-by_changes
       stepping.cause by (hosts_in_step stepping start.world so_far) stepping.host.node
       (fold wire_with_request (wire_at_cause stepping.cause start.world.wire) so_far.outputs.sends)
 
-  first_wire : (stepping : SteppingNode) → StepsByChanges stepping.cause
+  pub first_wire : (stepping : SteppingNode) → StepsByChanges stepping.cause
       → (moment_in_step script stepping start (first_in_step stepping)).world.wire ≡ wire_at_cause stepping.cause start.world.wire
   first_wire stepping by =
       wire-in_step stepping by (first_in_step stepping)

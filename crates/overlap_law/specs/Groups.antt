@@ -14,7 +14,7 @@ use Rattle.overlap_law.specs.Flight.{NumbersAreSent, PacketsAreAwaited, NoReplyG
 use Rattle.overlap_law.specs.Flight.{FatesAreTold, TheGoneAreFenced}
 use Rattle.overlap_law.specs.Fates.{FatesAreOfTheWire, AttemptsAreOfIncarnations, ServersReachedTheEpoch, AttemptsAreShaped}
 use Rattle.overlap_law.specs.Fates.{AttemptsAreWhole, IdsAreKnown, AttemptsAreOrdered, CreatesComeFirst}
-use Rattle.overlap_law.specs.OpenWorks.{OpenAttemptsAreLatest, WorksKnowTheirFates, ServedRequestsAreTouched, LosersAreTouched}
+use Rattle.overlap_law.specs.OpenWorks.{PacketsAreOfOpenWorks, OpenAttemptsAreLatest, WorksKnowTheirFates, ServedRequestsAreTouched, LosersAreTouched}
 use Rattle.overlap_law.specs.OpenWorks.{RefusedRequestsAreMute}
 use Rattle.overlap_law.specs.Writers.{OnlyTheWriterWrites, ThereIsOneWriter}
 use Rattle.overlap_law.specs.Sessions.{WorksAreApart, OpenDisksAreHeld, ReadsAreLast}
@@ -58,6 +58,7 @@ pub record AttemptsAreKept (T : Placing) (log : List Entry) (good_id : ℕ → B
   pub known : IdsAreKnown log attempts
   pub ordered : AttemptsAreOrdered wire attempts
   pub latest : OpenAttemptsAreLatest hosts attempts
+  pub of_works : PacketsAreOfOpenWorks hosts wire attempts
   pub worked : WorksKnowTheirFates hosts wire attempts
   pub touched : ServedRequestsAreTouched hosts wire attempts
   pub losers : LosersAreTouched hosts lost attempts

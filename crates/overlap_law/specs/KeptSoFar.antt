@@ -5,7 +5,8 @@ use Rattle.overlap_law.specs.Past.{MomentWithPast}
 use Rattle.overlap_law.specs.Groups.{FlightIsKept, TermsAreKept}
 use Rattle.overlap_law.specs.TiedAttempts.{IsTied}
 use Rattle.overlap_law.specs.ShapedAttempts.{AreShaped}
-use Rattle.overlap_law.specs.OpenWorks.{WorksKnowTheirFates}
+use Rattle.overlap_law.specs.OpenWorks.{WorksKnowTheirFates, PacketsAreOfOpenWorks, ServedRequestsAreTouched, LosersAreTouched}
+use Rattle.overlap_law.specs.OpenWorks.{RefusedRequestsAreMute}
 use Rattle.overlap_law.specs.Traffic.{OpenAttemptsHaveMessages}
 use Rattle.overlap_law.specs.Writers.{AttemptsHaveBegun}
 use Rattle.overlap_law.specs.Sessions.{SessionsHaveOneInodeWork, BegunRequestsAreApart}
@@ -19,6 +20,10 @@ pub record IsKeptSoFar (script : List Statement) (moment : MomentWithPast) : Typ
   pub tied : IsTied moment
   pub shaped : AreShaped moment
   pub fates : WorksKnowTheirFates moment.world.hosts moment.world.wire moment.past.attempts
+  pub works : PacketsAreOfOpenWorks moment.world.hosts moment.world.wire moment.past.attempts
+  pub touched : ServedRequestsAreTouched moment.world.hosts moment.world.wire moment.past.attempts
+  pub losers : LosersAreTouched moment.world.hosts moment.past.lost moment.past.attempts
+  pub untouched : RefusedRequestsAreMute moment.world.wire moment.past.refused moment.past.attempts
   pub messages : OpenAttemptsHaveMessages moment.world.hosts
   pub begun : AttemptsHaveBegun moment.world.log moment.past.attempts
   pub scripts : AttemptsAreTheScripts script moment.past.attempts

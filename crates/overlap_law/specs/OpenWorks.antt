@@ -1,5 +1,5 @@
 -- The works of gateways against the attempts: which attempt is a work's, what is known of its messages, and what is touched.
-use Rattle.std.specs.Prelude.{◌≡◌, ◌≢◌, ◌⊎◌, ℕ, ◌+◌, ◌≤◌, true, false, List, map, slice_get, Some}
+use Rattle.std.specs.Prelude.{◌≡◌, ◌≢◌, ◌⊎◌, ℕ, ◌+◌, ◌≤◌, true, false, List, Contains, map, slice_get, Some}
 use Rattle.std.specs.FinMap as tree
 use Rattle.object_id.specs.declared.node.NodeId.{NodeId}
 use Rattle.peer_proto.specs.declared.work.ObjWork.{ObjWork}
@@ -18,7 +18,7 @@ use Rattle.overlap_law.specs.Attempts.{MessageFate, Flying, Served, Doomed, Atte
 use Rattle.overlap_law.specs.Words.{Hosts, is_mute}
 use Rattle.overlap_law.specs.Holders.{is_object_among}
 use Rattle.overlap_law.specs.Each.{EachUp, EachAble, EachAttempt}
-use Rattle.overlap_law.specs.Packets.{Wire, message_name_at, is_name_in_wire, IsAnswering, IsQuiet}
+use Rattle.overlap_law.specs.Packets.{Wire, message_name_at, is_name_in_wire, IsAnswering, IsQuiet, HasPacket}
 
 -- the attempt that a gateway has open is this one
 pub record IsTheSame (node : Node) (req : ℕ) (asked : ObjWork) (current : gateways.Attempt) (attempt : AttemptRecord) : Type 0 where
@@ -40,6 +40,20 @@ pub record IsOpenAs (node : Node) (req : ℕ) (work : Work) (current : gateways.
   pub making : is_making work.work ≡ true
   pub stage : work.stage ≡ Open current
   pub same : IsTheSame node req work.work current attempt
+
+-- nothing came yet of an attempt's message to the target at a place, as far as its gateway knows, which has the attempt open
+pub record IsAwaitedAt (node : Node) (attempt : AttemptRecord) (place : ℕ) : Type 0 where
+  pub work : Work
+  pub current : gateways.Attempt
+  pub opened : IsOpenAs node attempt.req work current attempt
+  pub message : Message
+  pub at : slice_get current.messages place ≡ Some message
+  pub unanswered : message.status ≡ Unanswered
+
+-- what is in the wire of an attempt of a node that isn't lost is awaited by the attempt's own work
+pub record PacketsAreOfOpenWorks (hosts : Hosts) (wire : Wire) (attempts : List AttemptRecord) : Type 0 where
+  pub each : EachUp hosts (λ n node. EachAttempt attempts (λ j attempt. attempt.gateway.0 ≡ n → (place : ℕ) (target : NodeId)
+      → HasPacket wire attempt place target → IsAwaitedAt node attempt place))
 
 -- the attempt that a create or write has open is the last on its object
 pub record OpenAttemptsAreLatest (hosts : Hosts) (attempts : List AttemptRecord) : Type 0 where
@@ -76,6 +90,16 @@ pub record ServedRequestsAreTouched (hosts : Hosts) (wire : Wire) (attempts : Li
 pub record LosersAreTouched (hosts : Hosts) (lost : List MessageName) (attempts : List AttemptRecord) : Type 0 where
   pub each : EachAble hosts (λ n node. EachAttempt attempts (λ j attempt. attempt.gateway.0 ≡ n
       → tree.contains_key node.requests attempt.req ≡ true → has_lost lost attempt ≡ true → is_touched attempt.req node.gateway ≡ true))
+
+-- a message of an attempt was served, or it or the reply to it was lost
+abbrev pub MayTouch : List MessageName → AttemptRecord → ℕ → Type 0
+MayTouch lost attempt place = (slice_get attempt.fates place ≡ Some Served) ⊎ Contains lost (message_name_at attempt place)
+
+-- a request without reply is touched by each such message, or nothing came of it yet as far as its gateway knows, which isn't lost
+pub record MessagesTouchOrAreAwaited (hosts : Hosts) (lost : List MessageName) (attempts : List AttemptRecord) : Type 0 where
+  pub each : EachUp hosts (λ n node. EachAttempt attempts (λ j attempt. attempt.gateway.0 ≡ n
+      → tree.contains_key node.requests attempt.req ≡ true → (place : ℕ) (target : NodeId) → slice_get attempt.targets place ≡ Some target
+      → MayTouch lost attempt place → (is_touched attempt.req node.gateway ≡ true) ⊎ IsAwaitedAt node attempt place))
 
 -- no attempt of a refused request was served or will be
 pub record RefusedRequestsAreMute (wire : Wire) (refused : List ℕ) (attempts : List AttemptRecord) : Type 0 where

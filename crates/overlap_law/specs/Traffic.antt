@@ -9,6 +9,7 @@ use Rattle.peer_proto.specs.Say.{say_in, say_bytes}
 use Rattle.peer_service.specs.Serve.{reply_to}
 use Rattle.gateway.specs.Outcomes.{AreNumberedFrom}
 use Rattle.gateway.specs.declared.message.Message.{Message}
+use Rattle.gateway.specs.declared.message.Status.TheVariants.{Unanswered}
 use Rattle.gateway.specs.Work.{is_making}
 use Rattle.gateway.specs.Attempt as gateways
 use Rattle.gateway.specs.State.{Work, Open}
@@ -43,7 +44,7 @@ pub record AreSentBy (hosts hosts_after : Hosts) (n : ℕ) (sends : List (NodeId
   pub read : (send : NodeId × PeerReq) → Contains sends send → ask_in (ask_bytes send.1) ≡ Ok send.1
   pub past : (send : NodeId × PeerReq) → Contains sends send → send.1.epoch.0 ≤ after.node.peer.epoch
 
--- an attempt begins by these sends: all its messages fly; and its gateway, which is up, has it open then
+-- an attempt begins by these sends: all its messages fly; and its gateway, which is up, has it open then, and nothing came of them yet
 pub record IsBegunBy (hosts hosts_after : Hosts) (n : ℕ) (sends : List (NodeId × PeerReq)) (attempt : AttemptRecord) : Type 0 where
   pub sent_by : AreSentBy hosts hosts_after n sends
   pub gateway : attempt.gateway.0 ≡ n
@@ -58,6 +59,7 @@ pub record IsBegunBy (hosts hosts_after : Hosts) (n : ℕ) (sends : List (NodeId
   pub work : Work
   pub current : gateways.Attempt
   pub opened : IsOpenAs sent_by.after.node attempt.req work current attempt
+  pub unanswered : (place : ℕ) (message : Message) → slice_get current.messages place ≡ Some message → message.status ≡ Unanswered
 
 -- the answer of the node that a request goes to, by what that node has: it can be read, and is on its way where the sender is up
 pub record IsAnswer (hosts hosts_after : Hosts) (name : MessageName) (to : NodeId) (bytes : List ℕ) (up : Bool) (rsp : PeerRsp)

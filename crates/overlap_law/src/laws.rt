@@ -1,15 +1,10 @@
 //! Laws of the definitions, for the proofs of the layers above: each is the contract of a function that does nothing.
-ghost use Rattle.std.specs.Prelude.{◌≡◌, ◌≢◌, ◌⊎◌, ◌≤◌, ℕ, ◌+◌, ◌-◌, true, false, List, [], ◌∷◌, ◌++◌, length, slice_get, Some};
+ghost use Rattle.std.specs.Prelude.{◌≡◌, ◌≢◌, ℕ, ◌+◌, ◌-◌, true, false, List, [], ◌++◌, length, slice_get, Some};
 ghost use Rattle.std.specs.List.{list_all, AllByRecursion};
 ghost use Rattle.std.specs.FinMap.{get};
 ghost use Rattle.std.specs.Option.{option_map};
-ghost use Rattle.object_id.specs.declared.limits.TheConstants.{INPUT_BYTES_MAX};
 ghost use Rattle.object_id.specs.declared.node.NodeId.{NodeId};
 ghost use Rattle.object_id.specs.declared.oid.Kind.{Kind};
-ghost use Rattle.object_id.specs.declared.entry.Entry.{Entry};
-ghost use Rattle.disk_lock.specs.declared.holder.Holder.{Holder};
-ghost use Rattle.epoch_log.specs.Epochs.{epoch_of};
-ghost use Rattle.vdi_directory.specs.Decisions.{outcome, log_effects};
 ghost use Rattle.object_list.specs.Gathered.{has_node};
 ghost use Rattle.cluster_script.specs.declared.statement.Statement.{Statement};
 ghost use Rattle.cluster_script.specs.Language.{IsScript};
@@ -18,32 +13,29 @@ ghost use Rattle.sheep_node.specs.Step.{is_due};
 ghost use Rattle.sheep_node.specs.StepState.{StepState};
 ghost use Rattle.sheep_world.specs.Began.{Began};
 ghost use Rattle.sheep_world.specs.Run.{run};
-ghost use Rattle.sheep_world.specs.World.{Host, World};
-ghost use Rattle.sheep_world.specs.LogHolds.{MayGrow};
-ghost use Rattle.sheep_world.specs.HoldsTogether.{MessagesAreInRange};
+ghost use Rattle.sheep_world.specs.World.{Host};
 ghost use Rattle.overlap_law.specs.Attempts.{MessageFate, Flying, Served, AttemptRecord, has_message, attempt_with_fate};
 ghost use Rattle.overlap_law.specs.Words.{Hosts, is_beyond, is_made, is_doomed, has_served, unit_start, unit_end, covers_unit, base_of};
 ghost use Rattle.overlap_law.specs.Words.{own_base_of};
 ghost use Rattle.overlap_law.specs.Headline.{OtherEpochsChangeNothing};
-ghost use Rattle.overlap_law.specs.Grants.{gives, reserved_in, granted_in, published_in, writer_of, takes_writer, given_to};
-ghost use Rattle.overlap_law.specs.Packets.{Wire};
 ghost use Rattle.overlap_law.specs.Past.{MomentWithPast, run_with_past, without_past, next_moment, first_moment};
 ghost use Rattle.overlap_law.specs.StepMoments.{SteppingNode, IsStepping, StepsByChanges, IsWithinStep, moment_in_step, attempts_of_change};
 ghost use Rattle.overlap_law.specs.MomentChanges.{MomentChange, MomentTrail, RunsAreInRange, EventsAreTrails};
-ghost use Rattle.overlap_law.specs.Traffic.{TrafficBetween, BeginsInTurn, OpenAttemptsHaveMessages, IsInTurn};
+ghost use Rattle.overlap_law.specs.Traffic.{TrafficBetween, BeginsInTurn, OpenAttemptsHaveMessages};
 ghost use Rattle.overlap_law.specs.Fates.{AttemptsAreOrdered};
-ghost use Rattle.overlap_law.specs.OpenWorks.{OpenAttemptsAreLatest, WorksKnowTheirFates};
-ghost use Rattle.overlap_law.specs.Sessions.{SessionsHaveOneInodeWork, WorksAreApart, BegunRequestsAreApart};
-ghost use Rattle.overlap_law.specs.Writers.{OnlyTheWriterWrites, ThereIsOneWriter, AttemptsHaveBegun, WritersTakeTurns, IsInOwnTurn};
+ghost use Rattle.overlap_law.specs.OpenWorks.{OpenAttemptsAreLatest, WorksKnowTheirFates, PacketsAreOfOpenWorks};
+ghost use Rattle.overlap_law.specs.OpenWorks.{MessagesTouchOrAreAwaited, ServedRequestsAreTouched, LosersAreTouched};
+ghost use Rattle.overlap_law.specs.OpenWorks.{RefusedRequestsAreMute};
+ghost use Rattle.overlap_law.specs.Sessions.{WorksAreApart};
+ghost use Rattle.overlap_law.specs.Writers.{OnlyTheWriterWrites};
 ghost use Rattle.overlap_law.specs.Flight.{FlyInThePast, RequestsAreOfThePast, PacketsAreAwaited, RepliersHaveCome, RepliesAreOfTheirEpoch};
 ghost use Rattle.overlap_law.specs.Flight.{TheGoneAreFenced};
 ghost use Rattle.overlap_law.specs.NodeEpochs.{TheUpAreMembers, NodesHaveRead, SettledIsRead, TheUpHaveStayed, LeaversAreBeyond};
 ghost use Rattle.overlap_law.specs.NodeEpochs.{RecoveriesArePresent, AnswerersHaveCome, TheRecoveredHaveAll, TheUnfinishedAreUnsettled};
-ghost use Rattle.overlap_law.specs.RequestsOfScript.{JoinsAreNew, RequestsAreWithoutReply, AttemptsAreTheScripts, TheRefusedAreAnswered};
+ghost use Rattle.overlap_law.specs.RequestsOfScript.{JoinsAreNew};
 ghost use Rattle.overlap_law.specs.TiedAttempts.{IsTied};
 ghost use Rattle.overlap_law.specs.ShapedAttempts.{AreShaped};
 ghost use Rattle.overlap_law.specs.Groups.{TermsAreKept, FlightIsKept};
-ghost use Rattle.overlap_law.specs.RoomOfScripts.{HasFewControls};
 
 /// A made attempt isn't doomed, and whatever is told of a message leaves it made.
 pub fn what_is_made_stays_made()
@@ -278,75 +270,6 @@ pub fn epochs_and_nodes_are_kept()
         → run_with_past script events ≡ Some moment → TermsAreKept moment.world.log moment.world.hosts }
 {}
 
-/// In each world that a run of a script with few controls reaches there is room for one epoch more: an epoch begins only by a control, or
-/// by the leave of a member, which was there at first or came by a control.
-pub fn scripts_of_few_controls_have_room()
-    ensures { (script : List Statement) (world : World) → IsScript script → HasFewControls script → Began script world → MayGrow world }
-{}
-
-/// A script that a text may spell has few controls: it has no more than statements, and no more statements than a text may have bytes. So
-/// there is room for one epoch more in each world that its runs reach, and these are in range if what is sent and replied is.
-pub fn scripts_of_a_text_have_room()
-    ensures few { (script : List Statement) → length script ≤ INPUT_BYTES_MAX → HasFewControls script }
-    ensures room { (script : List Statement) (world : World) → IsScript script → length script ≤ INPUT_BYTES_MAX → Began script world
-        → MayGrow world }
-    ensures in_range { (script : List Statement) → IsScript script → length script ≤ INPUT_BYTES_MAX
-        → ((world : World) → Began script world → MessagesAreInRange world) → RunsAreInRange script }
-{}
-
-/// An attempt is for a request of the script, of a session of its gateway's incarnation: each change of a moment keeps that, and so it is
-/// in each run in range.
-pub fn each_attempt_is_for_a_request()
-    ensures change { (script : List Statement) (start before after : MomentWithPast) → RunsAreInRange script → Began script start.world
-        → MomentChange script start before after → AttemptsAreTheScripts script before.past.attempts
-        → AttemptsAreTheScripts script after.past.attempts }
-    ensures run { (script : List Statement) (events : List Event) (moment : MomentWithPast) → RunsAreInRange script
-        → run_with_past script events ≡ Some moment → AttemptsAreTheScripts script moment.past.attempts }
-{}
-
-/// In each run what was refused was started and has its reply, and what has no reply was started.
-pub fn the_refused_are_answered()
-    ensures { (script : List Statement) (events : List Event) (moment : MomentWithPast) → run_with_past script events ≡ Some moment
-        → TheRefusedAreAnswered script moment.world moment.past.refused }
-{}
-
-/// In each run in range a session has one open work on its inode at most.
-pub fn a_session_has_one_inode_work()
-    ensures { (script : List Statement) (events : List Event) (moment : MomentWithPast) → RunsAreInRange script
-        → run_with_past script events ≡ Some moment → SessionsHaveOneInodeWork moment.world.hosts }
-{}
-
-/// In each run in range reads and writes of a session that have begun have no index in common.
-pub fn begun_requests_are_apart()
-    ensures { (script : List Statement) (events : List Event) (moment : MomentWithPast) → RunsAreInRange script
-        → run_with_past script events ≡ Some moment → BegunRequestsAreApart moment.world.hosts }
-{}
-
-/// The session that may write an id stays its writer at an entry, unless what the entry does takes the id from it. Who may write the id
-/// after an entry might before, or is the one to whom the entry gives it.
-pub fn few_effects_change_the_writer()
-    ensures stays { (log : List Entry) (entry : Entry) (vid : ℕ) (writer : Holder) → writer_of (log_effects log) vid ≡ Some writer
-        → takes_writer vid writer.node (outcome (log_effects log) entry).effect ≡ false
-        → writer_of (log_effects (log ++ entry ∷ [])) vid ≡ Some writer }
-    ensures given { (log : List Entry) (entry : Entry) (vid : ℕ) (writer : Holder)
-        → writer_of (log_effects (log ++ entry ∷ [])) vid ≡ Some writer
-        → (writer_of (log_effects log) vid ≡ Some writer) ⊎ (gives vid (outcome (log_effects log) entry).effect ≡ true) }
-    ensures to { (log : List Entry) (entry : Entry) (vid : ℕ) → gives vid (outcome (log_effects log) entry).effect ≡ true
-        → writer_of (log_effects (log ++ entry ∷ [])) vid ≡ given_to (outcome (log_effects log) entry).effect }
-{}
-
-/// The epochs in which an id was reserved, given to its writer and published are no later than the log's, and rise with it.
-pub fn grants_are_of_epochs_that_began()
-    ensures began { (log : List Entry) (vid : ℕ) → (reserved_in log vid ≤ epoch_of log) × (granted_in log vid ≤ epoch_of log)
-        × (published_in log vid ≤ epoch_of log) }
-    ensures rise { (log : List Entry) (entry : Entry) (vid : ℕ) → (reserved_in log vid ≤ reserved_in (log ++ entry ∷ []) vid)
-        × (granted_in log vid ≤ granted_in (log ++ entry ∷ []) vid) × (published_in log vid ≤ published_in (log ++ entry ∷ []) vid) }
-    ensures grant { (log : List Entry) (entry : Entry) (vid : ℕ) → gives vid (outcome (log_effects log) entry).effect ≡ true
-        → granted_in (log ++ entry ∷ []) vid ≡ epoch_of (log ++ entry ∷ []) }
-    ensures kept { (log : List Entry) (entry : Entry) (vid : ℕ) → gives vid (outcome (log_effects log) entry).effect ≡ false
-        → granted_in (log ++ entry ∷ []) vid ≡ granted_in log vid }
-{}
-
 /// Each open create or write has a message: so it is when a script opens, each change of a moment keeps it, and so it is in each run in
 /// range. So `the_attempts_stay_in_order` needs less from the group of writers.
 pub fn open_works_have_messages()
@@ -358,36 +281,43 @@ pub fn open_works_have_messages()
         → run_with_past script events ≡ Some moment → OpenAttemptsHaveMessages moment.world.hosts }
 {}
 
-/// In each run in range a request of a node is the script's of its number, of a session that asks at this node in this incarnation of it,
-/// and is without reply there.
-pub fn requests_of_nodes_are_without_reply()
-    ensures { (script : List Statement) (events : List Event) (moment : MomentWithPast) → RunsAreInRange script
-        → run_with_past script events ≡ Some moment → RequestsAreWithoutReply script moment.world }
-{}
-
-/// Each attempt is of an epoch that has begun: each change of a moment keeps that, and so it is in each run in range.
-pub fn attempts_are_of_epochs_that_began()
+/// What is in the wire of an attempt of a node that isn't lost is awaited by the attempt's own work: its message is an unanswered one of
+/// the open work of its request. So it is when a script opens, each change of a moment at which the attempts are tied keeps it, and so it
+/// is in each run in range.
+pub fn packets_are_of_open_works()
+    ensures opening { (script : List Statement) → PacketsAreOfOpenWorks (first_moment script).world.hosts (first_moment script).world.wire
+        (first_moment script).past.attempts }
     ensures change { (script : List Statement) (start before after : MomentWithPast) → RunsAreInRange script → Began script start.world
-        → MomentChange script start before after → AttemptsHaveBegun before.world.log before.past.attempts
-        → AttemptsHaveBegun after.world.log after.past.attempts }
+        → MomentChange script start before after → IsTied before
+        → PacketsAreOfOpenWorks before.world.hosts before.world.wire before.past.attempts
+        → PacketsAreOfOpenWorks after.world.hosts after.world.wire after.past.attempts }
     ensures run { (script : List Statement) (events : List Event) (moment : MomentWithPast) → RunsAreInRange script
-        → run_with_past script events ≡ Some moment → AttemptsHaveBegun moment.world.log moment.past.attempts }
+        → run_with_past script events ≡ Some moment
+        → PacketsAreOfOpenWorks moment.world.hosts moment.world.wire moment.past.attempts }
 {}
 
-/// There stays one writer of an id over each change of a moment at which the attempts are tied, if writers take turns: an attempt that
-/// begins is the writer's, under its grant; and one whose writer loses the id by an entry has nothing in flight any more, or its gateway
-/// left by that entry.
-pub fn there_stays_one_writer()
-    ensures { (script : List Statement) (start before after : MomentWithPast) → RunsAreInRange script → Began script start.world
-        → MomentChange script start before after → IsTied before → AttemptsHaveBegun before.world.log before.past.attempts
-        → WritersTakeTurns before.world.log after.world.log before.world.wire before.past.attempts after.past.attempts
-        → ThereIsOneWriter before.world.log before.world.wire before.past.attempts
-        → ThereIsOneWriter after.world.log after.world.wire after.past.attempts }
+/// In each run in range a request without reply, at a gateway that isn't lost, is touched by each message of an attempt that was served, or
+/// that was lost or of which the reply was; or nothing came of the message yet, as far as the gateway knows. So it is at each moment on the
+/// way of an event, and at its end. There, at a gateway that may step, the success of each served message of an attempt is in the wire still
+/// where the request isn't touched, and what was lost has touched it.
+pub fn messages_touch_their_requests()
+    ensures within { (script : List Statement) (events : List Event) (start moment : MomentWithPast) → RunsAreInRange script
+        → run_with_past script events ≡ Some start → MomentTrail script start moment
+        → MessagesTouchOrAreAwaited moment.world.hosts moment.past.lost moment.past.attempts }
+    ensures served { (script : List Statement) (events : List Event) (moment : MomentWithPast) → RunsAreInRange script
+        → run_with_past script events ≡ Some moment
+        → ServedRequestsAreTouched moment.world.hosts moment.world.wire moment.past.attempts }
+    ensures lost { (script : List Statement) (events : List Event) (moment : MomentWithPast) → RunsAreInRange script
+        → run_with_past script events ≡ Some moment → LosersAreTouched moment.world.hosts moment.past.lost moment.past.attempts }
 {}
 
-/// Where there is one writer, an attempt that begins does so in its turn, if it is the writer's and does so among the attempts of its own
-/// session. So the order of attempts needs of other sessions no more than that there is one writer.
-pub fn the_writer_begins_in_turn()
-    ensures { (log : List Entry) (wire : Wire) (attempts : List AttemptRecord) (attempt : AttemptRecord)
-        → ThereIsOneWriter log wire attempts → IsInOwnTurn log wire attempts attempt → IsInTurn wire attempts attempt }
+/// In each run in range the attempts of a refused request are mute, and nothing of them is in flight. So it is at each moment on the way of
+/// an event, and at its end.
+pub fn attempts_of_the_refused_are_mute()
+    ensures within { (script : List Statement) (events : List Event) (start moment : MomentWithPast) → RunsAreInRange script
+        → run_with_past script events ≡ Some start → MomentTrail script start moment
+        → RefusedRequestsAreMute moment.world.wire moment.past.refused moment.past.attempts }
+    ensures run { (script : List Statement) (events : List Event) (moment : MomentWithPast) → RunsAreInRange script
+        → run_with_past script events ≡ Some moment
+        → RefusedRequestsAreMute moment.world.wire moment.past.refused moment.past.attempts }
 {}

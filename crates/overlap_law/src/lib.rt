@@ -9,7 +9,7 @@
 //! (`specs/Contents.antt`, `specs/Facts.antt`), the headline (`specs/Headline.antt`), beside it that no object is missing
 //! (`specs/NoObjects.antt`), and the invariant that is to carry them (`specs/Overlap.antt`); the laws of `overlap.rt` say
 //! what it gives at once. The facts, the headline and that no object is missing aren't proved here, but for the headline's
-//! part on peers of another epoch; the laws of `laws.rt` say what the words mean.
+//! part on peers of another epoch; the laws of `laws.rt` and `writers.rt` say what the words mean.
 //!
 //! An event is taken apart into small changes of a moment (`specs/StepMoments.antt`, `specs/MomentChanges.antt`), each of one kind by
 //! what it makes of the wire and the attempts (`specs/Traffic.antt`). So what each of them keeps holds of every run in range: that the
@@ -21,26 +21,31 @@
 mod kept_event;
 mod laws;
 mod overlap;
+mod writers;
 
 pub use kept_event::keeps_overlap;
 pub use laws::{
-    a_base_is_made, a_session_has_one_inode_work, an_attempt_begins_where_one_opens,
-    an_event_is_a_trail_of_changes, attempts_are_of_epochs_that_began, begun_requests_are_apart,
-    each_attempt_is_for_a_request, each_change_is_of_a_kind_of_traffic, each_target_has_its_fate,
-    epochs_and_nodes_are_kept, few_effects_change_the_writer, gateways_know_the_fates,
-    grants_are_of_epochs_that_began, members_stay_until_they_are_lost,
+    a_base_is_made, an_attempt_begins_where_one_opens, an_event_is_a_trail_of_changes,
+    attempts_of_the_refused_are_mute, each_change_is_of_a_kind_of_traffic,
+    each_target_has_its_fate, epochs_and_nodes_are_kept, gateways_know_the_fates,
+    members_stay_until_they_are_lost, messages_touch_their_requests,
     no_read_of_what_was_borne_is_left_out, open_works_have_messages, other_attempts_hear_nothing,
-    peers_of_another_epoch_change_nothing, recoveries_are_of_members_that_came,
-    requests_of_nodes_are_without_reply, scripts_of_few_controls_have_room,
-    the_attempts_are_shaped, the_attempts_stay_in_order, the_past_follows_the_run,
-    the_recovered_have_all, the_refused_are_answered, the_wire_and_the_attempts_stay_tied,
-    the_wire_is_kept, the_wire_is_linked, the_writer_begins_in_turn, there_stays_one_writer,
-    units_follow_each_other, what_becomes_of_an_attempt, what_is_asked_is_of_the_past,
-    what_is_doomed_stays_doomed, what_is_made_stays_made, what_nodes_have_read_is_of_the_log,
-    who_joins_is_new,
+    packets_are_of_open_works, peers_of_another_epoch_change_nothing,
+    recoveries_are_of_members_that_came, the_attempts_are_shaped, the_attempts_stay_in_order,
+    the_past_follows_the_run, the_recovered_have_all, the_wire_and_the_attempts_stay_tied,
+    the_wire_is_kept, the_wire_is_linked, units_follow_each_other, what_becomes_of_an_attempt,
+    what_is_asked_is_of_the_past, what_is_doomed_stays_doomed, what_is_made_stays_made,
+    what_nodes_have_read_is_of_the_log, who_joins_is_new,
 };
 pub use overlap::{
     the_messages_of_the_gone_are_fenced, the_overlap_gives_complete_lists,
     the_overlap_gives_holders, the_overlap_gives_legal_replies, the_overlap_makes_attempts_stand,
     the_settled_have_recovered,
+};
+pub use writers::{
+    a_session_has_one_inode_work, attempts_are_of_epochs_that_began, begun_requests_are_apart,
+    each_attempt_is_for_a_request, few_effects_change_the_writer, grants_are_of_epochs_that_began,
+    requests_of_nodes_are_without_reply, scripts_of_a_text_have_room,
+    scripts_of_few_controls_have_room, the_refused_are_answered, the_writer_begins_in_turn,
+    there_stays_one_writer,
 };

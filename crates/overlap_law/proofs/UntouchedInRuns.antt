@@ -1,0 +1,78 @@
+-- In every run in range the attempts of a refused request are mute, and nothing of them is in flight.
+use Rattle.std.proofs.Common.{◌≡◌, List, [], Option, Some, option_map, ap}
+use Rattle.cluster_script.specs.declared.statement.Statement.{Statement}
+use Rattle.sheep_node.specs.declared.event.Event.{Event}
+use Rattle.sheep_world.specs.Began.{Began}
+use Rattle.sheep_world.specs.Step.{EventOutcome, step}
+use Rattle.overlap_law.specs.Past.{MomentWithPast, moment_after, first_moment, run_with_past}
+use Rattle.overlap_law.specs.OpenWorks.{RefusedRequestsAreMute}
+use Rattle.overlap_law.specs.RequestsOfScript.{AttemptsAreTheScripts}
+use Rattle.overlap_law.specs.MomentChanges.{MomentTrail, Still, Then, RunsAreInRange}
+use Rattle.overlap_law.proofs.AttemptsOfScript.{change_of_script}
+use Rattle.overlap_law.proofs.DrivenInMoments.{RequestsHaveWorked, change_worked}
+use Rattle.overlap_law.proofs.MomentTrails.{event_trail}
+use Rattle.overlap_law.proofs.NoRecoveredDue.{began-with_past}
+use Rattle.overlap_law.proofs.RefusedInRuns.{AreAnsweredAt, opens_answered, events_answered}
+use Rattle.overlap_law.proofs.RefusedMute.{RefusedAreOver, change_over}
+use Rattle.overlap_law.proofs.RunsByEvents.{KeptByEvents, run-kept_by_events}
+use Rattle.overlap_law.proofs.TouchedInRuns.{HoldsWithin, HoldsAt, along_trail, opens_so, events_keep}
+
+module _ (script : List Statement) (range : RunsAreInRange script) where
+  -- what holds of the refused in the middle of an event
+  record HoldsToo (moment : MomentWithPast) : Type 0 where
+    pub worked : RequestsHaveWorked moment
+    pub scripts : AttemptsAreTheScripts script moment.past.attempts
+    pub over : RefusedAreOver moment
+
+  -- and at its end
+  record HoldsThen (moment : MomentWithPast) : Type 0 where
+    pub holds : HoldsAt script range moment
+    pub answered : AreAnsweredAt script moment
+    pub too : HoldsToo moment
+
+  along : (start : MomentWithPast) → Began script start.world → HoldsThen start → {moment : MomentWithPast} → MomentTrail script start moment → HoldsToo moment
+  along start began first Still = first.too
+  along start began first (Then {moment} {next} trail change) =
+      let too = along start began first trail in
+      let before = along_trail script range start began first.holds trail in
+      let after = along_trail script range start began first.holds (Then trail change) in
+      let scripts = change_of_script script range start moment next began change too.scripts in
+      record {
+        worked = change_worked script range start began moment next change first.holds.started too.worked;
+        scripts = scripts;
+        over = change_over script range start moment next began
+            (record { tied = first.holds.within.tied; lost = first.holds.within.lost; started = first.holds.started }) first.answered.started
+            change before.tied after.tied after.awaited before.due too.worked scripts too.over;
+      }
+
+  opens_then : HoldsThen (first_moment script)
+  opens_then = record {
+    holds = opens_so script range;
+    answered = opens_answered script;
+    too = record {
+      worked = λ n host there up j attempt got. absurd (cc (got));
+      scripts = record { each = λ j attempt got. absurd (cc (got)) };
+      over = record {
+        mute = record { mute = λ j attempt got. absurd (cc (got)); quiet = λ j attempt got. absurd (cc (got)) };
+        gone = λ n host there up req is. absurd (cc (is));
+      };
+    };
+  }
+
+  events_then : KeptByEvents script HoldsThen
+  events_then event before made began is first = record {
+    holds = events_keep script range event before made began is first.holds;
+    answered = events_answered script event before made began is first.answered;
+    too = along before began first (event_trail script event before (moment_after script event before made) (ap (option_map (moment_after script event before)) is));
+  }
+
+  holds_then : (events : List Event) (moment : MomentWithPast) → run_with_past script events ≡ Some moment → HoldsThen moment
+  holds_then = run-kept_by_events script HoldsThen opens_then events_then
+
+  pub untouched-within : (events : List Event) (start moment : MomentWithPast) → run_with_past script events ≡ Some start → MomentTrail script start moment
+      → RefusedRequestsAreMute moment.world.wire moment.past.refused moment.past.attempts
+  untouched-within events start moment is trail = (along start (began-with_past script events start is) (holds_then events start is) trail).over.mute
+
+  pub untouched-in_run : (events : List Event) (moment : MomentWithPast) → run_with_past script events ≡ Some moment
+      → RefusedRequestsAreMute moment.world.wire moment.past.refused moment.past.attempts
+  untouched-in_run events moment is = (holds_then events moment is).too.over.mute

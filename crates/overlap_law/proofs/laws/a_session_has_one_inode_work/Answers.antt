@@ -1,5 +1,0 @@
-use Rattle.overlap_law.proofs.OneInodeWork.{one_inode_work-in_run}
-use Rattle.overlap_law.proofs.laws.a_session_has_one_inode_work.Goals as goal
-
-pub returns : goal.returns
-returns c = λ script events moment range is. one_inode_work-in_run script range events moment is

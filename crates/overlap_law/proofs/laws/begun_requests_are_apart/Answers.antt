@@ -1,5 +1,0 @@
-use Rattle.overlap_law.proofs.ApartInRuns.{begun_apart-in_run}
-use Rattle.overlap_law.proofs.laws.begun_requests_are_apart.Goals as goal
-
-pub returns : goal.returns
-returns c = λ script events moment range is. begun_apart-in_run script range events moment is

@@ -1,5 +1,0 @@
-use Rattle.overlap_law.proofs.RefusedInRuns.{refused_in_run}
-use Rattle.overlap_law.proofs.laws.the_refused_are_answered.Goals as goal
-
-pub returns : goal.returns
-returns c = λ script events moment is. refused_in_run script events moment is
