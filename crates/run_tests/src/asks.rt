@@ -218,14 +218,24 @@ fn goes_on(
     Ok(is_brought(script, world, events)? && is_told(place, world.answer()))
 }
 
+/// Asks all of it, one after the other. Whether each reply comes as it should.
+fn all_are_brought(alloc: Global, script: &Script, world: &mut World) -> Result<bool, NoMemory>
+    requires { world.old.spent ≡ false }
+{
+    for place in 0..EVENTS.len() {
+        if !goes_on(alloc, script, world, place)? {
+            return Ok(false);
+        }
+    }
+    Ok(true)
+}
+
 #[test]
 fn brings_the_replies_of_a_disks_life(rt: HostRuntime) -> Result<(), Fail> {
     let alloc = rt.alloc();
     let script = script_of(alloc)?;
     let mut world = World::new(alloc, &script)?;
-    for place in 0..EVENTS.len() {
-        assert!(rt; goes_on(alloc, &script, &mut world, place)?, "{place}");
-    }
+    assert!(rt; all_are_brought(alloc, &script, &mut world)?);
     Ok(())
 }
 
