@@ -208,6 +208,8 @@ impl Gateway {
         requires { IsTrue (fits_gateway rsp.now self.now) }
         ensures done { IfOk result (λ done. done ≡ work_done_in (gateway_on_reply self.now rsp.now).act) }
         ensures given { IfOk result (λ done. IfSome done (IsWorkDone self.now)) }
+        ensures memory { may_be_done_by rsp.now.number (is_success (status_by rsp.now.say)) (asker rsp.now.number self.now) ≡ false
+            → IsOk result }
     {
         if !self.may_be_done(rsp.number, is_success(&rsp.say)) {
             return Ok(None);

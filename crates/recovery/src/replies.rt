@@ -1,6 +1,6 @@
 //! What the end of a message leaves.
 
-ghost use Rattle.std.specs.Prelude.{◌≡◌, ◌≤◌, ◌<◌, ◌-◌, true, false, IfOk, OnOk, OnErr, IsTrue, Some, IfSome};
+ghost use Rattle.std.specs.Prelude.{◌≡◌, ◌≤◌, ◌<◌, ◌-◌, true, false, IfOk, IsOk, OnOk, OnErr, IsTrue, Some, None, IfSome};
 ghost use Rattle.std.specs.List.{list_any};
 ghost use Rattle.std.specs.Option.{option_copied, option_map};
 ghost use Rattle.recovery.specs.Shown.{NodeView};
@@ -26,13 +26,15 @@ use peer_proto::{PeerRsp, PeerSay};
 impl Recovery {
     /// A reply to a message came. Costs the logarithm of the messages, and takes what it tells. A list takes and costs the ids that were
     /// named so far and its own, and the last list also the node's; with the last answer of a level it looks at each answer for each
-    /// target, and where there are enough rows takes the object's bytes by them. Without memory nothing changes.
+    /// target, and where there are enough rows takes the object's bytes by them. The end of a message that an older recovery sent takes
+    /// no memory. Without memory nothing changes.
     #[tactic(auto, unfolding(crate::specs::Steps::recovery_on_reply))]
     pub fn on_reply<R: Rows>(&mut self, rsp: &PeerRsp, rows: &mut R) -> Result<(), NoMemory>
         requires fits { IsTrue (fits_recovery rsp.now (recovery_state self.old (R.shown rows.old))) }
         requires step { MayStep (recovery_state self.old (R.shown rows.old)) }
         ensures ok { OnOk result (recovery_state self.new (R.shown rows.new)
             ≡ recovery_on_reply rsp.now (recovery_state self.old (R.shown rows.old))) }
+        ensures memory { message_of rsp.now.number self.old.unanswered ≡ None → IsOk result }
         ensures err { OnErr result (recovery_state self.new (R.shown rows.new) ≡ recovery_state self.old (R.shown rows.old)) }
         ensures rest { R.rest rows.new ≡ R.rest rows.old }
     {
@@ -47,6 +49,7 @@ impl Recovery {
         requires step { MayStep (recovery_state self.old (R.shown rows.old)) }
         ensures ok { OnOk result (recovery_state self.new (R.shown rows.new)
             ≡ recovery_on_loss number (recovery_state self.old (R.shown rows.old))) }
+        ensures memory { message_of number self.old.unanswered ≡ None → IsOk result }
         ensures err { OnErr result (recovery_state self.new (R.shown rows.new) ≡ recovery_state self.old (R.shown rows.old)) }
         ensures rest { R.rest rows.new ≡ R.rest rows.old }
     {
@@ -97,6 +100,7 @@ impl Recovery {
             (λ message. SaysOfRow (R.shown rows.old) message.request.ask say)) }
         ensures ok { OnOk result (recovery_state self.new (R.shown rows.new)
             ≡ message_end number (option_copied said.entry) (recovery_state self.old (R.shown rows.old))) }
+        ensures memory { message_of number self.old.unanswered ≡ None → IsOk result }
         ensures err { OnErr result (recovery_state self.new (R.shown rows.new) ≡ recovery_state self.old (R.shown rows.old)) }
         ensures rest { R.rest rows.new ≡ R.rest rows.old }
     {
