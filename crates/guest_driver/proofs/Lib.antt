@@ -7,4 +7,5 @@ pub mod ExtentLemmas
 pub mod NextLemmas
 pub mod BeginLemmas
 pub mod WorkLemmas
+pub mod RefusalLemmas
 mod WorkedRequests

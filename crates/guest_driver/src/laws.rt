@@ -1,16 +1,19 @@
 //! Laws of the definitions, for the proofs of the layers above: each is the contract of a function that does nothing.
 ghost use Rattle.std.specs.Prelude.{◌≡◌, ℕ, ◌+◌, ◌%◌, ◌<◌, ◌≤◌, List, [], ◌∷◌, ◌++◌, length, map, filter, flat_map, All, Some, None};
-ghost use Rattle.std.specs.Prelude.{IfSome, IsTrue, is_some};
+ghost use Rattle.std.specs.Prelude.{IfSome, IsTrue, is_some, Bool, true, false, nat_le, if◌then◌else◌};
+ghost use Rattle.object_id.specs.declared.cause.Cause.TheVariants.{NoVdi, Readonly, VdiNotLocked, InvalidParms};
 ghost use Rattle.object_id.specs.declared.entry.VdiSpec.{VdiSpec};
 ghost use Rattle.object_id.specs.Oid.{IsVid};
 ghost use Rattle.object_id.specs.Spec.{IsSpec, objects_of};
 ghost use Rattle.inode.specs.Layout.{Content};
 ghost use Rattle.peer_proto.specs.declared.guest.DiskAsk.{DiskAsk};
+ghost use Rattle.peer_proto.specs.declared.guest.DiskAsk.TheVariants.{Read, Write};
 ghost use Rattle.peer_proto.specs.declared.work.ObjWork.{ObjWork};
 ghost use Rattle.peer_proto.specs.declared.guest.GuestRsp.TheVariants.{Done, Piece as Told};
 ghost use Rattle.guest_driver.specs.declared.act.DriverAct.TheVariants.{Reply};
 ghost use Rattle.guest_driver.specs.declared.disk.Disk.{Disk as TheDisk};
 ghost use Rattle.guest_driver.specs.Pieces.{Piece, indexes, pieces, piece_bytes, is_ask, IsPiece, AreBlocks};
+ghost use Rattle.guest_driver.specs.Refusals.{disk_refusal};
 ghost use Rattle.guest_driver.specs.Driver.{Driver, read_on, write_on, begin_driver, driver_on_done, driver_bytes_wanted};
 ghost use Rattle.guest_driver.specs.Course.{Goes, inode_after, driver_acts_from, has_object, read_act, told_of, write_acts, answers};
 ghost use Rattle.guest_driver.specs.OnDisk.{IsDriverOn};
@@ -74,6 +77,21 @@ pub fn a_driver_begins_works()
 pub fn a_driver_waits_for_works()
     ensures { (inode : Content) (bytes : List ℕ) (driver : Driver)
         → is_some (driver_on_done inode bytes driver) ≡ is_some (driver_bytes_wanted inode driver) }
+{}
+
+/// Which reads and writes are refused on the spot, by what the session has open: all without a disk; every write on a snapshot, and
+/// every read on one that is deleted, whatever their place; and of the others those that end past the disk.
+pub fn asks_are_refused_on_the_spot_so()
+    ensures closed { (deleted : Bool) (ask : DiskAsk) → disk_refusal None deleted ask ≡ Some VdiNotLocked }
+    ensures written { (disk : TheDisk) (deleted : Bool) (offset : ℕ) (bytes : List ℕ) → disk.snapshot ≡ true
+        → disk_refusal (Some disk) deleted (Write offset bytes) ≡ Some Readonly }
+    ensures deleted { (disk : TheDisk) (offset size : ℕ) → disk.snapshot ≡ true
+        → disk_refusal (Some disk) true (Read offset size) ≡ Some NoVdi }
+    ensures reads { (disk : TheDisk) (offset size : ℕ) → disk_refusal (Some disk) false (Read offset size)
+        ≡ (if nat_le (offset + size) disk.inode.spec.size then None else Some InvalidParms) }
+    ensures writes { (disk : TheDisk) (deleted : Bool) (offset : ℕ) (bytes : List ℕ) → disk.snapshot ≡ false
+        → disk_refusal (Some disk) deleted (Write offset bytes)
+        ≡ (if nat_le (offset + length bytes) disk.inode.spec.size then None else Some InvalidParms) }
 {}
 
 /// Works on an inode are done one at a time, in the order in which they came.

@@ -37,8 +37,8 @@ pub use driver::{Driver, begin_disk};
 pub use inode_queue::InodeQueue;
 pub use laws::{
     a_driver_begins_works, a_driver_waits_for_works, a_read_goes_by_its_pieces,
-    a_write_goes_by_its_entries, entries_follow_their_objects, pieces_are_the_request,
-    the_line_keeps_its_order,
+    a_write_goes_by_its_entries, asks_are_refused_on_the_spot_so, entries_follow_their_objects,
+    pieces_are_the_request, the_line_keeps_its_order,
 };
 pub use peer_proto::{DiskAsk, GuestRsp};
 pub use refusals::{disk_refusal, is_ask};

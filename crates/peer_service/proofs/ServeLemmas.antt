@@ -238,6 +238,29 @@ write_none peer key offset bytes recovered none =
     ap (λ b. step_if_recovered b peer (peer_write_step (write_at peer.rows key offset bytes) peer)) recovered
     ∙ ap (λ (o : Option SeenRow). peer_write_step (on_open (offset + length bytes) o (λ r. rows_written peer key offset bytes)) peer) none
 
+-- a read is told what the open row has
+pub read_row : (peer : Peer) (key : Key) (offset size : ℕ) (row : SeenRow) → is_waiting peer key.oid ≡ false
+    → open_row peer.rows key ≡ Some row → MayServe peer (asks.Read key offset size)
+    → (own_epoch_step (asks.Read key offset size) peer).say ≡ says.Piece (piece_at row.bytes offset size)
+unfolding own_epoch_step
+read_row peer key offset size row recovered opened may =
+    ap (λ b. (step_if_recovered b peer (peer_say_step (piece_or_refusal (read_at peer.rows key offset size)) peer)).say) recovered
+    ∙ ap (λ (o : Option SeenRow). piece_or_refusal (on_open (offset + size) o (λ r. piece_at r.bytes offset size))) opened
+    ∙ ap piece_or_refusal (inside (offset + size) (length row.bytes) (piece_at row.bytes offset size) (subst (EndsInside (offset + size)) opened may))
+
+pub read_waiting : (peer : Peer) (key : Key) (offset size : ℕ) → is_waiting peer key.oid ≡ true
+    → (own_epoch_step (asks.Read key offset size) peer).say ≡ says.Refused refusals.Recovery
+unfolding own_epoch_step
+read_waiting peer key offset size waits =
+    ap (λ b. (step_if_recovered b peer (peer_say_step (piece_or_refusal (read_at peer.rows key offset size)) peer)).say) waits
+
+pub read_none : (peer : Peer) (key : Key) (offset size : ℕ) → is_waiting peer key.oid ≡ false
+    → open_row peer.rows key ≡ None → (own_epoch_step (asks.Read key offset size) peer).say ≡ says.Refused refusals.NoObj
+unfolding own_epoch_step
+read_none peer key offset size recovered none =
+    ap (λ b. (step_if_recovered b peer (peer_say_step (piece_or_refusal (read_at peer.rows key offset size)) peer)).say) recovered
+    ∙ ap (λ (o : Option SeenRow). piece_or_refusal (on_open (offset + size) o (λ r. piece_at r.bytes offset size))) none
+
 -- a write leaves the rows as they were, or as the store's call makes them
 write_left : (P : AllRows → Type 0) (peer : Peer) (key : Key) (offset : ℕ) (bytes : List ℕ) → P peer.rows
     → P (result_unwrap_or (write_at peer.rows key offset bytes) peer.rows) → P (own_epoch_step (asks.Write key offset bytes) peer).peer.rows

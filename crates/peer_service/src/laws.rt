@@ -1,5 +1,5 @@
 //! Laws of the definitions, for the proofs of the layers above: each is the contract of a function that does nothing.
-ghost use Rattle.std.specs.Prelude.{◌≡◌, ◌≢◌, ◌↔◌, ℕ, ◌+◌, ◌*◌, ◌^◌, ◌<◌, ◌≤◌, ◌&&◌, true, false, IsTrue, List, [], ◌∷◌, length, map};
+ghost use Rattle.std.specs.Prelude.{◌≡◌, ◌≢◌, ◌↔◌, ℕ, ◌+◌, ◌*◌, ◌^◌, ◌<◌, ◌≤◌, ◌&&◌, true, false, IsTrue, List, [], ◌∷◌, length, map, take, drop};
 ghost use Rattle.std.specs.Prelude.{filter, Option, Some, None, Ok, if◌then◌else◌};
 ghost use Rattle.std.specs.FinMap as tree;
 ghost use Rattle.std.specs.Option.{option_map_or};
@@ -103,6 +103,18 @@ pub fn what_a_write_leaves()
         → Has row (rows_of peer.rows key.oid) → Has row (rows_of (own_epoch_step (asks.Write key offset bytes) peer).peer.rows key.oid) }
     ensures pending { (peer : Peer) (key : Key) (offset : ℕ) (bytes : List ℕ)
         → (own_epoch_step (asks.Write key offset bytes) peer).peer.pending ≡ peer.pending }
+{}
+
+/// A Read is told the bytes of the open row of its key, once the object is recovered, and changes nothing.
+pub fn what_a_read_tells()
+    ensures row { (peer : Peer) (key : Key) (offset size : ℕ) (row : SeenRow) → is_waiting peer key.oid ≡ false
+        → open_row peer.rows key ≡ Some row → MayServe peer (asks.Read key offset size)
+        → (own_epoch_step (asks.Read key offset size) peer).say ≡ says.Piece (take size (drop offset row.bytes)) }
+    ensures waiting { (peer : Peer) (key : Key) (offset size : ℕ) → is_waiting peer key.oid ≡ true
+        → (own_epoch_step (asks.Read key offset size) peer).say ≡ says.Refused refusals.Recovery }
+    ensures none { (peer : Peer) (key : Key) (offset size : ℕ) → is_waiting peer key.oid ≡ false
+        → open_row peer.rows key ≡ None → (own_epoch_step (asks.Read key offset size) peer).say ≡ says.Refused refusals.NoObj }
+    ensures stays { (peer : Peer) (key : Key) (offset size : ℕ) → (own_epoch_step (asks.Read key offset size) peer).peer ≡ peer }
 {}
 
 /// What a request must meet can be tested.

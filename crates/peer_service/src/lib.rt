@@ -24,7 +24,7 @@ pub use laws::{
     a_peer_worked_out, conditions_are_tests, entering_drops_no_row, lists_and_rows_are_always_told,
     open_rows_are_from_epochs_so_far, other_epochs_are_refused, places_worked_out,
     refusals_change_nothing, row_sizes_worked_out, rows_go_with_their_disk,
-    settling_drops_closed_rows, what_a_create_leaves, what_a_write_leaves,
+    settling_drops_closed_rows, what_a_create_leaves, what_a_read_tells, what_a_write_leaves,
     who_comes_back_has_closed_rows,
 };
 pub use peer_state::PeerState;

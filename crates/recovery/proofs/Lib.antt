@@ -4,6 +4,7 @@ pub mod ExampleLemmas
 pub mod PendingLemmas
 pub mod ListingLemmas
 pub mod TakenLemmas
+pub mod AskedLevels
 pub mod RangeLemmas
 pub mod FlightLemmas
 pub mod LevelLemmas

@@ -1,7 +1,8 @@
 -- Where the rows that are taken at a level come from.
-use Rattle.std.proofs.Common.{◌≡◌, ◌⊎◌, inl, inr, ◌==◌, nat_lt, Bool, true, false, cond, List, [], ◌∷◌, length, take, drop, fold, Contains, Option, None, Some, refl, ap, subst, ◌∙◌}
+use Rattle.std.proofs.Common.{◌≡◌, ◌⊎◌, inl, inr, ◌==◌, nat_lt, Bool, true, false, cond, List, [], ◌∷◌, length, take, drop, fold, Contains, Option, None, Some, refl, ap, sym, subst, ◌∙◌, arith}
 use Rattle.std.specs.List.{filter_map, cons_option}
 use Rattle.std.proofs.lemmas.Bool.{leb-true}
+use Rattle.std.proofs.lemmas.Bool.Decides.{nat_tests}
 use Rattle.std.proofs.lemmas.List.{length-take-le, take-append-drop}
 use Rattle.std.proofs.lemmas.List.Elements.{Contains-append_left}
 use Rattle.proof_tools.proofs.Lists.{Contains-head, Contains-cons, Contains-nil, Contains-cons_cases}
@@ -14,7 +15,7 @@ use Rattle.object_id.specs.Policy.{need_of}
 use Rattle.object_store.specs.declared.row.RowCopy.{RowCopy}
 use Rattle.recovery.specs.Shown.{own_row}
 use Rattle.recovery.specs.State.{Search, RecoveryState}
-use Rattle.recovery.specs.Level.{row_of_target, rows_found, put_by_index, rows_in_order, rows_taken, are_enough}
+use Rattle.recovery.specs.Level.{answered_row, row_of_target, rows_found, put_by_index, rows_in_order, rows_taken, are_enough}
 
 -- a row that is put is new or was there
 
@@ -110,3 +111,28 @@ pub found_at_targets : (state : RecoveryState) (policy : Policy) (search : Searc
 found_at_targets state policy search row there =
     filter_map_only (row_of_target state.recovery.me (own_row state.shown search.oid search.level) search.answers)
     (state.shown.targets search.level search.oid policy) row there
+
+-- ---- the node's own row
+
+-- what is given of an item is there
+filter_map_has : {A B : Type 0} (h : A → Option B) (xs : List A) (x : A) (y : B) → Contains xs x → h x ≡ Some y → Contains (filter_map h xs) y
+filter_map_has h [] x y there is = absurd (Contains-nil x there)
+filter_map_has {A} {B} h (z ∷ xs) x y there is = by_case (λ now. filter_map_has h xs x y now is) (Contains-cons_cases z xs x there)
+  where
+    further : (o : Option B) → Contains (filter_map h xs) y → Contains (cons_option o (filter_map h xs)) y
+    further None now = now
+    further (Some w) now = Contains-cons w (filter_map h xs) y now
+
+    by_case : (Contains xs x → Contains (filter_map h xs) y) → (z ≡ x) ⊎ Contains xs x → Contains (cons_option (h z) (filter_map h xs)) y
+    by_case later (inl same) =
+        subst (λ (o : Option B). Contains (cons_option o (filter_map h xs)) y) (sym (ap h same ∙ is)) (Contains-head y (filter_map h xs))
+    by_case later (inr now) = further (h z) (later now)
+
+pub own_row_found : (state : RecoveryState) (policy : Policy) (search : Search) (row : RowCopy)
+    → Contains (state.shown.targets search.level search.oid policy) state.recovery.me
+    → own_row state.shown search.oid search.level ≡ Some row → Contains (rows_found state policy search) row
+own_row_found state policy search row there is =
+    let same : (state.recovery.me.0 == state.recovery.me.0) ≡ true = grind (arith, nat_tests) in
+    filter_map_has (row_of_target state.recovery.me (own_row state.shown search.oid search.level) search.answers)
+    (state.shown.targets search.level search.oid policy) state.recovery.me row there
+    (ap (λ b. cond b (own_row state.shown search.oid search.level) (answered_row state.recovery.me search.answers)) same ∙ is)

@@ -18,6 +18,7 @@ ghost use Rattle.gf256.specs.Part.{IsAligned, part};
 ghost use Rattle.object_store.specs.declared.key.Key.{Key};
 ghost use Rattle.object_store.specs.declared.row.RowCopy.{RowCopy};
 ghost use Rattle.object_store.specs.Store.{rows_of, row_bytes};
+ghost use Rattle.object_list.specs.Gathered.{has_node};
 ghost use Rattle.object_list.specs.Union.{union};
 ghost use Rattle.peer_proto.specs.declared.ask.PeerAsk.TheVariants as asks;
 ghost use Rattle.peer_proto.specs.declared.ask.PeerReq.{PeerReq};
@@ -29,7 +30,7 @@ ghost use Rattle.recovery.specs.State.{Message, Search, RecoveryState, search_at
 ghost use Rattle.recovery.specs.State.{MayBegin, MayTick};
 ghost use Rattle.recovery.specs.Level.{row_of_target, by_index, rows_taken, indexes_of, part_from_rows, own_index, rows_found, are_enough};
 ghost use Rattle.recovery.specs.Level.{level_over, is_of_search, searching};
-ghost use Rattle.recovery.specs.Tick.{with_messages, tick_messages, tick_sends, state_after_tick};
+ghost use Rattle.recovery.specs.Tick.{level_asked, with_messages, tick_messages, tick_sends, state_after_tick};
 ghost use Rattle.recovery.specs.Frame.{frame, WaitsForLists};
 ghost use Rattle.recovery.specs.Steps.{to_recover, recovery_from_epoch, without_unanswered};
 ghost use Rattle.recovery.specs.Steps.{search_after_answer, message_end, recovery_on_reply, recovery_on_loss};
@@ -154,6 +155,21 @@ pub fn taken_rows_are_of_the_level()
         → length (rows_taken policy kind rows) ≡ need_of policy kind }
     // Strips are taken of different indexes.
     ensures strips { (d p : ℕ) (rows : List RowCopy) → rows_taken (Coded d p) Block rows ≡ take d (by_index rows) }
+{}
+
+/// A level is asked of those of its targets that are members by now, but for the node itself: of that its own row counts, where it
+/// is a target and the row holds the level.
+pub fn a_level_is_asked_of_members()
+    ensures members { (first : ℕ) (state : RecoveryState) (search : Search) (policy : Policy)
+        → All (λ (message : Message). has_node message.to state.recovery.members ≡ true) (level_asked first state search policy) }
+    ensures targets { (first : ℕ) (state : RecoveryState) (search : Search) (policy : Policy)
+        → All (λ (message : Message). Contains (state.shown.targets search.level search.oid policy) message.to)
+        (level_asked first state search policy) }
+    ensures others { (first : ℕ) (state : RecoveryState) (search : Search) (policy : Policy)
+        → All (λ (message : Message). message.to.0 ≢ state.recovery.me.0) (level_asked first state search policy) }
+    ensures own { (state : RecoveryState) (policy : Policy) (search : Search) (row : RowCopy)
+        → Contains (state.shown.targets search.level search.oid policy) state.recovery.me
+        → own_row state.shown search.oid search.level ≡ Some row → Contains (rows_found state policy search) row }
 {}
 
 /// Where the taken rows have parts of some bytes, the part that is made by them is of the same bytes.

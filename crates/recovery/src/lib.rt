@@ -26,10 +26,10 @@ mod sends;
 mod ticks;
 
 pub use laws::{
-    a_recovery_worked_out, levels_are_left_after_all_answers, lists_come_before_searches,
-    messages_are_unanswered_until_they_end, old_messages_only_become_answered,
-    parts_are_of_the_same_bytes, taken_rows_are_of_the_level, what_a_step_needs_stays,
-    what_is_asked_can_be_spelled, what_is_pending,
+    a_level_is_asked_of_members, a_recovery_worked_out, levels_are_left_after_all_answers,
+    lists_come_before_searches, messages_are_unanswered_until_they_end,
+    old_messages_only_become_answered, parts_are_of_the_same_bytes, taken_rows_are_of_the_level,
+    what_a_step_needs_stays, what_is_asked_can_be_spelled, what_is_pending,
 };
 pub use recovery::Recovery;
 pub use rows::Rows;
