@@ -17,8 +17,8 @@ use sheep_world::Run;
 use std::alloc::Global;
 use std::marker::Model;
 
-/// The cells of the nodes, by ascending number, at most one a node, and the steps at which no node stepped, as they were made. No cell is spent.
-/// Contracts see the record `Kept` of `schedule`.
+/// The cells of the nodes, by ascending number, at most one a node, and the steps at which no node stepped, as they were made. No cell is
+/// spent. Contracts see the record `Kept` of `schedule`.
 #[derive(Drop)]
 pub struct Kept {
     cells: Vec<NodeCell>,
@@ -123,8 +123,8 @@ impl Kept {
         Ok(steps)
     }
 
-    /// The run into which what is kept merges, from the opening world of its script, with its history; or the place of the first step, by stamp,
-    /// that clashes with those before it. Costs copies of all steps, and making them.
+    /// The run into which what is kept merges, from the opening world of its script, with its history; or the place of the first step, by
+    /// stamp, that clashes with those before it. Costs copies of all steps, and making them.
     pub fn merged(&self, alloc: Global, script: &Script) -> Result<Run, MergeFault>
         ensures merge { IfOk result (λ run. IsMergeOf script.now self.now run.events) }
         ensures history { IfOk result (λ run. IsKept script.now run) }

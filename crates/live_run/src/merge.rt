@@ -137,8 +137,8 @@ pub fn merge_round(
     Ok(take_phases(script, world, run, taken)?)
 }
 
-/// The run into which steps merge, from the opening world of their script, with its history; or the place of the first step that clashes with
-/// those before it.
+/// The run into which steps merge, from the opening world of their script, with its history; or the place of the first step that clashes
+/// with those before it.
 #[tactic(auto, using(crate::proofs::OpeningLemmas::opening_live, crate::proofs::OpeningLemmas::opening_ends, crate::proofs::OpeningLemmas::opening_merged, crate::proofs::OpeningLemmas::opening_clash, crate::proofs::OpeningLemmas::ends_kept))]
 pub fn merge_all(alloc: Global, script: &Script, steps: &[Step]) -> Result<Run, MergeFault>
     ensures merged { IfOk result (λ run. Merges script.now (map kept_step steps.now) run.events) }
