@@ -15,11 +15,11 @@ use Rattle.proof_tools.proofs.FiniteMaps.{is_sorted-from_keys, entries-from_entr
 use Rattle.live_cells.specs.declared.step.Step.{Step}
 use Rattle.live_cells.specs.Cell.{CellState}
 use Rattle.schedule.specs.Merged.{Kept, KeptStep, all_steps, stamp_of, IsByStamp}
-use Rattle.live_run.specs.Steps.{kept_step}
-use Rattle.live_run.specs.KeptSteps.{cell_entry, kept_of, with_cell, with_other, AreCells}
+use Rattle.live_run.specs.Steps.{kept_step, IsOther}
+use Rattle.live_run.specs.KeptSteps.{cell_entry, kept_of, with_cell, with_other, AreKept}
 
 -- the cells are the map's entries
-pub entries_cells : (cells : List CellState) (others : List Step) → AreCells cells
+pub entries_cells : (cells : List CellState) (others : List Step) → AreKept cells others
     → tree.entries (kept_of cells others).cells ≡ map cell_entry cells
 entries_cells cells others are = entries-from_entries (map cell_entry cells) (is_sorted-from_keys (map cell_entry cells) are.ascending)
 
@@ -33,7 +33,7 @@ steps_in_kept (cell ∷ cells) =
     map-append kept_step cell.steps (steps_in cells)
     ∙ ap (λ (later : List KeptStep). map kept_step cell.steps ++ later) (steps_in_kept cells)
 
-pub all_in_order : (cells : List CellState) (others : List Step) → AreCells cells
+pub all_in_order : (cells : List CellState) (others : List Step) → AreKept cells others
     → map kept_step (steps_in cells ++ others) ≡ all_steps (kept_of cells others)
 all_in_order cells others are =
     map-append kept_step (steps_in cells) others
@@ -115,18 +115,19 @@ keys-push : (entries : List (ℕ × List KeptStep)) (entry : ℕ × List KeptSte
 keys-push [] entry = refl
 keys-push (first ∷ entries) entry = ap (λ (keys : List ℕ). first.0 ∷ keys) (keys-push entries entry)
 
-module _ (cells : List CellState) (others : List Step) (cell : CellState) (are : AreCells cells)
+module _ (cells : List CellState) (others : List Step) (cell : CellState) (are : AreKept cells others)
     (later : All (λ (number : ℕ). number < cell.node.me.0) (tree.keys (kept_of cells others).cells)) where
   below-it : All (λ (number : ℕ). number < cell.node.me.0) (keys_of (map cell_entry cells))
   below-it = subst (λ (entries : List (ℕ × List KeptStep)). All (λ (number : ℕ). number < cell.node.me.0) (keys_of entries)) (entries_cells cells others are) later
 
-  pub cells_more : cell.spent ≡ false → AreCells (cells ++ cell ∷ [])
+  pub cells_more : cell.spent ≡ false → AreKept (cells ++ cell ∷ []) others
   cells_more live = record {
     live = All-push (λ (cell : CellState). cell.spent ≡ false) cells cell are.live live;
     ascending =
         subst (IsStrictlySortedBy nat_cmp)
         (sym (ap keys_of (map-append cell_entry cells (cell ∷ [])) ∙ keys-push (map cell_entry cells) (cell_entry cell)))
         (sorted-push (keys_of (map cell_entry cells)) cell.node.me.0 are.ascending below-it);
+    of_no_node = are.of_no_node;
   }
 
   pub kept_more : kept_of (cells ++ cell ∷ []) others ≡ with_cell cell (kept_of cells others)
@@ -136,6 +137,11 @@ module _ (cells : List CellState) (others : List Step) (cell : CellState) (are :
       ∙ ap (λ (entries : tree.FinMap nat_cmp (List KeptStep)). record { cells = entries; others = map kept_step others })
       (tree.from_entries_push nat_cmp_total tree.nat_cmp-IsAntisymmetric (map cell_entry cells) cell.node.me.0 (map kept_step cell.steps)
       (find-none (map cell_entry cells) cell.node.me.0 below-it))
+
+-- one other step more
+pub others_more : (cells : List CellState) (others : List Step) (step : Step) → AreKept cells others → IsOther step
+    → AreKept cells (others ++ step ∷ [])
+others_more cells others step are one = record { live = are.live; ascending = are.ascending; of_no_node = All-push IsOther others step are.of_no_node one }
 
 pub kept_other : (cells : List CellState) (others : List Step) (step : Step)
     → kept_of cells (others ++ step ∷ []) ≡ with_other step (kept_of cells others)

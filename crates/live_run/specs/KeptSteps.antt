@@ -9,7 +9,7 @@ use Rattle.sheep_world.specs.Run.{initial_moment}
 use Rattle.live_cells.specs.declared.step.Step.{Step}
 use Rattle.live_cells.specs.Cell.{CellState}
 use Rattle.schedule.specs.Merged.{Kept, KeptStep, IsByStamp, IsClashAt}
-use Rattle.live_run.specs.Steps.{kept_step}
+use Rattle.live_run.specs.Steps.{kept_step, IsOther}
 
 -- the number of a cell's node, and its steps
 abbrev pub cell_entry : CellState → ℕ × List KeptStep
@@ -30,10 +30,11 @@ with_cell cell kept = record kept { cells = tree.insert kept.cells cell.node.me.
 abbrev pub with_other : Step → Kept → Kept
 with_other step kept = record kept { others = kept.others ++ kept_step step ∷ [] }
 
--- no cell is spent, and they ascend by the numbers of their nodes
-pub record AreCells (cells : List CellState) : Type 0 where
+-- no cell is spent, and they ascend by the numbers of their nodes; and at the other steps no node stepped
+pub record AreKept (cells : List CellState) (others : List Step) : Type 0 where
   pub live : All (λ (cell : CellState). cell.spent ≡ false) cells
   pub ascending : IsStrictlySortedBy nat_cmp (keys_of (map cell_entry cells))
+  pub of_no_node : All IsOther others
 
 -- the steps that were kept clash at a place, by stamp
 abbrev pub Clashes : List Statement → Kept → ℕ → Type 0

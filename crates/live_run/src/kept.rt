@@ -1,11 +1,11 @@
 //! What a live cluster kept, and the run into which it merges.
 
-ghost use Rattle.std.specs.Prelude.{◌≡◌, ◌<◌, ◌++◌, ℕ, false, [], ◌∷◌, map, None, Err, IfOk, OnOk, All};
+ghost use Rattle.std.specs.Prelude.{◌≡◌, ◌<◌, ◌++◌, ℕ, false, [], ◌∷◌, map, Err, IfOk, OnOk, All};
 ghost use Rattle.std.specs.FinMap as tree;
 ghost use Rattle.sheep_world.specs.Run.{IsKept};
 ghost use Rattle.schedule.specs.Merged.{all_steps, IsByStamp, IsMergeOf};
 ghost use Rattle.live_run.specs.declared.fault.MergeFault.TheVariants as faults;
-ghost use Rattle.live_run.specs.Steps.{kept_step};
+ghost use Rattle.live_run.specs.Steps.{kept_step, IsOther};
 ghost use Rattle.live_run.specs.KeptSteps.{cell_entry, nothing_kept, with_cell, with_other, Clashes};
 
 use crate::fault::MergeFault;
@@ -18,7 +18,7 @@ use std::alloc::Global;
 use std::marker::Model;
 
 /// The cells of the nodes, by ascending number, at most one a node, and the steps at which no node stepped, as they were made. No cell is
-/// spent. Contracts see the record `Kept` of `schedule`.
+/// spent, and each of the other steps is above every stamp that was brought to it. Contracts see the record `Kept` of `schedule`.
 #[derive(Drop)]
 pub struct Kept {
     cells: Vec<NodeCell>,
@@ -31,7 +31,7 @@ impl Model for Kept {
     ghost use Rattle.std.specs.FinMap as tree;
     ghost use Rattle.std.specs.Ordering.{nat_cmp};
     ghost use Rattle.schedule.specs.Merged.{Kept as TheKept, KeptStep};
-    ghost use Rattle.live_run.specs.KeptSteps.{kept_of, AreCells};
+    ghost use Rattle.live_run.specs.KeptSteps.{kept_of, AreKept};
 
     ghost Value = { TheKept };
 
@@ -39,7 +39,7 @@ impl Model for Kept {
 
     ghost view = { λ kept. kept_of kept.cells.items kept.others.items };
 
-    ghost invariant = { λ kept. AreCells kept.cells.items };
+    ghost invariant = { λ kept. AreKept kept.cells.items kept.others.items };
 }
 
 /// Copies of these steps stand behind the others.
@@ -75,9 +75,9 @@ impl Kept {
     }
 
     /// A step at which no node stepped.
-    #[tactic(auto, using(crate::proofs::KeptLemmas::kept_other))]
+    #[tactic(auto, using(crate::proofs::KeptLemmas::others_more, crate::proofs::KeptLemmas::kept_other))]
     pub fn add_other(&mut self, step: Step) -> Result<(), NoMemory>
-        requires { step.input ≡ None }
+        requires { IsOther step }
         ensures { OnOk result (self.new ≡ with_other step self.old) }
     {
         self.others.push(step)?;
@@ -95,7 +95,8 @@ impl Kept {
 
     /// The steps at which no node stepped, as they were made. Takes no memory.
     pub fn others(&self) -> &[Step]
-        ensures { map kept_step result.now ≡ self.now.others }
+        ensures steps { map kept_step result.now ≡ self.now.others }
+        ensures others { All IsOther result.now }
     {
         self.others.as_slice()
     }
