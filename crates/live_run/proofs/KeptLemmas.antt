@@ -16,16 +16,12 @@ use Rattle.live_cells.specs.declared.step.Step.{Step}
 use Rattle.live_cells.specs.Cell.{CellState}
 use Rattle.schedule.specs.Merged.{Kept, KeptStep, all_steps, stamp_of, IsByStamp}
 use Rattle.live_run.specs.Steps.{kept_step, IsOther}
-use Rattle.live_run.specs.KeptSteps.{cell_entry, kept_of, with_cell, with_other, AreKept}
+use Rattle.live_run.specs.KeptSteps.{cell_entry, steps_in, kept_steps_of, with_cell, with_other, IsWellKept}
 
 -- the cells are the map's entries
-pub entries_cells : (cells : List CellState) (others : List Step) → AreKept cells others
-    → tree.entries (kept_of cells others).cells ≡ map cell_entry cells
+pub entries_cells : (cells : List CellState) (others : List Step) → IsWellKept cells others
+    → tree.entries (kept_steps_of cells others).cells ≡ map cell_entry cells
 entries_cells cells others are = entries-from_entries (map cell_entry cells) (is_sorted-from_keys (map cell_entry cells) are.ascending)
-
--- the steps of these cells, one behind the other
-abbrev pub steps_in : List CellState → List Step
-steps_in cells = flat_map (λ (cell : CellState). cell.steps) cells
 
 steps_in_kept : (cells : List CellState) → map kept_step (steps_in cells) ≡ flat_map (λ (cell : ℕ × List KeptStep). cell.1) (map cell_entry cells)
 steps_in_kept [] = refl
@@ -33,8 +29,8 @@ steps_in_kept (cell ∷ cells) =
     map-append kept_step cell.steps (steps_in cells)
     ∙ ap (λ (later : List KeptStep). map kept_step cell.steps ++ later) (steps_in_kept cells)
 
-pub all_in_order : (cells : List CellState) (others : List Step) → AreKept cells others
-    → map kept_step (steps_in cells ++ others) ≡ all_steps (kept_of cells others)
+pub all_in_order : (cells : List CellState) (others : List Step) → IsWellKept cells others
+    → map kept_step (steps_in cells ++ others) ≡ all_steps (kept_steps_of cells others)
 all_in_order cells others are =
     map-append kept_step (steps_in cells) others
     ∙ ap (λ (first : List KeptStep). first ++ map kept_step others)
@@ -82,6 +78,14 @@ by_stamp_kept kept before after all same sorted stable = record {
   ties = subst (λ (steps : List KeptStep). IsStableByKey stamp_of nat_cmp steps (map kept_step after)) all (stable-kept before after stable);
 }
 
+-- nothing is kept yet
+pub none_kept : (cells : List CellState) (others : List Step) → cells ≡ [] → others ≡ [] → IsWellKept cells others
+unfolding IsStrictlySortedBy
+none_kept cells others no_cell no_other =
+    subst (λ (cells : List CellState). IsWellKept cells others) (sym no_cell)
+    (subst (λ (others : List Step). IsWellKept [] others) (sym no_other)
+    (record { live = λ k d within. absurd (omega arith); ascending = tt; of_no_node = λ k d within. absurd (omega arith) }))
+
 -- one cell more
 
 all-push : {X : Type 0} (P : X → Type 0) (xs : List X) (x : X) → AllByRecursion P xs → P x → AllByRecursion P (xs ++ x ∷ [])
@@ -115,12 +119,12 @@ keys-push : (entries : List (ℕ × List KeptStep)) (entry : ℕ × List KeptSte
 keys-push [] entry = refl
 keys-push (first ∷ entries) entry = ap (λ (keys : List ℕ). first.0 ∷ keys) (keys-push entries entry)
 
-module _ (cells : List CellState) (others : List Step) (cell : CellState) (are : AreKept cells others)
-    (later : All (λ (number : ℕ). number < cell.node.me.0) (tree.keys (kept_of cells others).cells)) where
+module _ (cells : List CellState) (others : List Step) (cell : CellState) (are : IsWellKept cells others)
+    (later : All (λ (number : ℕ). number < cell.node.me.0) (tree.keys (kept_steps_of cells others).cells)) where
   below-it : All (λ (number : ℕ). number < cell.node.me.0) (keys_of (map cell_entry cells))
   below-it = subst (λ (entries : List (ℕ × List KeptStep)). All (λ (number : ℕ). number < cell.node.me.0) (keys_of entries)) (entries_cells cells others are) later
 
-  pub cells_more : cell.spent ≡ false → AreKept (cells ++ cell ∷ []) others
+  pub cells_more : cell.spent ≡ false → IsWellKept (cells ++ cell ∷ []) others
   cells_more live = record {
     live = All-push (λ (cell : CellState). cell.spent ≡ false) cells cell are.live live;
     ascending =
@@ -130,7 +134,7 @@ module _ (cells : List CellState) (others : List Step) (cell : CellState) (are :
     of_no_node = are.of_no_node;
   }
 
-  pub kept_more : kept_of (cells ++ cell ∷ []) others ≡ with_cell cell (kept_of cells others)
+  pub kept_more : kept_steps_of (cells ++ cell ∷ []) others ≡ with_cell cell (kept_steps_of cells others)
   kept_more =
       ap (λ (entries : List (ℕ × List KeptStep)). record { cells = tree.from_entries {R = nat_cmp} entries; others = map kept_step others })
       (map-append cell_entry cells (cell ∷ []))
@@ -139,12 +143,12 @@ module _ (cells : List CellState) (others : List Step) (cell : CellState) (are :
       (find-none (map cell_entry cells) cell.node.me.0 below-it))
 
 -- one other step more
-pub others_more : (cells : List CellState) (others : List Step) (step : Step) → AreKept cells others → IsOther step
-    → AreKept cells (others ++ step ∷ [])
+pub others_more : (cells : List CellState) (others : List Step) (step : Step) → IsWellKept cells others → IsOther step
+    → IsWellKept cells (others ++ step ∷ [])
 others_more cells others step are one = record { live = are.live; ascending = are.ascending; of_no_node = All-push IsOther others step are.of_no_node one }
 
 pub kept_other : (cells : List CellState) (others : List Step) (step : Step)
-    → kept_of cells (others ++ step ∷ []) ≡ with_other step (kept_of cells others)
+    → kept_steps_of cells (others ++ step ∷ []) ≡ with_other step (kept_steps_of cells others)
 kept_other cells others step =
     ap (λ (steps : List KeptStep). record { cells = tree.from_entries {R = nat_cmp} (map cell_entry cells); others = steps })
     (map-append kept_step others (step ∷ []))

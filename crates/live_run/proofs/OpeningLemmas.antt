@@ -1,5 +1,6 @@
 -- Merging from the opening world of a script.
 use Rattle.std.proofs.Common.{◌≡◌, ℕ, false, List, [], ◌∷◌, ◌++◌, refl, sym, ap, subst, ◌∙◌}
+use Rattle.std.specs.Prelude.{Result, Err, IsErrAnd}
 use Rattle.std.specs.Option.{option_map}
 use Rattle.cluster_script.specs.declared.statement.Statement.{Statement}
 use Rattle.sheep_node.specs.declared.event.Event.{Event}
@@ -8,7 +9,14 @@ use Rattle.sheep_world.specs.SpentWorld.{WorldOrSpent}
 use Rattle.sheep_world.specs.Opening.{initial_world}
 use Rattle.sheep_world.specs.Run.{Moment, Run, initial_moment, run_from, IsKept}
 use Rattle.schedule.specs.Merged.{KeptStep, MergesFrom, Merges, IsClashAt}
+use Rattle.live_run.specs.declared.fault.MergeFault.{MergeFault}
+use Rattle.live_run.specs.declared.fault.MergeFault.TheVariants as faults
 use Rattle.live_run.specs.Merging.{moment_of, taken_in, EndsIn, HasMerged, HasClashed}
+
+-- a fault that is told is the one that was answered
+pub clash-told : {X : Type 0} (told : Result X MergeFault) (fault : MergeFault) (place : ℕ) → IsErrAnd told (λ other. other ≡ fault)
+    → told ≡ Err (faults.Clash place) → fault ≡ faults.Clash place
+clash-told {X} told fault place gives is = sym (subst (λ (r : Result X MergeFault). IsErrAnd r (λ other. other ≡ fault)) is gives)
 
 module _ (statements : List Statement) where
   -- the opening world, as it is made

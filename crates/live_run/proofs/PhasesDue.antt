@@ -1,5 +1,5 @@
 -- When Phase is due, and that taking it comes to an end.
-use Rattle.std.proofs.Common.{◌≡◌, ℕ, ◌+◌, ◌-◌, ◌<◌, ◌≤◌, nat_le, Bool, true, false, not, ◌&&◌, ◌||◌, ◌==◌, List, [], ◌∷◌, ◌++◌, length, slice_get, Option, Some, None, is_none, refl, sym, ap, ◌∙◌, arith}
+use Rattle.std.proofs.Common.{◌≡◌, ℕ, suc, ◌+◌, ◌-◌, ◌<◌, ◌≤◌, nat_le, Bool, true, false, not, ◌&&◌, ◌||◌, ◌==◌, List, [], ◌∷◌, ◌++◌, length, slice_get, Option, Some, None, is_none, refl, sym, ap, ◌∙◌, arith}
 use Rattle.std.proofs.lemmas.Bool.{and_parts, ltb-true}
 use Rattle.std.proofs.lemmas.Bool.Decides.{nat_tests}
 use Rattle.cluster_script.specs.declared.statement.Statement.{Statement}
@@ -39,9 +39,12 @@ or-false : (b : Bool) → (b || false) ≡ b
 or-false true = refl
 or-false false = refl
 
+positive : (n : ℕ) → (suc n == 0) ≡ false
+positive n = grind (arith, nat_tests)
+
 none-first : {X : Type 0} (xs : List X) → is_none (slice_get xs 0) ≡ (length xs == 0)
 none-first [] = refl
-none-first (x ∷ xs) = refl
+none-first (x ∷ xs) = sym (positive (length xs))
 
 module _ (statements : List Statement) where
   module _ (world : World) (taken : ℕ) where

@@ -1,5 +1,5 @@
 -- What contracts see of what a live cluster kept.
-use Rattle.std.specs.Prelude.{◌≡◌, ◌<◌, ◌≤◌, ◌+◌, ℕ, false, List, [], ◌∷◌, ◌++◌, map, All}
+use Rattle.std.specs.Prelude.{◌≡◌, ◌<◌, ◌≤◌, ◌+◌, ℕ, false, List, [], ◌∷◌, ◌++◌, map, flat_map, All}
 use Rattle.std.specs.Ordering.{nat_cmp}
 use Rattle.std.specs.List.Sorted.{IsStrictlySortedBy}
 use Rattle.std.specs.Map.{keys_of}
@@ -15,9 +15,13 @@ use Rattle.live_run.specs.Steps.{kept_step, IsOther}
 abbrev pub cell_entry : CellState → ℕ × List KeptStep
 cell_entry cell = (cell.node.me.0, map kept_step cell.steps)
 
+-- the steps of these cells, one cell behind the other
+abbrev pub steps_in : List CellState → List Step
+steps_in cells = flat_map (λ (cell : CellState). cell.steps) cells
+
 -- the cells by number, and the other steps
-abbrev pub kept_of : List CellState → List Step → Kept
-kept_of cells others = record { cells = tree.from_entries (map cell_entry cells); others = map kept_step others }
+abbrev pub kept_steps_of : List CellState → List Step → Kept
+kept_steps_of cells others = record { cells = tree.from_entries (map cell_entry cells); others = map kept_step others }
 
 abbrev pub nothing_kept : Kept
 nothing_kept = record { cells = tree.empty; others = [] }
@@ -31,7 +35,7 @@ abbrev pub with_other : Step → Kept → Kept
 with_other step kept = record kept { others = kept.others ++ kept_step step ∷ [] }
 
 -- no cell is spent, and they ascend by the numbers of their nodes; and at the other steps no node stepped
-pub record AreKept (cells : List CellState) (others : List Step) : Type 0 where
+pub record IsWellKept (cells : List CellState) (others : List Step) : Type 0 where
   pub live : All (λ (cell : CellState). cell.spent ≡ false) cells
   pub ascending : IsStrictlySortedBy nat_cmp (keys_of (map cell_entry cells))
   pub of_no_node : All IsOther others

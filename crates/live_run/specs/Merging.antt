@@ -9,6 +9,7 @@ use Rattle.sheep_world.specs.Step.{EventOutcome, step}
 use Rattle.sheep_world.specs.Run.{Moment, Run, run, run_from}
 use Rattle.schedule.specs.Merged.{KeptStep, IsAsKept, is_phase_due, MergesOne, MergesFrom, IsClashAt}
 
+-- whether an event is Phase
 abbrev pub ends_phase : Event → Bool
 ends_phase Phase = true
 ends_phase _ = false

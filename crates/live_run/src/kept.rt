@@ -6,7 +6,7 @@ ghost use Rattle.sheep_world.specs.Run.{IsKept};
 ghost use Rattle.schedule.specs.Merged.{all_steps, IsByStamp, IsMergeOf};
 ghost use Rattle.live_run.specs.declared.fault.MergeFault.TheVariants as faults;
 ghost use Rattle.live_run.specs.Steps.{kept_step, IsOther};
-ghost use Rattle.live_run.specs.KeptSteps.{cell_entry, nothing_kept, with_cell, with_other, Clashes};
+ghost use Rattle.live_run.specs.KeptSteps.{cell_entry, steps_in, nothing_kept, with_cell, with_other, Clashes};
 
 use crate::fault::MergeFault;
 use crate::merge::merge_all;
@@ -31,15 +31,15 @@ impl Model for Kept {
     ghost use Rattle.std.specs.FinMap as tree;
     ghost use Rattle.std.specs.Ordering.{nat_cmp};
     ghost use Rattle.schedule.specs.Merged.{Kept as TheKept, KeptStep};
-    ghost use Rattle.live_run.specs.KeptSteps.{kept_of, AreKept};
+    ghost use Rattle.live_run.specs.KeptSteps.{kept_steps_of, IsWellKept};
 
     ghost Value = { TheKept };
 
     ghost coded = { Prim.hlevel (codes, tree.code {X = List KeptStep} {R = nat_cmp} coded_ℕ (Prim.hlevel codes)) };
 
-    ghost view = { λ kept. kept_of kept.cells.items kept.others.items };
+    ghost view = { λ kept. kept_steps_of kept.cells.items kept.others.items };
 
-    ghost invariant = { λ kept. AreKept kept.cells.items kept.others.items };
+    ghost invariant = { λ kept. IsWellKept kept.cells.items kept.others.items };
 }
 
 /// Copies of these steps stand behind the others.
@@ -50,6 +50,18 @@ fn add_copies(alloc: Global, steps: &mut Vec<Step>, later: &[Step]) -> Result<()
         steps.push(step.copy(alloc)?)?;
     }
     Ok(())
+}
+
+/// Copies of the steps of these cells, one cell behind the other.
+fn steps_of_cells(alloc: Global, cells: &[NodeCell]) -> Result<Vec<Step>, NoMemory>
+    requires { All (λ cell. cell.spent ≡ false) cells.now }
+    ensures { IfOk result (λ steps. steps.items ≡ steps_in cells.now) }
+{
+    let mut steps = Vec::new(alloc);
+    for cell in cells {
+        add_copies(alloc, &mut steps, cell.steps())?;
+    }
+    Ok(steps)
 }
 
 impl Kept {
@@ -64,7 +76,7 @@ impl Kept {
     }
 
     /// The cell of a node, whose number is above those of the cells before it.
-    #[tactic(auto, using(crate::proofs::KeptLemmas::cells_more, crate::proofs::KeptLemmas::kept_more))]
+    #[tactic(auto, using(crate::proofs::KeptLemmas::kept_more))]
     pub fn add_cell(&mut self, cell: NodeCell) -> Result<(), NoMemory>
         requires live { cell.spent ≡ false }
         requires later { All (λ (number : ℕ). number < cell.node.me.0) (tree.keys self.old.cells) }
@@ -85,7 +97,6 @@ impl Kept {
     }
 
     /// The cells, by ascending number of their nodes. Takes no memory.
-    #[tactic(auto, using(crate::proofs::KeptLemmas::entries_cells))]
     pub fn cells(&self) -> &[NodeCell]
         ensures steps { map cell_entry result.now ≡ tree.entries self.now.cells }
         ensures live { All (λ cell. cell.spent ≡ false) result.now }
@@ -102,20 +113,15 @@ impl Kept {
     }
 
     /// Copies of all steps: cell by cell, and then the others.
-    #[tactic(auto, using(crate::proofs::KeptLemmas::steps_more, crate::proofs::KeptLemmas::all_in_order))]
     fn all_steps(&self, alloc: Global) -> Result<Vec<Step>, NoMemory>
         ensures { IfOk result (λ steps. map kept_step steps.items ≡ all_steps self.now) }
     {
-        let mut steps = Vec::new(alloc);
-        for cell in self.cells.as_slice() {
-            add_copies(alloc, &mut steps, cell.steps())?;
-        }
+        let mut steps = steps_of_cells(alloc, self.cells.as_slice())?;
         add_copies(alloc, &mut steps, self.others.as_slice())?;
         Ok(steps)
     }
 
     /// The steps by stamp; those of equal stamps stay as they were.
-    #[tactic(auto, using(crate::proofs::KeptLemmas::by_stamp_kept))]
     fn by_stamp(&self, alloc: Global) -> Result<Vec<Step>, NoMemory>
         ensures { IfOk result (λ steps. IsByStamp self.now (map kept_step steps.items)) }
     {

@@ -86,7 +86,7 @@ fn is_as_kept(world: &World, step: &Step) -> bool
 }
 
 /// Makes a step's event, where it is enabled: whether it is, and makes what the step keeps.
-#[tactic(auto, using(crate::proofs::MergeLemmas::step_made, crate::proofs::MergeLemmas::step_refused))]
+#[tactic(auto, using(crate::proofs::MergeLemmas::step_made))]
 fn merge_step(
     script: &Script,
     world: &mut World,
@@ -108,7 +108,7 @@ fn merge_step(
 /// event isn't enabled in its turn, or makes something else than the step keeps, is a clash: world and run are then as behind the events
 /// before it, and behind it too where it was enabled. Out of memory nothing more is said of either. Costs the steps, and a look at each
 /// event of the run.
-#[tactic(auto, using(crate::proofs::MergeLemmas::merged_nothing, crate::proofs::RoundLemmas::round_more, crate::proofs::RoundLemmas::round_clash, crate::proofs::RoundLemmas::round_ends, crate::proofs::RoundLemmas::round_merged, crate::proofs::RoundLemmas::round_end))]
+#[tactic(auto, using(crate::proofs::MergeLemmas::merged_nothing, crate::proofs::RoundLemmas::round_more))]
 pub fn merge_round(
     script: &Script,
     world: &mut World,
@@ -129,7 +129,8 @@ pub fn merge_round(
     let mut taken = taken_in(run.events());
     for place in 0..steps.len() {
         take_phases(script, world, run, taken)?;
-        if !merge_step(script, world, &steps[place], run)? {
+        let same = merge_step(script, world, &steps[place], run)?;
+        if !same {
             return Err(MergeFault::Clash { place });
         }
         taken += 1;
@@ -139,7 +140,7 @@ pub fn merge_round(
 
 /// The run into which steps merge, from the opening world of their script, with its history; or the place of the first step that clashes
 /// with those before it.
-#[tactic(auto, using(crate::proofs::OpeningLemmas::opening_live, crate::proofs::OpeningLemmas::opening_ends, crate::proofs::OpeningLemmas::opening_merged, crate::proofs::OpeningLemmas::opening_clash, crate::proofs::OpeningLemmas::ends_kept))]
+#[tactic(auto, using(crate::proofs::OpeningLemmas::opening_live, crate::proofs::OpeningLemmas::opening_ends, crate::proofs::OpeningLemmas::opening_merged, crate::proofs::OpeningLemmas::ends_kept))]
 pub fn merge_all(alloc: Global, script: &Script, steps: &[Step]) -> Result<Run, MergeFault>
     ensures merged { IfOk result (λ run. Merges script.now (map kept_step steps.now) run.events) }
     ensures history { IfOk result (λ run. IsKept script.now run) }
