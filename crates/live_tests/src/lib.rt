@@ -3,6 +3,8 @@
 #![tactic(auto)]
 
 #[cfg(test)]
+mod kept_merges;
+#[cfg(test)]
 mod kept_run;
 #[cfg(test)]
 mod merges;
