@@ -86,6 +86,7 @@ pub mod FinishedInMoments
 pub mod UnsettledInMoments
 pub mod TermsInRuns
 pub mod RoomOfScripts
+pub mod ControlsOfText
 pub mod RequestsInSteps
 pub mod SessionsOfRequests
 pub mod EachAttemptKept
@@ -109,3 +110,5 @@ pub mod LogsOfMoments
 pub mod EpochsOfAttempts
 pub mod TrafficWriters
 pub mod TurnsOfWriters
+pub mod RunsWithOneMore
+pub mod KeptSoFar

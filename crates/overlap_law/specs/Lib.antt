@@ -40,3 +40,4 @@ pub mod Traffic
 pub mod TiedAttempts
 pub mod ShapedAttempts
 pub mod RoomOfScripts
+pub mod KeptSoFar

@@ -3,6 +3,7 @@ ghost use Rattle.std.specs.Prelude.{◌≡◌, ◌≢◌, ◌⊎◌, ◌≤◌, 
 ghost use Rattle.std.specs.List.{list_all, AllByRecursion};
 ghost use Rattle.std.specs.FinMap.{get};
 ghost use Rattle.std.specs.Option.{option_map};
+ghost use Rattle.object_id.specs.declared.limits.TheConstants.{INPUT_BYTES_MAX};
 ghost use Rattle.object_id.specs.declared.node.NodeId.{NodeId};
 ghost use Rattle.object_id.specs.declared.oid.Kind.{Kind};
 ghost use Rattle.object_id.specs.declared.entry.Entry.{Entry};
@@ -19,6 +20,7 @@ ghost use Rattle.sheep_world.specs.Began.{Began};
 ghost use Rattle.sheep_world.specs.Run.{run};
 ghost use Rattle.sheep_world.specs.World.{Host, World};
 ghost use Rattle.sheep_world.specs.LogHolds.{MayGrow};
+ghost use Rattle.sheep_world.specs.HoldsTogether.{MessagesAreInRange};
 ghost use Rattle.overlap_law.specs.Attempts.{MessageFate, Flying, Served, AttemptRecord, has_message, attempt_with_fate};
 ghost use Rattle.overlap_law.specs.Words.{Hosts, is_beyond, is_made, is_doomed, has_served, unit_start, unit_end, covers_unit, base_of};
 ghost use Rattle.overlap_law.specs.Words.{own_base_of};
@@ -280,6 +282,16 @@ pub fn epochs_and_nodes_are_kept()
 /// by the leave of a member, which was there at first or came by a control.
 pub fn scripts_of_few_controls_have_room()
     ensures { (script : List Statement) (world : World) → IsScript script → HasFewControls script → Began script world → MayGrow world }
+{}
+
+/// A script that a text may spell has few controls: it has no more than statements, and no more statements than a text may have bytes. So
+/// there is room for one epoch more in each world that its runs reach, and these are in range if what is sent and replied is.
+pub fn scripts_of_a_text_have_room()
+    ensures few { (script : List Statement) → length script ≤ INPUT_BYTES_MAX → HasFewControls script }
+    ensures room { (script : List Statement) (world : World) → IsScript script → length script ≤ INPUT_BYTES_MAX → Began script world
+        → MayGrow world }
+    ensures in_range { (script : List Statement) → IsScript script → length script ≤ INPUT_BYTES_MAX
+        → ((world : World) → Began script world → MessagesAreInRange world) → RunsAreInRange script }
 {}
 
 /// An attempt is for a request of the script, of a session of its gateway's incarnation: each change of a moment keeps that, and so it is

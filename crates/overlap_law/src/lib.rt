@@ -1,8 +1,9 @@
 //! What the overlap of epochs keeps: while nodes are lost, leave, join and come back, and recoveries run, the replies of
 //! every run stay one legal history.
 //!
-//! The crate stands on `sheep_world` and on the crates below it. It has definitions, and laws of them. Beside the world stands
-//! the past of a run (`specs/Past.antt`): all attempts to create or write, with the fate of each message
+//! The crate stands on `sheep_world` and on the crates below it. It has definitions, laws of them, and one call, [`keeps_overlap`],
+//! which makes an event as `sheep_world` does and says what has been proved of the overlap behind it (`specs/KeptSoFar.antt`). Beside the
+//! world stands the past of a run (`specs/Past.antt`): all attempts to create or write, with the fate of each message
 //! (`specs/Attempts.antt`), and what else later words need. Over it stand the words made, mute, doomed, covered and quiet
 //! (`specs/Words.antt`), live holders (`specs/Holders.antt`), the six facts on which the overlap rests
 //! (`specs/Contents.antt`, `specs/Facts.antt`), the headline (`specs/Headline.antt`), beside it that no object is missing
@@ -17,9 +18,11 @@
 //! the group of epochs and nodes says (`specs/NodeEpochs.antt`), and some of the group of writers (`specs/Writers.antt`).
 #![tactic(auto)]
 
+mod kept_event;
 mod laws;
 mod overlap;
 
+pub use kept_event::keeps_overlap;
 pub use laws::{
     a_base_is_made, a_session_has_one_inode_work, an_attempt_begins_where_one_opens,
     an_event_is_a_trail_of_changes, attempts_are_of_epochs_that_began, begun_requests_are_apart,

@@ -3,11 +3,12 @@
 
 use cluster_script::{Script, parse};
 use object_id::{INPUT_BYTES_MAX, NodeId, fnv1a};
+use overlap_law::keeps_overlap;
 use rand_core::SeedableRng;
 use rand_xoshiro::SplitMix64;
 use schedule::{RunFault, generated_text, run_seeded, run_to, step_seeded};
 use sheep_node::Event;
-use sheep_world::{Run, World};
+use sheep_world::{ApplyFault, Run, World};
 use std::alloc::Global;
 use std::test::Fail;
 
@@ -146,4 +147,21 @@ fn makes_the_first_event(rt: HostRuntime) {
         Ok(Some(Event::Phase))
     );
     assert_eq!(rt; first_event(rt.alloc(), b"", 0), Ok(None));
+}
+
+/// What `keeps_overlap` says of an event of the world that a script opens with: nothing where it makes it.
+fn fault_of(alloc: Global, text: &[u8], event: Event) -> Result<Option<ApplyFault>, RunFault> {
+    let script = script_of(alloc, text)?;
+    let mut world = World::new(alloc, &script)?;
+    match keeps_overlap(&script, &mut world, event) {
+        Ok(_) => Ok(None),
+        Err(fault) => Ok(Some(fault)),
+    }
+}
+
+#[test]
+fn keeps_the_overlap(rt: HostRuntime) {
+    assert_eq!(rt; fault_of(rt.alloc(), ONE_DISK, GUEST), Ok(None));
+    let refused = Some(ApplyFault::NotEnabled);
+    assert_eq!(rt; fault_of(rt.alloc(), ONE_DISK, PUT), Ok(refused));
 }

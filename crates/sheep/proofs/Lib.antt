@@ -1,5 +1,6 @@
 pub mod ReplyLists
 pub mod RunInduction
+pub mod GoneRequests
 pub mod EndedRequests
 pub mod GivenReplies
 pub mod PrintedReplies

@@ -29,7 +29,8 @@ use Rattle.sheep.specs.PrintedReplies.{IsGiven, HasReplyLine, PrintsReplies}
 use Rattle.sheep.proofs.ReplyLists.{Contains-filter_map, put-cases, put-others, put-one}
 use Rattle.sheep.proofs.RunInduction.{run-goes_on, run-induction}
 use Rattle.sheep.proofs.ToldRuns.{report-on}
-use Rattle.sheep.proofs.EndedRequests.{HasEnded, ended-stays, ended-silent, replied-one, reply-ends, reply-not_gone, reply-asks, gone-stays}
+use Rattle.sheep.proofs.GoneRequests.{gone-stays}
+use Rattle.sheep.proofs.EndedRequests.{HasEnded, ended-stays, ended-silent, replied-one, reply-ends, reply-not_gone, reply-asks}
 use Rattle.sheep.proofs.GivenReplies.{report-same, printed-given}
 
 -- a number from 1 on is among those

@@ -1,10 +1,11 @@
 //! A case: the world that a script opens with, and the events that are made of it.
 
-ghost use Rattle.std.specs.Prelude.{◌≡◌, false, OnOk, IsErrOf};
+ghost use Rattle.std.specs.Prelude.{◌≡◌, Ok, false, OnOk, IfOk, IsErrOf};
+ghost use Rattle.cluster_script.specs.Script.{script_in};
 ghost use Rattle.trace_text.specs.Lines.{lines_in};
 ghost use Rattle.trace_text.specs.InputParts.{script_part, trace_part};
-ghost use Rattle.step_text.specs.Traces.{IsTaken};
-ghost use Rattle.step_text.specs.Cases.{IsNoScript, HasNoEvent};
+ghost use Rattle.step_text.specs.Traces.{IsTaken, AreTaken};
+ghost use Rattle.step_text.specs.Cases.{IsNoScript, HasNoEvent, HasEnd, IsCase};
 
 use crate::case_fault::CaseFault;
 use crate::history_words::write_history;
@@ -18,18 +19,20 @@ use std::alloc::Global;
 use trace_text::{Lines, event_in, input_parts};
 
 /// Tells what each event of a case gives, and the world that it ends with. An event that may not happen is told as such, and the world
-/// stays.
+/// stays. Nothing is told of a text that is no script, or of a trace with a line that is no event.
 pub fn end_of(alloc: Global, case: &str) -> Result<String, CaseFault>
+    ensures told { OnOk result (IsCase case.now) }
     ensures script { IsErrOf result CaseFault.Script → IsNoScript (script_part case.now) }
     ensures event { IsErrOf result CaseFault.Event → HasNoEvent (lines_in (trace_part case.now)) }
 {
-    let (script, trace) = input_parts(case.as_bytes());
-    let script = script_of(alloc, script)?;
+    let (text, trace) = input_parts(case.as_bytes());
+    let script = script_of(alloc, text)?;
     told(alloc, &script, trace)
 }
 
 /// The script that a text is.
 fn script_of(alloc: Global, text: &[u8]) -> Result<Script, CaseFault>
+    ensures read { IfOk result (λ script. script_in text.now ≡ Ok script) }
     ensures script { IsErrOf result CaseFault.Script → IsNoScript text.now }
     ensures event { IsErrOf result CaseFault.Event → ⊥ }
 {
@@ -45,6 +48,7 @@ fn script_of(alloc: Global, text: &[u8]) -> Result<Script, CaseFault>
 
 /// Opens the world of a script, and tells what the events of a trace give.
 fn told(alloc: Global, script: &Script, trace: &[u8]) -> Result<String, CaseFault>
+    ensures taken { OnOk result (HasEnd script.now (lines_in trace.now)) }
     ensures script { IsErrOf result CaseFault.Script → ⊥ }
     ensures event { IsErrOf result CaseFault.Event → HasNoEvent (lines_in trace.now) }
 {
@@ -60,6 +64,7 @@ fn told_of(
     trace: &[u8],
 ) -> Result<String, CaseFault>
     requires { world.old.spent ≡ false }
+    ensures taken { OnOk result (AreTaken script.now (lines_in trace.now) world.old world.new) }
     ensures script { IsErrOf result CaseFault.Script → ⊥ }
     ensures event { IsErrOf result CaseFault.Event → HasNoEvent (lines_in trace.now) }
 {
@@ -77,6 +82,7 @@ fn make_events(
     trace: &[u8],
 ) -> Result<(), CaseFault>
     requires { world.old.spent ≡ false }
+    ensures taken { OnOk result (AreTaken script.now (lines_in trace.now) world.old world.new) }
     ensures live { OnOk result (world.new.spent ≡ false) }
     ensures script { IsErrOf result CaseFault.Script → ⊥ }
     ensures event { IsErrOf result CaseFault.Event → HasNoEvent (lines_in trace.now) }

@@ -1,7 +1,8 @@
 -- Which ids lose their last reference.
 use Rattle.std.proofs.Common.{◌≡◌, ◌≢◌, ◌⊎◌, inl, inr, ℕ, ◌+◌, ◌-◌, ◌<◌, ◌≤◌, ◌==◌, ◌||◌, ◌&&◌, nat_lt, Bool, true, false, cond, List, [], ◌∷◌, ◌++◌, Option, Some, unwrap_or, refl, ap, sym, subst, ◌∙◌, arith}
 use Rattle.std.specs.Ordering.{nat_cmp}
-use Rattle.std.specs.BTreeMap.{BTreeMap, get}
+use Rattle.std.specs.BTreeMap.{BTreeMap, get, is_at}
+use Rattle.std.specs.Map.{lookup}
 use Rattle.std.proofs.lemmas.Bool.{cases_eq, eqb-true, eq-eqb, ne_eqb, lt-ltb, both_ways}
 use Rattle.std.proofs.lemmas.List.Folds.{list_any-append}
 use Rattle.std.proofs.Math.Bool.{or-false}
@@ -98,6 +99,14 @@ module _ (counts old new : ℕ → ℕ) (dead later : List Vid) (x : Vid) (are :
           let same : old vid ≡ new vid = (let less : old vid ≡ new vid + one x.0 vid = taken vid in let none : one x.0 vid ≡ 0 = one-other x.0 vid apart in omega (arith, less, none)) in
           ap (λ b. has_vid vid dead || b) (ap (λ b. new x.0 == 0 && b) (ne_eqb x.0 vid apart) ∙ and-false (new x.0 == 0)) ∙ or-false (has_vid vid dead)
           ∙ are.lost vid ∙ ap (λ n. nat_lt 0 (counts vid) && n == 0) same
+
+-- what is left and lost stays so, where a tree has the same entries and a list the same ids
+pub losses-kept : (references left later : BTreeMap ℕ ℕ) (dead dead_later : List Vid) → AreLosses (count_in references) (left_in references left) dead
+    → later.entries ≡ left.entries → dead_later ≡ dead → AreLosses (count_in references) (left_in references later) dead_later
+losses-kept references left later dead dead_later are same same_dead =
+    subst (AreLosses (count_in references) (left_in references later)) (sym same_dead)
+    (subst (λ (entries : List (ℕ × ℕ)). AreLosses (count_in references) (λ vid. unwrap_or (lookup (is_at (nat_cmp vid)) entries) (count_in references vid)) dead)
+    (sym same) are)
 
 -- nothing is lost yet
 pub losses-none : (counts left : ℕ → ℕ) (dead : List Vid) → ((vid : ℕ) → left vid ≡ counts vid) → dead ≡ [] → AreLosses counts left dead

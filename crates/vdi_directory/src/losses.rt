@@ -46,7 +46,7 @@ impl Losses {
         requires { 0 < left_in references.now self.old.left vid.0 }
         ensures counts { OnOk result ((other : ℕ) → left_in references.now self.old.left other
             ≡ left_in references.now self.new.left other + one vid.0 other) }
-        ensures err { OnErr result (self.new.left ≡ self.old.left) }
+        ensures err { OnErr result (self.new.left.entries ≡ self.old.left.entries) }
         ensures dead { self.new.dead.items ≡ self.old.dead.items }
         ensures capacity { vec_capacity self.new.dead ≡ vec_capacity self.old.dead }
         ensures key { vid.0 < 2 ^ 32 }
@@ -70,7 +70,7 @@ impl Losses {
             ≡ (if left_in references.now self.new.left vid.0 == 0 then self.old.dead.items ++ vid ∷ [] else self.old.dead.items)) }
         ensures next { IfOk result (λ next. next
             ≡ (if left_in references.now self.new.left vid.0 == 0 then parent_in headers.now vid.0 else None)) }
-        ensures err { OnErr result (self.new.left ≡ self.old.left) }
+        ensures err { OnErr result (self.new.left.entries ≡ self.old.left.entries) }
         ensures err_dead { OnErr result (self.new.dead.items ≡ self.old.dead.items) }
         ensures key { vid.0 < 2 ^ 32 }
     {

@@ -52,11 +52,13 @@ returns-in_err-touch-clause-memory c refuses =
     let has = asker-has number gateway req work found in
     let made_is : c.touches-made.result ≡ (is_making work.work && may_be_made c.args.status)
     = c.touches-made.ensures ∙ ap (λ (w : ObjWork). is_making w && may_be_made c.args.status) c.work.ensures.value in
-    by_made c.touches-made.result refl c.in_err-touch.ensures.memory
+    let wrong : false ≡ true
+    = by_made c.touches-made.result refl c.in_err-touch.ensures.memory
     (λ made. refused-untouched req gateway.tries (is_touched req (touched_by req work.work c.args.status gateway)) work
     (work_with_status number c.args.status work).stage
     (touched-now gateway req work.work c.args.status (sym made_is ∙ made))
-    (refusal-told gateway number c.args.status req work found has.1 refuses))
+    (refusal-told gateway number c.args.status req work found has.1 refuses)) in
+    absurd (cc (wrong))
   where
     by_made : {A : Type 0} (b : Bool) → b ≡ b → (b ≡ false → A) → (b ≡ true → ⊥) → A
     by_made true _ none some = absurd (some refl)
@@ -86,7 +88,8 @@ returns-in_err-act-clause-memory c refuses =
     = some_if (tree.get c.self.inside.works req) (λ (w : Work).
     IsUndone (outcome_at c.self.inside.tries c.has-touched.result w (work_with_status number c.args.status w).stage) → IsOk c.end_and_tell.result)
     work has.0 c.end_and_tell.ensures.undone undone in
-    absurd (cc (ok, c.in_err-act.was))
+    let wrong : false ≡ true = subst IsOk c.in_err-act.was ok in
+    absurd (cc (wrong))
 
 pub returns-clause-ok : goal.returns-clause-ok
 returns-clause-ok c =

@@ -2,7 +2,7 @@ use Rattle.std.proofs.Common.{◌≡◌, ℕ, ◌+◌, Option, sym, subst, arith
 use Rattle.object_id.specs.declared.oid.Vid.{Vid}
 use Rattle.vdi_directory.specs.References.{one, one_parent_reference, child_references, AreReferenceCounts, parent_in, count_in, left_in}
 use Rattle.vdi_directory.proofs.ReferenceLemmas.{key-below, fewer, fewer-total, referenced-some}
-use Rattle.vdi_directory.proofs.LossLemmas.{losses-more}
+use Rattle.vdi_directory.proofs.LossLemmas.{losses-more, losses-kept}
 use Rattle.vdi_directory.proofs.losses.Losses.drop_reference.Goals as goal
 
 pub loop-next-smaller : goal.loop-next-smaller
@@ -36,3 +36,8 @@ returns-clause-loses c =
     λ own are vid. (let is : left_in c.args.references.now c.loop-next.self.left vid ≡ own vid + 0 + child_references (parent_in c.args.headers.now) (left_in c.args.references.now c.loop-next.self.left) vid
     = subst (λ (next : Option Vid). AreReferenceCounts (parent_in c.args.headers.now) (λ vid. own vid + one_parent_reference next vid) (left_in c.args.references.now c.loop-next.self.left)) c.in_default.is
     (c.loop-next.invariant.loses own are) vid in omega (arith, is))
+
+pub returns-in_err-next-clause-are : goal.returns-in_err-next-clause-are
+returns-in_err-next-clause-are c =
+    losses-kept c.args.references.now c.loop-next.self.left c.take_reference.new.self.left c.loop-next.self.dead.items c.take_reference.new.self.dead.items
+    c.loop-next.invariant.are c.in_err-next.ensures.err c.in_err-next.ensures.err_dead

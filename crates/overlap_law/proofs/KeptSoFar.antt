@@ -1,0 +1,58 @@
+-- What has been proved of each run in range, together.
+use Rattle.std.proofs.Common.{◌≡◌, List, Some}
+use Rattle.cluster_script.specs.declared.statement.Statement.{Statement}
+use Rattle.sheep_node.specs.declared.event.Event.{Event}
+use Rattle.overlap_law.specs.Past.{MomentWithPast, run_with_past}
+use Rattle.overlap_law.specs.MomentChanges.{RunsAreInRange}
+use Rattle.overlap_law.specs.Groups.{FlightIsKept}
+use Rattle.overlap_law.specs.TiedAttempts.{IsTied}
+use Rattle.overlap_law.specs.ShapedAttempts.{AreShaped}
+use Rattle.overlap_law.specs.KeptSoFar.{IsKeptSoFar}
+use Rattle.overlap_law.proofs.RunsByChanges.{run-kept}
+use Rattle.overlap_law.proofs.TiedInRuns.{kept_tied}
+use Rattle.overlap_law.proofs.ShapedAttempts.{kept_shaped}
+use Rattle.overlap_law.proofs.PastInRuns.{past_in_run}
+use Rattle.overlap_law.proofs.WireInRuns.{linked-in_run, said-in_run, fenced-in_run}
+use Rattle.overlap_law.proofs.TermsInRuns.{terms-in_run}
+use Rattle.overlap_law.proofs.WorkedInRuns.{worked-in_run}
+use Rattle.overlap_law.proofs.MessagesInMoments.{messages_in_run}
+use Rattle.overlap_law.proofs.EpochsOfAttempts.{begun_in_run}
+use Rattle.overlap_law.proofs.AttemptsOfScript.{attempts_of_script}
+use Rattle.overlap_law.proofs.RequestsInRuns.{without_reply-in_run}
+use Rattle.overlap_law.proofs.RefusedInRuns.{refused_in_run}
+use Rattle.overlap_law.proofs.OneInodeWork.{one_inode_work-in_run}
+use Rattle.overlap_law.proofs.ApartInRuns.{begun_apart-in_run}
+use Rattle.overlap_law.proofs.EpochLemmas.{run-changes_nothing}
+
+pub flight-in_run : (script : List Statement) → RunsAreInRange script → (events : List Event) (moment : MomentWithPast)
+    → run_with_past script events ≡ Some moment
+    → FlightIsKept moment.world.log moment.world.hosts moment.world.wire moment.past.attempts
+flight-in_run script range events moment is =
+    let tied = run-kept script IsTied (kept_tied script range) events moment is in
+    record {
+      numbers = tied.numbers;
+      linked = linked-in_run script range events moment is;
+      no_reply_to_lost = tied.no_reply_to_lost;
+      from_past = past_in_run script range events moment is;
+      said = said-in_run script range events moment is;
+      fate_told = tied.told;
+      fenced = fenced-in_run script range events moment is;
+    }
+
+pub kept_so_far : (script : List Statement) → RunsAreInRange script → (events : List Event) (moment : MomentWithPast)
+    → run_with_past script events ≡ Some moment → IsKeptSoFar script moment
+kept_so_far script range events moment is = record {
+  wire = flight-in_run script range events moment is;
+  epochs = terms-in_run script range events moment is;
+  tied = run-kept script IsTied (kept_tied script range) events moment is;
+  shaped = run-kept script AreShaped (kept_shaped script range) events moment is;
+  fates = worked-in_run script range events moment is;
+  messages = messages_in_run script range events moment is;
+  begun = begun_in_run script range events moment is;
+  scripts = attempts_of_script script range events moment is;
+  unanswered = without_reply-in_run script range events moment is;
+  refused = refused_in_run script events moment is;
+  inodes = one_inode_work-in_run script range events moment is;
+  apart = begun_apart-in_run script range events moment is;
+  peers = run-changes_nothing script events moment is;
+}

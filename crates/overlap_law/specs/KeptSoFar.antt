@@ -1,0 +1,29 @@
+-- What is proved of the invariant of the overlap, of each moment that a run in range leads to; and what is proved beside it.
+use Rattle.std.specs.Prelude.{List}
+use Rattle.cluster_script.specs.declared.statement.Statement.{Statement}
+use Rattle.overlap_law.specs.Past.{MomentWithPast}
+use Rattle.overlap_law.specs.Groups.{FlightIsKept, TermsAreKept}
+use Rattle.overlap_law.specs.TiedAttempts.{IsTied}
+use Rattle.overlap_law.specs.ShapedAttempts.{AreShaped}
+use Rattle.overlap_law.specs.OpenWorks.{WorksKnowTheirFates}
+use Rattle.overlap_law.specs.Traffic.{OpenAttemptsHaveMessages}
+use Rattle.overlap_law.specs.Writers.{AttemptsHaveBegun}
+use Rattle.overlap_law.specs.Sessions.{SessionsHaveOneInodeWork, BegunRequestsAreApart}
+use Rattle.overlap_law.specs.RequestsOfScript.{RequestsAreWithoutReply, AttemptsAreTheScripts, TheRefusedAreAnswered}
+use Rattle.overlap_law.specs.Headline.{OtherEpochsChangeNothing}
+
+-- the groups of the wire and of epochs, what of the attempts and of the writers, and the headline's part on peers of another epoch
+pub record IsKeptSoFar (script : List Statement) (moment : MomentWithPast) : Type 0 where
+  pub wire : FlightIsKept moment.world.log moment.world.hosts moment.world.wire moment.past.attempts
+  pub epochs : TermsAreKept moment.world.log moment.world.hosts
+  pub tied : IsTied moment
+  pub shaped : AreShaped moment
+  pub fates : WorksKnowTheirFates moment.world.hosts moment.world.wire moment.past.attempts
+  pub messages : OpenAttemptsHaveMessages moment.world.hosts
+  pub begun : AttemptsHaveBegun moment.world.log moment.past.attempts
+  pub scripts : AttemptsAreTheScripts script moment.past.attempts
+  pub unanswered : RequestsAreWithoutReply script moment.world
+  pub refused : TheRefusedAreAnswered script moment.world moment.past.refused
+  pub inodes : SessionsHaveOneInodeWork moment.world.hosts
+  pub apart : BegunRequestsAreApart moment.world.hosts
+  pub peers : OtherEpochsChangeNothing script moment.world
