@@ -1,0 +1,5 @@
+pub mod KeptLemmas
+pub mod MergeLemmas
+pub mod OpeningLemmas
+pub mod PhasesDue
+pub mod RoundLemmas
