@@ -52,8 +52,8 @@ abbrev pub IsStepMade : List Statement → KeptStep → World → Run → World 
 IsStepMade statements kept before old after new same =
     IsStepMadeBy statements kept before old after new same (step statements kept.event before)
 
--- steps merge to these events from a world on, so many events but Phase having been made, and lead to another world and count; whether Phase
--- is due then isn't said
+-- steps merge to these events from a world on, so many events but Phase having been made, and lead to another world and count; whether
+-- Phase is due then isn't said
 abbrev pub MergesTo : List Statement → List Event → World → ℕ → List KeptStep → World → ℕ → Type 0
 MergesTo statements [] world taken steps after count = (steps ≡ []) × (after ≡ world) × (count ≡ taken)
 MergesTo statements (event ∷ events) world taken steps after count =
@@ -61,8 +61,8 @@ MergesTo statements (event ∷ events) world taken steps after count =
     (is_phase_due statements world taken)
 
 -- a run went on by the events to which the steps merge, to another world and count; whether Phase is due then isn't said
-pub record HasMergedTo (statements : List Statement) (steps : List KeptStep) (world : World) (taken : ℕ) (old new : Run) (after : World) (count : ℕ)
-    : Type 0 where
+pub record HasMergedTo (statements : List Statement) (steps : List KeptStep) (world : World) (taken : ℕ) (old new : Run) (after : World)
+    (count : ℕ) : Type 0 where
   pub events : List Event
   pub more : new.events ≡ old.events ++ events
   pub merges : MergesTo statements events world taken steps after count
