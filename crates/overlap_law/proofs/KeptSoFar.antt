@@ -3,6 +3,7 @@ use Rattle.std.proofs.Common.{◌≡◌, List, Some}
 use Rattle.cluster_script.specs.declared.statement.Statement.{Statement}
 use Rattle.sheep_node.specs.declared.event.Event.{Event}
 use Rattle.overlap_law.specs.Past.{MomentWithPast, run_with_past}
+use Rattle.overlap_law.specs.MomentChanges as moments
 use Rattle.overlap_law.specs.MomentChanges.{RunsAreInRange}
 use Rattle.overlap_law.specs.Groups.{FlightIsKept}
 use Rattle.overlap_law.specs.TiedAttempts.{IsTied}
@@ -25,6 +26,7 @@ use Rattle.overlap_law.proofs.RequestsInRuns.{without_reply-in_run}
 use Rattle.overlap_law.proofs.RefusedInRuns.{refused_in_run}
 use Rattle.overlap_law.proofs.OneInodeWork.{one_inode_work-in_run}
 use Rattle.overlap_law.proofs.ApartInRuns.{begun_apart-in_run}
+use Rattle.overlap_law.proofs.GrantsOfCommands.{grants-in_run}
 use Rattle.overlap_law.proofs.EpochLemmas.{run-changes_nothing}
 
 pub flight-in_run : (script : List Statement) → RunsAreInRange script → (events : List Event) (moment : MomentWithPast)
@@ -61,5 +63,6 @@ kept_so_far script range events moment is = record {
   refused = refused_in_run script events moment is;
   inodes = one_inode_work-in_run script range events moment is;
   apart = begun_apart-in_run script range events moment is;
+  granted = grants-in_run script range events moment moment is moments.Still;
   peers = run-changes_nothing script events moment is;
 }

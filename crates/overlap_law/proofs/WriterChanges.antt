@@ -94,7 +94,7 @@ writer-after : (before : List Effect) (effect : Effect) (vid : ℕ) → writer_o
 unfolding writer_of
 writer-after before effect vid = λ i. writer_by (reservation_on (id_of vid) (reservations_of-push before effect i)) (holder_of-push before effect vid i)
 
-takes_less : (vid : ℕ) (node : NodeId) (effect : Effect) → takes_writer vid node effect ≡ false → takes_disk vid node effect ≡ false
+pub takes_less : (vid : ℕ) (node : NodeId) (effect : Effect) → takes_writer vid node effect ≡ false → takes_disk vid node effect ≡ false
 takes_less vid node effects.Nothing is = refl
 takes_less vid node (effects.Reserved grant) is = refl
 takes_less vid node (effects.Published of name) is = refl
@@ -131,19 +131,19 @@ module _ (before : List Effect) (sound : IsSound before) (vid : ℕ) where
   state_reserved reservation there on =
       ap (state_of before) (sym (eqb-true reservation.vid.0 vid on)) ∙ (sound.reservations reservation there).state
 
-  found_reserved : (reservation : Reservation) → now ≡ Some reservation → state_of before vid ≡ Reserved reservation.by
+  pub found_reserved : (reservation : Reservation) → now ≡ Some reservation → state_of before vid ≡ Reserved reservation.by
   found_reserved reservation found =
       let (there, on) = in-find (is_on vid) reservation all found in state_reserved reservation there on
 
   -- a working disk has no reservation, and a reserved id no lock
-  working_free : state_of before vid ≡ Working → now ≡ None
+  pub working_free : state_of before vid ≡ Working → now ≡ None
   working_free works = by_found now refl
     where
       by_found : (o : Option Reservation) → now ≡ o → now ≡ None
       by_found None none = none
       by_found (Some reservation) found = let reserved = found_reserved reservation found in absurd (cc (works, reserved))
 
-  reserved_unheld : (by : NodeId) → state_of before vid ≡ Reserved by → holder_of before vid ≡ None
+  pub reserved_unheld : (by : NodeId) → state_of before vid ≡ Reserved by → holder_of before vid ≡ None
   reserved_unheld by reserved = by_holder (holder_of before vid) refl
     where
       by_holder : (o : Option Holder) → holder_of before vid ≡ o → holder_of before vid ≡ None
@@ -152,7 +152,7 @@ module _ (before : List Effect) (sound : IsSound before) (vid : ℕ) where
 
   -- ---- the writer stays
 
-  reservation_stays : (reservation : Reservation) (effect : Effect) → now ≡ Some reservation → takes_writer vid reservation.by effect ≡ false
+  pub reservation_stays : (reservation : Reservation) (effect : Effect) → now ≡ Some reservation → takes_writer vid reservation.by effect ≡ false
       → find (is_on vid) (reservations_after all effect) ≡ Some reservation
   reservation_stays reservation effects.Nothing found is = found
   reservation_stays reservation (effects.Reserved grant) found is =
@@ -334,14 +334,14 @@ module _ (before : List Effect) (sound : IsSound before) (vid : ℕ) where
 
   -- ---- the one to whom it is given
 
-  unused_free : state_of before vid ≡ Unused → now ≡ None
+  pub unused_free : state_of before vid ≡ Unused → now ≡ None
   unused_free unused = by_found now refl
     where
       by_found : (o : Option Reservation) → now ≡ o → now ≡ None
       by_found None none = none
       by_found (Some reservation) found = let reserved = found_reserved reservation found in absurd (cc (unused, reserved))
 
-  unused_unheld : state_of before vid ≡ Unused → holder_of before vid ≡ None
+  pub unused_unheld : state_of before vid ≡ Unused → holder_of before vid ≡ None
   unused_unheld unused = by_holder (holder_of before vid) refl
     where
       by_holder : (o : Option Holder) → holder_of before vid ≡ o → holder_of before vid ≡ None

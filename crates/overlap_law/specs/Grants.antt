@@ -1,9 +1,11 @@
 -- Where in the log an id was reserved, given to its writer and published, and where an incarnation of a node left: by epochs.
-use Rattle.std.specs.Prelude.{ℕ, ◌+◌, ◌-◌, ◌==◌, ◌||◌, Bool, false, List, length, map, fold, zip, Option, Some, None, slice_get, if◌then◌else◌}
+use Rattle.std.specs.Prelude.{ℕ, ◌+◌, ◌-◌, ◌==◌, ◌&&◌, ◌||◌, Bool, false, List, length, map, fold, zip, Option, Some, None, slice_get}
+use Rattle.std.specs.Prelude.{if◌then◌else◌}
 use Rattle.std.specs.Option.{option_map_or}
 use Rattle.std.specs.List.{filter_map, range_with_len}
 use Rattle.object_id.specs.declared.node.NodeId.{NodeId}
 use Rattle.object_id.specs.declared.entry.Entry.{Entry}
+use Rattle.object_id.specs.declared.entry.Entry.TheVariants.{Leave, Publish, Clone, Snapshot, Unlock}
 use Rattle.epoch_log.specs.Epochs.{epoch_at}
 use Rattle.disk_lock.specs.declared.holder.Holder.{Holder}
 use Rattle.vdi_directory.specs.declared.effect.Reservation.{Reservation}
@@ -11,7 +13,7 @@ use Rattle.vdi_directory.specs.declared.effect.Effect.{Effect}
 use Rattle.vdi_directory.specs.declared.effect.Effect.TheVariants.{Nothing, Reserved, Published, Snapped, Deleted, Held, Freed, Withdrawn}
 use Rattle.vdi_directory.specs.declared.effect.Effect.TheVariants.{Left}
 use Rattle.vdi_directory.specs.Effects.{grants, reservations_of, reservation_on, holder_of}
-use Rattle.vdi_directory.specs.Decisions.{log_effects}
+use Rattle.vdi_directory.specs.Decisions.{is_held_by, log_effects}
 
 -- the epoch at each entry, which itself counts
 abbrev pub epochs_at_entries : List Entry → List ℕ
@@ -88,6 +90,16 @@ takes_writer vid node (Held of holder) = false
 takes_writer vid node (Freed of) = of.0 == vid
 takes_writer vid node (Withdrawn of) = of.0 == vid
 takes_writer vid node (Left of) = node.0 == of.0
+
+-- whether an entry can take an id from the session that may write it: the leave of its node, a snapshot of the disk, a publication of
+-- the id by its node, and the session's own unlock
+abbrev pub may_take_writer : ℕ → Holder → Entry → Bool
+may_take_writer vid writer (Leave node) = writer.node.0 == node.0
+may_take_writer vid writer (Publish by of) = of.0 == vid && by.0 == writer.node.0
+may_take_writer vid writer (Clone by of) = of.0 == vid && by.0 == writer.node.0
+may_take_writer vid writer (Snapshot by old of) = old.0 == vid || (of.0 == vid && by.0 == writer.node.0)
+may_take_writer vid writer (Unlock by session of) = of.0 == vid && is_held_by by session (Some writer)
+may_take_writer vid writer _ = false
 
 -- the session to which an effect gives an id, if it gives one
 abbrev pub given_to : Effect → Option Holder

@@ -10,10 +10,12 @@ use Rattle.overlap_law.specs.OpenWorks.{RefusedRequestsAreMute}
 use Rattle.overlap_law.specs.Traffic.{OpenAttemptsHaveMessages}
 use Rattle.overlap_law.specs.Writers.{AttemptsHaveBegun}
 use Rattle.overlap_law.specs.Sessions.{SessionsHaveOneInodeWork, BegunRequestsAreApart}
+use Rattle.overlap_law.specs.Courses.{CommandsKeepTheirGrants}
 use Rattle.overlap_law.specs.RequestsOfScript.{RequestsAreWithoutReply, AttemptsAreTheScripts, TheRefusedAreAnswered}
 use Rattle.overlap_law.specs.Headline.{OtherEpochsChangeNothing}
 
--- the groups of the wire and of epochs, what of the attempts and of the writers, and the headline's part on peers of another epoch
+-- the groups of the wire and of epochs, what of the attempts, of the writers and of commands, and the headline's part on peers of another
+-- epoch
 pub record IsKeptSoFar (script : List Statement) (moment : MomentWithPast) : Type 0 where
   pub wire : FlightIsKept moment.world.log moment.world.hosts moment.world.wire moment.past.attempts
   pub epochs : TermsAreKept moment.world.log moment.world.hosts
@@ -31,4 +33,5 @@ pub record IsKeptSoFar (script : List Statement) (moment : MomentWithPast) : Typ
   pub refused : TheRefusedAreAnswered script moment.world moment.past.refused
   pub inodes : SessionsHaveOneInodeWork moment.world.hosts
   pub apart : BegunRequestsAreApart moment.world.hosts
+  pub granted : CommandsKeepTheirGrants moment.world.log moment.world.hosts
   pub peers : OtherEpochsChangeNothing script moment.world

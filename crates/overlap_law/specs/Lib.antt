@@ -41,3 +41,6 @@ pub mod TiedAttempts
 pub mod ShapedAttempts
 pub mod RoomOfScripts
 pub mod KeptSoFar
+pub mod AwaitedEntries
+pub mod CommandDisks
+pub mod WriterClaims

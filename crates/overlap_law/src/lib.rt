@@ -15,7 +15,8 @@
 //! what it makes of the wire and the attempts (`specs/Traffic.antt`). So what each of them keeps holds of every run in range: that the
 //! wire and the attempts stay tied (`specs/TiedAttempts.antt`), that what is asked is of the past, that attempts are of their shape
 //! (`specs/ShapedAttempts.antt`), that the wire is linked with what nodes wait for, that gateways know the fates of their attempts, what
-//! the group of epochs and nodes says (`specs/NodeEpochs.antt`), and some of the group of writers (`specs/Writers.antt`).
+//! the group of epochs and nodes says (`specs/NodeEpochs.antt`), and some of the group of writers (`specs/Writers.antt`), over what the
+//! works of sessions rest on (`specs/AwaitedEntries.antt`, `specs/CommandDisks.antt`, `specs/WriterClaims.antt`).
 #![tactic(auto)]
 
 mod kept_event;
@@ -44,8 +45,9 @@ pub use overlap::{
 };
 pub use writers::{
     a_session_has_one_inode_work, attempts_are_of_epochs_that_began, begun_requests_are_apart,
-    each_attempt_is_for_a_request, few_effects_change_the_writer, grants_are_of_epochs_that_began,
-    requests_of_nodes_are_without_reply, scripts_of_a_text_have_room,
-    scripts_of_few_controls_have_room, the_refused_are_answered, the_writer_begins_in_turn,
-    there_stays_one_writer,
+    claims_of_sessions_are_kept, commands_keep_their_grants, each_attempt_is_for_a_request,
+    entries_of_commands_are_awaited, few_effects_change_the_writer,
+    grants_are_of_epochs_that_began, open_disks_fit_commands, requests_of_nodes_are_without_reply,
+    scripts_of_a_text_have_room, scripts_of_few_controls_have_room, the_refused_are_answered,
+    the_writer_begins_in_turn, there_stays_one_writer,
 };

@@ -14,16 +14,20 @@ ghost use Rattle.sheep_world.specs.World.{World};
 ghost use Rattle.sheep_world.specs.LogHolds.{MayGrow};
 ghost use Rattle.sheep_world.specs.HoldsTogether.{MessagesAreInRange};
 ghost use Rattle.overlap_law.specs.Attempts.{AttemptRecord};
-ghost use Rattle.overlap_law.specs.Grants.{gives, reserved_in, granted_in, published_in, writer_of, takes_writer, given_to};
+ghost use Rattle.overlap_law.specs.Grants.{gives, reserved_in, granted_in, published_in, writer_of, takes_writer, may_take_writer, given_to};
 ghost use Rattle.overlap_law.specs.Packets.{Wire};
 ghost use Rattle.overlap_law.specs.Past.{MomentWithPast, run_with_past};
-ghost use Rattle.overlap_law.specs.MomentChanges.{MomentChange, RunsAreInRange};
+ghost use Rattle.overlap_law.specs.MomentChanges.{MomentChange, MomentTrail, RunsAreInRange};
 ghost use Rattle.overlap_law.specs.Traffic.{IsInTurn};
 ghost use Rattle.overlap_law.specs.Sessions.{SessionsHaveOneInodeWork, BegunRequestsAreApart};
 ghost use Rattle.overlap_law.specs.Writers.{ThereIsOneWriter, AttemptsHaveBegun, WritersTakeTurns, IsInOwnTurn};
 ghost use Rattle.overlap_law.specs.RequestsOfScript.{RequestsAreWithoutReply, AttemptsAreTheScripts, TheRefusedAreAnswered};
 ghost use Rattle.overlap_law.specs.TiedAttempts.{IsTied};
 ghost use Rattle.overlap_law.specs.RoomOfScripts.{HasFewControls};
+ghost use Rattle.overlap_law.specs.AwaitedEntries.{CommandEntriesAreAwaited, CommandsAreTheSessions};
+ghost use Rattle.overlap_law.specs.CommandDisks.{OpenDisksFitCommands};
+ghost use Rattle.overlap_law.specs.WriterClaims.{ClaimsAreKept};
+ghost use Rattle.overlap_law.specs.Courses.{CommandsKeepTheirGrants};
 
 /// In each world that a run of a script with few controls reaches there is room for one epoch more: an epoch begins only by a control, or
 /// by the leave of a member, which was there at first or came by a control.
@@ -70,7 +74,8 @@ pub fn begun_requests_are_apart()
 {}
 
 /// The session that may write an id stays its writer at an entry, unless what the entry does takes the id from it. Who may write the id
-/// after an entry might before, or is the one to whom the entry gives it.
+/// after an entry might before, or is the one to whom the entry gives it. An entry that takes the id is the leave of the writer's node, a
+/// snapshot of the disk, a publication of the id by that node, or the writer's own unlock.
 pub fn few_effects_change_the_writer()
     ensures stays { (log : List Entry) (entry : Entry) (vid : ℕ) (writer : Holder) → writer_of (log_effects log) vid ≡ Some writer
         → takes_writer vid writer.node (outcome (log_effects log) entry).effect ≡ false
@@ -80,6 +85,8 @@ pub fn few_effects_change_the_writer()
         → (writer_of (log_effects log) vid ≡ Some writer) ⊎ (gives vid (outcome (log_effects log) entry).effect ≡ true) }
     ensures to { (log : List Entry) (entry : Entry) (vid : ℕ) → gives vid (outcome (log_effects log) entry).effect ≡ true
         → writer_of (log_effects (log ++ entry ∷ [])) vid ≡ given_to (outcome (log_effects log) entry).effect }
+    ensures by_entry { (log : List Entry) (entry : Entry) (vid : ℕ) (writer : Holder) → writer_of (log_effects log) vid ≡ Some writer
+        → takes_writer vid writer.node (outcome (log_effects log) entry).effect ≡ true → may_take_writer vid writer entry ≡ true }
 {}
 
 /// The epochs in which an id was reserved, given to its writer and published are no later than the log's, and rise with it.
@@ -126,4 +133,40 @@ pub fn there_stays_one_writer()
 pub fn the_writer_begins_in_turn()
     ensures { (log : List Entry) (wire : Wire) (attempts : List AttemptRecord) (attempt : AttemptRecord)
         → ThereIsOneWriter log wire attempts → IsInOwnTurn log wire attempts attempt → IsInTurn wire attempts attempt }
+{}
+
+/// In each run in range the entries of a node's commands that are on their way, unread in the log or still to be put, are there once each,
+/// and a request of the node waits for each. And each command is of its request's session: what it waits for names that session, or is on
+/// an id that was reserved for it. So it is at each moment on the way of an event, and at its end.
+pub fn entries_of_commands_are_awaited()
+    ensures awaited { (script : List Statement) (events : List Event) (start moment : MomentWithPast) → RunsAreInRange script
+        → run_with_past script events ≡ Some start → MomentTrail script start moment
+        → CommandEntriesAreAwaited moment.world.log moment.world.hosts }
+    ensures sessions { (script : List Statement) (events : List Event) (start moment : MomentWithPast) → RunsAreInRange script
+        → run_with_past script events ≡ Some start → MomentTrail script start moment → CommandsAreTheSessions moment.world.hosts }
+{}
+
+/// In each run in range a session with a command has open what that goes with: nothing while a disk is opened, the disk that is given back
+/// while one is closed, and the working disk that becomes a snapshot while one is taken; and an inode that is to be open then is that of
+/// the id that was granted. So it is at each moment on the way of an event, and at its end.
+pub fn open_disks_fit_commands()
+    ensures { (script : List Statement) (events : List Event) (start moment : MomentWithPast) → RunsAreInRange script
+        → run_with_past script events ≡ Some start → MomentTrail script start moment → OpenDisksFitCommands moment.world.hosts }
+{}
+
+/// In each run in range sessions have what their works rest on, while their node hasn't read all of the log nor put all: a command has the
+/// lock or the reservation of the id that it works for, gives it back nowhere, and its node has read the grant; a working disk that is open
+/// is locked by its session, unless the session's command lets it go; and an unlock that is to be put is of an id that its session has. So
+/// it is at each moment on the way of an event, and at its end.
+pub fn claims_of_sessions_are_kept()
+    ensures { (script : List Statement) (events : List Event) (start moment : MomentWithPast) → RunsAreInRange script
+        → run_with_past script events ≡ Some start → MomentTrail script start moment → ClaimsAreKept moment.world.log moment.world.hosts }
+{}
+
+/// In each run in range a command that works for an id may write it: its session is the id's writer, has no unlock of it to put, and its
+/// node has read the grant. So it is at each moment on the way of an event, and at its end.
+pub fn commands_keep_their_grants()
+    ensures { (script : List Statement) (events : List Event) (start moment : MomentWithPast) → RunsAreInRange script
+        → run_with_past script events ≡ Some start → MomentTrail script start moment
+        → CommandsKeepTheirGrants moment.world.log moment.world.hosts }
 {}

@@ -1,3 +1,4 @@
+use Rattle.overlap_law.proofs.TakenIds.{taken_by_entry}
 use Rattle.overlap_law.proofs.WriterChanges.{entry_keeps_writer, entry_gives_writer, entry_gives_to}
 use Rattle.overlap_law.proofs.writers.few_effects_change_the_writer.Goals as goal
 
@@ -9,3 +10,6 @@ returns-clause-given c = λ log entry vid writer is. entry_gives_writer log entr
 
 pub returns-clause-to : goal.returns-clause-to
 returns-clause-to c = λ log entry vid is. entry_gives_to log entry vid is
+
+pub returns-clause-by_entry : goal.returns-clause-by_entry
+returns-clause-by_entry c = λ log entry vid writer is takes. taken_by_entry log entry vid writer is takes
