@@ -78,12 +78,12 @@ module _ (log : List Entry) (hosts hosts_after : Hosts) (wire : Wire) (attempts 
 
   -- and of one request
   one_request : (n req other : ℕ) (work second : Work) (current another : gateways.Attempt) → (one : IsOpenAt n req work current)
-      → tree.get one.host.node.gateway.works other ≡ Some second → oid_of work.work ≡ oid_of second.work → req ≢ other → ⊥
-  one_request n req other work second current another one got same differs =
+      → tree.get one.host.node.gateway.works other ≡ Some second → is_making second.work ≡ true → oid_of work.work ≡ oid_of second.work
+      → req ≢ other → ⊥
+  one_request n req other work second current another one got making same differs =
       let reads = apart.objects n one.host one.there one.up req other work second
-      (record { first_one = one.got; second_one = got; apart = differs }) same in
+      (record { first_one = one.got; second_one = got; apart = differs }) same one.making in
       let reading = reads.0 in
-      let making = one.making in
       cc (reading, making)
 
   -- what stays open has smaller numbers than what begins
@@ -133,5 +133,5 @@ module _ (log : List Entry) (hosts hosts_after : Hosts) (wire : Wire) (attempts 
       ⊎_elim
       (λ (own : req ≡ new.req). not_begun n req work current stays k sends new begun host_so node_so own)
       (λ (other : req ≢ new.req). one_request n req new.req work begun.work current begun.current stays.now
-      (ap (λ (h : Host). tree.get h.node.gateway.works new.req) (sym host_so) ∙ begun.opened.there) same other)
+      (ap (λ (h : Host). tree.get h.node.gateway.works new.req) (sym host_so) ∙ begun.opened.there) begun.opened.making same other)
       (cases_eq req new.req)

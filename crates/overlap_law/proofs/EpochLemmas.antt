@@ -160,7 +160,7 @@ due_of hosts n node None rested at found = absurd (cc (found))
 due_of hosts n node (Some host) rested at found =
     subst (λ (x : Node). is_due x ≡ false) (same_Some host.node node found) (rested n host at)
 
-other_epoch-changes_nothing : (script : List Statement) (world : World) → AreRested world.hosts → OtherEpochsChangeNothing script world
+pub other_epoch-changes_nothing : (script : List Statement) (world : World) → AreRested world.hosts → OtherEpochsChangeNothing script world
 other_epoch-changes_nothing script world rested name to node request made is =
     let due : is_due node ≡ false = due_of world.hosts to.0 node (tree.get world.hosts to.0) rested refl is.asked in
     ⊎_elim

@@ -132,7 +132,7 @@ event-has script (RetryTick node) old new attempts have =
     both-have attempts (attempts_begun node.0 old new) have (attempts_begun-have node.0 old new)
 event-has script event old new attempts have = have
 
-moment-has : (script : List Statement) (event : Event) (moment : MomentWithPast) (made : EventOutcome) → HaveFates moment.past.attempts
+pub moment-has : (script : List Statement) (event : Event) (moment : MomentWithPast) (made : EventOutcome) → HaveFates moment.past.attempts
     → HaveFates (moment_after script event moment made).past.attempts
 unfolding past_after_event
 moment-has script event moment made have = event-has script event moment.world made.world moment.past.attempts have

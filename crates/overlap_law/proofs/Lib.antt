@@ -4,6 +4,10 @@ pub mod UnitLemmas
 pub mod BaseLemmas
 pub mod FatesOfAttempts
 pub mod NoRecoveredDue
+pub mod AskedRuns
+pub mod AskedReads
+pub mod AskedMoments
+pub mod AskedScripts
 pub mod EpochLemmas
 pub mod WorkedCases
 pub mod OverlapLemmas

@@ -29,13 +29,13 @@ abbrev pub AreRested : Hosts → Type 0
 AreRested hosts = (n : ℕ) (host : Host) → tree.get hosts n ≡ Some host → is_due host.node ≡ false
 
 -- none is after a step, nor at first
-abbrev IsRested : ℕ → ℕ → Node → Type 0
+abbrev pub IsRested : ℕ → ℕ → Node → Type 0
 IsRested n incarnation node = is_due node ≡ false
 
 opening-rested : (me : NodeId) (tries : ℕ) → is_due (nodes.initial_node me tries) ≡ false
 opening-rested me tries = and_right (recoveries.is_finished (recovery_state_of (nodes.initial_node me tries))) false refl
 
-rested_kept : (script : List Statement) → NodesKeep script IsRested
+pub rested_kept : (script : List Statement) → NodesKeep script IsRested
 rested_kept script = record {
   opens = λ member. step_not_due (inputs.LogEntry (format_entry script)) (nodes.initial_node member.node (tries_of script));
   steps = λ world n host cause caused so. step_not_due (input_of_cause cause) host.node;

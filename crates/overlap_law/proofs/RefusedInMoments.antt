@@ -27,6 +27,7 @@ use Rattle.sheep_node.specs.Changes.{input_received, IsTold}
 use Rattle.sheep_node.proofs.NumberChanges.{both_in_chain}
 use Rattle.sheep_node.proofs.OneWorkChanges.{StepHasOneWork}
 use Rattle.sheep_world.specs.World.{Host, is_host_up}
+use Rattle.sheep_world.specs.Asking.{session_asking}
 use Rattle.sheep_world.specs.Step.{EventOutcome}
 use Rattle.sheep_world.specs.NodeCauses.{NodeCause, GuestAsks, RequestComes, ReplyComes, LossIsTold, EntryIsRead, EntryIsPut, RecoveryTicks, WorkIsRetried, input_of_cause, host_with_node}
 use Rattle.sheep_world.specs.EventKinds.{log_after_return}
@@ -34,7 +35,7 @@ use Rattle.sheep_world.specs.Began.{Began}
 use Rattle.overlap_law.specs.Attempts.{AttemptRecord, MessageFate, Flying, Served, Doomed}
 use Rattle.overlap_law.specs.Holders.{is_object_among}
 use Rattle.overlap_law.specs.Past.{MomentWithPast, past_after_event, moment_after}
-use Rattle.overlap_law.specs.PastWords.{is_refusal, refused_in}
+use Rattle.overlap_law.specs.PastWords.{is_refusal, refuses_request, refused_in}
 use Rattle.overlap_law.specs.OpenWorks.{IsAwaitedAt}
 use Rattle.overlap_law.specs.StepMoments.{SteppingNode, IsStepping, StepsByChanges, StepsAtOnce, first_in_step, last_in_step, LeadsInStep, IsWithinStep, moment_in_step, attempts_of_change}
 use Rattle.overlap_law.specs.MomentChanges as moments
@@ -70,34 +71,39 @@ any_of {X = X} p xs x there is = by_any (list_any p xs) refl
     by_any true any = any
     by_any false any = let none = list_any-none p xs x any there in absurd (cc (is, none))
 
--- a refusal refuses its request
-pub refused_of : (replies : List (ℕ × GuestRsp)) (reply : ℕ × GuestRsp) → Contains replies reply → is_refusal reply.1 ≡ true
-    → is_object_among reply.0 (refused_in replies) ≡ true
-refused_of replies reply there refuses =
-    any_of (λ (other : ℕ). other == reply.0) (refused_in replies) reply.0
-    (Contains-map (λ (answer : ℕ × GuestRsp). answer.0) (filter (λ (answer : ℕ × GuestRsp). is_refusal answer.1) replies) reply
-    (Contains-filter (λ (answer : ℕ × GuestRsp). is_refusal answer.1) replies reply there refuses))
-    (eq-eqb reply.0 reply.0 refl)
+module _ (script : List Statement) where
+  -- a refusal of a request of the script refuses it
+  pub refused_of : (replies : List (ℕ × GuestRsp)) (reply : ℕ × GuestRsp) → Contains replies reply → refuses_request script reply ≡ true
+      → is_object_among reply.0 (refused_in script replies) ≡ true
+  refused_of replies reply there refuses =
+      any_of (λ (other : ℕ). other == reply.0) (refused_in script replies) reply.0
+      (Contains-map (λ (answer : ℕ × GuestRsp). answer.0) (filter (refuses_request script) replies) reply
+      (Contains-filter (refuses_request script) replies reply there refuses))
+      (eq-eqb reply.0 reply.0 refl)
 
--- what is refused has a refusal
-abbrev Refusal : ℕ → List (ℕ × GuestRsp) → Type 0
-Refusal req replies = (reply : ℕ × GuestRsp) × Contains replies reply × (is_refusal reply.1 ≡ true) × (reply.0 ≡ req)
+  -- what is refused has a refusal
+  abbrev Refusal : ℕ → List (ℕ × GuestRsp) → Type 0
+  Refusal req replies = (reply : ℕ × GuestRsp) × Contains replies reply × (refuses_request script reply ≡ true) × (reply.0 ≡ req)
 
-pub refused_has : (req : ℕ) (replies : List (ℕ × GuestRsp)) → is_object_among req (refused_in replies) ≡ true → Refusal req replies
-refused_has req [] is = absurd (cc (is))
-refused_has req (first ∷ later) is = by_test (is_refusal first.1) refl is (refused_has req later)
-  where
-    behind : Refusal req later → Refusal req (first ∷ later)
-    behind (reply, there, refuses, same) = (reply, Contains-cons first later reply there, refuses, same)
+  pub refused_has : (req : ℕ) (replies : List (ℕ × GuestRsp)) → is_object_among req (refused_in script replies) ≡ true → Refusal req replies
+  refused_has req [] is = absurd (cc (is))
+  refused_has req (first ∷ later) is = by_test (refuses_request script first) refl is (refused_has req later)
+    where
+      behind : Refusal req later → Refusal req (first ∷ later)
+      behind (reply, there, refuses, same) = (reply, Contains-cons first later reply there, refuses, same)
 
-    by_test : (b : Bool) → is_refusal first.1 ≡ b
-        → is_object_among req (map (λ (answer : ℕ × GuestRsp). answer.0) (cond b (first ∷ filter (λ (answer : ℕ × GuestRsp). is_refusal answer.1) later) (filter (λ (answer : ℕ × GuestRsp). is_refusal answer.1) later))) ≡ true
-        → (is_object_among req (refused_in later) ≡ true → Refusal req later) → Refusal req (first ∷ later)
-    by_test true refuses is rest = ⊎_elim
-        (λ (own : (first.0 == req) ≡ true). (first, Contains-first first first later refl, refuses, eqb-true first.0 req own))
-        (λ (other : is_object_among req (refused_in later) ≡ true). behind (rest other))
-        (or_cases (first.0 == req) (is_object_among req (refused_in later)) is)
-    by_test false refuses is rest = behind (rest is)
+      by_test : (b : Bool) → refuses_request script first ≡ b
+          → is_object_among req (map (λ (answer : ℕ × GuestRsp). answer.0) (cond b (first ∷ filter (refuses_request script) later) (filter (refuses_request script) later))) ≡ true
+          → (is_object_among req (refused_in script later) ≡ true → Refusal req later) → Refusal req (first ∷ later)
+      by_test true refuses is rest = ⊎_elim
+          (λ (own : (first.0 == req) ≡ true). (first, Contains-first first first later refl, refuses, eqb-true first.0 req own))
+          (λ (other : is_object_among req (refused_in script later) ≡ true). behind (rest other))
+          (or_cases (first.0 == req) (is_object_among req (refused_in script later)) is)
+      by_test false refuses is rest = behind (rest is)
+
+  -- what refuses a request of the script is a refusal
+  refusal_is : (reply : ℕ × GuestRsp) → refuses_request script reply ≡ true → is_refusal reply.1 ≡ true
+  refusal_is reply refuses = (and_parts (is_refusal reply.1) (is_some (session_asking script reply.0)) refuses).0
 
 among_cases : (req : ℕ) (one more : List ℕ) → is_object_among req (one ++ more) ≡ true → (is_object_among req one ≡ true) ⊎ (is_object_among req more ≡ true)
 among_cases req one more is =
@@ -111,10 +117,10 @@ among_of : (req : ℕ) (one more : List ℕ) → (is_object_among req one ≡ tr
 among_of req one more either =
     list_any-append (λ other. other == req) one more ∙ or_either (is_object_among req one) (is_object_among req more) either
 
-none_among : (req : ℕ) (refused : List ℕ) (replies : List (ℕ × GuestRsp)) → replies ≡ [] → is_object_among req (refused ++ refused_in replies) ≡ true
-    → is_object_among req refused ≡ true
-none_among req refused replies none is =
-    sym (ap (is_object_among req) (ap (λ (r : List (ℕ × GuestRsp)). refused ++ refused_in r) none ∙ append-nil refused)) ∙ is
+none_among : (script : List Statement) (req : ℕ) (refused : List ℕ) (replies : List (ℕ × GuestRsp)) → replies ≡ []
+    → is_object_among req (refused ++ refused_in script replies) ≡ true → is_object_among req refused ≡ true
+none_among script req refused replies none is =
+    sym (ap (is_object_among req) (ap (λ (r : List (ℕ × GuestRsp)). refused ++ refused_in script r) none ∙ append-nil refused)) ∙ is
 
 -- ---- steps that reply to nobody
 
@@ -282,7 +288,7 @@ module _ (script : List Statement) (range : RunsAreInRange script) (start : Mome
   abbrev WasOrIsRefused : MomentWithPast → MomentWithPast → ℕ → Type 0
   WasOrIsRefused before after req = (is_object_among req before.past.refused ≡ true) ⊎ IsRefusedNow script after req
 
-  refused_after : (event : Event) (made : EventOutcome) → (moment_after script event start made).past.refused ≡ start.past.refused ++ refused_in made.world.outputs.replies
+  refused_after : (event : Event) (made : EventOutcome) → (moment_after script event start made).past.refused ≡ start.past.refused ++ refused_in script made.world.outputs.replies
   unfolding past_after_event
   refused_after event made = refl
 
@@ -290,7 +296,7 @@ module _ (script : List Statement) (range : RunsAreInRange script) (start : Mome
   still_refused : (event : Event) (made : EventOutcome) → made.world.outputs.replies ≡ [] → (req : ℕ)
       → is_object_among req (moment_after script event start made).past.refused ≡ true → WasOrIsRefused start (moment_after script event start made) req
   still_refused event made none req is =
-      inl (none_among req start.past.refused made.world.outputs.replies none (sym (ap (is_object_among req) (refused_after event made)) ∙ is))
+      inl (none_among script req start.past.refused made.world.outputs.replies none (sym (ap (is_object_among req) (refused_after event made)) ∙ is))
 
   goes_on_refused : (stepping : SteppingNode) (so_far next : StepState) (is : IsStepping script start.world stepping) (by : StepsByChanges stepping.cause)
       → IsWithinStep stepping so_far next → IsTied (moment_in_step script stepping start so_far) → TouchOrAreAwaited (moment_in_step script stepping start so_far)
@@ -299,35 +305,35 @@ module _ (script : List Statement) (range : RunsAreInRange script) (start : Mome
       → WasOrIsRefused (moment_in_step script stepping start so_far) (moment_in_step script stepping start next) req
   goes_on_refused stepping so_far next is by within tied due worked req among = ⊎_elim
       (λ (old : is_object_among req start.past.refused ≡ true). was_refused (inl old))
-      (λ (new : is_object_among req (refused_in next.outputs.replies) ≡ true).
-      let (reply, there, refuses, same) = refused_has req next.outputs.replies new in
+      (λ (new : is_object_among req (refused_in script next.outputs.replies) ≡ true).
+      let (reply, there, refuses, same) = refused_has script req next.outputs.replies new in
       let known = known_step script range start.world began stepping is in
       let good = (both_in_chain (input_of_cause stepping.cause) stepping.host.node known.sound so_far within.leads).0 in
       ⊎_elim
       (λ (old : Contains so_far.outputs.replies reply).
-      was_refused (inr (ap (λ (q : ℕ). is_object_among q (refused_in so_far.outputs.replies)) (sym same) ∙ refused_of so_far.outputs.replies reply old refuses)))
+      was_refused (inr (ap (λ (q : ℕ). is_object_among q (refused_in script so_far.outputs.replies)) (sym same) ∙ refused_of script so_far.outputs.replies reply old refuses)))
       (λ (may : MayBeRefused (input_of_cause stepping.cause) stepping.host.node known.sound so_far good reply.0).
       inr (subst (IsRefusedNow script (moment_in_step script stepping start next)) same
       (refused_now stepping so_far next is by within tied due worked reply there may)))
-      (change_refuses (input_of_cause stepping.cause) stepping.host.node known.sound so_far good next within.change reply there refuses))
-      (among_cases req start.past.refused (refused_in next.outputs.replies)
+      (change_refuses (input_of_cause stepping.cause) stepping.host.node known.sound so_far good next within.change reply there (refusal_is script reply refuses)))
+      (among_cases req start.past.refused (refused_in script next.outputs.replies)
       (sym (ap (is_object_among req) (refused_in_step script stepping start next)) ∙ among))
     where
-      was_refused : (is_object_among req start.past.refused ≡ true) ⊎ (is_object_among req (refused_in so_far.outputs.replies) ≡ true)
+      was_refused : (is_object_among req start.past.refused ≡ true) ⊎ (is_object_among req (refused_in script so_far.outputs.replies) ≡ true)
           → WasOrIsRefused (moment_in_step script stepping start so_far) (moment_in_step script stepping start next) req
       was_refused either =
           inl (ap (is_object_among req) (refused_in_step script stepping start so_far)
-          ∙ among_of req start.past.refused (refused_in so_far.outputs.replies) either)
+          ∙ among_of req start.past.refused (refused_in script so_far.outputs.replies) either)
 
   pub refused_from : {before after : MomentWithPast} → MomentChange script start before after → IsTied before → TouchOrAreAwaited before → RequestsHaveWorked before
       → (req : ℕ) → is_object_among req after.past.refused ≡ true → WasOrIsRefused before after req
   refused_from (moments.StepBegins stepping is by) tied due worked req among =
-      inl (none_among req start.past.refused (first_in_step stepping).outputs.replies (received_replies (input_of_cause stepping.cause) stepping.host.node)
+      inl (none_among script req start.past.refused (first_in_step stepping).outputs.replies (received_replies (input_of_cause stepping.cause) stepping.host.node)
       (sym (ap (is_object_among req) (refused_in_step script stepping start (first_in_step stepping))) ∙ among))
   refused_from (moments.StepGoesOn stepping so_far next is by within) tied due worked req among =
       goes_on_refused stepping so_far next is by within tied due worked req among
   refused_from (moments.StepIsMade stepping is by) tied due worked req among =
-      inl (none_among req start.past.refused (last_in_step stepping).outputs.replies (made_silent stepping.cause stepping.host.node by)
+      inl (none_among script req start.past.refused (last_in_step stepping).outputs.replies (made_silent stepping.cause stepping.host.node by)
       (sym (ap (is_object_among req) (refused_in_step script stepping start (last_in_step stepping))) ∙ among))
   refused_from (moments.LossIsUntold event made happened h) tied due worked req among =
       still_refused event made (ap (λ (m : EventOutcome). m.world.outputs.replies) (sym h.made_so)) req among

@@ -42,7 +42,7 @@ use Rattle.sheep_world.proofs.BegunRequestLaws.{Grows, were_begun}
 use Rattle.sheep_world.proofs.EventInversion.{happens}
 use Rattle.sheep_world.proofs.SessionNumbers.{once}
 use Rattle.overlap_law.specs.Holders.{is_object_among}
-use Rattle.overlap_law.specs.PastWords.{is_refusal, refused_in}
+use Rattle.overlap_law.specs.PastWords.{refuses_request, refused_in}
 use Rattle.overlap_law.specs.Past.{MomentWithPast, past_after_event, moment_after, first_moment, run_with_past}
 use Rattle.overlap_law.specs.RequestsOfScript.{TheRefusedAreAnswered}
 use Rattle.overlap_law.proofs.AttemptMessages.{contains_at}
@@ -226,21 +226,21 @@ module _ (script : List Statement) where
       )
 
   -- a request among the refused has a reply that refuses it
-  refusal_of : (req : ℕ) (replies : List (ℕ × GuestRsp)) → is_object_among req (refused_in replies) ≡ true
+  refusal_of : (req : ℕ) (replies : List (ℕ × GuestRsp)) → is_object_among req (refused_in script replies) ≡ true
       → (reply : ℕ × GuestRsp) × Contains replies reply × (reply.0 ≡ req)
   refusal_of req [] is = absurd (cc (is))
-  refusal_of req (first ∷ later) is = by_test (is_refusal first.1) is (refusal_of req later)
+  refusal_of req (first ∷ later) is = by_test (refuses_request script first) is (refusal_of req later)
     where
       behind : ((reply : ℕ × GuestRsp) × Contains later reply × (reply.0 ≡ req)) → (reply : ℕ × GuestRsp) × Contains (first ∷ later) reply × (reply.0 ≡ req)
       behind (reply, there, same) = (reply, Contains-cons first later reply there, same)
 
-      by_test : (b : Bool) → is_object_among req (map (λ (answer : ℕ × GuestRsp). answer.0) (cond b (first ∷ filter (λ (answer : ℕ × GuestRsp). is_refusal answer.1) later) (filter (λ (answer : ℕ × GuestRsp). is_refusal answer.1) later))) ≡ true
-          → (is_object_among req (refused_in later) ≡ true → (reply : ℕ × GuestRsp) × Contains later reply × (reply.0 ≡ req))
+      by_test : (b : Bool) → is_object_among req (map (λ (answer : ℕ × GuestRsp). answer.0) (cond b (first ∷ filter (refuses_request script) later) (filter (refuses_request script) later))) ≡ true
+          → (is_object_among req (refused_in script later) ≡ true → (reply : ℕ × GuestRsp) × Contains later reply × (reply.0 ≡ req))
           → (reply : ℕ × GuestRsp) × Contains (first ∷ later) reply × (reply.0 ≡ req)
       by_test true is rest = ⊎_elim
           (λ (own : (first.0 == req) ≡ true). (first, Contains-first first first later refl, eqb-true first.0 req own))
-          (λ (other : is_object_among req (refused_in later) ≡ true). behind (rest other))
-          (or_cases (first.0 == req) (is_object_among req (refused_in later)) is)
+          (λ (other : is_object_among req (refused_in script later) ≡ true). behind (rest other))
+          (or_cases (first.0 == req) (is_object_among req (refused_in script later)) is)
       by_test false is rest = behind (rest is)
 
   module _ (guests : Guests) (refused : List ℕ) (replies : List (ℕ × GuestRsp)) (are : AreAnswered guests refused)
@@ -250,30 +250,30 @@ module _ (script : List Statement) where
 
     none_refused : (q : ℕ) (started : StartedRequest) → Contains (unanswered_in q guests) started
         → ((reply : ℕ × GuestRsp) → Contains replies reply → IsAnother (session_asking script reply.0) reply.0 q started)
-        → is_object_among started.req (refused_in replies) ≡ false
-    none_refused q started was others = by_test (is_object_among started.req (refused_in replies)) refl
+        → is_object_among started.req (refused_in script replies) ≡ false
+    none_refused q started was others = by_test (is_object_among started.req (refused_in script replies)) refl
       where
-        by_test : (b : Bool) → is_object_among started.req (refused_in replies) ≡ b → is_object_among started.req (refused_in replies) ≡ false
+        by_test : (b : Bool) → is_object_among started.req (refused_in script replies) ≡ b → is_object_among started.req (refused_in script replies) ≡ false
         by_test false is = is
         by_test true is =
             let (reply, there, same) = refusal_of started.req replies is in
             let asking = ap (session_asking script) same ∙ begun_asking guests q started.req (are.unanswered q started was) in
             absurd (both_ways (started.req == reply.0) (others reply there asking) (eq-eqb started.req reply.0 (sym same)))
 
-    replied_answered : AreAnswered later (refused ++ refused_in replies)
+    replied_answered : AreAnswered later (refused ++ refused_in script replies)
     replied_answered = record {
       started = λ req is. ⊎_elim
           (λ (old : is_object_among req refused ≡ true).
           let (session, was) = are.started req old in (session, still_begun guests later (replies_grow replies guests) session req was))
-          (λ (new : is_object_among req (refused_in replies) ≡ true).
+          (λ (new : is_object_among req (refused_in script replies) ≡ true).
           let (reply, there, same) = refusal_of req replies new in
           let (session, was) = begun reply there in
           (session, subst (λ (k : ℕ). WasBegun script later session k) same (still_begun guests later (replies_grow replies guests) session reply.0 was)))
-          (or_cases (is_object_among req refused) (is_object_among req (refused_in replies))
-          (sym (list_any-append (λ other. other == req) refused (refused_in replies)) ∙ is));
+          (or_cases (is_object_among req refused) (is_object_among req (refused_in script replies))
+          (sym (list_any-append (λ other. other == req) refused (refused_in script replies)) ∙ is));
       answered = λ q started there.
           let (was, others) = left_by replies guests q started there in
-          list_any-append (λ other. other == started.req) refused (refused_in replies)
+          list_any-append (λ other. other == started.req) refused (refused_in script replies)
           ∙ (λ i. are.answered q started was i || none_refused q started was others i);
       unanswered = λ q started there.
           still_begun guests later (replies_grow replies guests) q started.req (are.unanswered q started (left_by replies guests q started there).0);
@@ -340,7 +340,7 @@ module _ (script : List Statement) where
         still_begun world.guests (progress_at_cause cause world) (found_grows cause) request.session req (node_begun req request got)))).replied reply there in (session, begun))
 
     step_answered : (refused : List ℕ) (cause : NodeCause) → IsCause script world n host cause → AreAnswered world.guests refused
-        → AreAnswered (world_after_cause script n host cause world).guests (refused ++ refused_in (node_step (input_of_cause cause) host.node).outputs.replies)
+        → AreAnswered (world_after_cause script n host cause world).guests (refused ++ refused_in script (node_step (input_of_cause cause) host.node).outputs.replies)
     step_answered refused cause caused are =
         replied_answered (progress_at_cause cause world) refused (node_step (input_of_cause cause) host.node).outputs.replies
         (found_answered refused cause caused are) (replies_begun cause caused)
@@ -360,13 +360,13 @@ module _ (script : List Statement) where
   still_answered guests refused are = subst (AreAnswered guests) (sym (append-nil refused)) are
 
   abbrev AnsweredThen : List ℕ → EventOutcome → Type 0
-  AnsweredThen refused m = AreAnswered m.world.guests (refused ++ refused_in m.world.outputs.replies)
+  AnsweredThen refused m = AreAnswered m.world.guests (refused ++ refused_in script m.world.outputs.replies)
 
   kind_answered : (event : Event) (world : World) (made : EventOutcome) (refused : List ℕ) → Began script world → EventKind script event world made
-      → AreAnswered world.guests refused → AreAnswered made.world.guests (refused ++ refused_in made.world.outputs.replies)
+      → AreAnswered world.guests refused → AreAnswered made.world.guests (refused ++ refused_in script made.world.outputs.replies)
   kind_answered event world made refused began kind are = by_kind kind
     where
-      by_kind : EventKind script event world made → AreAnswered made.world.guests (refused ++ refused_in made.world.outputs.replies)
+      by_kind : EventKind script event world made → AreAnswered made.world.guests (refused ++ refused_in script made.world.outputs.replies)
       by_kind (NodeStep h) = subst (AnsweredThen refused) h.made_so (step_answered world began h.n h.host h.there refused h.cause h.caused are)
       by_kind (UntoldLoss h) = subst (AnsweredThen refused) h.made_so (still_answered world.guests refused are)
       by_kind (UnreadDelivery h) = subst (AnsweredThen refused) h.made_so (still_answered world.guests refused are)

@@ -60,7 +60,7 @@ none-before : (before : List ℕ) (more : List ℕ) → [] ≡ before ++ more �
 none-before [] more e = refl
 none-before (oid ∷ before) more e = absurd (cc)
 
-no_more-before : (before after : List ℕ) → Grows before after → after ≡ [] → before ≡ []
+pub no_more-before : (before after : List ℕ) → Grows before after → after ≡ [] → before ≡ []
 no_more-before before after grows e = none-before before grows.more (sym e ∙ grows.whole)
 
 grows-twice : (one two three : List ℕ) → Grows one two → Grows two three → Grows one three
@@ -69,7 +69,7 @@ grows-twice one two three first second = record {
   whole = second.whole ∙ ap (λ (xs : List ℕ). xs ++ second.more) first.whole ∙ append_assoc one first.more second.more;
 }
 
-step-grows : (script : List Statement) (event : Event) (moment : MomentWithPast) (made : EventOutcome)
+pub step-grows : (script : List Statement) (event : Event) (moment : MomentWithPast) (made : EventOutcome)
     → Grows moment.past.unavailable (moment_after script event moment made).past.unavailable
 unfolding past_after_event
 step-grows script event moment made = record {
@@ -83,7 +83,7 @@ abbrev KeepsReads : MomentWithPast → MomentWithPast → Type 0
 KeepsReads first last = Grows first.past.unavailable last.past.unavailable
     × (last.past.unavailable ≡ [] → first.past.available_history ≡ first.past.history → last.past.available_history ≡ last.past.history)
 
-step-keeps_reads : (script : List Statement) (event : Event) (moment : MomentWithPast) (made : EventOutcome) → moment.past.unavailable ≡ []
+pub step-keeps_reads : (script : List Statement) (event : Event) (moment : MomentWithPast) (made : EventOutcome) → moment.past.unavailable ≡ []
     → moment.past.available_history ≡ moment.past.history
     → (moment_after script event moment made).past.available_history ≡ (moment_after script event moment made).past.history
 unfolding past_after_event

@@ -92,7 +92,7 @@ guest_tells_nothing node WorkIsRetried attempts req session ask from = refl
 
 -- what is refused at a point of a step
 pub refused_in_step : (script : List Statement) (stepping : SteppingNode) (start : MomentWithPast) (so_far : StepState)
-    → (moment_in_step script stepping start so_far).past.refused ≡ start.past.refused ++ refused_in so_far.outputs.replies
+    → (moment_in_step script stepping start so_far).past.refused ≡ start.past.refused ++ refused_in script so_far.outputs.replies
 unfolding past_after_event
 refused_in_step script stepping start so_far = refl
 
@@ -173,7 +173,7 @@ module _ (script : List Statement) (range : RunsAreInRange script) (start : Mome
         ∙ append-nil (attempts_at_cause stepping.host.node stepping.cause start.past.attempts)
         ∙ guest_tells_nothing stepping.host.node stepping.cause start.past.attempts req arrives.session arrives.ask arrives.from;
     refused_so = refused_in_step script stepping start so_far
-        ∙ ap (λ (s : StepState). start.past.refused ++ refused_in s.outputs.replies) arrives.first
+        ∙ ap (λ (s : StepState). start.past.refused ++ refused_in script s.outputs.replies) arrives.first
         ∙ append-nil start.past.refused;
   }
 

@@ -20,11 +20,13 @@ use Rattle.message_wire.specs.declared.name.MessageName.{MessageName}
 use Rattle.message_wire.specs.declared.packet.Packet.TheVariants.{Request}
 use Rattle.sheep_world.specs.World.{World, node_at, message_at}
 use Rattle.sheep_world.specs.Step.{EventOutcome, step}
+use Rattle.sheep_world.specs.RunsWithAsks.{Move}
 use Rattle.overlap_law.specs.Attempts.{AttemptRecord, has_message}
 use Rattle.overlap_law.specs.Words.{is_mute}
 use Rattle.overlap_law.specs.Holders.{is_object_among}
 use Rattle.overlap_law.specs.Each.{EachAttempt}
 use Rattle.overlap_law.specs.Past.{Past, MomentWithPast, run_with_past}
+use Rattle.overlap_law.specs.RunsWithAsks.{run_with_asks_and_past}
 
 -- the replies are one legal history, where the reads of disks that weren't available up to there are left out. A block that is
 -- torn, since a gateway was lost within a coded write, may be read as anything until its next acknowledged write
@@ -92,3 +94,9 @@ pub record KeepsHeadline (script : List Statement) (moment : MomentWithPast) : T
 abbrev pub Headline : List Statement → Type 0
 Headline script = IsScript script → (events : List Event) (moment : MomentWithPast) → run_with_past script events ≡ Some moment
     → KeepsHeadline script moment
+
+-- The headline of runs in which a client also reads objects between the events: all of it holds at the end of those too. What the client
+-- is told is no part of the history; that it is what the disks have is another claim, of whoever asks.
+abbrev pub HeadlineWithAsks : List Statement → Type 0
+HeadlineWithAsks script = IsScript script → (moves : List Move) (moment : MomentWithPast)
+    → run_with_asks_and_past script moves ≡ Some moment → KeepsHeadline script moment

@@ -8,6 +8,7 @@ pub mod Grants
 pub mod BegunAttempts
 pub mod PastWords
 pub mod Past
+pub mod RunsWithAsks
 pub mod Contents
 pub mod Facts
 pub mod Headline

@@ -28,6 +28,7 @@ use Rattle.sheep_node.specs.declared.course.Request.{Request}
 use Rattle.sheep_node.specs.declared.course.Course.TheVariants.{Waiting, Driving, Commanding, Checking, DoingWork, AwaitingDecision}
 use Rattle.sheep_node.specs.State.{Node, session_at}
 use Rattle.sheep_world.specs.World.{World}
+use Rattle.sheep_world.specs.Asking.{session_asking}
 use Rattle.sheep_world.specs.Conditions.{is_disk_request_at}
 use Rattle.sheep_world.specs.HistoryAdditions.{disk_of}
 use Rattle.sheep_world.specs.Step.{EventOutcome, step}
@@ -37,10 +38,13 @@ use Rattle.overlap_law.specs.Holders.{is_available_disk}
 use Rattle.overlap_law.specs.Packets.{Wire, IsAnswering}
 use Rattle.overlap_law.specs.Past.{MomentWithPast, run_with_past}
 
--- the disk that a request is on: a read or write is on the one that its session had open when it began, a command on the one
--- whose inode it comes to
+-- the disk that a request of the script is on: a read or write is on the one that its session had open when it began, a command on the
+-- one whose inode it comes to; what a client asks is on none
 abbrev pub disk_meant : List Statement → World → ℕ → ℕ → Option ℕ
-disk_meant script world req oid = if is_disk_request_at script req then disk_of script req world else Some (vid_of oid)
+disk_meant script world req oid =
+    if is_disk_request_at script req
+    then disk_of script req world
+    else option_map (λ (session : ℕ). vid_of oid) (session_asking script req)
 
 -- whether a disk is published and not deleted by the log, and was available up to here
 abbrev pub is_there_and_available : List Entry → List ℕ → ℕ → Bool

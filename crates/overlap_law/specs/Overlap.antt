@@ -1,12 +1,16 @@
 -- The invariant of the epoch overlap: the whole of it, over the parts of a moment; and what is owed of it.
 use Rattle.std.specs.Prelude.{◌≡◌, List, Some}
+use Rattle.object_id.specs.declared.node.NodeId.{NodeId}
 use Rattle.vdi_directory.specs.Decisions.{log_effects}
 use Rattle.cluster_script.specs.declared.statement.Statement.{Statement}
 use Rattle.cluster_script.specs.Language.{IsScript}
 use Rattle.sheep_node.specs.declared.event.Event.{Event}
+use Rattle.sheep_node.specs.declared.ask.Ask.{Ask}
 use Rattle.sheep_world.specs.Step.{EventOutcome, step}
+use Rattle.sheep_world.specs.RunsWithAsks.{Asks}
 use Rattle.overlap_law.specs.Holders.{targets_by, is_live_object, is_good, is_available_disk}
 use Rattle.overlap_law.specs.Past.{MomentWithPast, next_moment, first_moment}
+use Rattle.overlap_law.specs.RunsWithAsks.{next_move_with_past}
 use Rattle.overlap_law.specs.Facts.{MeetsFacts}
 use Rattle.overlap_law.specs.Headline.{IsLegalWhereAvailable, RefusedHaveNoItems, RefusedMakeNothing, ledger_of}
 use Rattle.overlap_law.specs.NoObjects.{NothingIsLacked, NoObjectIsMissing}
@@ -60,6 +64,11 @@ OpensWithOverlap script = IsScript script → OverlapOf script (first_moment scr
 abbrev pub KeepsOverlap : List Statement → Event → Type 0
 KeepsOverlap script event = IsScript script → (before after : MomentWithPast) → OverlapOf script before
     → next_moment script event before ≡ Some after → OverlapOf script after
+
+-- owed: a client's ask keeps it, which may be made there and reads an object
+abbrev pub AsksKeepOverlap : List Statement → NodeId → Ask → Type 0
+AsksKeepOverlap script node ask = IsScript script → (before after : MomentWithPast) → OverlapOf script before
+    → next_move_with_past script (Asks node ask) before ≡ Some after → OverlapOf script after
 
 -- owed: it gives the six facts, and that the replies are legal
 pub record GivesFacts (moment : MomentWithPast) : Type 0 where

@@ -15,7 +15,7 @@ use Rattle.overlap_law.specs.PastWords.{messages_lost_by, refused_in, listed_by,
 pub use Rattle.overlap_law.specs.Attempts.{MessageFate, Flying, Served, Doomed, AttemptRecord}
 pub use Rattle.overlap_law.specs.PastWords.{FinishedList, counts}
 
--- what is kept of a run: the attempts, in the order in which they began; the requests that were refused; the messages that
+-- what is kept of a run: the attempts, in the order in which they began; the script's requests that were refused; the messages that
 -- were lost, or whose replies were; what nodes had when their lists were finished; the incarnations that ended; the objects that
 -- were once not available while they were born and not dead; the history, whole and without the reads of disks that weren't available
 pub record Past : Type 0 where
@@ -38,10 +38,10 @@ pub record MomentWithPast : Type 0 where
   pub past : Past
 
 -- the past after an event, by the attempts and the ended incarnations after it
-abbrev pub past_after : Event → World → EventOutcome → List AttemptRecord → List EndedIncarnation → Past → Past
-past_after event old made attempts ended past = record {
+abbrev pub past_after : List Statement → Event → World → EventOutcome → List AttemptRecord → List EndedIncarnation → Past → Past
+past_after script event old made attempts ended past = record {
   attempts = attempts;
-  refused = past.refused ++ refused_in made.world.outputs.replies;
+  refused = past.refused ++ refused_in script made.world.outputs.replies;
   lost = past.lost ++ messages_lost_by event;
   listed = past.listed ++ listed_by old made.world;
   ended = ended;
@@ -53,7 +53,8 @@ past_after event old made attempts ended past = record {
 -- the past after an event, which makes this of a world
 unfoldable pub past_after_event : List Statement → Event → World → EventOutcome → Past → Past
 past_after_event script event old made past =
-    past_after event old made (attempts_after script event old made.world past.attempts) (incarnations_after old past.ended event) past
+    past_after script event old made (attempts_after script event old made.world past.attempts) (incarnations_after old past.ended event)
+    past
 
 -- a moment after an event that is made
 abbrev pub moment_after : List Statement → Event → MomentWithPast → EventOutcome → MomentWithPast

@@ -1,9 +1,11 @@
 -- What an event adds to the past beside attempts: losses, refusals, finished lists, objects that aren't available, and the history.
-use Rattle.std.specs.Prelude.{ℕ, ◌==◌, Bool, true, false, not, ◌&&◌, List, [], ◌∷◌, map, filter, Option, Some, None, if◌then◌else◌}
+use Rattle.std.specs.Prelude.{ℕ, ◌==◌, Bool, true, false, not, ◌&&◌, List, [], ◌∷◌, map, filter, Option, Some, None, is_some}
+use Rattle.std.specs.Prelude.{if◌then◌else◌}
 use Rattle.std.specs.List.{filter_map}
 use Rattle.std.specs.FinMap as tree
 use Rattle.object_id.specs.declared.node.NodeId.{NodeId}
 use Rattle.object_id.specs.declared.entry.Entry.{Entry}
+use Rattle.cluster_script.specs.declared.statement.Statement.{Statement}
 use Rattle.disk_history.specs.declared.event.HistEvent.{HistEvent}
 use Rattle.disk_history.specs.declared.event.HistEvent.TheVariants as acts
 use Rattle.peer_proto.specs.declared.guest.GuestRsp.{GuestRsp}
@@ -14,6 +16,7 @@ use Rattle.sheep_node.specs.declared.event.Event.TheVariants.{Guest, Deliver, Lo
 use Rattle.sheep_node.specs.declared.event.Event.TheVariants.{Lost, Leave, Join, Reweight, Back, Phase}
 use Rattle.message_wire.specs.declared.name.MessageName.{MessageName}
 use Rattle.sheep_world.specs.World.{Host, World, host_at}
+use Rattle.sheep_world.specs.Asking.{session_asking}
 use Rattle.sheep_world.specs.Incarnations.{EndedIncarnation, counts_for}
 use Rattle.overlap_law.specs.Attempts.{AttemptRecord}
 use Rattle.overlap_law.specs.Holders.{unavailable_in, is_available_disk, is_object_among}
@@ -49,9 +52,13 @@ is_refusal (replies.Refused cause) = true
 is_refusal (replies.Granted vid) = false
 is_refusal (replies.Checked found) = false
 
--- the requests that a step refused
-abbrev pub refused_in : List (ℕ × GuestRsp) → List ℕ
-refused_in answers = map (λ (answer : ℕ × GuestRsp). answer.0) (filter (λ (answer : ℕ × GuestRsp). is_refusal answer.1) answers)
+-- whether a reply refuses a request of the script; what a client asks is none
+abbrev pub refuses_request : List Statement → ℕ × GuestRsp → Bool
+refuses_request script answer = is_refusal answer.1 && is_some (session_asking script answer.0)
+
+-- the requests of the script that a step refused
+abbrev pub refused_in : List Statement → List (ℕ × GuestRsp) → List ℕ
+refused_in script answers = map (λ (answer : ℕ × GuestRsp). answer.0) (filter (refuses_request script) answers)
 
 -- whether a node's list of an epoch is finished, which before wasn't
 abbrev pub finishes : Recovery → Recovery → Bool

@@ -1,6 +1,8 @@
--- The works and the open disks of sessions: they are apart, the disks are held, and reads come last.
+-- The works and the open disks of sessions: they are apart, the disks are held, and reads come last. What a client reads between the
+-- events holds nothing, and may meet a write.
 use Rattle.std.specs.Prelude.{◌≡◌, ◌≢◌, ◌⊎◌, ℕ, ◌≤◌, ◌<◌, Bool, true, false, List, slice_get, Some}
 use Rattle.std.specs.List.{list_any}
+use Rattle.std.specs.Option.{option_map_or}
 use Rattle.std.specs.FinMap as tree
 use Rattle.object_id.specs.declared.node.NodeId.{NodeId}
 use Rattle.object_id.specs.declared.entry.Entry.{Entry}
@@ -28,6 +30,11 @@ use Rattle.overlap_law.specs.Each.{EachUp, EachAttempt}
 use Rattle.overlap_law.specs.Packets.{Wire, HasPacket}
 use Rattle.overlap_law.specs.Grants.{granted_in}
 use Rattle.overlap_law.specs.Writers.{session_holder}
+use Rattle.overlap_law.specs.RequestsOfScript.{is_of_client}
+
+-- whether the request of a number at a node is a client's, who asks without a script
+abbrev pub is_of_client_at : ℕ → Node → Bool
+is_of_client_at req node = option_map_or (λ (request : Request). is_of_client request.course) (tree.get node.requests req) false
 
 -- whether an entry gives the open disk back, or turns it into a snapshot
 abbrev pub lets_go : Entry → Bool
@@ -72,11 +79,12 @@ BegunRequestsAreApart hosts =
     EachUp hosts (λ n node. (number : ℕ) (session : Session) (one two : Queued) → tree.get node.sessions number ≡ Some session
     → HaveBegun node session number one two → AreApart one two)
 
--- a node's open works are on different objects, but for reads; a session has one open on its inode; and what has begun of a
--- session meets on no index
+-- beside an open create or write a node has on its object at most what a client reads; a session has one work open on its inode; and what
+-- has begun of a session meets on no index
 pub record WorksAreApart (hosts : Hosts) : Type 0 where
   pub objects : EachUp hosts (λ n node. (req other : ℕ) (work second : Work) → AreOpen node req work other second
-      → oid_of work.work ≡ oid_of second.work → (is_making work.work ≡ false) × (is_making second.work ≡ false))
+      → oid_of work.work ≡ oid_of second.work → is_making work.work ≡ true
+      → (is_making second.work ≡ false) × (is_of_client_at other node ≡ true))
   pub inodes : SessionsHaveOneInodeWork hosts
   pub indexes : BegunRequestsAreApart hosts
 
@@ -103,12 +111,12 @@ pub record OpenDisksAreHeld (log : List Entry) (hosts : Hosts) : Type 0 where
   pub each : EachUp hosts (λ n node. (number : ℕ) (session : Session) (disk : Disk) → tree.get node.sessions number ≡ Some session
       → session.disk ≡ Some disk → disk.snapshot ≡ false → HoldsDisk log n number disk.inode.vid node ⊎ IsLettingGo node number)
 
--- no attempt on an object is of a later epoch than an open read, nor of the same while it has packets
+-- no attempt on an object is of a later epoch than an open read of a session, nor of the same while it has packets
 pub record ReadsAreLast (hosts : Hosts) (wire : Wire) (attempts : List AttemptRecord) : Type 0 where
   pub epochs : EachUp hosts (λ n node. (req : ℕ) (work : Work) (current : gateways.Attempt) → tree.get node.gateway.works req ≡ Some work
-      → is_making work.work ≡ false → work.stage ≡ Open current
+      → is_making work.work ≡ false → is_of_client_at req node ≡ false → work.stage ≡ Open current
       → EachAttempt attempts (λ j attempt. object_of attempt ≡ oid_of work.work → attempt.epoch ≤ current.epoch.0))
   pub flying : EachUp hosts (λ n node. (req : ℕ) (work : Work) (current : gateways.Attempt) → tree.get node.gateway.works req ≡ Some work
-      → is_making work.work ≡ false → work.stage ≡ Open current
+      → is_making work.work ≡ false → is_of_client_at req node ≡ false → work.stage ≡ Open current
       → EachAttempt attempts (λ j attempt. object_of attempt ≡ oid_of work.work → (place : ℕ) (target : NodeId)
       → HasPacket wire attempt place target → attempt.epoch < current.epoch.0))

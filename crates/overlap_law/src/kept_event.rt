@@ -4,8 +4,10 @@ ghost use Rattle.std.specs.Prelude.{◌≡◌, ◌↔◌, ◌++◌, ◌∷◌, L
 ghost use Rattle.sheep_node.specs.declared.event.Event.{Event as TheEvent};
 ghost use Rattle.sheep_world.specs.declared.fault.ApplyFault.TheVariants as faults;
 ghost use Rattle.sheep_world.specs.Enabled.{is_enabled};
+ghost use Rattle.sheep_world.specs.RunsWithAsks.{Move, Happens};
 ghost use Rattle.sheep_world.specs.Step.{step};
 ghost use Rattle.overlap_law.specs.Past.{MomentWithPast, run_with_past, moment_after};
+ghost use Rattle.overlap_law.specs.RunsWithAsks.{run_with_asks_and_past};
 ghost use Rattle.overlap_law.specs.MomentChanges.{RunsAreInRange};
 ghost use Rattle.overlap_law.specs.KeptSoFar.{IsKeptSoFar};
 
@@ -14,9 +16,9 @@ use disk_history::HistList;
 use sheep_node::Event;
 use sheep_world::{ApplyFault, World};
 
-/// Makes an event as [`World::apply`] does, with its refusals and at its cost. Behind each run that led to the world before, the event
-/// makes a run that leads to the world after, whose history has grown by what is given; and each run in range that leads there keeps what
-/// has been proved of the overlap (`specs/KeptSoFar.antt`).
+/// Makes an event as [`World::apply`] does, with its refusals and at its cost. Behind each run that led to the world before, and behind
+/// each run with a client's reads, the event makes a run that leads to the world after, whose history has grown by what is given; and each
+/// run of events in range that leads there keeps what has been proved of the overlap (`specs/KeptSoFar.antt`).
 pub fn keeps_overlap(
     script: &Script,
     world: &mut World,
@@ -32,6 +34,10 @@ pub fn keeps_overlap(
     ensures run { IfOk result (λ grown. (events : List TheEvent) (moment : MomentWithPast)
         → run_with_past script.now events ≡ Some moment → moment.world ≡ world.old.world
         → run_with_past script.now (events ++ event ∷ [])
+        ≡ Some (moment_after script.now event moment (record { world = world.new.world; grown = grown }))) }
+    ensures asked { IfOk result (λ grown. (moves : List Move) (moment : MomentWithPast)
+        → run_with_asks_and_past script.now moves ≡ Some moment → moment.world ≡ world.old.world
+        → run_with_asks_and_past script.now (moves ++ Happens event ∷ [])
         ≡ Some (moment_after script.now event moment (record { world = world.new.world; grown = grown }))) }
     ensures kept { OnOk result ((events : List TheEvent) (moment : MomentWithPast) → RunsAreInRange script.now
         → run_with_past script.now events ≡ Some moment → moment.world ≡ world.new.world → IsKeptSoFar script.now moment) }

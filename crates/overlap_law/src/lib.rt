@@ -17,11 +17,15 @@
 //! (`specs/ShapedAttempts.antt`), that the wire is linked with what nodes wait for, that gateways know the fates of their attempts, what
 //! the group of epochs and nodes says (`specs/NodeEpochs.antt`), and some of the group of writers (`specs/Writers.antt`), over what the
 //! works of sessions rest on (`specs/AwaitedEntries.antt`, `specs/CommandDisks.antt`, `specs/WriterClaims.antt`).
+//!
+//! Between the events a client without a script may read objects (`specs/RunsWithAsks.antt`). Such reads leave the past as it is; the laws
+//! of `with_asks.rt` say why, and that what is owed of events and of reads gives the headline of those runs too.
 #![tactic(auto)]
 
 mod kept_event;
 mod laws;
 mod overlap;
+mod with_asks;
 mod writers;
 
 pub use kept_event::keeps_overlap;
@@ -42,6 +46,10 @@ pub use overlap::{
     the_messages_of_the_gone_are_fenced, the_overlap_gives_complete_lists,
     the_overlap_gives_holders, the_overlap_gives_legal_replies, the_overlap_makes_attempts_stand,
     the_settled_have_recovered,
+};
+pub use with_asks::{
+    a_clients_read_makes_nothing, a_run_with_asks_has_its_past, what_a_clients_read_keeps,
+    what_is_owed_gives_the_headline, what_runs_with_asks_keep,
 };
 pub use writers::{
     a_session_has_one_inode_work, attempts_are_of_epochs_that_began, begun_requests_are_apart,

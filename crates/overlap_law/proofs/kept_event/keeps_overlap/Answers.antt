@@ -2,6 +2,7 @@ use Rattle.std.proofs.Common.{◌≡◌, List, Some, subst, sym}
 use Rattle.std.proofs.lemmas.Result.{IfOk-weaker}
 use Rattle.sheep_world.specs.World.{World}
 use Rattle.sheep_world.specs.Step.{step}
+use Rattle.overlap_law.proofs.AskedRuns.{with_asks-event}
 use Rattle.overlap_law.proofs.RunsWithOneMore.{run_with_one_more}
 use Rattle.overlap_law.proofs.KeptSoFar.{kept_so_far}
 use Rattle.overlap_law.proofs.kept_event.keeps_overlap.Goals as goal
@@ -11,6 +12,15 @@ returns-clause-run c =
     IfOk-weaker c.apply.result _ _
     (λ grown made events moment is at. run_with_one_more c.args.script.now c.args.event
     (record { world = c.apply.new.self.world; grown = grown }) events moment
+    (subst (λ (world : World). step c.args.script.now c.args.event world ≡ Some (record { world = c.apply.new.self.world; grown = grown }))
+    (sym at) made) is)
+    c.apply.ensures.made
+
+pub returns-clause-asked : goal.returns-clause-asked
+returns-clause-asked c =
+    IfOk-weaker c.apply.result _ _
+    (λ grown made moves moment is at. with_asks-event c.args.script.now c.args.event
+    (record { world = c.apply.new.self.world; grown = grown }) moves moment
     (subst (λ (world : World). step c.args.script.now c.args.event world ≡ Some (record { world = c.apply.new.self.world; grown = grown }))
     (sym at) made) is)
     c.apply.ensures.made
