@@ -47,7 +47,7 @@ members_read (first ∷ later) rest epoch is =
     so ∙ sym (members_in-append (first ∷ later) rest epoch (omega arith) begun)
 
 -- the settled epoch of some entries is no later than that of more
-settled_less : (entries rest : List Entry) → settled_of entries ≤ settled_of (entries ++ rest)
+pub settled_less : (entries rest : List Entry) → settled_of entries ≤ settled_of (entries ++ rest)
 settled_less [] rest =
     let most : settled_of [] ≤ 1 = (settled_of-begun []).1 in
     let least : 1 ≤ settled_of rest = (settled_of-begun rest).0 in

@@ -75,7 +75,7 @@ one_joins hosts hosts_after k new is none n host there = ⊎_elim
     (cases_eq n k)
 
 -- what more a node has read by the cause of its step
-abbrev read_more : NodeCause → List Entry
+abbrev pub read_more : NodeCause → List Entry
 read_more (GuestAsks session req ask) = []
 read_more (RequestComes name to request) = []
 read_more (ReplyComes name from rsp) = []
@@ -85,7 +85,7 @@ read_more (EntryIsPut entry) = []
 read_more RecoveryTicks = []
 read_more WorkIsRetried = []
 
-read_with_more : (cause : NodeCause) (read : List Entry) → read_after (input_of_cause cause) read ≡ read ++ read_more cause
+pub read_with_more : (cause : NodeCause) (read : List Entry) → read_after (input_of_cause cause) read ≡ read ++ read_more cause
 read_with_more (GuestAsks session req ask) read = sym (append-nil read)
 read_with_more (RequestComes name to request) read = sym (append-nil read)
 read_with_more (ReplyComes name from rsp) read = sym (append-nil read)

@@ -28,6 +28,8 @@ use Rattle.overlap_law.proofs.OneInodeWork.{one_inode_work-in_run}
 use Rattle.overlap_law.proofs.ApartInRuns.{begun_apart-in_run}
 use Rattle.overlap_law.proofs.GrantsOfCommands.{grants-in_run}
 use Rattle.overlap_law.proofs.EpochLemmas.{run-changes_nothing}
+use Rattle.overlap_law.proofs.TurnsOfRows.{ends-in_run, one_open-in_run, apart-in_run}
+use Rattle.overlap_law.proofs.StayingRows.{stays-on_the_way}
 
 pub flight-in_run : (script : List Statement) → RunsAreInRange script → (events : List Event) (moment : MomentWithPast)
     → run_with_past script events ≡ Some moment
@@ -64,5 +66,9 @@ kept_so_far script range events moment is = record {
   inodes = one_inode_work-in_run script range events moment is;
   apart = begun_apart-in_run script range events moment is;
   granted = grants-in_run script range events moment moment is moments.Still;
+  ends = ends-in_run script range events moment is;
+  one_open = one_open-in_run script range events moment is;
+  rows_apart = apart-in_run script range events moment is;
+  stays = stays-on_the_way script range events moment moment is moments.Still;
   peers = run-changes_nothing script events moment is;
 }

@@ -168,3 +168,13 @@ pub mod ClaimsElsewhere
 pub mod ClaimInputs
 pub mod ClaimsInRuns
 pub mod GrantsOfCommands
+pub mod RowsInTurn
+pub mod RecoveryViews
+pub mod StoredRows
+pub mod TurnsOfRows
+pub mod CoveredLevels
+pub mod LevelsStay
+pub mod PeersInMoments
+pub mod ServedPlaces
+pub mod SuccessfulRows
+pub mod StayingRows

@@ -8,7 +8,7 @@ use Rattle.object_id.specs.declared.entry.Entry.{Entry}
 use Rattle.object_id.specs.declared.entry.Member.{Member}
 use Rattle.object_id.specs.declared.node.NodeId.{NodeId}
 use Rattle.epoch_log.specs.Members as members
-use Rattle.epoch_log.specs.Epochs.{begins_epoch, epoch_of, members_in}
+use Rattle.epoch_log.specs.Epochs.{begins_epoch, epoch_of, members_in, settled_of}
 use Rattle.epoch_log.proofs.EpochLemmas.{epoch_of-append, members_in-append}
 use Rattle.object_list.specs.Gathered.{has_node}
 use Rattle.cluster_script.specs.declared.statement.Statement.{Statement}
@@ -37,11 +37,12 @@ use Rattle.overlap_law.proofs.RecoveryMembers.{nodes_of_members}
 use Rattle.overlap_law.proofs.SendsOfChanges.{in_order_so_far}
 use Rattle.overlap_law.proofs.SoundNodes.{IsSoundNode, sound_in_worlds, sound_after}
 
--- a node of this number has read the first entries of a log, and is in their epoch
+-- a node of this number has read the first entries of a log, and is in their epoch, with what they settle
 pub record HasReadOf (log : List Entry) (n : ℕ) (me : NodeId) (peer : Peer) : Type 0 where
   pub own : me.0 ≡ n
   pub front : IsFront peer.entries log
   pub epoch_so : peer.epoch ≡ epoch_of peer.entries
+  pub settled_so : peer.settled ≡ settled_of peer.entries
 
 -- what holds of a host's node and of what it has read
 pub record IsSoundHost (log : List Entry) (n : ℕ) (host : Host) : Type 0 where
@@ -132,6 +133,7 @@ module _ (script : List Statement) (range : RunsAreInRange script) where
     own = knows_its_number script world began n host there;
     front = all_read script world began n host there;
     epoch_so = (by_the_log script range.is_script range.room world began n host there).epoch_so;
+    settled_so = (by_the_log script range.is_script range.room world began n host there).settled_so;
   }
 
   pub sound_hosts : (moment : MomentWithPast) → Began script moment.world → HostsAreSound moment

@@ -47,3 +47,8 @@ module _ (script : List Statement) (P : MomentWithPast → Type 0) (kept : KeptB
   pub run-kept : (events : List Event) (moment : MomentWithPast) → run_with_past script events ≡ Some moment → P moment
   unfolding run_with_past
   run-kept events moment is = run_on-kept events (first_moment script) moment first_began kept.opens is
+
+  -- and at each moment on the way of an event
+  pub on_the_way : (events : List Event) (start moment : MomentWithPast) → run_with_past script events ≡ Some start
+      → MomentTrail script start moment → P moment
+  on_the_way events start moment is trail = trail_kept start (began-with_past script events start is) trail (run-kept events start is)

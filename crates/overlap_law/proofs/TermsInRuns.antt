@@ -2,29 +2,18 @@
 use Rattle.std.proofs.Common.{◌≡◌, List, Some}
 use Rattle.cluster_script.specs.declared.statement.Statement.{Statement}
 use Rattle.sheep_node.specs.declared.event.Event.{Event}
-use Rattle.sheep_world.specs.Began.{Began}
 use Rattle.overlap_law.specs.Past.{MomentWithPast, run_with_past}
-use Rattle.overlap_law.specs.MomentChanges.{MomentTrail, Still, Then, RunsAreInRange, KeptByChanges}
+use Rattle.overlap_law.specs.MomentChanges.{MomentTrail, Still, RunsAreInRange}
 use Rattle.overlap_law.specs.Groups.{TermsAreKept}
 use Rattle.overlap_law.specs.NodeEpochs.{TheUpHaveStayed, LeaversAreBeyond, RecoveriesArePresent, AnswerersHaveCome, TheRecoveredHaveAll, TheUnfinishedAreUnsettled}
 use Rattle.overlap_law.proofs.EpochsInRuns.{members-in_run, read-in_run, settled-in_run}
 use Rattle.overlap_law.proofs.FinishedInMoments.{TermsHold, kept_terms}
-use Rattle.overlap_law.proofs.NoRecoveredDue.{began-with_past}
 use Rattle.overlap_law.proofs.OverlapLemmas.{settled-recovered}
 use Rattle.overlap_law.proofs.ReadInMoments.{are_present}
 use Rattle.overlap_law.proofs.RecoveredInMoments.{have_all}
-use Rattle.overlap_law.proofs.RunsByChanges.{run-kept}
+use Rattle.overlap_law.proofs.RunsByChanges.{on_the_way}
 use Rattle.overlap_law.proofs.StoodNodes.{have_stayed, are_beyond}
 use Rattle.overlap_law.proofs.UnsettledInMoments.{are_unsettled}
-
--- on the way from a moment of a run
-module _ (script : List Statement) (P : MomentWithPast → Type 0) (kept : KeptByChanges script P) where
-  along_trail : (start : MomentWithPast) → Began script start.world → P start → {moment : MomentWithPast} → MomentTrail script start moment → P moment
-  along_trail start began holds Still = holds
-  along_trail start began holds (Then {moment} {next} trail change) = kept.keeps start moment next began change (along_trail start began holds trail)
-
-  on_the_way : (events : List Event) (start moment : MomentWithPast) → run_with_past script events ≡ Some start → MomentTrail script start moment → P moment
-  on_the_way events start moment is trail = along_trail start (began-with_past script events start is) (run-kept script P kept events start is) trail
 
 module _ (script : List Statement) (range : RunsAreInRange script) (events : List Event) (start moment : MomentWithPast)
     (is : run_with_past script events ≡ Some start) (trail : MomentTrail script start moment) where

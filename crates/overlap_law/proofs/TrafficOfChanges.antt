@@ -7,7 +7,7 @@ use Rattle.object_id.specs.declared.node.NodeId.{NodeId}
 use Rattle.object_id.specs.declared.cause.Cause.TheVariants.{Halt}
 use Rattle.cluster_script.specs.declared.statement.Statement.{Statement}
 use Rattle.peer_proto.specs.declared.ask.PeerReq.{PeerReq}
-use Rattle.peer_service.specs.Serve.{reply_to}
+use Rattle.peer_service.specs.Serve.{reply_to, peer_step}
 use Rattle.gateway.specs.Work.{zones_for}
 use Rattle.gateway.specs.Attempt.{send_of}
 use Rattle.message_wire.specs.Message.{without_replies}
@@ -16,10 +16,10 @@ use Rattle.sheep_node.specs.declared.input.Input.{Input}
 use Rattle.sheep_node.specs.declared.input.Input.TheVariants as inputs
 use Rattle.sheep_node.specs.State.{Node}
 use Rattle.sheep_node.specs.StepState.{StepState}
-use Rattle.sheep_node.specs.Step.{node_step}
+use Rattle.sheep_node.specs.Step.{on_request, node_step}
 use Rattle.sheep_node.specs.Changes as changes
 use Rattle.sheep_node.specs.Changes.{attempt_in}
-use Rattle.sheep_node.proofs.StepResults.{step_numbers, step_counts}
+use Rattle.sheep_node.proofs.StepResults.{step_numbers, step_counts, step_peer}
 use Rattle.sheep_world.specs.World.{Host, World, host_at, is_host_up}
 use Rattle.sheep_world.specs.Messages.{wire_with_reply}
 use Rattle.sheep_world.specs.NodeSteps.{wire_with_request}
@@ -122,6 +122,11 @@ wire-by_changes (EntryIsPut entry) by hosts node wire = absurd by
 wire-by_changes RecoveryTicks by hosts node wire = absurd by
 wire-by_changes WorkIsRetried by hosts node wire = refl
 
+-- what a request leaves of the peer
+request_leaves : (request : PeerReq) (node : Node) → (node_step (inputs.Request request) node).node.peer ≡ (peer_step node.peer request).peer
+unfolding on_request
+request_leaves request node = step_peer (inputs.Request request) node
+
 module _ (script : List Statement) (world : World) (n : ℕ) (host : Host) (attempts : List AttemptRecord) where
   begins : (hosts_after : Hosts) (cause : NodeCause) → IsCause script world n host cause → StepsByChanges cause
       → Traffic world.hosts hosts_after world.wire attempts (wire_at_cause cause world.wire) (attempts_at_cause host.node cause attempts)
@@ -160,6 +165,10 @@ module _ (script : List Statement) (world : World) (n : ℕ) (host : Host) (atte
           up = up;
         });
         up_so = refl;
+        after = host_with_node host (node_step (inputs.Request request) host.node).node;
+        there_after = ap (tree.get hosts) so.here
+            ∙ get-insert_same world.hosts n (host_with_node host (node_step (inputs.Request request) host.node).node);
+        left = request_leaves request host.node;
       }))
   at_once holds there up (ReplyComes name from rsp) so by known past = absurd by
   at_once holds there up (LossIsTold name packet) so by known past = absurd by

@@ -12,10 +12,12 @@ use Rattle.overlap_law.specs.Writers.{AttemptsHaveBegun}
 use Rattle.overlap_law.specs.Sessions.{SessionsHaveOneInodeWork, BegunRequestsAreApart}
 use Rattle.overlap_law.specs.Courses.{CommandsKeepTheirGrants}
 use Rattle.overlap_law.specs.RequestsOfScript.{RequestsAreWithoutReply, AttemptsAreTheScripts, TheRefusedAreAnswered}
+use Rattle.overlap_law.specs.Holders.{is_live_object}
+use Rattle.overlap_law.specs.Rows.{RowsHaveEnds, OneRowIsOpen, RowsAreApart, ServedRowsStay}
 use Rattle.overlap_law.specs.Headline.{OtherEpochsChangeNothing}
 
--- the groups of the wire and of epochs, what of the attempts, of the writers and of commands, and the headline's part on peers of another
--- epoch
+-- the groups of the wire and of epochs, what of the attempts, of the writers, of commands and of rows, and the headline's part on peers
+-- of another epoch
 pub record IsKeptSoFar (script : List Statement) (moment : MomentWithPast) : Type 0 where
   pub wire : FlightIsKept moment.world.log moment.world.hosts moment.world.wire moment.past.attempts
   pub epochs : TermsAreKept moment.world.log moment.world.hosts
@@ -34,4 +36,8 @@ pub record IsKeptSoFar (script : List Statement) (moment : MomentWithPast) : Typ
   pub inodes : SessionsHaveOneInodeWork moment.world.hosts
   pub apart : BegunRequestsAreApart moment.world.hosts
   pub granted : CommandsKeepTheirGrants moment.world.log moment.world.hosts
+  pub ends : RowsHaveEnds moment.world.hosts
+  pub one_open : OneRowIsOpen moment.world.hosts
+  pub rows_apart : RowsAreApart moment.world.hosts
+  pub stays : ServedRowsStay (is_live_object moment.world.log moment.past.attempts) moment.world.hosts moment.past.attempts
   pub peers : OtherEpochsChangeNothing script moment.world

@@ -6,7 +6,7 @@ use Rattle.peer_proto.specs.declared.ask.PeerReq.{PeerReq}
 use Rattle.peer_proto.specs.declared.say.PeerRsp.{PeerRsp}
 use Rattle.peer_proto.specs.Ask.{ask_in, ask_bytes}
 use Rattle.peer_proto.specs.Say.{say_in, say_bytes}
-use Rattle.peer_service.specs.Serve.{reply_to}
+use Rattle.peer_service.specs.Serve.{reply_to, peer_step}
 use Rattle.gateway.specs.Outcomes.{AreNumberedFrom}
 use Rattle.gateway.specs.declared.message.Message.{Message}
 use Rattle.gateway.specs.declared.message.Status.TheVariants.{Unanswered}
@@ -61,7 +61,8 @@ pub record IsBegunBy (hosts hosts_after : Hosts) (n : ℕ) (sends : List (NodeId
   pub opened : IsOpenAs sent_by.after.node attempt.req work current attempt
   pub unanswered : (place : ℕ) (message : Message) → slice_get current.messages place ≡ Some message → message.status ≡ Unanswered
 
--- the answer of the node that a request goes to, by what that node has: it can be read, and is on its way where the sender is up
+-- the answer of the node that a request goes to, by what that node has: it can be read, and is on its way where the sender is up. The
+-- node's peer is then as the request leaves it
 pub record IsAnswer (hosts hosts_after : Hosts) (name : MessageName) (to : NodeId) (bytes : List ℕ) (up : Bool) (rsp : PeerRsp)
     : Type 0 where
   pub host : Host
@@ -71,6 +72,9 @@ pub record IsAnswer (hosts hosts_after : Hosts) (name : MessageName) (to : NodeI
   pub said : reply_to host.node.peer request ≡ rsp
   pub spelled : say_in (say_bytes rsp) ≡ Ok rsp
   pub up_so : up ≡ is_up_among hosts_after name.sender.0
+  pub after : Host
+  pub there_after : tree.get hosts_after to.0 ≡ Some after
+  pub left : after.node.peer ≡ (peer_step host.node.peer request).peer
 
 -- an attempt begins in its turn: it is of no earlier epoch than those on its object, and of a later one than those with packets
 abbrev pub IsInTurn : Wire → List AttemptRecord → AttemptRecord → Type 0

@@ -9,14 +9,15 @@
 //! (`specs/Contents.antt`, `specs/Facts.antt`), the headline (`specs/Headline.antt`), beside it that no object is missing
 //! (`specs/NoObjects.antt`), and the invariant that is to carry them (`specs/Overlap.antt`); the laws of `overlap.rt` say
 //! what it gives at once. The facts, the headline and that no object is missing aren't proved here, but for the headline's
-//! part on peers of another epoch; the laws of `laws.rt` and `writers.rt` say what the words mean.
+//! part on peers of another epoch; the laws of `laws.rt`, `writers.rt` and `rows.rt` say what the words mean.
 //!
 //! An event is taken apart into small changes of a moment (`specs/StepMoments.antt`, `specs/MomentChanges.antt`), each of one kind by
 //! what it makes of the wire and the attempts (`specs/Traffic.antt`). So what each of them keeps holds of every run in range: that the
 //! wire and the attempts stay tied (`specs/TiedAttempts.antt`), that what is asked is of the past, that attempts are of their shape
 //! (`specs/ShapedAttempts.antt`), that the wire is linked with what nodes wait for, that gateways know the fates of their attempts, what
-//! the group of epochs and nodes says (`specs/NodeEpochs.antt`), and some of the group of writers (`specs/Writers.antt`), over what the
-//! works of sessions rest on (`specs/AwaitedEntries.antt`, `specs/CommandDisks.antt`, `specs/WriterClaims.antt`).
+//! the group of epochs and nodes says (`specs/NodeEpochs.antt`), some of the group of writers (`specs/Writers.antt`), over what the
+//! works of sessions rest on (`specs/AwaitedEntries.antt`, `specs/CommandDisks.antt`, `specs/WriterClaims.antt`), and some of the group of
+//! rows (`specs/Rows.antt`).
 //!
 //! Between the events a client without a script may read objects (`specs/RunsWithAsks.antt`). Such reads leave the past as it is; the laws
 //! of `with_asks.rt` say why, and that what is owed of events and of reads gives the headline of those runs too.
@@ -25,6 +26,7 @@
 mod kept_event;
 mod laws;
 mod overlap;
+mod rows;
 mod with_asks;
 mod writers;
 
@@ -47,6 +49,7 @@ pub use overlap::{
     the_overlap_gives_holders, the_overlap_gives_legal_replies, the_overlap_makes_attempts_stand,
     the_settled_have_recovered,
 };
+pub use rows::{rows_stand_in_turn, served_rows_stay};
 pub use with_asks::{
     a_clients_read_makes_nothing, a_run_with_asks_has_its_past, what_a_clients_read_keeps,
     what_is_owed_gives_the_headline, what_runs_with_asks_keep,

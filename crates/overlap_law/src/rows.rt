@@ -1,0 +1,27 @@
+//! Laws of the group of rows: what of it is proved of every run in range.
+ghost use Rattle.std.specs.Prelude.{◌≡◌, List, Some};
+ghost use Rattle.cluster_script.specs.declared.statement.Statement.{Statement};
+ghost use Rattle.sheep_node.specs.declared.event.Event.{Event};
+ghost use Rattle.overlap_law.specs.Past.{MomentWithPast, run_with_past};
+ghost use Rattle.overlap_law.specs.MomentChanges.{MomentTrail, RunsAreInRange};
+ghost use Rattle.overlap_law.specs.Holders.{is_live_object};
+ghost use Rattle.overlap_law.specs.Rows.{RowsHaveEnds, OneRowIsOpen, RowsAreApart, ServedRowsStay};
+
+/// In each run in range the rows of an object at a node stand in turn: each begins no later than it ends, and a closed one of a node that
+/// isn't lost has ended before the node's epoch; at most one is open; and no two cover one epoch.
+pub fn rows_stand_in_turn()
+    ensures ends { (script : List Statement) (events : List Event) (moment : MomentWithPast) → RunsAreInRange script
+        → run_with_past script events ≡ Some moment → RowsHaveEnds moment.world.hosts }
+    ensures one_open { (script : List Statement) (events : List Event) (moment : MomentWithPast) → RunsAreInRange script
+        → run_with_past script events ≡ Some moment → OneRowIsOpen moment.world.hosts }
+    ensures apart { (script : List Statement) (events : List Event) (moment : MomentWithPast) → RunsAreInRange script
+        → run_with_past script events ≡ Some moment → RowsAreApart moment.world.hosts }
+{}
+
+/// In each run in range a node that served an attempt on a live object has a row of the object that covers the attempt's epoch, unless the
+/// node has read that a later epoch is settled. So it is at each moment on the way of an event, and at its end.
+pub fn served_rows_stay()
+    ensures { (script : List Statement) (events : List Event) (start moment : MomentWithPast) → RunsAreInRange script
+        → run_with_past script events ≡ Some start → MomentTrail script start moment
+        → ServedRowsStay (is_live_object moment.world.log moment.past.attempts) moment.world.hosts moment.past.attempts }
+{}
