@@ -82,14 +82,14 @@ module _ (node : Node) where
       asked_so before line ask may is
 
 -- no statement asks for a work on an object, nor for an entry
-abbrev is_outside : Option Ask → Bool
+abbrev pub is_outside : Option Ask → Bool
 is_outside None = false
 is_outside (Some (asks.Disk ask)) = false
 is_outside (Some (asks.Vdi ask)) = false
 is_outside (Some (asks.Object work)) = true
 is_outside (Some (asks.Entry entry)) = true
 
-asked_inside : (line : Statement) (ask : Ask) → ask_of_statement line ≡ Some ask → is_outside (Some ask) ≡ false
+pub asked_inside : (line : Statement) (ask : Ask) → ask_of_statement line ≡ Some ask → is_outside (Some ask) ≡ false
 asked_inside (lines.Create session policy shift name size) ask is = ap is_outside (sym is)
 asked_inside (lines.OpenDisk session name tag) ask is = ap is_outside (sym is)
 asked_inside (lines.Close session) ask is = ap is_outside (sym is)

@@ -56,13 +56,13 @@ module _ (known : List Effect) where
   task_done-known op vid bytes (Opening true ids header) is = record { stage = inode_read vid.0 header ids bytes is; outcome = tt }
   task_done-known op vid bytes (Opening false ids header) is =
       let inode = inode_by header vid.0 (table_in ids header.spec bytes) in
-      record { stage = inode_read vid.0 header ids bytes is; outcome = inode_known known vid.0 header.spec (write_back inode bytes) is refl refl }
+      record { stage = inode_read vid.0 header ids bytes is; outcome = inode_known known vid.0 header.spec (write_back inode bytes) is refl refl tt }
   task_done-known op vid bytes (WritingBack inode) is = record { stage = is; outcome = tt }
   task_done-known op vid bytes (Tagging old inode) is =
-      record { stage = is; outcome = inode_known known inode.vid inode.spec (create_inode inode) is.disk refl refl }
+      record { stage = is; outcome = inode_known known inode.vid inode.spec (create_inode inode) is.disk refl refl refl }
   task_done-known op vid bytes (Copying ids header) is =
       let inode = inode_by header vid.0 (table_in ids header.spec bytes) in
-      record { stage = tt; outcome = inode_known known vid.0 header.spec (create_inode inode) is refl refl }
+      record { stage = tt; outcome = inode_known known vid.0 header.spec (create_inode inode) is refl refl refl }
   task_done-known op vid bytes (Making entry opened) is = record { stage = is; outcome = tt }
 
   pub command_goes_on-known : (bytes : List ℕ) (op : Op) (step : OpStep) → op_on_done bytes op ≡ Some step → IsKnownStage known op.stage → IsKnownCommandStep step
@@ -97,7 +97,7 @@ module _ (known : List Effect) where
 
     tagged-known : (tag : List ℕ) (old : Content) → IsKnownInode known old → IsKnownCommandStep (tag_step op vid tag header old)
     tagged-known tag old was =
-        record { stage = record { disk = is; count = was.count }; outcome = inode_known known old.vid old.spec (write_tag old tag) was.disk refl refl }
+        record { stage = record { disk = is; count = was.count }; outcome = inode_known known old.vid old.spec (write_tag old tag) was.disk refl refl tt }
 
     granted-known : (entry : Entry) → Granted entry
     granted-known (Format members) next = absurd (cc (next))
@@ -107,7 +107,7 @@ module _ (known : List Effect) where
     granted-known (Recovered node epoch) next = absurd (cc (next))
     granted-known (Reserve by session name (Fresh spec)) next =
         given IsKnownCommandStep next
-        (record { stage = tt; outcome = inode_known known vid.0 header.spec (create_inode (inode_by header vid.0 (holes header.spec))) is refl refl })
+        (record { stage = tt; outcome = inode_known known vid.0 header.spec (create_inode (inode_by header vid.0 (holes header.spec))) is refl refl refl })
     granted-known (Reserve by session name (SnapshotOf tag)) next = by_disk disk opened next
       where
         by_disk : (disk : Option Content) → IfSome disk (IsKnownInode known) → option_map (tag_step op vid tag header) disk ≡ Some step → IsKnownCommandStep step

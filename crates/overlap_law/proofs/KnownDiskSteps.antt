@@ -1,21 +1,23 @@
 -- Each change of a node leaves what it has at work on disks that it knows: so it is in the middle of a step, and at its end.
-use Rattle.std.proofs.Common.{◌≡◌, ◌≢◌, ⊎_elim, arith, ℕ, ◌+◌, ◌*◌, List, [], ◌∷◌, length, All, Option, Some, None, IfSome, IsTrue, sym, ap, subst, ◌∙◌}
+use Rattle.std.proofs.Common.{◌≡◌, ◌≢◌, ⊎_elim, arith, ℕ, ◌+◌, ◌*◌, List, [], ◌∷◌, length, All, Option, Some, None, IfSome, IsTrue, refl, sym, ap, subst, ◌∙◌}
 use Rattle.std.specs.FinMap as tree
 use Rattle.std.proofs.lemmas.Bool.{cases_eq}
 use Rattle.std.proofs.lemmas.List.Elements.{All-weaker}
+use Rattle.std.proofs.lemmas.Option.{same_Some}
 use Rattle.proof_tools.proofs.Booleans.{cond_either}
 use Rattle.object_id.specs.declared.entry.Entry.{Entry}
 use Rattle.object_id.specs.declared.entry.VdiSpec.{VdiSpec}
 use Rattle.object_id.specs.declared.oid.Vid.{Vid}
 use Rattle.object_id.specs.declared.policy.Policy.{Policy}
-use Rattle.object_id.specs.Oid.{vid_of}
+use Rattle.object_id.specs.Oid.{vid_of, kind_of}
 use Rattle.epoch_log.specs.Appending.{IsReservable}
 use Rattle.inode.specs.Layout.{Content}
 use Rattle.vdi_directory.specs.declared.effect.Effect.{Effect}
 use Rattle.vdi_directory.specs.Decisions.{log_effects}
 use Rattle.peer_proto.specs.Work.{oid_of, policy_of}
 use Rattle.peer_proto.specs.declared.work.ObjWork.{ObjWork}
-use Rattle.peer_service.specs.State.{effects_of}
+use Rattle.peer_proto.specs.declared.work.ObjWork.TheVariants as works
+use Rattle.peer_service.specs.State.{effects_of, object_size}
 use Rattle.peer_service.specs.LogReading.{decision_on}
 use Rattle.gateway.specs.State as gateways
 use Rattle.gateway.specs.State.{Work}
@@ -54,7 +56,7 @@ use Rattle.sheep_node.proofs.StepResults.{step_reads}
 use Rattle.sheep_node.proofs.ValidityChanges as walk
 use Rattle.sheep_node.proofs.ValidityChanges.{AnySent, none_is, IsValidStepBy, IsKeptBy, session_valid, disk_valid, inode_valid, course_valid, sole_put, freed_valid, driven_valid, commanded_valid}
 use Rattle.overlap_law.proofs.GrantedEpochs.{spec_known, spec_stays}
-use Rattle.overlap_law.proofs.KnownDisks.{IsKnownDisk, IsKnownInode, IsOnKnownDisk, IsKnownWork, IsKnownTask, IsKnownChange, IsKnownStage, IsKnownCourse, known_validity, IsKnownOutcome, driver_begins-known, driver_goes_on-known, check_begins-known, check_goes_on-known}
+use Rattle.overlap_law.proofs.KnownDisks.{IsKnownDisk, IsKnownInode, IsOnKnownDisk, CreatesWhole, IsKnownWork, IsKnownTask, IsKnownChange, IsKnownStage, IsKnownCourse, known_validity, IsKnownOutcome, driver_begins-known, driver_goes_on-known, check_begins-known, check_goes_on-known}
 use Rattle.overlap_law.proofs.KnownCommands.{IsKnownCommandStep, command_begins-known, command_goes_on-known, command_decided-known, left_open}
 
 -- a node's works, requests and sessions are on disks that are known
@@ -178,8 +180,21 @@ module _ (old new : List Effect) (grows : (vid : ℕ) (spec : VdiSpec) → spec_
   on_grows : (oid : ℕ) (policy : Policy) → IsOnKnownDisk old oid policy → IsOnKnownDisk new oid policy
   on_grows oid policy is = record { spec = is.spec; made = grows (vid_of oid) is.spec is.made; policy_so = is.policy_so }
 
-  work_grows : (work : ObjWork) → IsKnownWork old work → IsKnownWork new work
-  work_grows work is = record { policy = is.policy; making = λ making. on_grows (oid_of work) (policy_of work) (is.making making) }
+  pub work_grows : (work : ObjWork) → IsKnownWork old work → IsKnownWork new work
+  work_grows work is = record {
+    policy = is.policy;
+    making = λ making. on_grows (oid_of work) (policy_of work) (is.making making);
+    whole = by_kind work is;
+  }
+    where
+      by_kind : (work : ObjWork) → IsKnownWork old work → CreatesWhole new work
+      by_kind (works.Create oid policy size offset bytes) is = λ other there.
+          let disk = is.making refl in
+          let same : disk.spec ≡ other = same_Some disk.spec other (sym (grows (vid_of oid) disk.spec disk.made) ∙ there) in
+          is.whole disk.spec disk.made ∙ ap (λ (s : VdiSpec). object_size s (kind_of oid)) same
+      by_kind (works.Write oid policy offset bytes) is = tt
+      by_kind (works.Read oid policy offset size) is = tt
+      by_kind (works.ReadAll oid policy size) is = tt
 
   if_grows : (o : Option Content) → IfSome o (IsKnownInode old) → IfSome o (IsKnownInode new)
   if_grows None is = tt

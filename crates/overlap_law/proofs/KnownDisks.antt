@@ -1,6 +1,7 @@
 -- What a node has at work is on disks that it knows: the inodes that sessions have open, the commands, the checks, and each create or write.
 -- What a read or write, a check or a command comes to is so too.
-use Rattle.std.proofs.Common.{◌≡◌, arith, ℕ, ◌+◌, ◌<◌, ◌≤◌, ◌==◌, ◌++◌, Bool, true, false, cond, List, [], ◌∷◌, length, All, Option, Some, None, IfSome, IsTrue, refl, sym, ap, subst, ◌∙◌}
+use Rattle.std.proofs.Common.{◌≡◌, arith, ℕ, ◌+◌, ◌*◌, ◌%◌, ◌^◌, ◌<◌, ◌≤◌, ◌==◌, ◌++◌, Bool, true, false, cond, List, [], ◌∷◌, length, All, Option, Some, None, IfSome, IsTrue, refl, sym, ap, subst, ◌∙◌}
+use Rattle.std.proofs.Math.Nat.{div-eq_of_lt}
 use Rattle.std.proofs.lemmas.List.{length-set}
 use Rattle.std.proofs.lemmas.List.Elements.{All-nil, All-head, All-tail, All-weaker}
 use Rattle.object_id.specs.declared.cause.Cause.{Cause}
@@ -10,14 +11,21 @@ use Rattle.object_id.specs.declared.limits.TheConstants.{OBJECTS_MAX}
 use Rattle.object_id.specs.declared.oid.Vid.{Vid}
 use Rattle.object_id.specs.declared.policy.Policy.{Policy}
 use Rattle.object_id.specs.Fields.{zeros}
-use Rattle.object_id.specs.Oid.{IsVid, vid_of, inode_number, object_number}
+use Rattle.object_id.specs.declared.oid.Kind.{Kind}
+use Rattle.object_id.specs.declared.oid.Kind.TheVariants.{Block, Inode}
+use Rattle.object_id.specs.Oid.{IsVid, bits, vid_of, kind_of, inode_number, object_number}
 use Rattle.object_id.specs.Policy.{IsPolicy}
 use Rattle.object_id.specs.Spec.{IsSpec, objects_of}
 use Rattle.inode.specs.Layout.{Content}
+use Rattle.inode.specs.declared.layout.TheConstants.{INODE_BYTES}
+use Rattle.sheep_node.specs.OutsideAsks.{MakesWhole}
+use Rattle.std.proofs.lemmas.Option.{same_Some}
 use Rattle.peer_proto.specs.Work.{oid_of, policy_of}
 use Rattle.peer_proto.specs.declared.guest.DiskAsk.{DiskAsk}
 use Rattle.peer_proto.specs.declared.guest.DiskAsk.TheVariants as disk_asks
 use Rattle.peer_proto.specs.declared.work.ObjWork.{ObjWork}
+use Rattle.peer_proto.specs.declared.work.ObjWork.TheVariants as works
+use Rattle.peer_service.specs.State.{object_size}
 use Rattle.vdi_directory.specs.declared.effect.Effect.{Effect}
 use Rattle.gateway.specs.Work.{is_making}
 use Rattle.gateway.specs.State.{Work}
@@ -51,6 +59,18 @@ vid-of_object vid index is few = let most = is.1 in omega (arith, most, few)
 pub vid-of_inode : (vid : ℕ) → IsVid vid → vid_of (inode_number vid) ≡ vid
 vid-of_inode vid is = let most = is.1 in omega (arith, most)
 
+-- and the kinds of those
+kind-of_object : (vid index : ℕ) → IsVid vid → index < OBJECTS_MAX → kind_of (object_number vid index) ≡ Block
+kind-of_object vid index is few =
+    let small : vid * 2 ^ 32 + index < 2 ^ 63 = omega (arith, is.1, few) in
+    let none : bits (object_number vid index) 63 1 ≡ 0 = ap (λ (n : ℕ). n % 2 ^ 1) (div-eq_of_lt small) in
+    ap (λ (n : ℕ). cond (n == 1) Inode Block) none
+
+kind-of_inode : (vid : ℕ) → IsVid vid → kind_of (inode_number vid) ≡ Inode
+kind-of_inode vid is =
+    let top : bits (inode_number vid) 63 1 ≡ 1 = omega (arith, is.0, is.1) in
+    ap (λ (n : ℕ). cond (n == 1) Inode Block) top
+
 abbrev pub Few : ℕ → Type 0
 Few index = index < OBJECTS_MAX
 
@@ -76,10 +96,19 @@ module _ (known : List Effect) where
     pub made : spec_known known (vid_of oid) ≡ Some spec
     pub policy_so : policy ≡ spec.policy
 
+  -- a create makes the object as long as its disk has it
+  abbrev pub CreatesWhole : ObjWork → Type 0
+  CreatesWhole (works.Create oid policy size offset bytes) =
+      (spec : VdiSpec) → spec_known known (vid_of oid) ≡ Some spec → size ≡ object_size spec (kind_of oid)
+  CreatesWhole (works.Write oid policy offset bytes) = Unit {0}
+  CreatesWhole (works.Read oid policy offset size) = Unit {0}
+  CreatesWhole (works.ReadAll oid policy size) = Unit {0}
+
   -- a create or write is on an object of a disk that is known
   pub record IsKnownWork (work : ObjWork) : Type 0 where
     pub policy : IsPolicy (policy_of work)
     pub making : is_making work ≡ true → IsOnKnownDisk (oid_of work) (policy_of work)
+    pub whole : CreatesWhole work
 
   abbrev pub IsKnownTask : Vid → Task → Type 0
   IsKnownTask vid (Opening snapshot ids header) = IsKnownDisk vid.0 header.spec
@@ -127,26 +156,45 @@ module _ (known : List Effect) where
   -- ---- works
 
   pub read_known : (work : ObjWork) → IsPolicy (policy_of work) → is_making work ≡ false → IsKnownWork work
-  read_known work policy reads = record { policy = policy; making = λ making. absurd (cc (reads, making)) }
+  read_known work policy reads = record { policy = policy; making = λ making. absurd (cc (reads, making)); whole = by_kind work reads }
+    where
+      by_kind : (work : ObjWork) → is_making work ≡ false → CreatesWhole work
+      by_kind (works.Create oid policy size offset bytes) reads = absurd (cc (reads))
+      by_kind (works.Write oid policy offset bytes) reads = tt
+      by_kind (works.Read oid policy offset size) reads = tt
+      by_kind (works.ReadAll oid policy size) reads = tt
 
   on_disk : (vid oid : ℕ) (spec : VdiSpec) → IsKnownDisk vid spec → vid_of oid ≡ vid → IsOnKnownDisk oid spec.policy
   on_disk vid oid spec disk same = record { spec = spec; made = ap (spec_known known) same ∙ disk.made; policy_so = refl }
 
+  -- a create that is as long as an object of its disk
+  creates_whole : (vid : ℕ) (spec : VdiSpec) (kind : Kind) (work : ObjWork) → IsKnownDisk vid spec → vid_of (oid_of work) ≡ vid
+      → kind_of (oid_of work) ≡ kind → MakesWhole (object_size spec kind) work → CreatesWhole work
+  creates_whole vid spec kind (works.Create oid policy size offset bytes) disk of_disk of_kind whole = λ other there.
+      let same : spec ≡ other = same_Some spec other (sym disk.made ∙ ap (spec_known known) (sym of_disk) ∙ there) in
+      whole ∙ ap (λ (k : Kind). object_size spec k) (sym of_kind) ∙ ap (λ (s : VdiSpec). object_size s (kind_of oid)) same
+  creates_whole vid spec kind (works.Write oid policy offset bytes) disk of_disk of_kind whole = tt
+  creates_whole vid spec kind (works.Read oid policy offset size) disk of_disk of_kind whole = tt
+  creates_whole vid spec kind (works.ReadAll oid policy size) disk of_disk of_kind whole = tt
+
   -- a work on an object of a disk, and one on its inode
   object_known : (vid index : ℕ) (spec : VdiSpec) (work : ObjWork) → IsKnownDisk vid spec → Few index → oid_of work ≡ object_number vid index
-      → policy_of work ≡ spec.policy → IsKnownWork work
-  object_known vid index spec work disk few oid policy = record {
+      → policy_of work ≡ spec.policy → MakesWhole (2 ^ spec.shift) work → IsKnownWork work
+  object_known vid index spec work disk few oid policy whole = record {
     policy = subst IsPolicy (sym policy) disk.spec_valid.policy;
     making = λ making. subst (IsOnKnownDisk (oid_of work)) (sym policy)
         (on_disk vid (oid_of work) spec disk (ap vid_of oid ∙ vid-of_object vid index disk.id few));
+    whole = creates_whole vid spec Block work disk (ap vid_of oid ∙ vid-of_object vid index disk.id few)
+        (ap kind_of oid ∙ kind-of_object vid index disk.id few) whole;
   }
 
   pub inode_known : (vid : ℕ) (spec : VdiSpec) (work : ObjWork) → IsKnownDisk vid spec → oid_of work ≡ inode_number vid → policy_of work ≡ spec.policy
-      → IsKnownWork work
-  inode_known vid spec work disk oid policy = record {
+      → MakesWhole INODE_BYTES work → IsKnownWork work
+  inode_known vid spec work disk oid policy whole = record {
     policy = subst IsPolicy (sym policy) disk.spec_valid.policy;
     making = λ making. subst (IsOnKnownDisk (oid_of work)) (sym policy)
         (on_disk vid (oid_of work) spec disk (ap vid_of oid ∙ vid-of_inode vid disk.id));
+    whole = creates_whole vid spec Inode work disk (ap vid_of oid ∙ vid-of_inode vid disk.id) (ap kind_of oid ∙ kind-of_inode vid disk.id) whole;
   }
 
   -- ---- a read or write
@@ -174,9 +222,9 @@ module _ (known : List Effect) where
     piece_known : (payload : List ℕ) (piece : Piece) (rest : List Piece) (backing : Backing) → All FewAt (piece ∷ rest)
         → IsKnownDriverStep (write_piece_on inode payload piece rest backing)
     piece_known payload piece rest Hole few =
-        record { inode = is; few = few; outcome = object_known inode.vid piece.index inode.spec (create_piece inode payload piece) is.disk (All-head FewAt piece rest few) refl refl }
+        record { inode = is; few = few; outcome = object_known inode.vid piece.index inode.spec (create_piece inode payload piece) is.disk (All-head FewAt piece rest few) refl refl refl }
     piece_known payload piece rest Own few =
-        record { inode = is; few = few; outcome = object_known inode.vid piece.index inode.spec (write_piece inode payload piece) is.disk (All-head FewAt piece rest few) refl refl }
+        record { inode = is; few = few; outcome = object_known inode.vid piece.index inode.spec (write_piece inode payload piece) is.disk (All-head FewAt piece rest few) refl refl tt }
     piece_known payload piece rest (Inherited vid) few =
         record { inode = is; few = few; outcome = read_known (read_object inode piece vid) policy_valid refl }
 
@@ -214,9 +262,9 @@ module _ (known : List Effect) where
       → All FewAt (piece ∷ rest) → IsKnownDriverStep (write_done inode bytes payload piece rest stage)
   done_known inode bytes payload piece rest InPlace is few = writes_known inode is payload rest (All-tail FewAt piece rest few)
   done_known inode bytes payload piece rest Fetching is few =
-      record { inode = is; few = few; outcome = object_known inode.vid piece.index inode.spec (create_copy inode payload piece bytes) is.disk (All-head FewAt piece rest few) refl refl }
+      record { inode = is; few = few; outcome = object_known inode.vid piece.index inode.spec (create_copy inode payload piece bytes) is.disk (All-head FewAt piece rest few) refl refl refl }
   done_known inode bytes payload piece rest Creating is few =
-      record { inode = is; few = few; outcome = inode_known inode.vid inode.spec (write_entry inode piece) is.disk refl refl }
+      record { inode = is; few = few; outcome = inode_known inode.vid inode.spec (write_entry inode piece) is.disk refl refl tt }
   done_known inode bytes payload piece rest Entering is few =
       writes_known (table_with_entry inode piece) (with_entry inode is piece) payload rest (All-tail FewAt piece rest few)
 
@@ -258,7 +306,7 @@ module _ (known : List Effect) where
       by_stage (Comparing index later) next few = given IsKnownCheckStep next (record {
         check = record { disk = is.disk; within = All-tail Few index later few };
         outcome = object_known check.vid index check.spec
-            (checks.write_value check index (value_of check.spec.policy (pieces_in check.spec bytes))) is.disk (All-head Few index later few) refl refl;
+            (checks.write_value check index (value_of check.spec.policy (pieces_in check.spec bytes))) is.disk (All-head Few index later few) refl refl tt;
       })
       by_stage (Rewriting later) next few = given IsKnownCheckStep next (check_on-known check later is.disk few)
       by_stage checks.Answered next few = absurd (cc (next))

@@ -29,6 +29,7 @@ use Rattle.sheep_world.specs.NodeCauses.{NodeCause, GuestAsks, RequestComes, Rep
 use Rattle.sheep_world.specs.EventKinds.{log_after_return, world_after_return}
 use Rattle.sheep_world.specs.HostChanges.{HostsKeep, host_after_return}
 use Rattle.sheep_world.specs.Began.{Began}
+use Rattle.sheep_world.specs.LogHolds.{MayGrow}
 use Rattle.sheep_world.proofs.BegunWorlds.{each_where}
 use Rattle.sheep_world.proofs.LogAtOpening.{nodes-valid}
 use Rattle.sheep_world.proofs.ValidNodes.{got_is}
@@ -86,17 +87,17 @@ caused_known script is_script known world n host WorkIsRetried so = tt
 
 -- ---- every world
 
-module _ (script : List Statement) (range : RunsAreInRange script) where
+module _ (script : List Statement) (is_script : IsScript script) (grows : (world : World) → Began script world → MayGrow world) where
   abbrev KnownWhereBegun : World → ℕ → Host → Type 0
   KnownWhereBegun world n host = Began script world → AreOnKnown (effects_of host.node.peer) host.node
 
   -- what a node will have read by the end of its step may be reserved
-  pub read_reservable : (world : World) (n : ℕ) (host : Host) (cause : NodeCause) → Began script (world_after_cause script n host cause world)
+  read_reservable_by : (world : World) (n : ℕ) (host : Host) (cause : NodeCause) → Began script (world_after_cause script n host cause world)
       → All IsReservable (read_after (input_of_cause cause) host.node.peer.entries)
-  read_reservable world n host cause next =
+  read_reservable_by world n host cause next =
       let after = host_with_node host (node_step (input_of_cause cause) host.node).node in
       subst (All IsReservable) (step_reads (input_of_cause cause) host.node)
-      (nodes-valid script range.is_script range.room (world_after_cause script n host cause world) next n after (get-insert_same world.hosts n after)).read
+      (nodes-valid script is_script grows (world_after_cause script n host cause world) next n after (get-insert_same world.hosts n after)).read
 
   known_kept : HostsKeep script (Began script) KnownWhereBegun
   known_kept = record {
@@ -108,19 +109,28 @@ module _ (script : List Statement) (range : RunsAreInRange script) where
         (none_known (effects_of new.peer));
     stays = λ event world made h began n host so begun. so began;
     steps = λ world n host cause began there up caused so next.
-        stepped_known (input_of_cause cause) host.node (read_reservable world n host cause next)
-        (caused_known script range.is_script (effects_after (input_of_cause cause) host.node) world n host cause caused) (so began);
+        stepped_known (input_of_cause cause) host.node (read_reservable_by world n host cause next)
+        (caused_known script is_script (effects_after (input_of_cause cause) host.node) world n host cause caused) (so began);
     fails = λ world n host began so. so;
     returns = λ world n host began there so next.
         let log = log_after_return script n world in
         let after = host_after_return log host in
         stepped_known (inputs.Back log) host.node
         (subst (All IsReservable) (step_reads (inputs.Back log) host.node)
-        (nodes-valid script range.is_script range.room (world_after_return script n host world) next n after (get-insert_same world.hosts n after)).read) tt (so began);
+        (nodes-valid script is_script grows (world_after_return script n host world) next n after (get-insert_same world.hosts n after)).read) tt (so began);
     joins = λ world n began control next. none_known (effects_of (nodes.initial_node (record { 0 = n }) (tries_of script)).peer);
   }
 
+  pub nodes_know_by : (world : World) → Began script world → (n : ℕ) (host : Host) → tree.get world.hosts n ≡ Some host
+      → AreOnKnown (effects_of host.node.peer) host.node
+  nodes_know_by world began n host there =
+      each_where script (Began script) KnownWhereBegun (λ world begun. begun) known_kept world began n host there began
+
+module _ (script : List Statement) (range : RunsAreInRange script) where
+  pub read_reservable : (world : World) (n : ℕ) (host : Host) (cause : NodeCause) → Began script (world_after_cause script n host cause world)
+      → All IsReservable (read_after (input_of_cause cause) host.node.peer.entries)
+  read_reservable = read_reservable_by script range.is_script range.room
+
   pub nodes_know : (world : World) → Began script world → (n : ℕ) (host : Host) → tree.get world.hosts n ≡ Some host
       → AreOnKnown (effects_of host.node.peer) host.node
-  nodes_know world began n host there =
-      each_where script (Began script) KnownWhereBegun (λ world begun. begun) known_kept world began n host there began
+  nodes_know = nodes_know_by script range.is_script range.room

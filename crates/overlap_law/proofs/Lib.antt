@@ -178,3 +178,17 @@ pub mod PeersInMoments
 pub mod ServedPlaces
 pub mod SuccessfulRows
 pub mod StayingRows
+pub mod ServedNodes
+pub mod SoundWorlds
+pub mod KnownAsks
+pub mod SpelledReplies
+pub mod FittingReplies
+pub mod RangeOfRuns
+pub mod RowsOfPeers
+pub mod RowsOfRecoveries
+pub mod RowsOfSteps
+pub mod RowsInRuns
+pub mod SentCreates
+pub mod CreatesOnTheWire
+pub mod CreatesInRuns
+pub mod RangeOfFewObjects

@@ -36,12 +36,13 @@ use Rattle.sheep_world.specs.Conditions.{is_disk_request_at}
 use Rattle.sheep_world.specs.NodeSteps.{progress_without_request, progress_after_reply_in, progress_after_reply}
 use Rattle.sheep_world.specs.Effects.{disk_open, progress_with_started}
 use Rattle.sheep_world.specs.MembershipChanges.{lost_host}
-use Rattle.sheep_world.specs.Opening.{initial_world, initial_member_node, initial_host, format_entry}
-use Rattle.sheep_world.specs.Step.{EventOutcome, step}
+use Rattle.sheep_world.specs.Opening.{initial_world, format_entry}
+use Rattle.sheep_world.specs.Step.{EventOutcome}
 use Rattle.sheep_world.specs.NodeCauses.{NodeCause, GuestAsks, RequestComes, ReplyComes, LossIsTold, EntryIsRead, EntryIsPut, RecoveryTicks, WorkIsRetried, input_of_cause, IsCause, progress_at_cause, world_after_cause, host_with_node}
 use Rattle.sheep_world.specs.EventKinds.{log_after_return, world_after_return, EventKind, NodeStep, UntoldLoss, UnreadDelivery, NodeLoss, NodeLeave, NodeReweight, NodeJoin, NodeReturn, PhaseEnd}
 use Rattle.sheep_world.specs.HostChanges.{joined_host, host_after_return}
 use Rattle.sheep_world.specs.Began.{Began, IsInvariant}
+use Rattle.sheep_world.specs.HoldsTogether.{HoldsTogether}
 use Rattle.sheep_world.proofs.BegunWorlds.{by_induction}
 use Rattle.sheep_world.proofs.EventInversion.{happens}
 use Rattle.sheep_world.proofs.StepsByCause.{sound_step}
@@ -239,7 +240,7 @@ module _ (script : List Statement) where
       apart (sym there.of_node ∙ ap (λ (s : ScriptSession). s.node) (sym of) ∙ here.of_node)
 
   -- each node's are
-  abbrev AllTied : World → Type 0
+  abbrev pub AllTied : World → Type 0
   AllTied world = (m : ℕ) (host : Host) → tree.get world.hosts m ≡ Some host → RequestsAreTied script world.guests host.node
 
   none_there : (guests : Guests) (req : ℕ) (request : Request) → tree.get (tree.empty {X = Request} {R = nat_cmp}) req ≡ Some request
@@ -266,72 +267,72 @@ module _ (script : List Statement) where
       (received_none (λ req session disk. ⊥) (inputs.LogEntry (format_entry script)) node (received_replies (inputs.LogEntry (format_entry script)) node)
       (λ req request got. let none = tree.get-empty {X = Request} nat_cmp req in absurd (cc (none, got))))
 
-  opens_tied : AllTied (initial_world script)
+  pub opens_tied : AllTied (initial_world script)
   unfolding initial_world
   opens_tied m host got =
       let (member, own, is) = opening_found script m host got in
       subst (λ (h : Host). RequestsAreTied script tree.empty h.node) is
       (λ req request has. absurd ((first_empty member.node).asked req request has))
 
+  module _ (world : World) (began : Began script world) (holds : HoldsTogether script world) (are : AllTied world) where
+    step_tied : (n : ℕ) (host : Host) (cause : NodeCause) → tree.get world.hosts n ≡ Some host → is_host_up host ≡ true → IsCause script world n host cause
+        → (m : ℕ) (now : Host) → tree.get (world_after_cause script n host cause world).hosts m ≡ Some now
+        → RequestsAreTied script (world_after_cause script n host cause world).guests now.node
+    step_tied n host cause there up caused m now got = ⊎_elim
+        (λ (own : (m ≡ n) × (host_with_node host (node_step (input_of_cause cause) host.node).node ≡ now)).
+        let ready = is_ready script world holds n host there up in
+        subst (λ (h : Host). RequestsAreTied script (world_after_cause script n host cause world).guests h.node) own.1
+        (own_tied world n host cause caused (sound_step script world n host cause caused ready) (are n host there)))
+        (λ (other : (m ≢ n) × (tree.get world.hosts m ≡ Some now)).
+        λ req request has.
+        let replied = (asked_so_far script n host.incarnation (input_of_cause cause) host.node (brought script world n host cause caused)
+        (are_asked script world began n host there) (step_chain (input_of_cause cause) host.node)).replied in
+        let asked = are_asked script world began m now other.1 req request has in
+        still_tied (progress_at_cause cause world) (node_step (input_of_cause cause) host.node).outputs.replies req request.session (is_disk_course request.course)
+        (λ reply among same.
+        let (session, disk, here) = replied reply among in
+        others_unreplied n m host.incarnation now.incarnation req session request.session other.0
+        (subst (λ (k : ℕ). IsAskedIn script n host.incarnation k session) same here) asked)
+        (found_tied world n host cause req request.session (is_disk_course request.course) (are m now other.1 req request has)))
+        (get-insert_cases world.hosts n (host_with_node host (node_step (input_of_cause cause) host.node).node) m now got)
+
+    return_tied : (n : ℕ) (host : Host) → (m : ℕ) (now : Host) → tree.get (world_after_return script n host world).hosts m ≡ Some now
+        → RequestsAreTied script (world_after_return script n host world).guests now.node
+    return_tied n host m now got = ⊎_elim
+        (λ (own : (m ≡ n) × (host_after_return (log_after_return script n world) host ≡ now)).
+        subst (λ (h : Host). RequestsAreTied script (world_after_return script n host world).guests h.node) own.1
+        (λ req request has. absurd ((back_empty (log_after_return script n world) host.node).asked req request has)))
+        (λ (other : (m ≢ n) × (tree.get world.hosts m ≡ Some now)). λ req request has.
+        still_tied world.guests (node_step (inputs.Back (log_after_return script n world)) host.node).outputs.replies req request.session
+        (is_disk_course request.course)
+        (λ reply among same. ((back_empty (log_after_return script n world) host.node).replied reply among).2) (are m now other.1 req request has))
+        (get-insert_cases world.hosts n (host_after_return (log_after_return script n world) host) m now got)
+
+    one_tied : (n : ℕ) (new : Host) → RequestsAreTied script world.guests new.node → (m : ℕ) (now : Host)
+        → tree.get (tree.insert world.hosts n new) m ≡ Some now → RequestsAreTied script world.guests now.node
+    one_tied n new is m now got = ⊎_elim
+        (λ (own : (m ≡ n) × (new ≡ now)). subst (λ (h : Host). RequestsAreTied script world.guests h.node) own.1 is)
+        (λ (other : (m ≢ n) × (tree.get world.hosts m ≡ Some now)). are m now other.1)
+        (get-insert_cases world.hosts n new m now got)
+
+    pub kind_tied : (event : Event) (made : EventOutcome) → EventKind script event world made → AllTied made.world
+    kind_tied event made (NodeStep h) = subst (λ (m : EventOutcome). AllTied m.world) h.made_so (step_tied h.n h.host h.cause h.there h.up h.caused)
+    kind_tied event made (UntoldLoss h) = subst (λ (m : EventOutcome). AllTied m.world) h.made_so are
+    kind_tied event made (UnreadDelivery h) = subst (λ (m : EventOutcome). AllTied m.world) h.made_so are
+    kind_tied event made (NodeLoss h) =
+        subst (λ (m : EventOutcome). AllTied m.world) h.made_so (one_tied h.n (lost_host h.host) (are h.n h.host h.there))
+    kind_tied event made (NodeLeave h) = subst (λ (m : EventOutcome). AllTied m.world) h.made_so are
+    kind_tied event made (NodeReweight h) = subst (λ (m : EventOutcome). AllTied m.world) h.made_so are
+    kind_tied event made (NodeJoin h) =
+        subst (λ (m : EventOutcome). AllTied m.world) h.made_so (one_tied h.n (joined_host script h.n) (none_there world.guests))
+    kind_tied event made (NodeReturn h) = subst (λ (m : EventOutcome). AllTied m.world) h.made_so (return_tied h.n h.host)
+    kind_tied event made (PhaseEnd h) = subst (λ (m : EventOutcome). AllTied m.world) h.made_so are
+
   module _ (range : RunsAreInRange script) where
-    module _ (world : World) (began : Began script world) (are : (m : ℕ) (host : Host) → tree.get world.hosts m ≡ Some host → RequestsAreTied script world.guests host.node) where
-      step_tied : (n : ℕ) (host : Host) (cause : NodeCause) → tree.get world.hosts n ≡ Some host → is_host_up host ≡ true → IsCause script world n host cause
-          → (m : ℕ) (now : Host) → tree.get (world_after_cause script n host cause world).hosts m ≡ Some now
-          → RequestsAreTied script (world_after_cause script n host cause world).guests now.node
-      step_tied n host cause there up caused m now got = ⊎_elim
-          (λ (own : (m ≡ n) × (host_with_node host (node_step (input_of_cause cause) host.node).node ≡ now)).
-          let ready = is_ready script world (together script range world began) n host there up in
-          subst (λ (h : Host). RequestsAreTied script (world_after_cause script n host cause world).guests h.node) own.1
-          (own_tied world n host cause caused (sound_step script world n host cause caused ready) (are n host there)))
-          (λ (other : (m ≢ n) × (tree.get world.hosts m ≡ Some now)).
-          λ req request has.
-          let replied = (asked_so_far script n host.incarnation (input_of_cause cause) host.node (brought script world n host cause caused)
-          (are_asked script world began n host there) (step_chain (input_of_cause cause) host.node)).replied in
-          let asked = are_asked script world began m now other.1 req request has in
-          still_tied (progress_at_cause cause world) (node_step (input_of_cause cause) host.node).outputs.replies req request.session (is_disk_course request.course)
-          (λ reply among same.
-          let (session, disk, here) = replied reply among in
-          others_unreplied n m host.incarnation now.incarnation req session request.session other.0
-          (subst (λ (k : ℕ). IsAskedIn script n host.incarnation k session) same here) asked)
-          (found_tied world n host cause req request.session (is_disk_course request.course) (are m now other.1 req request has)))
-          (get-insert_cases world.hosts n (host_with_node host (node_step (input_of_cause cause) host.node).node) m now got)
-
-      return_tied : (n : ℕ) (host : Host) → (m : ℕ) (now : Host) → tree.get (world_after_return script n host world).hosts m ≡ Some now
-          → RequestsAreTied script (world_after_return script n host world).guests now.node
-      return_tied n host m now got = ⊎_elim
-          (λ (own : (m ≡ n) × (host_after_return (log_after_return script n world) host ≡ now)).
-          subst (λ (h : Host). RequestsAreTied script (world_after_return script n host world).guests h.node) own.1
-          (λ req request has. absurd ((back_empty (log_after_return script n world) host.node).asked req request has)))
-          (λ (other : (m ≢ n) × (tree.get world.hosts m ≡ Some now)). λ req request has.
-          still_tied world.guests (node_step (inputs.Back (log_after_return script n world)) host.node).outputs.replies req request.session
-          (is_disk_course request.course)
-          (λ reply among same. ((back_empty (log_after_return script n world) host.node).replied reply among).2) (are m now other.1 req request has))
-          (get-insert_cases world.hosts n (host_after_return (log_after_return script n world) host) m now got)
-
-      one_tied : (n : ℕ) (new : Host) → RequestsAreTied script world.guests new.node → (m : ℕ) (now : Host)
-          → tree.get (tree.insert world.hosts n new) m ≡ Some now → RequestsAreTied script world.guests now.node
-      one_tied n new is m now got = ⊎_elim
-          (λ (own : (m ≡ n) × (new ≡ now)). subst (λ (h : Host). RequestsAreTied script world.guests h.node) own.1 is)
-          (λ (other : (m ≢ n) × (tree.get world.hosts m ≡ Some now)). are m now other.1)
-          (get-insert_cases world.hosts n new m now got)
-
-      kind_tied : (event : Event) (made : EventOutcome) → EventKind script event world made → AllTied made.world
-      kind_tied event made (NodeStep h) = subst (λ (m : EventOutcome). AllTied m.world) h.made_so (step_tied h.n h.host h.cause h.there h.up h.caused)
-      kind_tied event made (UntoldLoss h) = subst (λ (m : EventOutcome). AllTied m.world) h.made_so are
-      kind_tied event made (UnreadDelivery h) = subst (λ (m : EventOutcome). AllTied m.world) h.made_so are
-      kind_tied event made (NodeLoss h) =
-          subst (λ (m : EventOutcome). AllTied m.world) h.made_so (one_tied h.n (lost_host h.host) (are h.n h.host h.there))
-      kind_tied event made (NodeLeave h) = subst (λ (m : EventOutcome). AllTied m.world) h.made_so are
-      kind_tied event made (NodeReweight h) = subst (λ (m : EventOutcome). AllTied m.world) h.made_so are
-      kind_tied event made (NodeJoin h) =
-          subst (λ (m : EventOutcome). AllTied m.world) h.made_so (one_tied h.n (joined_host script h.n) (none_there world.guests))
-      kind_tied event made (NodeReturn h) = subst (λ (m : EventOutcome). AllTied m.world) h.made_so (return_tied h.n h.host)
-      kind_tied event made (PhaseEnd h) = subst (λ (m : EventOutcome). AllTied m.world) h.made_so are
-
     tied_invariant : IsInvariant script AllTied
     tied_invariant = record {
       opens = opens_tied;
-      keeps = λ event world made began is are. kind_tied world began are event made (happens script event world made is);
+      keeps = λ event world made began is are. kind_tied world began (together script range world began) are event made (happens script event world made is);
     }
 
     pub requests_tied : (world : World) → Began script world → (m : ℕ) (host : Host) → tree.get world.hosts m ≡ Some host

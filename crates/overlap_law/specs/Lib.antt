@@ -45,3 +45,4 @@ pub mod KeptSoFar
 pub mod AwaitedEntries
 pub mod CommandDisks
 pub mod WriterClaims
+pub mod RowsInRange

@@ -1,19 +1,24 @@
 //! Laws of the definitions, for the proofs of the layers above: each is the contract of a function that does nothing.
-ghost use Rattle.std.specs.Prelude.{◌≡◌, ◌≢◌, ℕ, ◌+◌, ◌-◌, true, false, List, [], ◌++◌, length, slice_get, Some};
+ghost use Rattle.std.specs.Prelude.{◌≡◌, ◌≢◌, ◌≤◌, ℕ, ◌+◌, ◌-◌, true, false, List, [], ◌++◌, length, slice_get, Some};
 ghost use Rattle.std.specs.List.{list_all, AllByRecursion};
 ghost use Rattle.std.specs.FinMap.{get};
 ghost use Rattle.std.specs.Option.{option_map};
+ghost use Rattle.object_id.specs.declared.limits.TheConstants.{INPUT_BYTES_MAX};
 ghost use Rattle.object_id.specs.declared.node.NodeId.{NodeId};
 ghost use Rattle.object_id.specs.declared.oid.Kind.{Kind};
 ghost use Rattle.object_list.specs.Gathered.{has_node};
 ghost use Rattle.cluster_script.specs.declared.statement.Statement.{Statement};
 ghost use Rattle.cluster_script.specs.Language.{IsScript};
 ghost use Rattle.sheep_node.specs.declared.event.Event.{Event};
+ghost use Rattle.sheep_node.specs.NodeInvariant.{IsSoundNode};
 ghost use Rattle.sheep_node.specs.Step.{is_due};
 ghost use Rattle.sheep_node.specs.StepState.{StepState};
 ghost use Rattle.sheep_world.specs.Began.{Began};
 ghost use Rattle.sheep_world.specs.Run.{run};
-ghost use Rattle.sheep_world.specs.World.{Host};
+ghost use Rattle.sheep_world.specs.World.{Host, World, host_at};
+ghost use Rattle.sheep_world.specs.OneWork.{WorksAskInRange};
+ghost use Rattle.sheep_world.specs.HoldsTogether.{RepliesFit};
+ghost use Rattle.sheep_world.specs.LogHolds.{MayGrow};
 ghost use Rattle.overlap_law.specs.Attempts.{MessageFate, Flying, Served, AttemptRecord, has_message, attempt_with_fate};
 ghost use Rattle.overlap_law.specs.Words.{Hosts, is_beyond, is_made, is_doomed, has_served, unit_start, unit_end, covers_unit, base_of};
 ghost use Rattle.overlap_law.specs.Words.{own_base_of};
@@ -33,6 +38,8 @@ ghost use Rattle.overlap_law.specs.Flight.{TheGoneAreFenced};
 ghost use Rattle.overlap_law.specs.NodeEpochs.{TheUpAreMembers, NodesHaveRead, SettledIsRead, TheUpHaveStayed, LeaversAreBeyond};
 ghost use Rattle.overlap_law.specs.NodeEpochs.{RecoveriesArePresent, AnswerersHaveCome, TheRecoveredHaveAll, TheUnfinishedAreUnsettled};
 ghost use Rattle.overlap_law.specs.RequestsOfScript.{JoinsAreNew};
+ghost use Rattle.overlap_law.specs.RoomOfScripts.{HasFewControls};
+ghost use Rattle.overlap_law.specs.RowsInRange.{RowsCanBeTold, ObjectsAreFew};
 ghost use Rattle.overlap_law.specs.TiedAttempts.{IsTied};
 ghost use Rattle.overlap_law.specs.ShapedAttempts.{AreShaped};
 ghost use Rattle.overlap_law.specs.Groups.{TermsAreKept, FlightIsKept};
@@ -296,10 +303,10 @@ pub fn packets_are_of_open_works()
         → PacketsAreOfOpenWorks moment.world.hosts moment.world.wire moment.past.attempts }
 {}
 
-/// In each run in range a request without reply, at a gateway that isn't lost, is touched by each message of an attempt that was served, or
-/// that was lost or of which the reply was; or nothing came of the message yet, as far as the gateway knows. So it is at each moment on the
-/// way of an event, and at its end. There, at a gateway that may step, the success of each served message of an attempt is in the wire still
-/// where the request isn't touched, and what was lost has touched it.
+/// In each run in range a request without reply, at a gateway that isn't lost, is touched by each message of an attempt that was served,
+/// or that was lost or of which the reply was; or nothing came of the message yet, as far as the gateway knows. So it is at each moment
+/// on the way of an event, and at its end. There, at a gateway that may step, the success of each served message of an attempt is in the
+/// wire still where the request isn't touched, and what was lost has touched it.
 pub fn messages_touch_their_requests()
     ensures within { (script : List Statement) (events : List Event) (start moment : MomentWithPast) → RunsAreInRange script
         → run_with_past script events ≡ Some start → MomentTrail script start moment
@@ -320,4 +327,34 @@ pub fn attempts_of_the_refused_are_mute()
     ensures run { (script : List Statement) (events : List Event) (moment : MomentWithPast) → RunsAreInRange script
         → run_with_past script events ≡ Some moment
         → RefusedRequestsAreMute moment.world.wire moment.past.refused moment.past.attempts }
+{}
+
+/// In each world of a run what was sent last for works can be spelled, and each node is sound, as long as there is room for an epoch and
+/// what is replied fits. So all that is left of the range of messages is what nodes reply.
+pub fn what_works_ask_can_be_spelled()
+    ensures asked { (script : List Statement) → IsScript script → ((world : World) → Began script world → MayGrow world)
+        → ((world : World) → Began script world → RepliesFit world)
+        → (world : World) → Began script world → WorksAskInRange world }
+    ensures nodes { (script : List Statement) → IsScript script → ((world : World) → Began script world → MayGrow world)
+        → ((world : World) → Began script world → RepliesFit world)
+        → (world : World) → Began script world → (node : ℕ) (host : Host) → host_at node world ≡ Some host → IsSoundNode host.node }
+{}
+
+/// What a node replies can be read, and fits what the sender waits for, in each world of a run, as long as there is room for an epoch and
+/// the rows of the nodes can be told: each is as the rows of its object are, and each node has rows of few objects.
+pub fn what_is_replied_fits()
+    ensures { (script : List Statement) → IsScript script → ((world : World) → Began script world → MayGrow world)
+        → ((world : World) → Began script world → RowsCanBeTold world)
+        → (world : World) → Began script world → RepliesFit world }
+{}
+
+/// The runs of a script with few controls are in range, where the rows of the nodes can be told. So they are where each node has rows of
+/// few objects, since then each row is as the rows of its object are; and so are those of each script that a text may spell.
+pub fn runs_of_few_controls_are_in_range()
+    ensures told { (script : List Statement) → IsScript script → HasFewControls script
+        → ((world : World) → Began script world → RowsCanBeTold world) → RunsAreInRange script }
+    ensures few { (script : List Statement) → IsScript script → HasFewControls script
+        → ((world : World) → Began script world → ObjectsAreFew world) → RunsAreInRange script }
+    ensures text { (script : List Statement) → IsScript script → length script ≤ INPUT_BYTES_MAX
+        → ((world : World) → Began script world → ObjectsAreFew world) → RunsAreInRange script }
 {}

@@ -17,7 +17,8 @@
 //! (`specs/ShapedAttempts.antt`), that the wire is linked with what nodes wait for, that gateways know the fates of their attempts, what
 //! the group of epochs and nodes says (`specs/NodeEpochs.antt`), some of the group of writers (`specs/Writers.antt`), over what the
 //! works of sessions rest on (`specs/AwaitedEntries.antt`, `specs/CommandDisks.antt`, `specs/WriterClaims.antt`), and some of the group of
-//! rows (`specs/Rows.antt`).
+//! rows (`specs/Rows.antt`). The runs of a script that a text may spell are in range, if each node has rows of few objects
+//! (`specs/RowsInRange.antt`).
 //!
 //! Between the events a client without a script may read objects (`specs/RunsWithAsks.antt`). Such reads leave the past as it is; the laws
 //! of `with_asks.rt` say why, and that what is owed of events and of reads gives the headline of those runs too.
@@ -38,9 +39,10 @@ pub use laws::{
     members_stay_until_they_are_lost, messages_touch_their_requests,
     no_read_of_what_was_borne_is_left_out, open_works_have_messages, other_attempts_hear_nothing,
     packets_are_of_open_works, peers_of_another_epoch_change_nothing,
-    recoveries_are_of_members_that_came, the_attempts_are_shaped, the_attempts_stay_in_order,
-    the_past_follows_the_run, the_recovered_have_all, the_wire_and_the_attempts_stay_tied,
-    the_wire_is_kept, the_wire_is_linked, units_follow_each_other, what_becomes_of_an_attempt,
+    recoveries_are_of_members_that_came, runs_of_few_controls_are_in_range,
+    the_attempts_are_shaped, the_attempts_stay_in_order, the_past_follows_the_run,
+    the_recovered_have_all, the_wire_and_the_attempts_stay_tied, the_wire_is_kept,
+    the_wire_is_linked, units_follow_each_other, what_becomes_of_an_attempt,
     what_is_asked_is_of_the_past, what_is_doomed_stays_doomed, what_is_made_stays_made,
     what_nodes_have_read_is_of_the_log, who_joins_is_new,
 };
