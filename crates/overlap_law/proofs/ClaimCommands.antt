@@ -31,7 +31,7 @@ use Rattle.sheep_node.specs.Guests.{seen_by_command}
 use Rattle.sheep_node.proofs.ValidSteps.{given}
 use Rattle.overlap_law.specs.AwaitedEntries.{IsCommandEntry}
 use Rattle.overlap_law.specs.CommandDisks.{opened_as, IsOpenAtLast, IsOpenAtTask, IsOpenAtStage}
-use Rattle.overlap_law.specs.WriterClaims.{HasLock, HasReservation, HasPlace, IsGivenNoMore, IsNamed, IsFirstEntry, IsForDisk, IsGrantKept, IsAskedSo, IsMakingKept, IsTaskKept, IsPublicationKept, IsReplacing, IsStageKept, lets_go_by}
+use Rattle.overlap_law.specs.WriterClaims.{HasLock, HasReservation, HasPlace, IsGivenNoMore, IsNamed, IsFirstEntry, IsForDisk, IsGrantKept, IsAskedSo, IsMakingKept, IsTaskKept, IsPublicationKept, IsReplacing, IsStageKept, LetsGoBy}
 
 -- an entry isn't in the log from a place on, which is where the node is to read of it
 abbrev pub IsUnseen : List Entry → ℕ → Entry → Type 0
@@ -216,7 +216,7 @@ module _ (log outbox read : List Entry) (from : ℕ) (me : NodeId) (session : �
   -- the disk is safe, if the entry that was waited for doesn't let it go
   abbrev pub AreSafeUnless : Entry → Option Disk → Type 0
   AreSafeUnless entry disk =
-      (open_disk : Disk) → disk ≡ Some open_disk → (lets_go_by open_disk.inode.vid entry → ⊥) → IsDiskSafe open_disk.snapshot open_disk.inode
+      (open_disk : Disk) → disk ≡ Some open_disk → (LetsGoBy open_disk.inode.vid entry → ⊥) → IsDiskSafe open_disk.snapshot open_disk.inode
 
   module _ (op : Op) (known : List Effect) (named : (vid : ℕ) (header : Header) → header_of known vid ≡ Some header → IsNamed log vid header.name) where
     module _ (vid : Vid) (header : Header) (is_named : IsNamed log vid.0 header.name) where
@@ -300,7 +300,7 @@ module _ (log outbox read : List Entry) (from : ℕ) (me : NodeId) (session : �
           → IsPublicationKept log outbox read from me session (opened_as disk) entry made → AreSafe (disk_after (option_map_or (Opens false) made Stays) disk)
       published_kept disk made fits safe is = by_entry entry refl fits safe is
         where
-          stays : (put : Entry) → ((vid : ℕ) → lets_go_by vid put → ⊥) → made ≡ None → AreSafeUnless put disk
+          stays : (put : Entry) → ((vid : ℕ) → LetsGoBy vid put → ⊥) → made ≡ None → AreSafeUnless put disk
               → AreSafe (disk_after (option_map_or (Opens false) made Stays) disk)
           stays put never none safe =
               subst (λ (m : Option Content). AreSafe (disk_after (option_map_or (Opens false) m Stays) disk)) (sym none)

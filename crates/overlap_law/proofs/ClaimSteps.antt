@@ -53,7 +53,7 @@ use Rattle.sheep_node.proofs.OneWorkChanges.{awaited_of}
 use Rattle.sheep_node.proofs.WantedSteps.{driver_begins-wanted, driver_goes_on-wanted}
 use Rattle.overlap_law.specs.AwaitedEntries.{IsCommandEntry, IsSessionsCommand, IsSessionsEntry, IsSessionsStage}
 use Rattle.overlap_law.specs.CommandDisks.{opened_in}
-use Rattle.overlap_law.specs.WriterClaims.{IsStageKept, LetsGo, IsLetGo, IsDiskKept, HasClaims, HasLock, IsMakingKept, lets_go_by}
+use Rattle.overlap_law.specs.WriterClaims.{IsStageKept, LetsGo, IsLetGo, IsDiskKept, HasClaims, HasLock, IsMakingKept, LetsGoBy}
 use Rattle.overlap_law.specs.Writers.{unlocks}
 use Rattle.overlap_law.proofs.AwaitedChanges.{Requests, AreAwaitedSoFar, IsOwnCourse, none_on_the_way}
 use Rattle.overlap_law.proofs.AwaitedCommands.{is_command, PutsNothing, decided_puts_nothing, done_waits_not, waits_at}
@@ -255,10 +255,10 @@ module _ (read unread : List Entry) (input : Input) (node : Node) (meets : Meets
     waited (Answered change) is = absurd (cc (is))
 
     -- what waits for the entry lets a disk go by it
-    lets_by : (vid : ℕ) (stage : OpStage) → IsWaitedAt entry stage → LetsGo vid stage → lets_go_by vid entry
-    lets_by vid (Asked wanted) waits lets = subst (lets_go_by vid) waits lets
+    lets_by : (vid : ℕ) (stage : OpStage) → IsWaitedAt entry stage → LetsGo vid stage → LetsGoBy vid entry
+    lets_by vid (Asked wanted) waits lets = subst (LetsGoBy vid) waits lets
     lets_by vid (Working of task) waits lets = absurd lets
-    lets_by vid (Publishing wanted made) waits lets = subst (lets_go_by vid) waits lets
+    lets_by vid (Publishing wanted made) waits lets = subst (LetsGoBy vid) waits lets
     lets_by vid (Answered change) waits lets = absurd lets
 
     safe_unless : AreSafeUnless log so_far.node.outbox read from node.me session entry (session_in session so_far).disk

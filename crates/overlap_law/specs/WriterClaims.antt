@@ -209,15 +209,15 @@ module _ (log outbox read : List Entry) (from : ℕ) (me : NodeId) (session : �
 -- ---- an open disk
 
 -- a command that waits for this entry gives a disk back, or makes it a snapshot
-abbrev pub lets_go_by : ℕ → Entry → Type 0
-lets_go_by vid (Unlock by of id) = id.0 ≡ vid
-lets_go_by vid (Snapshot by old of) = old.0 ≡ vid
-lets_go_by vid entry = ⊥
+abbrev pub LetsGoBy : ℕ → Entry → Type 0
+LetsGoBy vid (Unlock by of id) = id.0 ≡ vid
+LetsGoBy vid (Snapshot by old of) = old.0 ≡ vid
+LetsGoBy vid entry = ⊥
 
 abbrev pub LetsGo : ℕ → OpStage → Type 0
-LetsGo vid (Asked entry) = lets_go_by vid entry
+LetsGo vid (Asked entry) = LetsGoBy vid entry
 LetsGo vid (Working of task) = ⊥
-LetsGo vid (Publishing entry made) = lets_go_by vid entry
+LetsGo vid (Publishing entry made) = LetsGoBy vid entry
 LetsGo vid (Answered change) = ⊥
 
 -- the session's command does
