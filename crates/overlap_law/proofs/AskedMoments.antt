@@ -14,7 +14,7 @@ use Rattle.sheep_world.specs.RunsWithAsks.{Move, Happens}
 use Rattle.sheep_world.proofs.HostChangeLaws.{each_kept, each_opens, hosts_of_nodes}
 use Rattle.overlap_law.specs.Headline.{OtherEpochsChangeNothing, KeepsHeadline, Headline, HeadlineWithAsks}
 use Rattle.overlap_law.specs.Overlap.{OverlapOf, OpensWithOverlap, KeepsOverlap, AsksKeepOverlap}
-use Rattle.overlap_law.specs.Past.{MomentWithPast, moment_after, first_moment}
+use Rattle.overlap_law.specs.Past.{MomentWithPast, moment_after}
 use Rattle.overlap_law.specs.RunsWithAsks.{moment_after_ask, run_with_asks_and_past}
 use Rattle.overlap_law.proofs.AskedReads.{StepsOnAsk, ask-hosts}
 use Rattle.overlap_law.proofs.AskedRuns.{KeptByMoves, kept-by_moves, with_asks-events}

@@ -1,5 +1,5 @@
 -- A client's read is a step that begins no attempt to create or write, and leaves the node's rows, epochs and recovery as they are.
-use Rattle.std.proofs.Common.{◌≡◌, ◌≢◌, ◌⊎◌, inl, inr, ⊎_elim, arith, ℕ, ◌-◌, nat_lt, ◌&&◌, Bool, true, false, cond, List, [], Option, Some, None, option_map, refl, sym, ap, subst, ◌∙◌}
+use Rattle.std.proofs.Common.{◌≡◌, ◌≢◌, ◌⊎◌, inl, inr, ⊎_elim, arith, ℕ, ◌-◌, nat_lt, ◌&&◌, Bool, true, false, cond, [], Option, Some, None, option_map, refl, sym, ap, subst, ◌∙◌}
 use Rattle.std.specs.Option.{option_map_or}
 use Rattle.std.specs.FinMap as tree
 use Rattle.std.proofs.lemmas.Bool.{cases_eq}
