@@ -1,6 +1,6 @@
 -- In each world of a run in range, and at each moment on the way of its events, the entries of a node's commands that are on their way are
 -- awaited, once each; and each command is its session's.
-use Rattle.std.proofs.Common.{◌≡◌, ◌≢◌, ⊎_elim, arith, ℕ, ◌+◌, ◌≤◌, Bool, true, false, not, List, [], ◌∷◌, ◌++◌, All, drop, length, Option, Some, None, is_none, refl, sym, ap, subst, ◌∙◌, append_assoc}
+use Rattle.std.proofs.Common.{◌≡◌, ◌≢◌, ⊎_elim, arith, ℕ, ◌+◌, Bool, true, false, not, List, [], ◌∷◌, ◌++◌, All, drop, length, Option, Some, None, is_none, refl, sym, ap, subst, ◌∙◌, append_assoc}
 use Rattle.std.specs.Prelude.{nat_le}
 use Rattle.std.specs.List.{slice_get}
 use Rattle.std.specs.FinMap as tree

@@ -1,6 +1,6 @@
 -- What is in the wire of an attempt of a node that isn't lost is awaited by the attempt's own work: when a script opens, after each change of a
 -- moment, and so in every run in range.
-use Rattle.std.proofs.Common.{◌≡◌, ◌≢◌, ◌⊎◌, inl, inr, ⊎_elim, arith, ℕ, ◌+◌, ◌≤◌, ◌<◌, true, false, List, Some, slice_get, refl, sym, ap, subst, ◌∙◌}
+use Rattle.std.proofs.Common.{◌≡◌, ⊎_elim, arith, ℕ, ◌≤◌, ◌<◌, true, false, List, Some, slice_get, sym, ap, subst, ◌∙◌}
 use Rattle.std.specs.FinMap as tree
 use Rattle.std.proofs.lemmas.Option.{same_Some}
 use Rattle.object_id.specs.declared.node.NodeId.{NodeId}
@@ -9,7 +9,6 @@ use Rattle.gateway.specs.declared.message.Message.{Message}
 use Rattle.gateway.specs.Work.{is_making}
 use Rattle.gateway.specs.Attempt as gateways
 use Rattle.gateway.specs.State.{Work}
-use Rattle.message_wire.specs.declared.name.MessageName.{MessageName}
 use Rattle.message_wire.specs.Message.{message_name}
 use Rattle.sheep_node.specs.declared.event.Event.{Event}
 use Rattle.sheep_node.specs.State.{Node}
@@ -17,7 +16,7 @@ use Rattle.sheep_world.specs.World.{Host}
 use Rattle.sheep_world.specs.Began.{Began}
 use Rattle.overlap_law.specs.Attempts.{AttemptRecord, MessageFate}
 use Rattle.overlap_law.specs.Past.{MomentWithPast, first_moment, run_with_past}
-use Rattle.overlap_law.specs.Packets.{Wire, message_name_at, is_name_in_wire, HasPacket}
+use Rattle.overlap_law.specs.Packets.{message_name_at, is_name_in_wire, HasPacket}
 use Rattle.overlap_law.specs.OpenWorks.{IsTheSame, IsAwaitedAt, PacketsAreOfOpenWorks}
 use Rattle.overlap_law.specs.TiedAttempts.{IsTied}
 use Rattle.overlap_law.specs.MomentChanges.{MomentChange, RunsAreInRange, KeptByChanges}

@@ -10,11 +10,7 @@ use Rattle.object_id.specs.declared.entry.Entry.TheVariants as entries
 use Rattle.cluster_script.specs.declared.statement.Statement.{Statement}
 use Rattle.cluster_script.specs.declared.statement.Statement.TheVariants as lines
 use Rattle.cluster_script.specs.Settings.{tries_of, vnodes_of}
-use Rattle.vdi_ops.specs.Op.{Op}
-use Rattle.sheep_node.specs.declared.course.Course.{Course}
-use Rattle.sheep_node.specs.declared.course.Request.{Request}
 use Rattle.sheep_node.specs.declared.event.Event.{Event}
-use Rattle.sheep_node.specs.declared.input.Input.{Input}
 use Rattle.sheep_node.specs.declared.input.Input.TheVariants as inputs
 use Rattle.sheep_node.specs.Changes as changes
 use Rattle.sheep_node.specs.Changes.{input_received}

@@ -1,40 +1,27 @@
 -- A command that begins: its entry is put, and a close lets the session's disk go.
 use Rattle.object_id.specs.declared.entry.Origin.TheVariants.{Fresh, SnapshotOf, CloneOf}
 use Rattle.overlap_law.proofs.SessionCommands.{begins-own}
-use Rattle.std.proofs.Common.{◌≡◌, ◌≢◌, ◌⊎◌, inl, inr, ⊎_elim, ℕ, ◌+◌, ◌≤◌, Bool, true, false, List, [], ◌∷◌, ◌++◌, Option, Some, None, refl, sym, ap, subst, ◌∙◌, arith, option_map, unwrap_or, ◌==◌, ◌&&◌}
+use Rattle.std.proofs.Common.{◌≡◌, ◌≢◌, inl, inr, ⊎_elim, ℕ, ◌+◌, Bool, true, false, List, [], ◌∷◌, ◌++◌, Option, Some, None, refl, sym, ap, subst, ◌∙◌, arith, option_map, unwrap_or}
 use Rattle.std.specs.FinMap as tree
 use Rattle.std.proofs.lemmas.Option.{same_Some}
 use Rattle.proof_tools.proofs.FiniteMaps.{get-insert_same, get-insert_cases}
-use Rattle.object_id.specs.declared.cause.Cause.{Cause}
 use Rattle.object_id.specs.declared.node.NodeId.{NodeId}
 use Rattle.object_id.specs.declared.oid.Vid.{Vid}
 use Rattle.object_id.specs.declared.entry.Entry.{Entry}
 use Rattle.object_id.specs.declared.entry.Entry.TheVariants.{Recovered, Unlock, Format, Join, Leave, Reweight, Reserve, Publish, Clone, Snapshot, Delete, Lock}
 use Rattle.epoch_log.specs.Epochs.{epoch_of}
 use Rattle.inode.specs.Layout.{Content}
-use Rattle.vdi_directory.specs.declared.effect.Effect.{Effect}
-use Rattle.vdi_directory.specs.declared.header.Header.{Header}
 use Rattle.vdi_directory.specs.Decisions.{log_effects}
-use Rattle.peer_proto.specs.declared.guest.GuestRsp.{GuestRsp}
 use Rattle.peer_proto.specs.declared.guest.VdiAsk.{VdiAsk}
 use Rattle.peer_proto.specs.declared.guest.VdiAsk.TheVariants as disk_commands
-use Rattle.gateway.specs.Attempt.{Attempt}
-use Rattle.gateway.specs.State.{Work}
-use Rattle.gateway.specs.declared.message.Status.{Status}
 use Rattle.guest_driver.specs.declared.disk.Disk.{Disk}
-use Rattle.guest_driver.specs.declared.act.DriverAct.{DriverAct}
-use Rattle.disk_check.specs.declared.act.CheckAct.{CheckAct}
 use Rattle.vdi_ops.specs.declared.act.OpAct.{OpAct}
 use Rattle.vdi_ops.specs.declared.act.OpAct.TheVariants as op_acts
-use Rattle.vdi_ops.specs.declared.end.OpEnd.{OpEnd}
 use Rattle.vdi_ops.specs.Entries.{unlock_of, first_entry}
 use Rattle.vdi_ops.specs.Op.{OpStage, Asked, disk_change_at, Op, OpStep, IsAwaitedAtOpStage}
 use Rattle.vdi_ops.specs.Steps.{begin_command, first_step}
-use Rattle.disk_check.specs.Check.{Check}
-use Rattle.sheep_node.specs.declared.ask.Ask.{Ask}
 use Rattle.sheep_node.specs.declared.ask.Ask.TheVariants as asks
 use Rattle.sheep_node.specs.declared.input.Input.{Input}
-use Rattle.sheep_node.specs.declared.course.Course.{Course}
 use Rattle.sheep_node.specs.declared.course.Request.{Request}
 use Rattle.sheep_node.specs.declared.session.Session.{Session}
 use Rattle.sheep_node.specs.declared.course.Course.TheVariants.{Commanding}

@@ -1,11 +1,10 @@
 -- Along the changes of a step sessions keep what their works rest on.
 use Rattle.overlap_law.proofs.ReservedIds.{session_of_entry}
 use Rattle.sheep_node.proofs.PeerLog.{entries_reading}
-use Rattle.std.proofs.Common.{◌≡◌, ◌≢◌, ◌⊎◌, ⊎_elim, ℕ, ◌+◌, ◌≤◌, Bool, true, false, List, [], ◌∷◌, ◌++◌, Option, Some, refl, sym, ap, subst, ◌∙◌, arith, unwrap_or, ◌==◌, ◌&&◌}
+use Rattle.std.proofs.Common.{◌≡◌, ⊎_elim, ℕ, Bool, true, false, List, [], ◌∷◌, ◌++◌, Option, Some, refl, sym, ap, subst, ◌∙◌, arith, unwrap_or}
 use Rattle.std.specs.FinMap as tree
 use Rattle.std.proofs.lemmas.Option.{same_Some}
 use Rattle.proof_tools.proofs.FiniteMaps.{get-insert_same}
-use Rattle.object_id.specs.declared.cause.Cause.{Cause}
 use Rattle.object_id.specs.declared.node.NodeId.{NodeId}
 use Rattle.object_id.specs.declared.oid.Vid.{Vid}
 use Rattle.object_id.specs.declared.entry.Entry.{Entry}
@@ -13,11 +12,8 @@ use Rattle.object_id.specs.declared.entry.Entry.TheVariants.{Recovered, Unlock, 
 use Rattle.epoch_log.specs.Epochs.{epoch_of}
 use Rattle.inode.specs.Layout.{Content}
 use Rattle.vdi_directory.specs.declared.effect.Effect.{Effect}
-use Rattle.vdi_directory.specs.declared.header.Header.{Header}
 use Rattle.vdi_directory.specs.Decisions.{log_effects, decision_after}
 use Rattle.vdi_directory.specs.Effects.{header_of}
-use Rattle.peer_proto.specs.declared.guest.GuestRsp.{GuestRsp}
-use Rattle.peer_proto.specs.declared.guest.VdiAsk.{VdiAsk}
 use Rattle.peer_proto.specs.declared.guest.VdiAsk.TheVariants as disk_commands
 use Rattle.peer_service.specs.LogReading.{decision_on}
 use Rattle.peer_service.specs.State.{effects_of}
@@ -26,20 +22,15 @@ use Rattle.gateway.specs.State.{Work}
 use Rattle.gateway.specs.declared.message.Status.{Status}
 use Rattle.guest_driver.specs.declared.disk.Disk.{Disk}
 use Rattle.guest_driver.specs.Driver as drivers
-use Rattle.guest_driver.specs.declared.act.DriverAct.{DriverAct}
-use Rattle.disk_check.specs.declared.act.CheckAct.{CheckAct}
 use Rattle.vdi_ops.specs.declared.act.OpAct.{OpAct}
 use Rattle.vdi_ops.specs.declared.act.OpAct.TheVariants as op_acts
-use Rattle.vdi_ops.specs.declared.end.OpEnd.{OpEnd}
 use Rattle.vdi_ops.specs.Op.{Task, OpStage, Asked, Working, Publishing, Answered, Making, Op, OpStep, IsAwaitedAtOpStage, Opening, WritingBack, Tagging, Copying}
 use Rattle.vdi_ops.specs.Steps.{begin_command, on_decision, op_on_done, done_at, task_done}
 use Rattle.vdi_ops.proofs.StepLemmas.{begin_awaited, done_awaited, decision_awaited}
-use Rattle.disk_check.specs.Check.{Check, begin_check}
-use Rattle.sheep_node.specs.declared.ask.Ask.{Ask}
+use Rattle.disk_check.specs.Check.{begin_check}
 use Rattle.sheep_node.specs.declared.ask.Ask.TheVariants as asks
 use Rattle.sheep_node.specs.declared.input.Input.{Input}
 use Rattle.sheep_node.specs.declared.input.Input.TheVariants as inputs
-use Rattle.sheep_node.specs.declared.course.Course.{Course}
 use Rattle.sheep_node.specs.declared.course.Request.{Request}
 use Rattle.sheep_node.specs.declared.session.Session.{Session}
 use Rattle.sheep_node.specs.declared.course.Course.TheVariants.{Waiting, Driving, Commanding, Checking, DoingWork, AwaitingDecision}

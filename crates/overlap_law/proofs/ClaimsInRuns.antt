@@ -5,7 +5,7 @@ use Rattle.sheep_node.specs.May.{has_numbers}
 use Rattle.std.proofs.lemmas.Bool.{not-true, and_parts}
 use Rattle.overlap_law.proofs.CountedEntries.{times, times-none}
 use Rattle.overlap_law.proofs.ClaimsAtPuts.{snapshot_writes}
-use Rattle.std.proofs.Common.{◌≡◌, ◌≢◌, ◌⊎◌, ⊎_elim, ℕ, ◌+◌, ◌≤◌, Bool, true, false, List, [], ◌∷◌, ◌++◌, All, drop, length, Option, Some, None, refl, sym, ap, subst, ◌∙◌, append_assoc, arith, not}
+use Rattle.std.proofs.Common.{◌≡◌, ◌≢◌, ⊎_elim, ℕ, ◌≤◌, true, false, List, [], ◌∷◌, ◌++◌, All, drop, length, Some, None, refl, sym, ap, subst, ◌∙◌, append_assoc, arith, not}
 use Rattle.std.specs.FinMap as tree
 use Rattle.std.specs.List.{slice_get}
 use Rattle.std.proofs.lemmas.List.{length-append}

@@ -1,5 +1,5 @@
 -- A script has no more controls than statements. So one with no more statements than a text may have bytes has few controls.
-use Rattle.std.proofs.Common.{◌≡◌, arith, ℕ, suc, ◌+◌, ◌≤◌, not, Bool, true, false, cond, List, [], ◌∷◌, ◌++◌, length, refl, ap, subst, ◌∙◌}
+use Rattle.std.proofs.Common.{◌≡◌, arith, ℕ, suc, ◌+◌, ◌≤◌, not, Bool, true, false, cond, List, [], ◌∷◌, length, refl, ap, ◌∙◌}
 use Rattle.std.specs.Prelude.{flat_map}
 use Rattle.std.specs.List.{filter, count_by}
 use Rattle.std.proofs.lemmas.List.{length-append}
@@ -7,7 +7,7 @@ use Rattle.object_id.specs.declared.limits.TheConstants.{INPUT_BYTES_MAX}
 use Rattle.cluster_script.specs.declared.statement.Statement.{Statement}
 use Rattle.cluster_script.specs.Language.{IsScript}
 use Rattle.cluster_script.specs.Statements.{is_setting, is_request}
-use Rattle.cluster_script.specs.Phases.{Phase, is_barrier, is_control, stretches_with, stretches, phase_from, phases_from, phases_of}
+use Rattle.cluster_script.specs.Phases.{Phase, is_barrier, is_control, stretches_with, stretches, phases_from, phases_of}
 use Rattle.sheep_world.specs.World.{World}
 use Rattle.sheep_world.specs.Opening.{initial_world}
 use Rattle.sheep_world.specs.ControlsToCome.{controls_behind}

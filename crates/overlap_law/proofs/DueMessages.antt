@@ -1,6 +1,6 @@
 -- A request without reply is touched by each message of an attempt that was served, or was lost, or of which the reply was; or nothing came of the
 -- message yet, as far as its gateway knows. Each change of a moment keeps that.
-use Rattle.std.proofs.Common.{◌≡◌, ◌⊎◌, inl, inr, ⊎_elim, arith, ℕ, ◌+◌, ◌≤◌, ◌<◌, Bool, true, false, List, [], ◌++◌, Contains, Option, Some, None, is_some, slice_get, refl, sym, ap, subst, ◌∙◌, append-nil}
+use Rattle.std.proofs.Common.{◌≡◌, ◌⊎◌, inl, inr, ⊎_elim, arith, ℕ, ◌+◌, ◌≤◌, ◌<◌, true, false, List, ◌++◌, Contains, Option, Some, None, is_some, slice_get, refl, sym, ap, subst, ◌∙◌, append-nil}
 use Rattle.std.specs.FinMap as tree
 use Rattle.std.proofs.lemmas.Option.{same_Some}
 use Rattle.object_id.specs.declared.node.NodeId.{NodeId}
@@ -12,28 +12,25 @@ use Rattle.gateway.specs.Attempt.{may_be_made, status_by}
 use Rattle.gateway.specs.State.{is_touched}
 use Rattle.message_wire.specs.declared.name.MessageName.{MessageName}
 use Rattle.message_wire.specs.declared.packet.Packet.{Packet}
-use Rattle.message_wire.specs.declared.packet.Packet.TheVariants.{Request}
-use Rattle.message_wire.specs.Message.{message_name}
 use Rattle.sheep_node.specs.declared.course.Request as requests
 use Rattle.sheep_node.specs.declared.input.Input.TheVariants as inputs
-use Rattle.sheep_node.specs.State.{Node}
 use Rattle.sheep_node.specs.Changes.{IsTold}
-use Rattle.sheep_world.specs.World.{Host, World}
+use Rattle.sheep_world.specs.World.{Host}
 use Rattle.sheep_world.specs.Began.{Began}
 use Rattle.sheep_world.specs.NodeCauses.{NodeCause, GuestAsks, RequestComes, ReplyComes, LossIsTold, EntryIsRead, EntryIsPut, RecoveryTicks, WorkIsRetried, input_of_cause, event_of_cause, IsCause}
 use Rattle.sheep_world.proofs.NodeConditions.{reply_numbered}
 use Rattle.sheep_world.proofs.SenderMatch.{packets_of}
 use Rattle.sheep_world.proofs.StepsByCause.{IsReady}
-use Rattle.overlap_law.specs.Attempts.{AttemptRecord, MessageFate, Flying, Served, known_fate}
+use Rattle.overlap_law.specs.Attempts.{AttemptRecord, MessageFate, Flying, Served}
 use Rattle.overlap_law.specs.Fates.{IsFateIn}
-use Rattle.overlap_law.specs.Packets.{Wire, message_name_at, is_name_in_wire, IsAsking, IsAnswering, HasPacket}
+use Rattle.overlap_law.specs.Packets.{message_name_at, is_name_in_wire, IsAnswering}
 use Rattle.overlap_law.specs.Past.{MomentWithPast}
 use Rattle.overlap_law.specs.PastWords.{messages_lost_by}
 use Rattle.overlap_law.specs.OpenWorks.{IsAwaitedAt, MayTouch, MessagesTouchOrAreAwaited}
-use Rattle.overlap_law.specs.StepMoments.{SteppingNode, IsStepping, StepsByChanges, attempts_at_cause}
+use Rattle.overlap_law.specs.StepMoments.{attempts_at_cause}
 use Rattle.overlap_law.specs.MomentChanges.{MomentChange, RunsAreInRange}
 use Rattle.overlap_law.specs.TiedAttempts.{IsTied}
-use Rattle.overlap_law.proofs.AwaitedInMoments.{AreOfOpenWorks, awaited_still, awaited_name, begun_awaited}
+use Rattle.overlap_law.proofs.AwaitedInMoments.{AreOfOpenWorks, awaited_still, begun_awaited}
 use Rattle.overlap_law.proofs.FreshRequests.{none_for_new}
 use Rattle.overlap_law.proofs.KnownFatesLater.{WasMarked}
 use Rattle.overlap_law.proofs.KnownSteps.{known_step}

@@ -1,6 +1,5 @@
 -- A command that works for an id may write it: in each world of a run in range, and at each moment on the way of its events.
-use Rattle.std.proofs.Common.{◌≡◌, ℕ, ◌≤◌, Bool, List, length, Option, Some, ap, subst, ◌∙◌, true, false, arith}
-use Rattle.std.specs.FinMap as tree
+use Rattle.std.proofs.Common.{◌≡◌, ℕ, Bool, List, length, Option, Some, ap, subst, ◌∙◌, true, false, arith}
 use Rattle.std.proofs.lemmas.Option.{same_Some}
 use Rattle.object_id.specs.declared.entry.Entry.{Entry}
 use Rattle.object_id.specs.declared.entry.Entry.TheVariants.{Format, Join, Leave, Reweight, Recovered, Reserve, Publish, Clone, Snapshot, Delete, Lock, Unlock}
@@ -8,8 +7,7 @@ use Rattle.object_id.specs.declared.oid.Vid.{Vid}
 use Rattle.cluster_script.specs.declared.statement.Statement.{Statement}
 use Rattle.epoch_log.specs.Epochs.{epoch_of}
 use Rattle.inode.specs.Layout.{Content}
-use Rattle.vdi_ops.specs.Op.{Task, Opening, WritingBack, Tagging, Copying, Making, OpStage, Asked, Working, Publishing, Answered, Op}
-use Rattle.sheep_node.specs.declared.course.Request.{Request}
+use Rattle.vdi_ops.specs.Op.{Task, Opening, WritingBack, Tagging, Copying, Making, OpStage, Asked, Working, Publishing, Answered}
 use Rattle.sheep_node.specs.declared.event.Event.{Event}
 use Rattle.sheep_node.specs.State.{Node}
 use Rattle.sheep_world.specs.Began.{Began}

@@ -10,14 +10,12 @@ use Rattle.peer_proto.specs.declared.ask.PeerReq.{PeerReq}
 use Rattle.message_wire.specs.declared.name.MessageName.{MessageName}
 use Rattle.message_wire.specs.declared.packet.Packet.{Packet}
 use Rattle.message_wire.specs.declared.packet.Packet.TheVariants.{Request, Reply}
-use Rattle.message_wire.specs.Message.{without_replies}
 use Rattle.sheep_node.specs.declared.event.Event.{Event}
 use Rattle.sheep_node.specs.StepState.{StepState}
 use Rattle.sheep_node.proofs.MessageNumbers.{numbers_within}
 use Rattle.sheep_world.specs.World.{Host, World}
 use Rattle.sheep_world.specs.Began.{Began}
 use Rattle.sheep_world.specs.Enabled.{loss_of}
-use Rattle.sheep_world.specs.Messages.{wire_with_reply}
 use Rattle.sheep_world.specs.NodeSteps.{wire_with_request}
 use Rattle.sheep_world.specs.Step.{EventOutcome}
 use Rattle.sheep_world.specs.WireMatch.{IsNumberGiven}
@@ -28,7 +26,7 @@ use Rattle.overlap_law.specs.Packets.{Wire, is_name_in_wire}
 use Rattle.overlap_law.specs.Past.{MomentWithPast, past_after_event, moment_after, first_moment}
 use Rattle.overlap_law.specs.PastWords.{messages_lost_by}
 use Rattle.overlap_law.specs.Reached.{Hosts}
-use Rattle.overlap_law.specs.StepMoments.{SteppingNode, IsStepping, StepsByChanges, StepsAtOnce, first_in_step, last_in_step, moment_in_step}
+use Rattle.overlap_law.specs.StepMoments.{SteppingNode, StepsByChanges, StepsAtOnce, first_in_step, last_in_step, moment_in_step}
 use Rattle.overlap_law.specs.MomentChanges as moments
 use Rattle.overlap_law.specs.MomentChanges.{MomentChange, RunsAreInRange}
 use Rattle.overlap_law.specs.TiedAttempts.{IsTied}

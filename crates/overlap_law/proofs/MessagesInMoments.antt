@@ -1,5 +1,5 @@
 -- Each open create or write has a message: when a script opens, after each change of a moment, and so in every run in range.
-use Rattle.std.proofs.Common.{◌≡◌, ◌≢◌, ⊎_elim, arith, ℕ, Bool, true, false, not, List, length, slice_get, Option, Some, None, refl, sym, ap, subst, ◌∙◌}
+use Rattle.std.proofs.Common.{◌≡◌, ◌≢◌, ⊎_elim, arith, ℕ, true, false, not, List, length, Option, Some, None, refl, sym, ap, subst, ◌∙◌}
 use Rattle.std.specs.FinMap as tree
 use Rattle.std.proofs.lemmas.Bool.{and_parts, not-true}
 use Rattle.proof_tools.proofs.FiniteMaps.{get-insert_same, get-insert_cases, insert-insert}
@@ -8,9 +8,6 @@ use Rattle.gateway.specs.State.{Work, Gateway}
 use Rattle.sheep_node.specs.declared.event.Event.{Event}
 use Rattle.sheep_node.specs.declared.course.Request.{Request}
 use Rattle.sheep_node.specs.OneWork.{may_work_at}
-use Rattle.sheep_node.specs.declared.input.Input.{Input}
-use Rattle.sheep_node.specs.declared.input.Input.TheVariants as inputs
-use Rattle.sheep_node.specs.State.{Node}
 use Rattle.sheep_node.specs.StepState.{StepState, at_first}
 use Rattle.sheep_node.specs.May.{has_numbers}
 use Rattle.sheep_node.specs.ValidDisks.{WorkHasPolicy, IsValidInput, HasValidDisks}
@@ -35,13 +32,13 @@ use Rattle.sheep_world.proofs.ValidNodes.{got_is, log_reservable}
 use Rattle.sheep_world.proofs.WireAtOpening.{opening_found}
 use Rattle.overlap_law.specs.Reached.{Hosts}
 use Rattle.overlap_law.specs.Past.{MomentWithPast, first_moment, run_with_past}
-use Rattle.overlap_law.specs.StepMoments.{SteppingNode, IsStepping, StepsByChanges, first_in_step, last_in_step, IsWithinStep, hosts_in_step, moment_in_step}
+use Rattle.overlap_law.specs.StepMoments.{SteppingNode, IsStepping, first_in_step, last_in_step, IsWithinStep, hosts_in_step, moment_in_step}
 use Rattle.overlap_law.specs.MomentChanges as moments
 use Rattle.overlap_law.specs.MomentChanges.{MomentChange, RunsAreInRange, KeptByChanges}
 use Rattle.overlap_law.specs.Traffic.{OpenAttemptsHaveMessages}
 use Rattle.overlap_law.proofs.GuestsOfScript.{guest_asks, guest_valid}
 use Rattle.overlap_law.proofs.KnownSteps.{known_step}
-use Rattle.overlap_law.proofs.MessagesOfOpenWorks.{WorksHaveMessages, none_have, HaveMessagesIn, change_have}
+use Rattle.overlap_law.proofs.MessagesOfOpenWorks.{WorksHaveMessages, none_have, change_have}
 use Rattle.overlap_law.proofs.OpenInMoments.{received_gateway, made_gateway}
 use Rattle.overlap_law.proofs.RunsByChanges.{run-kept}
 use Rattle.overlap_law.proofs.UnansweredRequests.{first_empty}

@@ -1,6 +1,5 @@
 -- In each run in range a session has one work open on its inode: its line says whose it is.
-use Rattle.std.proofs.Common.{◌≡◌, ◌≢◌, ℕ, Bool, true, false, List, Some, refl, sym, ◌∙◌}
-use Rattle.std.specs.FinMap as tree
+use Rattle.std.proofs.Common.{◌≡◌, ℕ, Bool, true, false, List, Some, refl, sym, ◌∙◌}
 use Rattle.std.proofs.lemmas.Option.{same_Some}
 use Rattle.cluster_script.specs.declared.statement.Statement.{Statement}
 use Rattle.gateway.specs.State.{Work}

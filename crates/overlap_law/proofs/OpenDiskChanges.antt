@@ -1,5 +1,5 @@
 -- Each change of a node leaves its commands with what their sessions have open.
-use Rattle.std.proofs.Common.{◌≡◌, ◌≢◌, ⊎_elim, ℕ, Bool, true, false, ◌++◌, ◌∷◌, List, Option, Some, None, unwrap_or, refl, sym, ap, subst, ◌∙◌}
+use Rattle.std.proofs.Common.{◌≡◌, ◌≢◌, ⊎_elim, ℕ, Bool, true, false, List, Option, Some, None, unwrap_or, refl, sym, ap, subst, ◌∙◌}
 use Rattle.std.specs.Ordering.{nat_cmp}
 use Rattle.std.specs.FinMap as tree
 use Rattle.std.proofs.lemmas.Bool.{cases_eq}
@@ -14,7 +14,7 @@ use Rattle.gateway.specs.Work.{zones_for}
 use Rattle.gateway.specs.declared.message.Status.{Status}
 use Rattle.guest_driver.specs.declared.disk.Disk.{Disk}
 use Rattle.guest_driver.specs.Driver as drivers
-use Rattle.vdi_ops.specs.Op.{Op, OpStep, disk_change}
+use Rattle.vdi_ops.specs.Op.{OpStep, disk_change}
 use Rattle.disk_check.specs.Check.{begin_check}
 use Rattle.sheep_node.specs.declared.ask.Ask.TheVariants as asks
 use Rattle.sheep_node.specs.declared.input.Input.{Input}

@@ -1,12 +1,12 @@
 -- What is refused, over a change of a moment: a request that is refused then is no more at its node, and no message of its attempts was served.
-use Rattle.std.proofs.Common.{◌≡◌, ◌≢◌, ◌⊎◌, inl, inr, ⊎_elim, arith, ℕ, zero, suc, ◌+◌, ◌<◌, ◌==◌, not, ◌&&◌, ◌||◌, Bool, true, false, cond, List, [], ◌∷◌, ◌++◌, map, filter, Contains, Option, Some, None, is_some, slice_get, refl, sym, ap, subst, ◌∙◌, append-nil}
+use Rattle.std.proofs.Common.{◌≡◌, ◌⊎◌, inl, inr, ⊎_elim, ℕ, zero, suc, ◌+◌, ◌==◌, not, ◌||◌, Bool, true, false, cond, List, [], ◌∷◌, ◌++◌, map, filter, Contains, Option, Some, None, is_some, slice_get, refl, sym, ap, subst, ◌∙◌, append-nil}
 use Rattle.std.specs.List.{list_any}
 use Rattle.std.specs.FinMap as tree
 use Rattle.std.proofs.lemmas.Bool.{and_parts, not-true, or_cases, eqb-true, eq-eqb}
 use Rattle.std.proofs.lemmas.List.Folds.{list_any-append}
 use Rattle.std.proofs.lemmas.Option.{same_Some}
 use Rattle.proof_tools.proofs.Booleans.{cond_either}
-use Rattle.proof_tools.proofs.Lists.{Contains-nil, Contains-first, Contains-cons, Contains-map, Contains-filter, list_any-none}
+use Rattle.proof_tools.proofs.Lists.{Contains-first, Contains-cons, Contains-map, Contains-filter, list_any-none}
 use Rattle.proof_tools.proofs.FiniteMaps.{get-insert_same}
 use Rattle.object_id.specs.declared.entry.Entry.{Entry}
 use Rattle.object_id.specs.declared.node.NodeId.{NodeId}
@@ -26,13 +26,13 @@ use Rattle.sheep_node.specs.Changes as changes
 use Rattle.sheep_node.specs.Changes.{input_received, IsTold}
 use Rattle.sheep_node.proofs.NumberChanges.{both_in_chain}
 use Rattle.sheep_node.proofs.OneWorkChanges.{StepHasOneWork}
-use Rattle.sheep_world.specs.World.{Host, is_host_up}
+use Rattle.sheep_world.specs.World.{Host}
 use Rattle.sheep_world.specs.Asking.{session_asking}
 use Rattle.sheep_world.specs.Step.{EventOutcome}
 use Rattle.sheep_world.specs.NodeCauses.{NodeCause, GuestAsks, RequestComes, ReplyComes, LossIsTold, EntryIsRead, EntryIsPut, RecoveryTicks, WorkIsRetried, input_of_cause, host_with_node}
 use Rattle.sheep_world.specs.EventKinds.{log_after_return}
 use Rattle.sheep_world.specs.Began.{Began}
-use Rattle.overlap_law.specs.Attempts.{AttemptRecord, MessageFate, Flying, Served, Doomed}
+use Rattle.overlap_law.specs.Attempts.{AttemptRecord, Served}
 use Rattle.overlap_law.specs.Holders.{is_object_among}
 use Rattle.overlap_law.specs.Past.{MomentWithPast, past_after_event, moment_after}
 use Rattle.overlap_law.specs.PastWords.{is_refusal, refuses_request, refused_in}

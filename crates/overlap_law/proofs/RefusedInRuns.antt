@@ -1,7 +1,7 @@
 -- In every run what was refused was begun and has its reply, and what has no reply was begun.
 use Rattle.std.proofs.Common.{◌≡◌, ◌≢◌, ◌⊎◌, inl, inr, ⊎_elim, arith, ℕ, ◌+◌, ◌<◌, ◌≤◌, ◌==◌, Bool, true, false, not, ◌||◌, cond, List, [], ◌∷◌, ◌++◌, map, filter, fold, Contains, Option, Some, None, refl, sym, ap, subst, ◌∙◌}
 use Rattle.std.specs.Prelude.{unwrap_or}
-use Rattle.std.specs.List.{slice_get, list_any}
+use Rattle.std.specs.List.{slice_get}
 use Rattle.std.specs.Option.{option_and_then}
 use Rattle.std.specs.Ordering.{nat_cmp}
 use Rattle.std.specs.FinMap as tree
@@ -22,7 +22,6 @@ use Rattle.sheep_node.specs.declared.input.Input.TheVariants as inputs
 use Rattle.sheep_node.specs.declared.course.Request.{Request}
 use Rattle.sheep_node.specs.State.{Node}
 use Rattle.sheep_node.specs.Step.{node_step}
-use Rattle.sheep_node.specs.StepState.{StepState}
 use Rattle.sheep_node.specs.LogReading.{on_back}
 use Rattle.sheep_node.proofs.StepChain.{kept_by_chain, step_chain}
 use Rattle.sheep_world.specs.declared.progress.StartedRequest.{StartedRequest}
@@ -34,16 +33,16 @@ use Rattle.sheep_world.specs.Effects.{disk_open, progress_with_started}
 use Rattle.sheep_world.specs.BegunRequests.{begun_count, WasBegun}
 use Rattle.sheep_world.specs.Began.{Began}
 use Rattle.sheep_world.specs.Opening.{initial_world}
-use Rattle.sheep_world.specs.Step.{EventOutcome, step}
+use Rattle.sheep_world.specs.Step.{EventOutcome}
 use Rattle.sheep_world.specs.NodeCauses.{NodeCause, GuestAsks, RequestComes, ReplyComes, LossIsTold, EntryIsRead, EntryIsPut, RecoveryTicks, WorkIsRetried, input_of_cause, IsCause, progress_at_cause, world_after_cause}
-use Rattle.sheep_world.specs.EventKinds.{log_after_return, world_after_return, EventKind, NodeStep, UntoldLoss, UnreadDelivery, NodeLoss, NodeLeave, NodeReweight, NodeJoin, NodeReturn, PhaseEnd}
+use Rattle.sheep_world.specs.EventKinds.{log_after_return, EventKind, NodeStep, UntoldLoss, UnreadDelivery, NodeLoss, NodeLeave, NodeReweight, NodeJoin, NodeReturn, PhaseEnd}
 use Rattle.sheep_world.proofs.AskedStatements.{next_asks}
 use Rattle.sheep_world.proofs.BegunRequestLaws.{Grows, were_begun}
 use Rattle.sheep_world.proofs.EventInversion.{happens}
 use Rattle.sheep_world.proofs.SessionNumbers.{once}
 use Rattle.overlap_law.specs.Holders.{is_object_among}
 use Rattle.overlap_law.specs.PastWords.{refuses_request, refused_in}
-use Rattle.overlap_law.specs.Past.{MomentWithPast, past_after_event, moment_after, first_moment, run_with_past}
+use Rattle.overlap_law.specs.Past.{MomentWithPast, past_after_event, first_moment, run_with_past}
 use Rattle.overlap_law.specs.RequestsOfScript.{TheRefusedAreAnswered}
 use Rattle.overlap_law.proofs.AttemptMessages.{contains_at}
 use Rattle.overlap_law.proofs.RequestsInSteps.{received_replies, KnownIn, received_none, change_known}

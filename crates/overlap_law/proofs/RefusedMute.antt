@@ -1,10 +1,10 @@
 -- The attempts of a refused request are mute, and nothing of them is in flight: each change of a moment keeps that, and that a refused request is
 -- at no node any more.
-use Rattle.std.proofs.Common.{◌≡◌, ◌⊎◌, inl, inr, ⊎_elim, arith, ℕ, zero, suc, ◌<◌, not, ◌||◌, Bool, true, false, List, [], ◌∷◌, length, Option, Some, None, is_some, slice_get, refl, sym, ap, subst, ◌∙◌}
+use Rattle.std.proofs.Common.{◌≡◌, ◌⊎◌, ⊎_elim, arith, ℕ, zero, suc, not, ◌||◌, Bool, true, false, List, [], ◌∷◌, length, Option, Some, None, is_some, slice_get, refl, sym, ap, subst, ◌∙◌}
 use Rattle.std.specs.List.{list_any}
 use Rattle.std.specs.FinMap as tree
-use Rattle.std.proofs.lemmas.Bool.{not-true, or_cases}
-use Rattle.std.proofs.lemmas.Option.{same_Some, slice_get_within}
+use Rattle.std.proofs.lemmas.Bool.{not-true}
+use Rattle.std.proofs.lemmas.Option.{same_Some}
 use Rattle.object_id.specs.declared.node.NodeId.{NodeId}
 use Rattle.cluster_script.specs.declared.statement.Statement.{Statement}
 use Rattle.cluster_script.specs.Sessions.{ScriptSession, session_numbered}
@@ -16,9 +16,9 @@ use Rattle.sheep_world.specs.Began.{Began}
 use Rattle.overlap_law.specs.Attempts.{AttemptRecord, MessageFate, Flying, Served, Doomed}
 use Rattle.overlap_law.specs.Words.{is_served, is_mute}
 use Rattle.overlap_law.specs.Holders.{is_object_among}
-use Rattle.overlap_law.specs.Each.{EachUp, EachAttempt}
+use Rattle.overlap_law.specs.Each.{EachUp}
 use Rattle.overlap_law.specs.Fates.{IsFateIn}
-use Rattle.overlap_law.specs.Packets.{message_name_at, is_name_in_wire, IsQuiet}
+use Rattle.overlap_law.specs.Packets.{message_name_at, is_name_in_wire}
 use Rattle.overlap_law.specs.Past.{MomentWithPast}
 use Rattle.overlap_law.specs.OpenWorks.{RefusedRequestsAreMute}
 use Rattle.overlap_law.specs.RequestsOfScript.{AttemptsAreTheScripts}

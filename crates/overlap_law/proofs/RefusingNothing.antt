@@ -1,5 +1,5 @@
 -- What a request goes on with once its work is done refuses nothing; nor does the last entry of a command.
-use Rattle.std.proofs.Common.{◌≡◌, ◌⊎◌, inl, inr, ℕ, ◌+◌, ◌==◌, not, Bool, true, false, cond, List, [], ◌∷◌, ◌++◌, Option, Some, None, refl, subst}
+use Rattle.std.proofs.Common.{◌≡◌, ◌⊎◌, inl, inr, ℕ, ◌==◌, Bool, true, false, cond, List, [], ◌∷◌, ◌++◌, Option, Some, None, refl, subst}
 use Rattle.std.proofs.lemmas.Option.{same_Some}
 use Rattle.object_id.specs.Fields.{zeros}
 use Rattle.object_id.specs.declared.oid.Vid.{Vid}
@@ -8,7 +8,6 @@ use Rattle.peer_proto.specs.declared.work.ObjWork.{ObjWork}
 use Rattle.peer_proto.specs.declared.work.ObjWork.TheVariants as works
 use Rattle.vdi_directory.specs.declared.decision.Decision.{Decision}
 use Rattle.vdi_directory.specs.declared.effect.Effect.{Effect}
-use Rattle.gateway.specs.State.{Work}
 use Rattle.guest_driver.specs.Driver as drivers
 use Rattle.guest_driver.specs.Driver.{Driver, DriverStage, InPlace, Fetching, Creating, Entering, Reads, Writes, read_on, write_on, write_piece_on, write_done, driver_on_done}
 use Rattle.guest_driver.specs.Pieces.{Piece}

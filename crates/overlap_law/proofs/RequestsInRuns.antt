@@ -1,5 +1,5 @@
 -- In each run in range each request of a node is the script's of its number, of a session of the node's incarnation, and has no reply.
-use Rattle.std.proofs.Common.{◌≡◌, ⊎_elim, ℕ, zero, suc, List, [], ◌∷◌, slice_get, Contains, Option, Some, None, inl, inr, refl, ap}
+use Rattle.std.proofs.Common.{◌≡◌, ℕ, zero, suc, List, [], ◌∷◌, slice_get, Contains, Option, Some, None, inl, inr, refl, ap}
 use Rattle.std.specs.Option.{option_and_then}
 use Rattle.std.specs.FinMap as tree
 use Rattle.proof_tools.proofs.Lists.{Contains-nil, Contains-cons_cases}

@@ -18,7 +18,6 @@ use Rattle.gateway.specs.State as gateways
 use Rattle.gateway.specs.State.{Work}
 use Rattle.recovery.specs.Steps as recovery_steps
 use Rattle.guest_driver.specs.Driver as drivers
-use Rattle.vdi_ops.specs.Op as ops
 use Rattle.disk_check.specs.Check.{begin_check}
 use Rattle.peer_proto.specs.declared.guest.VdiAsk.TheVariants as disk_commands
 use Rattle.sheep_node.specs.declared.ask.Ask.{Ask}

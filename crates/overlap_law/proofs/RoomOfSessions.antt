@@ -1,11 +1,9 @@
 -- In each world of a run in range a session has room for its next request, so that each step is one that a node may take; and so queues,
 -- commands and works of sessions are sound there.
-use Rattle.std.proofs.Common.{◌≡◌, ◌≢◌, arith, ℕ, zero, suc, ◌-◌, ◌≤◌, ◌<◌, ◌==◌, Bool, true, false, ◌&&◌, List, [], ◌∷◌, length, map, Contains, inl, inr, Option, Some, None, is_none, refl, sym, ap, subst, ◌∙◌}
-use Rattle.std.specs.Prelude.{nat_le, nat_lt, nat_eq, IsTrue}
+use Rattle.std.proofs.Common.{◌≡◌, ◌≢◌, arith, ℕ, ◌-◌, ◌≤◌, ◌<◌, ◌==◌, Bool, true, false, ◌&&◌, List, [], ◌∷◌, length, map, Contains, inl, inr, Option, Some, None, is_none, refl, sym, ap, subst, ◌∙◌}
+use Rattle.std.specs.Prelude.{nat_le, nat_lt, nat_eq}
 use Rattle.std.specs.List.{list_all, AllByRecursion, IsDistinct}
 use Rattle.std.specs.Cmp.{nat_eq_equiv}
-use Rattle.std.specs.Set.{is_member}
-use Rattle.std.specs.Ordering.{nat_cmp}
 use Rattle.std.specs.FinMap as tree
 use Rattle.std.proofs.lemmas.Bool.{eqb-true, eq-eqb, ne_eqb, and_parts, le-leb, ltb-true}
 use Rattle.std.proofs.lemmas.List.{length-map}
@@ -34,10 +32,10 @@ use Rattle.sheep_node.specs.LogReading.{on_back}
 use Rattle.sheep_node.specs.May.{is_disk_course, queued_at_most, has_room_for, May}
 use Rattle.sheep_node.specs.OneWork.{HasOneWorkPerRequest}
 use Rattle.sheep_node.specs.OpenLines.{LinesAreOpen}
-use Rattle.sheep_node.specs.SessionQueues.{is_disk_request_of, queue_in, command_in, AreDiskRequests, HaveSoleCommands, AreInTurn, IsSoleRequestOf}
+use Rattle.sheep_node.specs.SessionQueues.{is_disk_request_of, queue_in, command_in, AreDiskRequests, HaveSoleCommands, AreInTurn}
 use Rattle.sheep_node.specs.DrivenDisks.{AreOnDisks}
 use Rattle.sheep_node.specs.WantedWorks.{HaveWantedWorks}
-use Rattle.sheep_node.specs.Changes.{IsSoundStep, input_received}
+use Rattle.sheep_node.specs.Changes.{IsSoundStep}
 use Rattle.sheep_node.proofs.AwaitedWorks.{Works}
 use Rattle.sheep_node.proofs.DrivenChanges.{on_disks_at_opening, stay_on_disks}
 use Rattle.sheep_node.proofs.LineChanges.{lines_open_at_opening, lines_stay_open}
@@ -65,9 +63,9 @@ use Rattle.sheep_world.proofs.WireAtEvents.{is_ready}
 use Rattle.overlap_law.specs.MomentChanges.{RunsAreInRange}
 use Rattle.overlap_law.proofs.GuestsOfScript.{guest_asks}
 use Rattle.overlap_law.proofs.KnownSteps.{together}
-use Rattle.overlap_law.proofs.QueueOnce.{IsOnce, AreOnceIn, QueuesAreOnce, none_once, once_so_far}
+use Rattle.overlap_law.proofs.QueueOnce.{IsOnce, AreOnceIn, none_once, once_so_far}
 use Rattle.overlap_law.proofs.RequestsInSteps.{is_disk_ask}
-use Rattle.overlap_law.proofs.UnansweredRequests.{Guests, unanswered_in, IsTied, RequestsAreTied, brings_tied, requests_tied}
+use Rattle.overlap_law.proofs.UnansweredRequests.{Guests, unanswered_in, RequestsAreTied, brings_tied, requests_tied}
 
 -- what sessions have is sound: their queues are their reads and writes, each once, any other request is alone, a read or write that began
 -- is apart from the earlier ones and on the open disk, works are those that are waited for, and its line is open as its works are

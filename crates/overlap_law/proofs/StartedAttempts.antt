@@ -1,5 +1,5 @@
 -- In every run each attempt is for a request that was started. So a request that begins has no attempt yet: its number is asked once.
-use Rattle.std.proofs.Common.{◌≡◌, ◌⊎◌, inl, inr, ⊎_elim, arith, ℕ, ◌<◌, List, [], ◌∷◌, ◌++◌, fold, slice_get, Some, refl, sym, ap, subst, ◌∙◌}
+use Rattle.std.proofs.Common.{◌≡◌, ⊎_elim, arith, ℕ, ◌<◌, List, slice_get, Some, sym, ap, subst, ◌∙◌}
 use Rattle.std.specs.Ordering.{nat_cmp}
 use Rattle.std.specs.FinMap as tree
 use Rattle.proof_tools.proofs.FiniteMaps.{get-insert_same}
@@ -11,11 +11,10 @@ use Rattle.sheep_node.specs.declared.input.Input.TheVariants as inputs
 use Rattle.sheep_node.specs.Step.{node_step}
 use Rattle.sheep_world.specs.World.{Host, World}
 use Rattle.sheep_world.specs.declared.progress.SessionProgress.{SessionProgress}
-use Rattle.sheep_world.specs.NodeSteps.{progress_after_reply}
 use Rattle.sheep_world.specs.Step.{EventOutcome, step}
 use Rattle.sheep_world.specs.Began.{Began}
 use Rattle.sheep_world.specs.BegunRequests.{begun_count, WasBegun}
-use Rattle.sheep_world.specs.NodeCauses.{NodeCause, GuestAsks, RequestComes, ReplyComes, LossIsTold, EntryIsRead, EntryIsPut, RecoveryTicks, WorkIsRetried, input_of_cause, event_of_cause, progress_at_cause, host_with_node, world_after_cause}
+use Rattle.sheep_world.specs.NodeCauses.{NodeCause, GuestAsks, RequestComes, ReplyComes, LossIsTold, EntryIsRead, EntryIsPut, RecoveryTicks, WorkIsRetried, event_of_cause, progress_at_cause, host_with_node, world_after_cause}
 use Rattle.sheep_world.specs.EventKinds.{outcome_of_step, log_after_return, EventKind, NodeStep, UntoldLoss, UnreadDelivery, NodeLoss, NodeLeave, NodeReweight, NodeJoin, NodeReturn, PhaseEnd}
 use Rattle.sheep_world.proofs.BegunRequestLaws.{Grows, were_begun}
 use Rattle.sheep_world.proofs.BegunWorlds.{goes_on}
@@ -23,7 +22,6 @@ use Rattle.sheep_world.proofs.EventInversion.{happens}
 use Rattle.sheep_world.proofs.SessionNumbers.{once}
 use Rattle.overlap_law.specs.Attempts.{AttemptRecord, attempts_begun_by}
 use Rattle.overlap_law.specs.BegunAttempts.{attempts_after}
-use Rattle.overlap_law.specs.Each.{EachAttempt}
 use Rattle.overlap_law.specs.Past.{MomentWithPast, past_after_event, moment_after, first_moment, run_with_past}
 use Rattle.overlap_law.specs.StepMoments.{SteppingNode, IsStepping, StepsByChanges, StepsAtOnce, last_in_step, moment_in_step, attempts_with_loss, attempts_at_cause}
 use Rattle.overlap_law.proofs.AttemptsInSteps.{attempts-in_step, attempts-at_end}

@@ -1,6 +1,6 @@
 -- The requests of a node that isn't lost, over a change of a moment: one that is there was there before, or the event begins with it; and one that
 -- is touched stays so.
-use Rattle.std.proofs.Common.{◌≡◌, ◌≢◌, ◌⊎◌, inl, inr, ⊎_elim, ℕ, ◌<◌, ◌++◌, Bool, true, false, List, [], ◌∷◌, Option, Some, None, is_some, refl, sym, ap, subst, ◌∙◌, append-nil}
+use Rattle.std.proofs.Common.{◌≡◌, ◌≢◌, ◌⊎◌, inl, inr, ⊎_elim, ℕ, ◌++◌, true, false, List, [], ◌∷◌, Some, refl, sym, ap, subst, ◌∙◌, append-nil}
 use Rattle.std.specs.FinMap as tree
 use Rattle.proof_tools.proofs.Booleans.{cond_either}
 use Rattle.proof_tools.proofs.FiniteMaps.{get-insert_same, get-insert_cases, insert-insert}
@@ -27,7 +27,7 @@ use Rattle.sheep_world.specs.NodeCauses.{NodeCause, GuestAsks, RequestComes, Rep
 use Rattle.sheep_world.specs.EventKinds.{log_after_return}
 use Rattle.sheep_world.specs.HostChanges.{host_after_return, joined_host}
 use Rattle.sheep_world.specs.Began.{Began}
-use Rattle.overlap_law.specs.Attempts.{AttemptRecord, attempts_begun_by}
+use Rattle.overlap_law.specs.Attempts.{AttemptRecord}
 use Rattle.overlap_law.specs.Past.{MomentWithPast, past_after_event}
 use Rattle.overlap_law.specs.PastWords.{refused_in}
 use Rattle.overlap_law.specs.Reached.{Hosts}

@@ -1,12 +1,12 @@
 -- In every run in range a request without reply is touched by each message of an attempt that was served, or its gateway has still to hear of it;
 -- and by each that was lost, or of which the reply was.
-use Rattle.std.proofs.Common.{◌≡◌, ◌⊎◌, inl, inr, ⊎_elim, arith, ℕ, zero, suc, ◌+◌, ◌-◌, ◌≤◌, ◌<◌, ◌==◌, nat_le, nat_lt, not, ◌&&◌, ◌||◌, Bool, true, false, List, [], ◌∷◌, length, Contains, Option, Some, None, is_some, option_map, slice_get, refl, sym, ap, subst, ◌∙◌}
+use Rattle.std.proofs.Common.{◌≡◌, ◌⊎◌, inl, inr, ⊎_elim, arith, ℕ, zero, suc, ◌+◌, ◌-◌, ◌≤◌, ◌<◌, ◌==◌, nat_le, nat_lt, not, ◌&&◌, Bool, true, false, List, [], ◌∷◌, length, Contains, Option, Some, None, option_map, slice_get, refl, sym, ap, subst, ◌∙◌}
 use Rattle.std.specs.List.{list_any}
 use Rattle.std.specs.FinMap as tree
 use Rattle.std.proofs.lemmas.Bool.{and_parts, not-true, or_cases, eqb-true, leb-true, ltb-true}
 use Rattle.std.proofs.lemmas.List.Elements.{All-contains}
 use Rattle.std.proofs.lemmas.Option.{same_Some, slice_get-map}
-use Rattle.proof_tools.proofs.Lists.{Contains-nil, Contains-first, Contains-cons}
+use Rattle.proof_tools.proofs.Lists.{Contains-first, Contains-cons}
 use Rattle.object_id.specs.declared.node.NodeId.{NodeId}
 use Rattle.cluster_script.specs.declared.statement.Statement.{Statement}
 use Rattle.peer_proto.specs.declared.ask.PeerReq.{PeerReq}
@@ -19,21 +19,19 @@ use Rattle.message_wire.specs.declared.name.MessageName.{MessageName}
 use Rattle.message_wire.specs.declared.packet.Packet.{Packet}
 use Rattle.message_wire.specs.declared.packet.Packet.TheVariants.{Request, Reply}
 use Rattle.sheep_node.specs.declared.event.Event.{Event}
-use Rattle.sheep_node.specs.State.{Node}
 use Rattle.sheep_node.specs.May.{has_numbers}
 use Rattle.sheep_world.specs.World.{Host, is_host_up}
 use Rattle.sheep_world.specs.Began.{Began}
-use Rattle.sheep_world.specs.Step.{EventOutcome, step}
 use Rattle.sheep_world.specs.WireMatch.{asked_by, own_name, IsInFlight}
-use Rattle.overlap_law.specs.Attempts.{AttemptRecord, MessageFate, Served, has_message}
+use Rattle.overlap_law.specs.Attempts.{AttemptRecord, Served, has_message}
 use Rattle.overlap_law.specs.Headline.{has_lost}
-use Rattle.overlap_law.specs.Packets.{Wire, message_name_at, is_name_in_wire, is_request_in_flight, IsAnswering}
+use Rattle.overlap_law.specs.Packets.{message_name_at, is_name_in_wire, is_request_in_flight, IsAnswering}
 use Rattle.overlap_law.specs.Past.{MomentWithPast, moment_after, first_moment, run_with_past}
 use Rattle.overlap_law.specs.OpenWorks.{IsAwaitedAt, AreToldYet, ServedRequestsAreTouched, LosersAreTouched}
-use Rattle.overlap_law.specs.MomentChanges.{MomentChange, MomentTrail, Still, Then, RunsAreInRange}
+use Rattle.overlap_law.specs.MomentChanges.{MomentTrail, Still, Then, RunsAreInRange}
 use Rattle.overlap_law.specs.TiedAttempts.{IsTied}
 use Rattle.overlap_law.proofs.AwaitedInMoments.{AreOfOpenWorks, opening_awaited, change_awaited}
-use Rattle.overlap_law.proofs.DueMessages.{HoldsBefore, TouchOrAreAwaited, change_due}
+use Rattle.overlap_law.proofs.DueMessages.{TouchOrAreAwaited, change_due}
 use Rattle.overlap_law.proofs.KnownSteps.{together}
 use Rattle.overlap_law.proofs.LostMessages.{TheLostAreGone, opening_gone, change_gone}
 use Rattle.overlap_law.proofs.MomentTrails.{event_trail}

@@ -1,19 +1,15 @@
 -- Over a change of a node a request that is touched stays so as long as it is there; and a request that is there was there before, or is the one
 -- with which the step begins.
-use Rattle.std.proofs.Common.{◌≡◌, ◌≢◌, ◌⊎◌, inl, inr, ⊎_elim, ℕ, ◌&&◌, Bool, true, false, cond, List, Option, Some, None, is_some, refl, sym, ap, subst, ◌∙◌}
-use Rattle.std.specs.Option.{option_map_or}
+use Rattle.std.proofs.Common.{◌≡◌, ◌≢◌, ◌⊎◌, inl, inr, ⊎_elim, ℕ, true, false, Option, None, is_some, sym, ap, subst, ◌∙◌}
 use Rattle.std.specs.Ordering.{nat_cmp}
 use Rattle.std.specs.FinMap as tree
-use Rattle.std.specs.FinSet as set
 use Rattle.std.proofs.lemmas.Bool.{cases_eq}
 use Rattle.proof_tools.proofs.FiniteMaps.{get-remove_same, get-remove_other, get-insert_other}
 use Rattle.object_id.specs.declared.cause.Cause.{Cause}
 use Rattle.object_id.specs.declared.cause.Cause.TheVariants.{Halt}
-use Rattle.object_id.specs.declared.entry.Entry.{Entry}
 use Rattle.peer_proto.specs.declared.guest.GuestRsp.{GuestRsp}
 use Rattle.peer_proto.specs.declared.guest.VdiAsk.TheVariants as disk_commands
-use Rattle.gateway.specs.declared.message.Status.{Status}
-use Rattle.gateway.specs.Work.{is_making, zones_for}
+use Rattle.gateway.specs.Work.{zones_for}
 use Rattle.gateway.specs.State.{Work, is_touched}
 use Rattle.gateway.proofs.MapLaws.{touched-stays, without_touch-others}
 use Rattle.sheep_node.specs.declared.ask.Ask.{Ask}
@@ -27,7 +23,6 @@ use Rattle.sheep_node.specs.declared.input.Input.{Input}
 use Rattle.sheep_node.specs.declared.input.Input.TheVariants as inputs
 use Rattle.sheep_node.specs.State.{Node}
 use Rattle.sheep_node.specs.StepState.{StepState, at_first, request_ended}
-use Rattle.sheep_node.specs.RequestWorks.{course_refused}
 use Rattle.sheep_node.specs.Changes as changes
 use Rattle.sheep_node.specs.Changes.{IsSoundStep, gateway_with_touch, without_ended_work, Outcome, ToWork, ToEntry, ToReply, without_denied_work, zones_of_members, RequestSteps, DiskBegins, DiskGoesOn, CommandBegins, CommandGoesOn, CommandDecided, CheckBegins, CheckGoesOn, ObjectBegins, ObjectIsDone, EntryBegins, EntryDecided, WorkIsNext, AtOnce, InTurn, Again, AgainAlone, Change}
 use Rattle.sheep_node.proofs.RefusedCourses.{course_refused-keeps, request_refused-keeps}

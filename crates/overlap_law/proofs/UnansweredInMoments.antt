@@ -1,6 +1,6 @@
 -- The unanswered messages of a node that isn't lost, over a change of a moment: each stays unanswered, or the step was told what came of it, and
 -- so it has left the wire.
-use Rattle.std.proofs.Common.{◌≡◌, ◌≢◌, ◌⊎◌, inl, inr, ⊎_elim, arith, ℕ, ◌+◌, ◌≤◌, ◌<◌, ◌++◌, Bool, true, false, List, fold, Option, Some, None, is_some, slice_get, refl, sym, ap, subst, ◌∙◌}
+use Rattle.std.proofs.Common.{◌≡◌, ◌≢◌, ◌⊎◌, inl, inr, ⊎_elim, arith, ℕ, ◌+◌, ◌≤◌, ◌<◌, ◌++◌, true, false, List, fold, Option, Some, None, is_some, slice_get, refl, sym, ap, subst, ◌∙◌}
 use Rattle.std.specs.Ordering.{nat_cmp}
 use Rattle.std.specs.FinMap as tree
 use Rattle.std.proofs.lemmas.Option.{same_Some}

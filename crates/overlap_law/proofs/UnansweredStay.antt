@@ -38,7 +38,7 @@ use Rattle.overlap_law.specs.Attempts.{receivers}
 use Rattle.overlap_law.proofs.AttemptLists.{got_map}
 use Rattle.overlap_law.proofs.MarkedMessages.{number-marked, receivers-marked}
 use Rattle.overlap_law.proofs.OpenAttempts.{open_of}
-use Rattle.overlap_law.proofs.UnansweredMessages.{IsUnanswered, StaysUnanswered, IsTouchedOrGone, IsHeardOf, over_with, other_at, gone_key, HasSameWork, ended_same, steps_same, next_same}
+use Rattle.overlap_law.proofs.UnansweredMessages.{IsUnanswered, StaysUnanswered, IsHeardOf, over_with, other_at, gone_key, HasSameWork, ended_same, steps_same, next_same}
 
 module _ (input : Input) (node : Node) (sound : IsSoundStep input node) (so_far : StepState) (good : StepHasOneWork so_far)
     (req : ℕ) (work : Work) (current : gateways.Attempt) (place : ℕ) (message : Message)

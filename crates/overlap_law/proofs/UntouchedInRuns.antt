@@ -1,9 +1,8 @@
 -- In every run in range the attempts of a refused request are mute, and nothing of them is in flight.
-use Rattle.std.proofs.Common.{◌≡◌, List, [], Option, Some, option_map, ap}
+use Rattle.std.proofs.Common.{◌≡◌, List, Some, option_map, ap}
 use Rattle.cluster_script.specs.declared.statement.Statement.{Statement}
 use Rattle.sheep_node.specs.declared.event.Event.{Event}
 use Rattle.sheep_world.specs.Began.{Began}
-use Rattle.sheep_world.specs.Step.{EventOutcome, step}
 use Rattle.overlap_law.specs.Past.{MomentWithPast, moment_after, first_moment, run_with_past}
 use Rattle.overlap_law.specs.OpenWorks.{RefusedRequestsAreMute}
 use Rattle.overlap_law.specs.RequestsOfScript.{AttemptsAreTheScripts}
@@ -15,7 +14,7 @@ use Rattle.overlap_law.proofs.NoRecoveredDue.{began-with_past}
 use Rattle.overlap_law.proofs.RefusedInRuns.{AreAnsweredAt, opens_answered, events_answered}
 use Rattle.overlap_law.proofs.RefusedMute.{RefusedAreOver, change_over}
 use Rattle.overlap_law.proofs.RunsByEvents.{KeptByEvents, run-kept_by_events}
-use Rattle.overlap_law.proofs.TouchedInRuns.{HoldsWithin, HoldsAt, along_trail, opens_so, events_keep}
+use Rattle.overlap_law.proofs.TouchedInRuns.{HoldsAt, along_trail, opens_so, events_keep}
 
 module _ (script : List Statement) (range : RunsAreInRange script) where
   -- what holds of the refused in the middle of an event
