@@ -24,7 +24,7 @@ pub record HasEnd (statements : List Statement) (lines : List (List ℕ)) : Type
   pub now : WorldOrSpent
   pub taken : AreTaken statements lines (record { spent = false; world = initial_world statements }) now
 
--- a text is a script and its trace: each line of the trace is an event, and was taken from the opening world of the script on
+-- a text is a script and its trace: each line of the trace is an event or a client's, and was taken from the opening world of the script on
 pub record IsCase (text : List ℕ) : Type 0 where
   pub statements : List Statement
   pub script : script_in (script_part text) ≡ Ok statements

@@ -1,13 +1,15 @@
-//! A case: the world that a script opens with, and the events that are made of it.
+//! A case: the world that a script opens with, and the events and a client's asks that are made of it.
 
-ghost use Rattle.std.specs.Prelude.{◌≡◌, Ok, false, OnOk, IfOk, IsErrOf};
+ghost use Rattle.std.specs.Prelude.{◌≡◌, Ok, None, false, OnOk, IfOk, IsErrOf};
 ghost use Rattle.cluster_script.specs.Script.{script_in};
+ghost use Rattle.trace_text.specs.EventReading.{event_in};
 ghost use Rattle.trace_text.specs.Lines.{lines_in};
 ghost use Rattle.trace_text.specs.InputParts.{script_part, trace_part};
-ghost use Rattle.step_text.specs.Traces.{IsTaken, AreTaken};
+ghost use Rattle.step_text.specs.Traces.{IsTaken, IsLineTaken, AreTaken};
 ghost use Rattle.step_text.specs.Cases.{IsNoScript, HasNoEvent, HasEnd, IsCase};
 
 use crate::case_fault::CaseFault;
+use crate::client_lines::make_client_line;
 use crate::history_words::write_history;
 use crate::world_words::{write_replies, write_world};
 use cluster_script::{Script, ScriptFault, parse};
@@ -19,7 +21,8 @@ use std::alloc::Global;
 use trace_text::{Lines, event_in, input_parts};
 
 /// Tells what each event of a case gives, and the world that it ends with. An event that may not happen is told as such, and the world
-/// stays. Nothing is told of a text that is no script, or of a trace with a line that is no event.
+/// stays; and so is an ask that isn't taken. Nothing is told of a text that is no script, or of a trace with a line that is neither an
+/// event nor a client's.
 pub fn end_of(alloc: Global, case: &str) -> Result<String, CaseFault>
     ensures told { OnOk result (IsCase case.now) }
     ensures script { IsErrOf result CaseFault.Script → IsNoScript (script_part case.now) }
@@ -69,13 +72,14 @@ fn told_of(
     ensures event { IsErrOf result CaseFault.Event → HasNoEvent (lines_in trace.now) }
 {
     let mut out = String::new(alloc);
-    make_events(&mut out, script, world, trace)?;
+    make_lines(alloc, &mut out, script, world, trace)?;
     write_world(alloc, &mut out, script, world)?;
     Ok(out)
 }
 
-/// Makes the events that the lines of a trace spell.
-fn make_events(
+/// Makes what the lines of a trace spell.
+fn make_lines(
+    alloc: Global,
     out: &mut String,
     script: &Script,
     world: &mut World,
@@ -89,12 +93,29 @@ fn make_events(
 {
     let mut lines = Lines::new(trace);
     while let Some(line) = lines.next() {
-        let Some(event) = event_in(line) else {
-            return Err(CaseFault::Event);
-        };
-        make_event(out, script, world, event)?;
+        make_line(alloc, out, script, world, line)?;
     }
     Ok(())
+}
+
+/// Makes the event that a line spells, or what it has a client do.
+fn make_line(
+    alloc: Global,
+    out: &mut String,
+    script: &Script,
+    world: &mut World,
+    line: &[u8],
+) -> Result<(), CaseFault>
+    requires { world.old.spent ≡ false }
+    ensures taken { OnOk result (IsLineTaken script.now line.now world.old world.new) }
+    ensures live { OnOk result (world.new.spent ≡ false) }
+    ensures script { IsErrOf result CaseFault.Script → ⊥ }
+    ensures event { IsErrOf result CaseFault.Event → event_in line.now ≡ None }
+{
+    match event_in(line) {
+        Some(event) => make_event(out, script, world, event),
+        None => make_client_line(alloc, out, script, world, line),
+    }
 }
 
 /// Makes an event, if it may happen.

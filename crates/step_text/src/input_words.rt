@@ -63,7 +63,8 @@ fn read_entries(words: &mut Words) -> Result<EntryList, Fault> {
     Ok(entries)
 }
 
-fn read_ask(words: &mut Words) -> Result<Ask, Fault> {
+/// What the next words ask of a node.
+pub(crate) fn read_ask(words: &mut Words) -> Result<Ask, Fault> {
     match words.word()? {
         "disk" => Ok(Ask::Disk(read_disk_ask(words)?)),
         "vdi" => Ok(Ask::Vdi(read_command(words)?)),

@@ -1,9 +1,10 @@
-//! Worlds at their ends, by a list of cases. A case is a script, a line `trace`, a line for each event, and a line `end`; for each comes
-//! what its events give and the world that they end with, in the words of `step_text`, and a line `end`.
+//! Worlds at their ends, by a list of cases. A case is a script, a line `trace`, a line for each event, each ask of a client and each wait
+//! for its reply, and a line `end`; for each comes what they give and the world that they end with, in the words of `step_text`, and a
+//! line `end`.
 //!
-//! The list beside this program (`stdin`) was made by another program, which was written independently, from the rules alone: scripts
-//! and events by chance. The worlds that its own events ended with are the text that must come out here (`stdout`). So the events of
-//! `sheep_world` are compared with those of that program.
+//! The list beside this program (`stdin`) was made by another program, which was written independently, from the rules alone: scripts,
+//! events and asks by chance. The worlds that its own events ended with are the text that must come out here (`stdout`). So the events and
+//! the asks of `sheep_world` are compared with those of that program.
 #![tactic(auto)]
 
 use std::io;

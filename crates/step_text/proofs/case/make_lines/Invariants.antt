@@ -2,7 +2,7 @@ use Rattle.std.specs.Prelude.{◌≡◌, false, List, ℕ, length, Contains}
 use Rattle.sheep_world.specs.SpentWorld.{WorldOrSpent}
 use Rattle.trace_text.specs.Lines.{lines_in}
 use Rattle.step_text.specs.Traces.{AreTaken}
-use Rattle.step_text.proofs.case.make_events.Given as goal
+use Rattle.step_text.proofs.case.make_lines.Given as goal
 
 -- the world so far isn't spent; what is left are lines of the trace, and where they are taken from here on all of its lines are
 abbrev pub invariant-loop-line : goal.invariant-loop-line

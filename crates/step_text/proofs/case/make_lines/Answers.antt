@@ -1,12 +1,12 @@
-use Rattle.std.proofs.Common.{◌≡◌, ℕ, List, [], ◌∷◌, Contains, sym, subst, ◌∙◌}
+use Rattle.std.proofs.Common.{◌≡◌, ℕ, List, [], ◌∷◌, Contains, sym, subst}
 use Rattle.std.proofs.lemmas.List.Elements.{Contains-append_right}
 use Rattle.step_text.specs.Traces.{AreTaken}
-use Rattle.step_text.proofs.case.make_events.Goals as goal
+use Rattle.step_text.proofs.case.make_lines.Goals as goal
 
--- what is left behind a line was left before it, and the line is an event, which was taken
+-- what is left behind a line was left before it, and the line was taken
 pub loop-line-preserved : goal.loop-line-preserved
 loop-line-preserved c = record {
-  live = c.in_ok-make_event.ensures.live;
+  live = c.in_ok-make_line.ensures.live;
   within = λ line has.
       c.loop-line.invariant.within line
       (subst (λ (lines : List (List ℕ)). Contains lines line) (sym c.in-Some.ensures)
@@ -14,5 +14,5 @@ loop-line-preserved c = record {
   taken = λ now rest.
       c.loop-line.invariant.taken now
       (subst (λ (lines : List (List ℕ)). AreTaken c.args.script.now lines c.loop-line.world now) (sym c.in-Some.ensures)
-      (c.in-Some-event_in.event, c.make_event.new.world, sym c.event_in.ensures ∙ c.in-Some-event_in.is, c.in_ok-make_event.ensures.taken, rest));
+      (c.make_line.new.world, c.in_ok-make_line.ensures.taken, rest));
 }
