@@ -1,4 +1,4 @@
-use Rattle.std.proofs.Common.{◌≡◌, ℕ, List, [], ◌∷◌, Contains, sym, subst}
+use Rattle.std.proofs.Common.{ℕ, List, [], ◌∷◌, Contains, sym, subst}
 use Rattle.std.proofs.lemmas.List.Elements.{Contains-append_right}
 use Rattle.step_text.specs.Traces.{AreTaken}
 use Rattle.step_text.proofs.case.make_lines.Goals as goal
