@@ -1,7 +1,8 @@
 -- Attempts in a list that has one more, or of which the fate of one message is told.
-use Rattle.std.proofs.Common.{◌≡◌, ◌≢◌, ◌⊎◌, inl, inr, arith, ℕ, zero, suc, ◌+◌, ◌-◌, ◌≤◌, ◌<◌, ◌==◌, nat_lt, nat_le, Bool, true, false, ◌&&◌, cond, List, [], ◌∷◌, ◌++◌, map, length, Some, option_map, slice_get, refl, sym, ap, ◌∙◌, ⊎_elim}
+use Rattle.std.proofs.Common.{◌≡◌, ◌≢◌, ◌⊎◌, inl, inr, arith, ℕ, zero, suc, ◌+◌, ◌-◌, ◌≤◌, ◌<◌, ◌==◌, nat_lt, nat_le, Bool, true, false, ◌&&◌, cond, List, [], ◌∷◌, ◌++◌, map, length, Contains, Some, option_map, slice_get, refl, sym, ap, ◌∙◌, ⊎_elim}
 use Rattle.std.proofs.lemmas.Bool.{and_parts, eqb-true, eq-eqb, leb-true, le-leb, lt-ltb}
 use Rattle.std.proofs.lemmas.Option.{same_Some}
+use Rattle.proof_tools.proofs.Lists.{Contains-nil, Contains-cons_cases}
 use Rattle.object_id.specs.declared.node.NodeId.{NodeId}
 use Rattle.message_wire.specs.declared.name.MessageName.{MessageName}
 use Rattle.overlap_law.specs.Attempts.{AttemptRecord, MessageFate, has_message, known_fate, fates_with, attempt_with_fate, attempts_with_fate}
@@ -34,6 +35,19 @@ module _ {X : Type 0} where
   got_map f [] j y got = absurd (cc (got))
   got_map f (x ∷ xs) zero y got = (x, refl, same_Some (f x) y got)
   got_map f (x ∷ xs) (suc j) y got = got_map f xs j y got
+
+  pub map_got : {Y : Type 0} (f : X → Y) (xs : List X) (j : ℕ) (x : X) → slice_get xs j ≡ Some x → slice_get (map f xs) j ≡ Some (f x)
+  map_got f [] j x got = absurd (cc (got))
+  map_got f (y ∷ xs) zero x got = ap (option_map f) got
+  map_got f (y ∷ xs) (suc j) x got = map_got f xs j x got
+
+  -- what is contained stands at some place
+  pub place_of : (xs : List X) (x : X) → Contains xs x → (place : ℕ) × (slice_get xs place ≡ Some x)
+  place_of [] x there = absurd (Contains-nil x there)
+  place_of (y ∷ xs) x there = ⊎_elim
+      (λ (same : y ≡ x). (zero, ap (λ (z : X). Some z) same))
+      (λ (later : Contains xs x). let (place, at) = place_of xs x later in (suc place, at))
+      (Contains-cons_cases y xs x there)
 
 -- ---- what is told of a message
 
@@ -71,6 +85,17 @@ unfolding attempts_with_fate
 got_marked told sender number attempts j now got =
     let (was, there, is) = got_map (attempt_with_fate told sender number) attempts j now got in
     (was, there, sym (marked_shape told sender number was) ∙ is)
+
+-- an attempt is there still, with its fates as they are then
+pub marked_there : (told : MessageFate) (sender : NodeId) (number : ℕ) (attempts : List AttemptRecord) (j : ℕ) (attempt : AttemptRecord)
+    → slice_get attempts j ≡ Some attempt
+    → (fates : List MessageFate) × (slice_get (attempts_with_fate told sender number attempts) j ≡ Some (record attempt { fates = fates }))
+unfolding attempts_with_fate
+marked_there told sender number attempts j attempt there = (
+  fates_told told sender number attempt,
+  map_got (attempt_with_fate told sender number) attempts j attempt there
+      ∙ ap (λ (a : AttemptRecord). Some a) (marked_shape told sender number attempt),
+)
 
 -- ---- the message of an attempt that a name is of
 

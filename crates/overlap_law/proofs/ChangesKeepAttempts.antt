@@ -65,7 +65,7 @@ still_last hosts hosts_after wire later attempts after (MessageIsLost name packe
 still_last hosts hosts_after wire later attempts after (ReplyIsReceived name from bytes there) j attempt last apart = (attempt.fates, last)
 still_last hosts hosts_after wire later attempts after (RequestIsAnswered name to bytes up rsp there answer) j attempt last apart =
     last_marked (fate_of_say rsp.say) name.sender name.number attempts j attempt last
-still_last hosts hosts_after wire later attempts after (RequestsAreSent n sends by) j attempt last apart = (attempt.fates, last)
+still_last hosts hosts_after wire later attempts after (RequestsAreSent n sends by nothing) j attempt last apart = (attempt.fates, last)
 still_last hosts hosts_after wire later attempts after (AttemptBegins n sends new begun) j attempt last apart = (
   attempt.fates,
   record {

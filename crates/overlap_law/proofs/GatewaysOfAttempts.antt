@@ -64,7 +64,7 @@ module _ (hosts hosts_after : Hosts) (wire later : Wire) (attempts after : List 
   by_kind (MessageIsLost name (Reply from bytes) at) j now got = unmarked j now got
   by_kind (ReplyIsReceived name from bytes at) j now got = unmarked j now got
   by_kind (RequestIsAnswered name to bytes up rsp at answer) j now got = marked (fate_of_say rsp.say) name.sender name.number j now got
-  by_kind (RequestsAreSent n sends by) j now got = unmarked j now got
+  by_kind (RequestsAreSent n sends by nothing) j now got = unmarked j now got
   by_kind (AttemptBegins n sends new begun) j now got = ⊎_elim
       (λ (old : slice_get attempts j ≡ Some now). unmarked j now old)
       (λ (own : (j ≡ length attempts) × (new ≡ now)).

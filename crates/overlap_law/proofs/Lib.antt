@@ -192,3 +192,5 @@ pub mod SentCreates
 pub mod CreatesOnTheWire
 pub mod CreatesInRuns
 pub mod RangeOfFewObjects
+pub mod AskedMakers
+pub mod MakersInTraffic

@@ -172,7 +172,7 @@ module _ (hosts hosts_after : Hosts) (wire : Wire) (attempts : List AttemptRecor
   name_less (MessageIsLost own packet at) there = gone_less wire own name there
   name_less (ReplyIsReceived own from bytes at) there = gone_less wire own name there
   name_less (RequestIsAnswered own to bytes up rsp at answer) there = said_less wire own to rsp up (Request to bytes) at name there
-  name_less (RequestsAreSent n sends by) there = sends_less n sends by there
+  name_less (RequestsAreSent n sends by nothing) there = sends_less n sends by there
   name_less (AttemptBegins n sends attempt begun) there = sends_less n sends begun.sent_by there
   name_less (RepliesGo n) there = forgets_less n wire name there
 

@@ -31,6 +31,7 @@ use Rattle.sheep_node.specs.May.{has_numbers}
 use Rattle.sheep_node.specs.StepState.{StepState}
 use Rattle.sheep_node.specs.Changes.{attempt_in, with_open_attempt, WorkIsNext}
 use Rattle.sheep_node.proofs.NumberChanges.{comes_numbered, both_in_chain}
+use Rattle.sheep_node.proofs.OneWorkChanges.{comes_free}
 use Rattle.sheep_node.proofs.StepEffects.{Untouched}
 use Rattle.sheep_node.proofs.StepResults.{me_received}
 use Rattle.sheep_world.specs.World.{Host, World}
@@ -41,8 +42,9 @@ use Rattle.overlap_law.specs.Packets.{Wire, message_request_at}
 use Rattle.overlap_law.specs.OpenWorks.{IsOpenAs}
 use Rattle.overlap_law.specs.StepMoments.{SteppingNode, first_in_step, last_in_step, LeadsInStep, hosts_in_step}
 use Rattle.overlap_law.specs.Traffic as kinds
-use Rattle.overlap_law.specs.Traffic.{AreSentBy, IsBegunBy, Traffic}
-use Rattle.overlap_law.proofs.AttemptLists.{got_map}
+use Rattle.overlap_law.specs.Traffic.{AskNothingMade, IsMessageOf, AreSentBy, IsBegunBy, Traffic}
+use Rattle.overlap_law.proofs.AskedMakers.{reads_ask_nothing, no_first_asks_nothing}
+use Rattle.overlap_law.proofs.AttemptLists.{got_map, map_got, place_of}
 use Rattle.overlap_law.proofs.RequestDifferences.{next_differs}
 use Rattle.overlap_law.proofs.SendsOfChanges.{attempt_in_epoch, next_sends_nothing, sends_lead, in_order_so_far}
 use Rattle.overlap_law.proofs.AskedEpochs.{no_more}
@@ -151,6 +153,27 @@ module _ (script : List Statement) (world : World) (stepping : SteppingNode) (kn
             (ap (λ (places : List (ℕ × NodeId)). slice_get (map (message_for work) (enumerate_from lined.node.sends places)) place)
             (sym (targets-of_making work asked.ended targets making)) ∙ got)).number_so
 
+        -- each of the sends is a message of the attempt
+        sent_so : (send : NodeId × PeerReq) → Contains sends send → IsMessageOf attempt send.0 send.1
+        sent_so send there =
+            let (place, at) = place_of sends send there in
+            let (message, found, is) = got_map (send_of lined.node.gateway.me epoch work) current.messages place send at in
+            let number = numbered place message found in
+            let index = (message_at_place work lined.node.sends 0 targets place message
+            (ap (λ (places : List (ℕ × NodeId)). slice_get (map (message_for work) (enumerate_from lined.node.sends places)) place)
+            (sym (targets-of_making work asked.ended targets making)) ∙ found)).index_so in
+            let place_so : 0 + place ≡ place = omega arith in
+            subst (λ (s : NodeId × PeerReq). IsMessageOf attempt s.0 s.1) is (record {
+              place = place;
+              among = map_got (λ (message : Message). message.node) current.messages place message found;
+              request_so = λ i. record {
+                from = own_me i;
+                number = number i;
+                epoch = epoch;
+                ask = ask_for work ((index ∙ ap (index_at (policy_of work) (kind_of (oid_of work))) place_so) i);
+              };
+            })
+
         -- its gateway has it open
         opened_so : IsOpenAs opened.node req (record asked { stage = Open current }) current attempt
         opened_so = record {
@@ -172,6 +195,7 @@ module _ (script : List Statement) (world : World) (stepping : SteppingNode) (kn
           whole = length-map current.messages (λ (message : Message). Flying) ∙ sym (length-map current.messages (λ (message : Message). message.node));
           flying = λ place fate got. let (message, found, is) = got_map (λ (message : Message). Flying) current.messages place fate got in sym is;
           asks = asks_so;
+          of_attempt = sent_so;
           up = not-true stepping.host.is_lost (and_parts (not stepping.host.is_lost) (has_numbers stepping.host.node) known.up).0;
           work = record asked { stage = Open current };
           current = current;
@@ -184,16 +208,26 @@ module _ (script : List Statement) (world : World) (stepping : SteppingNode) (kn
       pub opening_traffic : (wire : Wire) (attempts : List AttemptRecord)
           → Traffic (hosts_in_step stepping world so_far) (hosts_in_step stepping world opened) wire attempts (fold wire_with_request wire sends)
           (attempts ++ option_to_list (beginning_with (host_with_node host lined.node) lined.node.sends req work (Open current)))
-      opening_traffic wire attempts = by_making (is_making work) refl (is_first lined.node.sends current.messages) (tree.get lined.node.requests req)
+      opening_traffic wire attempts =
+          by_making (is_making work) refl (is_first lined.node.sends current.messages) refl (tree.get lined.node.requests req) refl
         where
-          none : Traffic (hosts_in_step stepping world so_far) (hosts_in_step stepping world opened) wire attempts (fold wire_with_request wire sends) (attempts ++ [])
-          none = subst (Traffic (hosts_in_step stepping world so_far) (hosts_in_step stepping world opened) wire attempts (fold wire_with_request wire sends)) (sym (append-nil attempts))
-              (kinds.RequestsAreSent stepping.n sends sent_by_node)
+          none : AskNothingMade sends
+              → Traffic (hosts_in_step stepping world so_far) (hosts_in_step stepping world opened) wire attempts (fold wire_with_request wire sends) (attempts ++ [])
+          none nothing = subst (Traffic (hosts_in_step stepping world so_far) (hosts_in_step stepping world opened) wire attempts (fold wire_with_request wire sends)) (sym (append-nil attempts))
+              (kinds.RequestsAreSent stepping.n sends sent_by_node nothing)
 
-          by_making : (b : Bool) → is_making work ≡ b → (c : Bool) (o : Option Request)
+          -- the request of the work is there
+          there_is : tree.get lined.node.requests req ≡ None → ⊥
+          there_is gone =
+              let there = (comes_free so_far session req asked lined comes known.sound (both_in_chain input host.node known.sound so_far leads).0).there in
+              cc (there, gone)
+
+          by_making : (b : Bool) → is_making work ≡ b → (c : Bool) → is_first lined.node.sends current.messages ≡ c
+              → (o : Option Request) → tree.get lined.node.requests req ≡ o
               → Traffic (hosts_in_step stepping world so_far) (hosts_in_step stepping world opened) wire attempts (fold wire_with_request wire sends)
               (attempts ++ option_to_list (cond (b && c) (option_map (beginning (host_with_node host lined.node) lined.node.sends req work current) o) None))
-          by_making false making c o = none
-          by_making true making false o = none
-          by_making true making true None = none
-          by_making true making true (Some request) = kinds.AttemptBegins stepping.n sends (attempt making request) (begun_by_sends making request)
+          by_making false making c first o found = none (reads_ask_nothing lined.node.gateway.me epoch work making current.messages)
+          by_making true making false first o found =
+              none (no_first_asks_nothing lined.node.gateway.me epoch work asked.ended lined.node.sends targets making first)
+          by_making true making true first None found = absurd (there_is found)
+          by_making true making true first (Some request) found = kinds.AttemptBegins stepping.n sends (attempt making request) (begun_by_sends making request)

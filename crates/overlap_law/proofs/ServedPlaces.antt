@@ -160,7 +160,7 @@ module _ (hosts hosts_after : Hosts) (wire : Wire) (attempts : List AttemptRecor
   traffic_served (ReplyIsReceived name sender bytes there) newly = before
   traffic_served (RequestIsAnswered name to bytes up rsp there answer) newly =
       marked (fate_of_say rsp.say) name (λ served. answered newly name to bytes up rsp there answer served)
-  traffic_served (RequestsAreSent n sends by) newly = before
+  traffic_served (RequestsAreSent n sends by nothing) newly = before
   traffic_served (AttemptBegins n sends new begun) newly = λ j attempt there place target among served. ⊎_elim
       (λ (old : slice_get attempts j ≡ Some attempt). before j attempt old place target among served)
       (λ own.

@@ -162,7 +162,7 @@ module _ (hosts hosts_after : Hosts) (wire : Wire) (attempts : List AttemptRecor
       (λ (apart : q ≢ name). inl (sym (said_else wire name to rsp true q apart) ∙ got))
       (tied_to wire name q)
   was_or_answers (RequestIsAnswered name to bytes false rsp at answer) packet got = inl (left_before wire name q packet got)
-  was_or_answers (RequestsAreSent k sends by) packet got = inl (sym (not_sent k sends by) ∙ got)
+  was_or_answers (RequestsAreSent k sends by nothing) packet got = inl (sym (not_sent k sends by) ∙ got)
   was_or_answers (AttemptBegins k sends attempt begun) packet got = inl (sym (not_sent k sends begun.sent_by) ∙ got)
   was_or_answers (RepliesGo k) packet got = inl (forgot_less k packet got)
 

@@ -23,7 +23,7 @@ came_from hosts hosts_after wire attempts (MessageIsLost name packet there) j no
 came_from hosts hosts_after wire attempts (ReplyIsReceived name from bytes there) j now got = inl (as_it_was attempts j now got)
 came_from hosts hosts_after wire attempts (RequestIsAnswered name to bytes up rsp there answer) j now got =
     inl (marked_was (fate_of_say rsp.say) name.sender name.number attempts j now got)
-came_from hosts hosts_after wire attempts (RequestsAreSent n sends by) j now got = inl (as_it_was attempts j now got)
+came_from hosts hosts_after wire attempts (RequestsAreSent n sends by nothing) j now got = inl (as_it_was attempts j now got)
 came_from hosts hosts_after wire attempts (AttemptBegins n sends new begun) j now got = ⊎_elim
     (λ (old : slice_get attempts j ≡ Some now). inl (as_it_was attempts j now old))
     (λ (own : (j ≡ length attempts) × (new ≡ now)).

@@ -168,7 +168,7 @@ module _ (hosts hosts_after : Hosts) (wire : Wire) (attempts : List AttemptRecor
       fates_still wire (tree.remove wire name) attempts (λ j attempt at place target among. reply_gone wire name from bytes there (message_name_at attempt place)) fates
   traffic_fates (RequestIsAnswered name to bytes up rsp there answer) fates =
       fates_marked wire (wire_with_reply name to up (Some rsp) wire) (fate_of_say rsp.say) name attempts (said_known rsp.say) (said_none wire name to rsp up) (said_else wire name to rsp up) (tied_to wire name) fates
-  traffic_fates (RequestsAreSent n sends by) fates = fates_still wire (fold wire_with_request wire sends) attempts (λ j attempt there place target among. inl (sends_new n sends by j attempt there place target among)) fates
+  traffic_fates (RequestsAreSent n sends by nothing) fates = fates_still wire (fold wire_with_request wire sends) attempts (λ j attempt there place target among. inl (sends_new n sends by j attempt there place target among)) fates
   traffic_fates (AttemptBegins n sends attempt begun) fates =
       fates_more (fold wire_with_request wire sends) attempts attempt begun.whole
       (λ place target fate among got. subst (IsFateIn (fold wire_with_request wire sends) attempt place target) (sym (begun.flying place fate got))

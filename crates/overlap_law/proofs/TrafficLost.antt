@@ -64,7 +64,7 @@ module _ (hosts hosts_after : Hosts) (wire : Wire) (attempts : List AttemptRecor
   still_request (MessageIsLost name lost there) number packet got = request_before number packet (left_before wire name (message_name n number) packet got)
   still_request (ReplyIsReceived name from bytes there) number packet got = request_before number packet (left_before wire name (message_name n number) packet got)
   still_request (RequestIsAnswered name to bytes up rsp there answer) number packet got = request_if_answered name to up rsp answer.up_so number packet got
-  still_request (RequestsAreSent k sends by) number packet got = request_if_sent sends number packet got
+  still_request (RequestsAreSent k sends by nothing) number packet got = request_if_sent sends number packet got
   still_request (AttemptBegins k sends attempt begun) number packet got = request_if_sent sends number packet got
   still_request (RepliesGo k) number packet got = request_before number packet (got_before k wire (message_name n number) packet got)
 

@@ -64,6 +64,6 @@ module _ (hosts hosts_after : Hosts) (wire : Wire) (attempts : List AttemptRecor
   traffic_numbers (MessageIsLost name lost there) q packet got = given_still q packet (left_before wire name q packet got)
   traffic_numbers (ReplyIsReceived name from bytes there) q packet got = given_still q packet (left_before wire name q packet got)
   traffic_numbers (RequestIsAnswered name to bytes up rsp there answer) q packet got = given_if_answered name to bytes up rsp there q packet got
-  traffic_numbers (RequestsAreSent n sends by) q packet got = given_if_sent n sends by q packet got
+  traffic_numbers (RequestsAreSent n sends by nothing) q packet got = given_if_sent n sends by q packet got
   traffic_numbers (AttemptBegins n sends attempt begun) q packet got = given_if_sent n sends begun.sent_by q packet got
   traffic_numbers (RepliesGo n) q packet got = given_still q packet (got_before n wire q packet got)

@@ -44,6 +44,7 @@ use Rattle.overlap_law.proofs.AttemptsOfEvents.{attempts-of_untold_loss, attempt
 use Rattle.overlap_law.proofs.AttemptsInSteps.{attempts-at_first, attempts-at_end, attempts-grow}
 use Rattle.overlap_law.proofs.SendsOfChanges.{received_nothing, steps_send_nothing, next_sends_nothing, refusal_sends_nothing, denial_sends_nothing, end_sends_nothing, put_sends}
 use Rattle.overlap_law.proofs.AskedEpochs.{SendsInThePast}
+use Rattle.overlap_law.proofs.AskedMakers.{ticked_asks_nothing}
 use Rattle.overlap_law.proofs.PastAsks.{step_in_past}
 use Rattle.overlap_law.proofs.KnownSteps.{IsKnownStep, together, known_step}
 use Rattle.overlap_law.proofs.OpeningTraffic.{AreReadable, readable_at, opening_traffic}
@@ -187,7 +188,7 @@ module _ (script : List Statement) (world : World) (n : ℕ) (host : Host) (atte
     counted = step_counts inputs.RecoverTick host.node;
     read = known.asking.read;
     past = past;
-  })
+  }) (ticked_asks_nothing host.node)
   at_once holds there up WorkIsRetried so by known past = absurd by
 
 -- ---- every change

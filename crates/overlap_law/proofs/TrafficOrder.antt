@@ -68,7 +68,7 @@ module _ (hosts hosts_after : Hosts) (wire : Wire) (attempts : List AttemptRecor
   traffic_fewer (ReplyIsReceived name from bytes there) j attempt at place target among h = gone_less wire name (message_name_at attempt place) h
   traffic_fewer (RequestIsAnswered name to bytes up rsp there answer) j attempt at place target among h =
       said_less wire name to rsp up (Request to bytes) there (message_name_at attempt place) h
-  traffic_fewer (RequestsAreSent n sends by) j attempt at place target among h =
+  traffic_fewer (RequestsAreSent n sends by nothing) j attempt at place target among h =
       ap (λ (o : Option Packet). is_some o) (sym (sends_new hosts hosts_after wire attempts of_incarnations n sends by j attempt at place target among)) ∙ h
   traffic_fewer (AttemptBegins n sends new begun) j attempt at place target among h =
       ap (λ (o : Option Packet). is_some o) (sym (sends_new hosts hosts_after wire attempts of_incarnations n sends begun.sent_by j attempt at place target among)) ∙ h
@@ -92,7 +92,7 @@ module _ (hosts hosts_after : Hosts) (wire : Wire) (attempts : List AttemptRecor
   traffic_ordered (RequestIsAnswered name to bytes up rsp there answer) turns ordered =
       ordered_marked (wire_with_reply name to up (Some rsp) wire) (fate_of_say rsp.say) name.sender name.number attempts
       (less (traffic_fewer (RequestIsAnswered name to bytes up rsp there answer)) ordered)
-  traffic_ordered (RequestsAreSent n sends by) turns ordered = less (traffic_fewer (RequestsAreSent n sends by)) ordered
+  traffic_ordered (RequestsAreSent n sends by nothing) turns ordered = less (traffic_fewer (RequestsAreSent n sends by nothing)) ordered
   traffic_ordered (AttemptBegins n sends attempt begun) turns ordered =
       let fewer = traffic_fewer (AttemptBegins n sends attempt begun) in
       ordered_more (fold wire_with_request wire sends) attempts attempt

@@ -88,7 +88,7 @@ module _ (hosts hosts_after : Hosts) (wire : Wire) (attempts : List AttemptRecor
       (record { bytes = asking.bytes; there = left_before wire name (message_name n number) (Request to asking.bytes) asking.there; spelled = asking.spelled })
   traffic_past (RequestIsAnswered name from bytes up rsp got answer) n host there number to request asking =
       flies_if_answered name from up rsp n host there number to request asking
-  traffic_past (RequestsAreSent k sends by) n host there number to request asking = flies_if_sent k sends by n host there number to request asking
+  traffic_past (RequestsAreSent k sends by nothing) n host there number to request asking = flies_if_sent k sends by n host there number to request asking
   traffic_past (AttemptBegins k sends attempt begun) n host there number to request asking =
       flies_if_sent k sends begun.sent_by n host there number to request asking
   traffic_past (RepliesGo k) n host there number to request asking =

@@ -82,7 +82,7 @@ module _ (hosts hosts_after : Hosts) (wire : Wire) (attempts : List AttemptRecor
       came name from reply (record { bytes = answering.bytes; there = left_before wire received name (Reply from answering.bytes) answering.there; spelled = answering.spelled })
   traffic_repliers (RequestIsAnswered asked to bytes up rsp there answer) name from reply answering =
       came_if_answered asked to bytes up rsp answer name from reply answering
-  traffic_repliers (RequestsAreSent n sends by) name from reply answering = came_if_sent sends name from reply answering
+  traffic_repliers (RequestsAreSent n sends by nothing) name from reply answering = came_if_sent sends name from reply answering
   traffic_repliers (AttemptBegins n sends attempt begun) name from reply answering = came_if_sent sends name from reply answering
   traffic_repliers (RepliesGo n) name from reply answering =
       came name from reply (record { bytes = answering.bytes; there = got_before n wire name (Reply from answering.bytes) answering.there; spelled = answering.spelled })

@@ -140,7 +140,7 @@ module _ (hosts hosts_after : Hosts) (wire : Wire) (attempts : List AttemptRecor
           subst (λ (r : PeerRsp). Fits (slice_get (fates_told fate name.sender name.number was) place) r.say) same
           (subst (λ (o : Option MessageFate). Fits o rsp.say) (sym fate_so) (fits_said rsp.say))
   traffic_told (RequestIsAnswered name to bytes false rsp there answer) fates = removed_told (fate_of_say rsp.say) name
-  traffic_told (RequestsAreSent n sends by) fates = record {
+  traffic_told (RequestsAreSent n sends by nothing) fates = record {
     each = λ j attempt there place target from reply among h.
         told.each j attempt there place target from reply among
         (record { bytes = h.bytes; there = sym (sends_new hosts hosts_after wire attempts of_incarnations n sends by j attempt there place target among) ∙ h.there; spelled = h.spelled });

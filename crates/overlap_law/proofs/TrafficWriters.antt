@@ -94,7 +94,7 @@ module _ (log : List Entry) where
         by_kind (ReplyIsReceived name from bytes there) begins one = one
         by_kind {later} (RequestIsAnswered name to bytes up rsp there answer) begins one =
             marked_writers later (fate_of_say rsp.say) name.sender name.number attempts one
-        by_kind (RequestsAreSent n sends by) begins one = one
+        by_kind (RequestsAreSent n sends by nothing) begins one = one
         by_kind {later} (AttemptBegins n sends attempt begun) begins one = more_writers later attempts attempt (begins attempt refl) one
         by_kind (RepliesGo n) begins one = one
 

@@ -2,6 +2,8 @@
 use Rattle.std.specs.Prelude.{◌≡◌, ℕ, ◌+◌, ◌≤◌, Bool, true, false, List, [], ◌∷◌, ◌++◌, fold, length, slice_get, Contains, Some, Ok}
 use Rattle.std.specs.FinMap as tree
 use Rattle.object_id.specs.declared.node.NodeId.{NodeId}
+use Rattle.peer_proto.specs.declared.ask.PeerAsk.{PeerAsk}
+use Rattle.peer_proto.specs.declared.ask.PeerAsk.TheVariants as asks
 use Rattle.peer_proto.specs.declared.ask.PeerReq.{PeerReq}
 use Rattle.peer_proto.specs.declared.say.PeerRsp.{PeerRsp}
 use Rattle.peer_proto.specs.Ask.{ask_in, ask_bytes}
@@ -23,12 +25,35 @@ use Rattle.sheep_world.specs.NodeSteps.{wire_with_request}
 use Rattle.sheep_world.specs.NodeCauses.{is_up_among}
 use Rattle.overlap_law.specs.Attempts.{AttemptRecord, MessageFate, Flying, attempts_with_fate, fate_of_say, object_of}
 use Rattle.overlap_law.specs.Reached.{Hosts}
-use Rattle.overlap_law.specs.Each.{EachUp, EachAttempt}
-use Rattle.overlap_law.specs.Packets.{Wire, message_request_at}
+use Rattle.overlap_law.specs.Each.{EachUp, EachAttempt, SomeAttempt}
+use Rattle.overlap_law.specs.Packets.{Wire, IsAsking, message_request_at}
 use Rattle.overlap_law.specs.Fates.{AreInOrder}
 use Rattle.overlap_law.specs.OpenWorks.{IsOpenAs}
 use Rattle.overlap_law.specs.Past.{MomentWithPast}
 use Rattle.overlap_law.specs.StepMoments.{attempts_with_loss}
+
+-- whether a request asks to create or write
+abbrev pub asks_making : PeerAsk → Bool
+asks_making (asks.Create key size offset bytes) = true
+asks_making (asks.Write key offset bytes) = true
+asks_making (asks.Read key offset size) = false
+asks_making asks.List = false
+asks_making (asks.RecoverRead oid level) = false
+
+-- none of these requests does
+abbrev pub AskNothingMade : List (NodeId × PeerReq) → Type 0
+AskNothingMade sends = (send : NodeId × PeerReq) → Contains sends send → asks_making send.1.ask ≡ false
+
+-- a request to a node is an attempt's message to the target at some place
+pub record IsMessageOf (attempt : AttemptRecord) (to : NodeId) (request : PeerReq) : Type 0 where
+  pub place : ℕ
+  pub among : slice_get attempt.targets place ≡ Some to
+  pub request_so : request ≡ message_request_at attempt place
+
+-- each request to create or write in the wire is a message of an attempt
+pub record MakersAreOfAttempts (wire : Wire) (attempts : List AttemptRecord) : Type 0 where
+  pub each : (name : MessageName) (to : NodeId) (request : PeerReq) → IsAsking wire name to request → asks_making request.ask ≡ true
+      → SomeAttempt attempts (λ attempt. IsMessageOf attempt to request)
 
 -- between two states of the hosts a node sends these, in its own name, under the numbers from its count on, and counts them; each can be
 -- read, and is of an epoch that the node came to
@@ -55,6 +80,7 @@ pub record IsBegunBy (hosts hosts_after : Hosts) (n : ℕ) (sends : List (NodeId
   pub flying : (place : ℕ) (fate : MessageFate) → slice_get attempt.fates place ≡ Some fate → fate ≡ Flying
   pub asks : (place : ℕ) (target : NodeId) → slice_get attempt.targets place ≡ Some target
       → Contains sends (target, message_request_at attempt place)
+  pub of_attempt : (send : NodeId × PeerReq) → Contains sends send → IsMessageOf attempt send.0 send.1
   pub up : sent_by.after.is_lost ≡ false
   pub work : Work
   pub current : gateways.Attempt
@@ -106,7 +132,7 @@ pub data Traffic (hosts hosts_after : Hosts) (wire : Wire) (attempts : List Atte
       → Traffic hosts hosts_after wire attempts (wire_with_reply name to up (Some rsp) wire)
       (attempts_with_fate (fate_of_say rsp.say) name.sender name.number attempts)
   -- a node sends what is no create or write
-  RequestsAreSent : (n : ℕ) (sends : List (NodeId × PeerReq)) → AreSentBy hosts hosts_after n sends
+  RequestsAreSent : (n : ℕ) (sends : List (NodeId × PeerReq)) → AreSentBy hosts hosts_after n sends → AskNothingMade sends
       → Traffic hosts hosts_after wire attempts (fold wire_with_request wire sends) attempts
   -- an attempt begins
   AttemptBegins : (n : ℕ) (sends : List (NodeId × PeerReq)) (attempt : AttemptRecord) → IsBegunBy hosts hosts_after n sends attempt

@@ -51,7 +51,7 @@ pub use overlap::{
     the_overlap_gives_holders, the_overlap_gives_legal_replies, the_overlap_makes_attempts_stand,
     the_settled_have_recovered,
 };
-pub use rows::{rows_stand_in_turn, served_rows_stay};
+pub use rows::{requests_are_of_attempts, rows_stand_in_turn, served_rows_stay};
 pub use with_asks::{
     a_clients_read_makes_nothing, a_run_with_asks_has_its_past, what_a_clients_read_keeps,
     what_is_owed_gives_the_headline, what_runs_with_asks_keep,

@@ -2,8 +2,10 @@
 ghost use Rattle.std.specs.Prelude.{◌≡◌, List, Some};
 ghost use Rattle.cluster_script.specs.declared.statement.Statement.{Statement};
 ghost use Rattle.sheep_node.specs.declared.event.Event.{Event};
+ghost use Rattle.sheep_world.specs.Began.{Began};
 ghost use Rattle.overlap_law.specs.Past.{MomentWithPast, run_with_past};
-ghost use Rattle.overlap_law.specs.MomentChanges.{MomentTrail, RunsAreInRange};
+ghost use Rattle.overlap_law.specs.MomentChanges.{MomentChange, MomentTrail, RunsAreInRange};
+ghost use Rattle.overlap_law.specs.Traffic.{MakersAreOfAttempts};
 ghost use Rattle.overlap_law.specs.Holders.{is_live_object};
 ghost use Rattle.overlap_law.specs.Rows.{RowsHaveEnds, OneRowIsOpen, RowsAreApart, ServedRowsStay};
 
@@ -24,4 +26,14 @@ pub fn served_rows_stay()
     ensures { (script : List Statement) (events : List Event) (start moment : MomentWithPast) → RunsAreInRange script
         → run_with_past script events ≡ Some start → MomentTrail script start moment
         → ServedRowsStay (is_live_object moment.world.log moment.past.attempts) moment.world.hosts moment.past.attempts }
+{}
+
+/// Each request to create or write in the wire is a message of an attempt, to the target at its place: each change of a moment keeps that,
+/// and so it is in each run in range.
+pub fn requests_are_of_attempts()
+    ensures change { (script : List Statement) (start before after : MomentWithPast) → RunsAreInRange script → Began script start.world
+        → MomentChange script start before after → MakersAreOfAttempts before.world.wire before.past.attempts
+        → MakersAreOfAttempts after.world.wire after.past.attempts }
+    ensures run { (script : List Statement) (events : List Event) (moment : MomentWithPast) → RunsAreInRange script
+        → run_with_past script events ≡ Some moment → MakersAreOfAttempts moment.world.wire moment.past.attempts }
 {}
