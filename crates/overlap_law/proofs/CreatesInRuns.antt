@@ -51,7 +51,7 @@ use Rattle.sheep_world.proofs.RecoveryMessages.{same_asked}
 use Rattle.sheep_world.proofs.ReturningNodes.{stepped_renewed}
 use Rattle.sheep_world.proofs.StepsByCause.{served_silent}
 use Rattle.overlap_law.specs.RowsInRange.{RowsCanBeTold, CreatesAsRowsAre, CreatesAreInRange, ObjectsAreFew}
-use Rattle.overlap_law.proofs.CreatesOnTheWire.{AllSo, SendsSo, wire_so}
+use Rattle.overlap_law.proofs.CreatesOnTheWire.{AllSo, SendsSo, any_reply, wire_so}
 use Rattle.overlap_law.proofs.FittingReplies.{replies_fit}
 use Rattle.overlap_law.proofs.GrantedEpochs.{spec_known, spec_stays}
 use Rattle.overlap_law.proofs.KnownAsks.{IsKnownAsk, IsKnownMessage, sent_known}
@@ -186,14 +186,14 @@ module _ (script : List Statement) (is_script : IsScript script) (grows : (world
       abbrev new : List Effect
       new = log_effects made.world.log
 
-      old_so : AllSo (CreatesSo new) (λ from rsp. tt) world.wire
+      old_so : AllSo (CreatesSo new) world.wire
       old_so name (Reply from bytes) got = tt
       old_so name (Request to bytes) got = λ request read.
           let front = log_grows script event world made (happens script event world made happened) in
           subst (λ (log : List Entry). CreatesAsRowsAre (log_effects log) request.ask) (sym front.is)
           (create_stays world.log front.rest request.ask (creates.each name to bytes request got read))
 
-      sends_after : (kind : EventKind script event world made) → SendsSo (CreatesSo new) (λ from rsp. tt) script event world made kind
+      sends_after : (kind : EventKind script event world made) → SendsSo (CreatesSo new) script event world made kind
       sends_after (NodeStep h) =
           let next : Began script (world_after_cause script h.n h.host h.cause world)
           = subst (λ (m : EventOutcome). Began script m.world) (sym h.made_so) (goes_on script event world made began happened) in
@@ -215,12 +215,12 @@ module _ (script : List Statement) (is_script : IsScript script) (grows : (world
           (sym (stepped_renewed (log_after_return script h.n world) h.host.node).silent) (All-nil _)
       sends_after (PhaseEnd h) = tt
 
-      creates_after : CreatesAreInRange made.world
+      pub creates_after : CreatesAreInRange made.world
       creates_after = record {
         each = λ name to bytes request got read.
             let kind = happens script event world made happened in
-            wire_so (CreatesSo new) (λ from rsp. tt) script event world made old_so kind (sends_after kind) name (Request to bytes) got
-            request read;
+            wire_so (CreatesSo new) script event world made old_so kind (sends_after kind)
+            (any_reply (CreatesSo new) (λ from rsp. tt) script event world made kind) name (Request to bytes) got request read;
       }
 
   -- ---- every world
@@ -228,7 +228,7 @@ module _ (script : List Statement) (is_script : IsScript script) (grows : (world
   abbrev SoundWithCreates : World → Type 0
   SoundWithCreates world = IsSoundWorld script world × EachHasRows (log_effects world.log) world × CreatesAreInRange world
 
-  opens_creates : CreatesAreInRange (initial_world script)
+  pub opens_creates : CreatesAreInRange (initial_world script)
   unfolding initial_world
   opens_creates = record {
     each = λ name to bytes request got read.

@@ -59,10 +59,10 @@ asked_known known before (lines.Delete session name tag) ask may is = given (IsK
 asked_known known before (lines.Check session) ask may is = given (IsKnownAsk known) is tt
 asked_known known before _ ask may is = absurd (cc (is))
 
-abbrev MayStandSomewhere : Statement → Type 0
+abbrev pub MayStandSomewhere : Statement → Type 0
 MayStandSomewhere line = (before : List Statement) × MayStand before line
 
-each_stands : (before rest : List Statement) → EachMayStand before rest → All MayStandSomewhere rest
+pub each_stands : (before rest : List Statement) → EachMayStand before rest → All MayStandSomewhere rest
 each_stands before [] may = All-nil MayStandSomewhere
 each_stands before (line ∷ rest) may = All-cons MayStandSomewhere line rest (before, may.0) (each_stands (before ++ line ∷ []) rest may.1)
 

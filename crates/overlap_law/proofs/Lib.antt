@@ -191,6 +191,15 @@ pub mod RowsInRuns
 pub mod SentCreates
 pub mod CreatesOnTheWire
 pub mod CreatesInRuns
+pub mod ObjectsOfRequests
+pub mod ObjectsOfRows
+pub mod ObjectsOfSteps
+pub mod ObjectsOfWorks
+pub mod ObjectsCounted
+pub mod ObjectsGrow
+pub mod ObjectsOfInputs
+pub mod ObjectsAtSteps
+pub mod ObjectsInRuns
 pub mod RangeOfFewObjects
 pub mod AskedMakers
 pub mod MakersInTraffic

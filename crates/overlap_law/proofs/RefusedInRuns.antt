@@ -296,7 +296,7 @@ module _ (script : List Statement) where
         (progress_with_started (record { req = req; disk = disk_open session world }) (progress_at session.number world)) (omega arith)
     found_grows cause = λ q. omega arith
 
-    found_brings : (cause : NodeCause) → IsCause script world n host cause → (req session : ℕ) (ask : Ask) → input_of_cause cause ≡ inputs.Guest req session ask
+    pub found_brings : (cause : NodeCause) → IsCause script world n host cause → (req session : ℕ) (ask : Ask) → input_of_cause cause ≡ inputs.Guest req session ask
         → WasBegun script (progress_at_cause cause world) session req
     found_brings (GuestAsks session begins asks) asked req number ask from =
         let started = progress_with_started (record { req = begins; disk = disk_open session world }) (progress_at session.number world) in

@@ -340,21 +340,24 @@ pub fn what_works_ask_can_be_spelled()
         → (world : World) → Began script world → (node : ℕ) (host : Host) → host_at node world ≡ Some host → IsSoundNode host.node }
 {}
 
-/// What a node replies can be read, and fits what the sender waits for, in each world of a run, as long as there is room for an epoch and
-/// the rows of the nodes can be told: each is as the rows of its object are, and each node has rows of few objects.
+/// Each node has rows of fewer than 2^29 objects, in each world of a run, as long as there is room for an epoch: a script has at most 10,000
+/// requests, each touches few objects of its disk, and there are fewer than 2^24 inodes. So the rows of the nodes can be told: each is as
+/// the rows of its object are.
+pub fn nodes_have_rows_of_few_objects()
+    ensures few { (script : List Statement) → IsScript script → ((world : World) → Began script world → MayGrow world)
+        → (world : World) → Began script world → ObjectsAreFew world }
+    ensures told { (script : List Statement) → IsScript script → ((world : World) → Began script world → MayGrow world)
+        → (world : World) → Began script world → RowsCanBeTold world }
+{}
+
+/// What a node replies can be read, and fits what the sender waits for, in each world of a run, as long as there is room for an epoch.
 pub fn what_is_replied_fits()
     ensures { (script : List Statement) → IsScript script → ((world : World) → Began script world → MayGrow world)
-        → ((world : World) → Began script world → RowsCanBeTold world)
         → (world : World) → Began script world → RepliesFit world }
 {}
 
-/// The runs of a script with few controls are in range, where the rows of the nodes can be told. So they are where each node has rows of
-/// few objects, since then each row is as the rows of its object are; and so are those of each script that a text may spell.
+/// The runs of a script with few controls are in range, and so are those of each script that a text may spell.
 pub fn runs_of_few_controls_are_in_range()
-    ensures told { (script : List Statement) → IsScript script → HasFewControls script
-        → ((world : World) → Began script world → RowsCanBeTold world) → RunsAreInRange script }
-    ensures few { (script : List Statement) → IsScript script → HasFewControls script
-        → ((world : World) → Began script world → ObjectsAreFew world) → RunsAreInRange script }
-    ensures text { (script : List Statement) → IsScript script → length script ≤ INPUT_BYTES_MAX
-        → ((world : World) → Began script world → ObjectsAreFew world) → RunsAreInRange script }
+    ensures few { (script : List Statement) → IsScript script → HasFewControls script → RunsAreInRange script }
+    ensures text { (script : List Statement) → IsScript script → length script ≤ INPUT_BYTES_MAX → RunsAreInRange script }
 {}

@@ -17,8 +17,8 @@
 //! (`specs/ShapedAttempts.antt`), that the wire is linked with what nodes wait for, that gateways know the fates of their attempts, what
 //! the group of epochs and nodes says (`specs/NodeEpochs.antt`), some of the group of writers (`specs/Writers.antt`), over what the
 //! works of sessions rest on (`specs/AwaitedEntries.antt`, `specs/CommandDisks.antt`, `specs/WriterClaims.antt`), and some of the group of
-//! rows (`specs/Rows.antt`). The runs of a script that a text may spell are in range, if each node has rows of few objects
-//! (`specs/RowsInRange.antt`).
+//! rows (`specs/Rows.antt`). The runs of a script that a text may spell are in range: each node has rows of few objects
+//! (`specs/RowsInRange.antt`), since each object was set apart for a request of the script, or is an inode.
 //!
 //! Between the events a client without a script may read objects (`specs/RunsWithAsks.antt`). Such reads leave the past as it is; the laws
 //! of `with_asks.rt` say why, and that what is owed of events and of reads gives the headline of those runs too.
@@ -37,7 +37,8 @@ pub use laws::{
     attempts_of_the_refused_are_mute, each_change_is_of_a_kind_of_traffic,
     each_target_has_its_fate, epochs_and_nodes_are_kept, gateways_know_the_fates,
     members_stay_until_they_are_lost, messages_touch_their_requests,
-    no_read_of_what_was_borne_is_left_out, open_works_have_messages, other_attempts_hear_nothing,
+    no_read_of_what_was_borne_is_left_out, nodes_have_rows_of_few_objects, open_works_have_messages,
+    other_attempts_hear_nothing,
     packets_are_of_open_works, peers_of_another_epoch_change_nothing,
     recoveries_are_of_members_that_came, runs_of_few_controls_are_in_range,
     the_attempts_are_shaped, the_attempts_stay_in_order, the_past_follows_the_run,
