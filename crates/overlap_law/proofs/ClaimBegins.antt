@@ -31,15 +31,16 @@ use Rattle.sheep_node.specs.Courses.{inode_open, disk_after, after_command_step}
 use Rattle.sheep_node.specs.Changes.{Arrival, Outcome, outcome_of_command}
 use Rattle.overlap_law.specs.AwaitedEntries.{IsCommandEntry, IsSessionsEntry, IsSessionsStage}
 use Rattle.overlap_law.specs.CommandDisks.{opened_as, opened_in}
-use Rattle.overlap_law.specs.WriterClaims.{IsStageKept, LetsGo, IsDiskKept, IsUnlockKept, HasClaims, IsFirstEntry, IsPublicationKept}
+use Rattle.overlap_law.specs.WriterClaims.{IsStageKept, LetsGo, IsDiskKept, IsUnlockKept, HasClaims, IsFirstEntry, IsPublicationKept, HasLockYet}
 use Rattle.overlap_law.specs.Writers.{unlocks}
 use Rattle.overlap_law.proofs.AwaitedChanges.{Requests, AreAwaitedSoFar, none_on_the_way}
 use Rattle.overlap_law.proofs.AwaitedCommands.{is_command}
 use Rattle.overlap_law.proofs.AwaitedSteps.{entry_of_input, MeetsCommands}
-use Rattle.overlap_law.proofs.ClaimChanges.{disk_of, IsOfSession, more_claims, unlocked_claims}
+use Rattle.overlap_law.proofs.ClaimChanges.{disk_of, IsOfSession, more_claims}
+use Rattle.overlap_law.proofs.ClaimUnlocks.{unlocked_claims}
 use Rattle.overlap_law.proofs.ClaimCommands.{IsDiskSafe, AreSafe, begins_kept, IsUnseen}
 use Rattle.overlap_law.proofs.CountedEntries.{times}
-use Rattle.overlap_law.proofs.KeptIds.{lock-writer}
+use Rattle.overlap_law.proofs.KeptIds.{lock-writer, lock_yet}
 use Rattle.overlap_law.proofs.ClaimRequests.{IsReadOf, HasSoFar, IsNextKept, IsSoleIn, none_kept, counted_from, safe_disks, stepped, put_there, reply_next, unpublished}
 
 module _ (read unread : List Entry) (input : Input) (node : Node) (meets : MeetsCommands read input node) (log : List Entry) (from : ℕ)
@@ -150,7 +151,7 @@ module _ (read unread : List Entry) (input : Input) (node : Node) (meets : Meets
         unlocked_claims log read from node.me so_far.node.outbox moved.node.requests moved.node.sessions session disk.inode.vid
         (may disk.snapshot (begins_safe so_far.node.outbox has disk opened))
         (unpublished read unread input node meets log from reads so_far.node.outbox moved.node.requests moved.node.sessions (begins_in so_far.node.outbox has) unlock (λ session opened made never. never))
-        own_stage own_disk (begins_in so_far.node.outbox has)
+        own_stage own_disk own_yet (begins_in so_far.node.outbox has)
       where
         unlock : Entry
         unlock = unlock_of node.me session disk.inode.vid
@@ -184,23 +185,35 @@ module _ (read unread : List Entry) (input : Input) (node : Node) (meets : Meets
             subst (IsStageKept log (so_far.node.outbox ++ unlock ∷ []) read from node.me request.session (opened_in request.session moved.node.sessions))
             (sym at ∙ ap (λ (o : Op). o.stage) same) (record { first = tt; granted = λ place after got vid granted. tt; for_disk = tt })
 
+        after : Option Disk
+        after = disk_after (disk_change_at step.op.stage) (session_in session so_far).disk
+
+        stays : after ≡ Some disk
+        stays = ap (λ (stage : OpStage). disk_after (disk_change_at stage) (session_in session so_far).disk) at ∙ opened
+
+        here : (d : Disk) → disk_of session moved.node.sessions ≡ Some d → disk ≡ d
+        here d got = same_Some disk d (sym stays
+            ∙ sym (ap (λ (o : Option Session). (unwrap_or o new_session).disk) (get-insert_same so_far.node.sessions session
+            (record (session_in session so_far) { disk = after; command = Some req })))
+            ∙ got)
+
+        yet_here : (b : Bool) → b ≡ false → IsDiskSafe log so_far.node.outbox read from node.me session b disk.inode
+            → HasLockYet log node.me session (epoch_of read) disk.inode.vid
+        yet_here true working is = absurd (cc (working))
+        yet_here false working (named, lock) = lock_yet log so_far.node.outbox node.me session (epoch_of read) disk.inode.vid lock
+
+        own_yet : (d : Disk) → disk_of session moved.node.sessions ≡ Some d → d.snapshot ≡ false
+            → HasLockYet log node.me session (epoch_of read) d.inode.vid
+        own_yet d got working =
+            let same = here d got in
+            subst (λ (e : Disk). HasLockYet log node.me session (epoch_of read) e.inode.vid) same
+            (yet_here disk.snapshot (ap (λ (e : Disk). e.snapshot) same ∙ working) (begins_safe so_far.node.outbox has disk opened))
+
         own_disk : (d : Disk) → disk_of session moved.node.sessions ≡ Some d
             → IsDiskKept log (so_far.node.outbox ++ unlock_of node.me session disk.inode.vid ∷ []) read node.me moved.node.requests session d.snapshot d.inode
         own_disk d got = subst (λ (e : Disk). IsDiskKept log (so_far.node.outbox ++ unlock ∷ []) read node.me moved.node.requests session e.snapshot e.inode)
-            here (by_kind disk.snapshot (begins_safe so_far.node.outbox has disk opened))
+            (here d got) (by_kind disk.snapshot (begins_safe so_far.node.outbox has disk opened))
           where
-            after : Option Disk
-            after = disk_after (disk_change_at step.op.stage) (session_in session so_far).disk
-
-            stays : after ≡ Some disk
-            stays = ap (λ (stage : OpStage). disk_after (disk_change_at stage) (session_in session so_far).disk) at ∙ opened
-
-            here : disk ≡ d
-            here = same_Some disk d (sym stays
-                ∙ sym (ap (λ (o : Option Session). (unwrap_or o new_session).disk) (get-insert_same so_far.node.sessions session
-                (record (session_in session so_far) { disk = after; command = Some req })))
-                ∙ got)
-
             by_kind : (b : Bool) → IsDiskSafe log so_far.node.outbox read from node.me session b disk.inode
                 → IsDiskKept log (so_far.node.outbox ++ unlock ∷ []) read node.me moved.node.requests session b disk.inode
             by_kind true gone = gone

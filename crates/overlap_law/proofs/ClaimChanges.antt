@@ -24,7 +24,7 @@ use Rattle.sheep_node.specs.SessionQueues.{session_among}
 use Rattle.sheep_node.specs.State.{new_session}
 use Rattle.sheep_node.proofs.QueueChanges.{same_view}
 use Rattle.overlap_law.specs.CommandDisks.{opened_as, opened_in}
-use Rattle.overlap_law.specs.WriterClaims.{HasLock, IsGivenNoMore, IsNamed, IsStageKept, LetsGo, IsLetGo, IsDiskKept, IsUnlockKept, HasClaims}
+use Rattle.overlap_law.specs.WriterClaims.{HasLock, IsGivenNoMore, IsNamed, IsStageKept, LetsGo, IsLetGo, IsDiskKept, IsUnlockKept, HasClaims, HasLockYet, IsHeldYet}
 use Rattle.overlap_law.specs.Writers.{unlocks}
 use Rattle.overlap_law.proofs.AwaitedChanges.{Requests}
 use Rattle.overlap_law.proofs.AwaitedCommands.{is_command}
@@ -36,15 +36,6 @@ Sessions = tree.FinMap nat_cmp Session
 
 abbrev pub disk_of : ℕ → Sessions → Option Disk
 disk_of session sessions = (session_among session sessions).disk
-
--- what an unlock names
-abbrev session_unlocked : Entry → ℕ
-session_unlocked (Unlock by session vid) = session
-session_unlocked entry = 0
-
-abbrev vid_unlocked : Entry → ℕ
-vid_unlocked (Unlock by session vid) = vid.0
-vid_unlocked entry = 0
 
 -- an unlock leaves another session's ids, and other ids
 pub kept_elsewhere : (me : NodeId) (session vid q of : ℕ) (outbox : List Entry) → of ≢ vid → list_any (unlocks q of) outbox ≡ false
@@ -129,6 +120,7 @@ module _ (log read : List Entry) (from : ℕ) (me : NodeId) where
           subst (λ (opened : Option (Bool × ℕ)). IsStageKept log outbox read from me request.session opened op.stage)
           (sym (ap opened_as (same request.session))) (has.commands req request op there command);
       disks = λ q disk opened. has.disks q disk (sym (same q) ∙ opened);
+      held_yet = λ q disk opened. has.held_yet q disk (sym (same q) ∙ opened);
     }
 
     pub one_alike : (sessions : Sessions) (number : ℕ) (session : Session) → session.disk ≡ disk_of number sessions
@@ -161,6 +153,11 @@ module _ (log read : List Entry) (from : ℕ) (me : NodeId) where
           (λ (apart : q ≢ number). ap opened_as (then_there q apart))
           (cases_eq q number)
 
+      yet_so : Claims outbox requests sessions → IsHeldYet log outbox read me number new
+      yet_so has working there =
+          subst (λ (v : ℕ). HasLockYet log me number (epoch_of read) v) (sym id)
+          (has.held_yet number old opened (sym snapshot ∙ working) (subst (λ (v : ℕ). 1 ≤ times (unlock_of me number v) outbox) id there))
+
       pub retabled_claims : Claims outbox requests sessions → Claims outbox requests (tree.insert sessions number after)
       retabled_claims has = record {
         unlocked = has.unlocked;
@@ -176,6 +173,14 @@ module _ (log read : List Entry) (from : ℕ) (me : NodeId) where
             (kept_so new.snapshot
             (subst (λ (b : Bool). IsDiskKept log outbox read me requests number b old.inode) (sym snapshot) (has.disks number old opened)))))
             (λ (apart : q ≢ number). has.disks q disk (sym (then_there q apart) ∙ got))
+            (cases_eq q number);
+        held_yet = λ q disk got. ⊎_elim
+            (λ (same : q ≡ number).
+            let here : new ≡ disk
+            = same_Some new disk (sym then_here ∙ ap (λ (n : ℕ). disk_of n (tree.insert sessions number after)) (sym same) ∙ got) in
+            subst (λ (n : ℕ). IsHeldYet log outbox read me n disk) (sym same)
+            (subst (IsHeldYet log outbox read me number) here (yet_so has)))
+            (λ (apart : q ≢ number). has.held_yet q disk (sym (then_there q apart) ∙ got))
             (cases_eq q number);
       }
 
@@ -199,6 +204,7 @@ module _ (log read : List Entry) (from : ℕ) (me : NodeId) where
               (λ goes. still_let requests (tree.insert requests req new) req (λ other apart. get-insert_other requests req new other apart)
               q disk.inode.vid goes nothing)
               (has.disks q disk opened);
+          held_yet = has.held_yet;
         }
           where
             new : Request
@@ -219,6 +225,7 @@ module _ (log read : List Entry) (from : ℕ) (me : NodeId) where
               (λ goes. still_let requests (tree.remove requests req) req (λ other apart. get-remove_other requests req other apart)
               q disk.inode.vid goes nothing)
               (has.disks q disk opened);
+          held_yet = has.held_yet;
         }
 
       -- ---- a command takes a step, and leaves its session this disk
@@ -228,7 +235,8 @@ module _ (log read : List Entry) (from : ℕ) (me : NodeId) where
           → request.session ≡ session → other ≡ req) (op : Op) (after : Session)
           (kept : IsStageKept log outbox read from me session (opened_as after.disk) op.stage)
           (safe : (disk : Disk) → after.disk ≡ Some disk → IsDiskKept log outbox read me
-          (tree.insert requests req (record { session = session; course = Commanding op })) session disk.snapshot disk.inode) where
+          (tree.insert requests req (record { session = session; course = Commanding op })) session disk.snapshot disk.inode)
+          (yet : (disk : Disk) → after.disk ≡ Some disk → IsHeldYet log outbox read me session disk) where
         abbrev made : Request
         made = record { session = session; course = Commanding op }
 
@@ -271,6 +279,12 @@ module _ (log read : List Entry) (from : ℕ) (me : NodeId) where
               (λ goes. still_let_there requests (tree.insert requests req made) req
               (λ other away. get-insert_other requests req made other away) q disk.inode.vid goes session own apart)
               (has.disks q disk (sym (disk_there q apart) ∙ opened)))
+              (cases_eq q session);
+          held_yet = λ q disk opened. ⊎_elim
+              (λ (same : q ≡ session).
+              subst (λ (s : ℕ). IsHeldYet log outbox read me s disk) (sym same)
+              (yet disk (sym disk_here ∙ ap (λ (s : ℕ). disk_of s then) (sym same) ∙ opened)))
+              (λ (apart : q ≢ session). has.held_yet q disk (sym (disk_there q apart) ∙ opened))
               (cases_eq q session);
         }
 
@@ -316,65 +330,6 @@ module _ (log read : List Entry) (from : ℕ) (me : NodeId) where
             (has.commands req request op there command);
         disks = λ q disk opened.
             disk_over log outbox (outbox ++ last ∷ []) read from me q (kept_behind q) requests disk.snapshot disk.inode (has.disks q disk opened);
-      }
-
-    -- ---- an unlock is put: its session claims the id no more
-
-    module _ (sessions : Sessions) (session vid : ℕ) (may : IsUnlockKept log me session vid (times (unlock_of me session vid) outbox + 1)) where
-      abbrev unlock : Entry
-      unlock = unlock_of me session vid
-
-      -- of another session
-      kept_apart : (q : ℕ) → q ≢ session → KeepsAll q outbox (outbox ++ unlock_of me session vid ∷ [])
-      kept_apart q apart of kept =
-          list_any-append (unlocks q of) outbox (unlock ∷ [])
-          ∙ (λ i. kept i || ((ne_eqb session q (λ same. apart (sym same)) i && (vid == of)) || false))
-
-      counted : (q of : ℕ) → 1 ≤ times (unlock_of me q of) (outbox ++ unlock_of me session vid ∷ []) → Claims outbox requests sessions
-          → IsUnlockKept log me q of (times (unlock_of me q of) (outbox ++ unlock_of me session vid ∷ []))
-      counted q of there has = by_test (is_same_entry (unlock_of me q of) unlock) refl
-        where
-          more : (b : Bool) → is_same_entry (unlock_of me q of) unlock ≡ b
-              → times (unlock_of me q of) (outbox ++ unlock ∷ []) ≡ times (unlock_of me q of) outbox + once_if b
-          more b is = times-push (unlock_of me q of) outbox unlock ∙ ap (λ (c : Bool). times (unlock_of me q of) outbox + once_if c) is
-
-          by_test : (b : Bool) → is_same_entry (unlock_of me q of) unlock ≡ b
-              → IsUnlockKept log me q of (times (unlock_of me q of) (outbox ++ unlock_of me session vid ∷ []))
-          by_test true same =
-              let one : unlock_of me q of ≡ unlock_of me session vid = same_entry (unlock_of me q of) unlock same in
-              let number : q ≡ session = ap session_unlocked one in
-              let id : of ≡ vid = ap vid_unlocked one in
-              subst (λ (s : ℕ). IsUnlockKept log me s of (times (unlock_of me s of) (outbox ++ unlock ∷ []))) (sym number)
-              (subst (λ (v : ℕ). IsUnlockKept log me session v (times (unlock_of me session v) (outbox ++ unlock ∷ []))) (sym id)
-              (subst (IsUnlockKept log me session vid)
-              (sym (times-push unlock outbox unlock ∙ ap (λ (c : Bool). times unlock outbox + once_if c) (itself unlock))) may))
-          by_test false apart =
-              let same : times (unlock_of me q of) (outbox ++ unlock ∷ []) ≡ times (unlock_of me q of) outbox
-              = (let all : times (unlock_of me q of) (outbox ++ unlock ∷ []) ≡ times (unlock_of me q of) outbox + 0 = more false apart in omega (arith, all)) in
-              subst (IsUnlockKept log me q of) (sym same) (has.unlocked q of (subst (λ (k : ℕ). 1 ≤ k) same there))
-
-      pub unlocked_claims : ((req : ℕ) (request : Request) (op : Op) → tree.get requests req ≡ Some request → request.course ≡ Commanding op
-          → PutsNoMore outbox (outbox ++ unlock_of me session vid ∷ []) op.stage)
-          → ((req : ℕ) (request : Request) (op : Op) → tree.get requests req ≡ Some request → request.course ≡ Commanding op
-          → request.session ≡ session
-          → IsStageKept log (outbox ++ unlock_of me session vid ∷ []) read from me request.session (opened_in request.session sessions) op.stage)
-          → ((disk : Disk) → disk_of session sessions ≡ Some disk
-          → IsDiskKept log (outbox ++ unlock_of me session vid ∷ []) read me requests session disk.snapshot disk.inode)
-          → Claims outbox requests sessions → Claims (outbox ++ unlock_of me session vid ∷ []) requests sessions
-      unlocked_claims no_more own_stage own_disk has = record {
-        unlocked = λ q of there. counted q of there has;
-        commands = λ req request op there command. ⊎_elim
-            (λ (same : request.session ≡ session). own_stage req request op there command same)
-            (λ (apart : request.session ≢ session).
-            stage_over log outbox (outbox ++ unlock ∷ []) read from me request.session (kept_apart request.session apart)
-            (opened_in request.session sessions) op.stage (no_more req request op there command) (has.commands req request op there command))
-            (cases_eq request.session session);
-        disks = λ q disk opened. ⊎_elim
-            (λ (same : q ≡ session).
-            subst (λ (s : ℕ). IsDiskKept log (outbox ++ unlock ∷ []) read me requests s disk.snapshot disk.inode) (sym same)
-            (own_disk disk (ap (λ (s : ℕ). disk_of s sessions) (sym same) ∙ opened)))
-            (λ (apart : q ≢ session).
-            disk_over log outbox (outbox ++ unlock ∷ []) read from me q (kept_apart q apart) requests disk.snapshot disk.inode
-            (has.disks q disk opened))
-            (cases_eq q session);
+        held_yet = λ q disk opened working there.
+            has.held_yet q disk opened working (subst (λ (k : ℕ). 1 ≤ k) (as_many q disk.inode.vid) there);
       }

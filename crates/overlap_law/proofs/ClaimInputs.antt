@@ -48,6 +48,7 @@ no_claims log read from me = record {
   unlocked = λ session vid there. let none = times-none (unlock_of me session vid) in absurd (omega (arith, none, there));
   commands = λ req request op got command. let none = tree.get-empty {X = Request} nat_cmp req in absurd (cc (none, got));
   disks = λ session disk opened. absurd (no_disk session disk opened);
+  held_yet = λ session disk opened. absurd (no_disk session disk opened);
 }
   where
     no_disk : (session : ℕ) (disk : Disk) → disk_of session tree.empty ≡ Some disk → ⊥

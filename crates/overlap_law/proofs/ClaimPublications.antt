@@ -24,7 +24,7 @@ use Rattle.overlap_law.specs.WriterClaims.{holder_at, IsFirstEntry, LetsGo, HasL
 use Rattle.overlap_law.specs.Writers.{unlocks}
 use Rattle.overlap_law.proofs.AwaitedChanges.{Requests}
 use Rattle.overlap_law.proofs.ClaimChanges.{Sessions, disk_of}
-use Rattle.overlap_law.proofs.ClaimPuts.{kept_tail, no_more_tail, unlocked_later}
+use Rattle.overlap_law.proofs.ClaimPuts.{kept_tail, no_more_tail, unlocked_later, held_yet_later}
 use Rattle.overlap_law.proofs.ClaimRefusals.{reserved_apart}
 use Rattle.overlap_law.proofs.ClaimRequests.{none_kept}
 use Rattle.overlap_law.proofs.ClaimTransport.{TakesNone, GivesStage, GivesReplaced, stage_over, disk_over, stage_on, disk_on}
@@ -187,6 +187,7 @@ module _ (log : List Entry) (last : Entry) (later read : List Entry) (from : ℕ
           (own_disk letting disk (ap (λ (s : ℕ). disk_of s sessions) (sym same) ∙ opened)))
           (λ (apart : session ≢ request.session). other_disk session disk opened apart)
           (cases_eq session request.session);
+      held_yet = held_yet_later log last later read from me requests sessions own has spared;
     }
 
 -- ---- each of the three entries

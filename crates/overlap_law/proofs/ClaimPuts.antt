@@ -26,14 +26,14 @@ use Rattle.sheep_node.specs.OwnEntries.{IsEntryOf}
 use Rattle.overlap_law.specs.AwaitedEntries.{IsSessionsEntry, IsSessionsStage, IsSessionsCommand}
 use Rattle.overlap_law.specs.CommandDisks.{opened_as, opened_in}
 use Rattle.overlap_law.specs.Grants.{granted_in, writer_of, may_take_writer}
-use Rattle.overlap_law.specs.WriterClaims.{holder_at, LetsGo, HasLock, HasReservation, HasPlace, IsGivenNoMore, IsGrantKept, IsStageKept, IsLetGo, IsDiskKept, IsUnlockKept, HasClaims}
+use Rattle.overlap_law.specs.WriterClaims.{holder_at, LetsGo, HasLock, HasReservation, HasPlace, IsGivenNoMore, IsGrantKept, IsStageKept, IsLetGo, IsDiskKept, IsHeldYet, IsUnlockKept, HasClaims}
 use Rattle.overlap_law.specs.Writers.{unlocks}
 use Rattle.overlap_law.proofs.AwaitedChanges.{Requests}
 use Rattle.overlap_law.proofs.ClaimChanges.{Sessions, disk_of}
 use Rattle.overlap_law.proofs.ClaimTransport.{KeepsAll, PutsNoMore, TakesNone, GivesStage, GivesReplaced, stage_over, disk_over, stage_on, disk_on}
 use Rattle.overlap_law.proofs.CountedEntries.{times, once_if, times-cons, itself}
 use Rattle.overlap_law.proofs.GrantedIds.{IsFree, in_place, lock_given, locked_was_free, snapshot_given, reservation_given}
-use Rattle.overlap_law.proofs.KeptIds.{no_more_stays, not_taken}
+use Rattle.overlap_law.proofs.KeptIds.{no_more_stays, not_taken, yet-writer, yet-given, yet_stays}
 use Rattle.overlap_law.proofs.WriterChanges.{entry_keeps_writer}
 
 -- what a node's own unlocks are by their session and id
@@ -126,6 +126,21 @@ module _ (log : List Entry) (last : Entry) (later read : List Entry) (from : ℕ
         ))
         (has.unlocked session vid (let few = fewer (unlock_of me session vid) in omega (arith, few, there)))
 
+    -- a disk whose unlock is among those
+    pub held_yet_later : (session : ℕ) (disk : Disk) → disk_of session sessions ≡ Some disk → IsHeldYet (log ++ last ∷ []) later read me session disk
+    held_yet_later session disk opened working there =
+        let few = fewer (unlock_of me session disk.inode.vid) in
+        let some : 1 ≤ times (unlock_of me session disk.inode.vid) (last ∷ later) = omega (arith, few, there) in
+        let yet = has.held_yet session disk opened working some in
+        let most : times (unlock_of me session disk.inode.vid) (last ∷ later) ≤ 1
+        = ⊎_elim
+        (λ (gone : IsGivenNoMore log disk.inode.vid). absurd (yet-given log me session (epoch_of read) disk.inode.vid yet gone))
+        (λ (writes : (writer_of (log_effects log) disk.inode.vid ≡ Some (holder_at me session))
+        × (times (unlock_of me session disk.inode.vid) (last ∷ later) ≤ 1)). writes.1)
+        (has.unlocked session disk.inode.vid some) in
+        yet_stays log me session (epoch_of read) disk.inode.vid yet last
+        (spares session disk.inode.vid (yet-writer log me session (epoch_of read) disk.inode.vid yet) there most)
+
     -- ---- an entry that takes nothing from who has no unlock to put
 
     module _ (none : (session : ℕ) → TakesNone log (last ∷ later) me session last)
@@ -142,6 +157,7 @@ module _ (log : List Entry) (last : Entry) (later read : List Entry) (from : ℕ
         disks = λ session disk opened.
             disk_over (log ++ last ∷ []) (last ∷ later) later read from me session (kept_tail session) requests disk.snapshot disk.inode
             (disk_on log (last ∷ later) read from me session last (none session) requests disk.snapshot disk.inode (has.disks session disk opened));
+        held_yet = held_yet_later;
       }
 
   -- ---- an unlock, and what is neither granted an id nor publishes one

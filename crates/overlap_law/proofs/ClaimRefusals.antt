@@ -42,16 +42,17 @@ use Rattle.sheep_node.proofs.StepChain.{kept_by_chain}
 use Rattle.overlap_law.specs.AwaitedEntries.{IsSessionsCommand}
 use Rattle.overlap_law.specs.CommandDisks.{opened_as, opened_in, IsOpenAtTask, IsOpenAtStage}
 use Rattle.overlap_law.specs.Grants.{writer_of}
-use Rattle.overlap_law.specs.WriterClaims.{holder_at, HasLock, HasReservation, IsGivenNoMore, IsTaskKept, IsMakingKept, IsStageKept, LetsGo, IsLetGo, IsDiskKept, IsUnlockKept, HasClaims}
+use Rattle.overlap_law.specs.WriterClaims.{holder_at, HasLock, HasReservation, IsGivenNoMore, IsTaskKept, IsMakingKept, IsStageKept, LetsGo, IsLetGo, IsDiskKept, IsUnlockKept, HasClaims, HasLockYet}
 use Rattle.overlap_law.specs.Writers.{unlocks}
 use Rattle.overlap_law.proofs.AwaitedChanges.{Requests, AreAwaitedSoFar}
 use Rattle.overlap_law.proofs.AwaitedCommands.{is_command}
 use Rattle.overlap_law.proofs.AwaitedSteps.{entry_of_input, MeetsCommands, next_awaited, change_awaited}
-use Rattle.overlap_law.proofs.ClaimChanges.{disk_of, LetsNothingGo, one_alike, gone_claims, more_claims, unlocked_claims, kept_elsewhere}
+use Rattle.overlap_law.proofs.ClaimChanges.{disk_of, LetsNothingGo, one_alike, gone_claims, more_claims, kept_elsewhere}
+use Rattle.overlap_law.proofs.ClaimUnlocks.{unlocked_claims}
 use Rattle.overlap_law.proofs.ClaimRequests.{IsReadOf, HasSoFar, none_kept, freed_kept, arrived_lets, plain_kept, plain_there_lets, unpublished}
 use Rattle.overlap_law.proofs.ClaimSteps.{steps_kept}
 use Rattle.overlap_law.proofs.CountedEntries.{times}
-use Rattle.overlap_law.proofs.KeptIds.{lock-writer, reservation-writer, lock_with}
+use Rattle.overlap_law.proofs.KeptIds.{lock-writer, reservation-writer, lock_with, lock_yet}
 use Rattle.overlap_law.proofs.OpenDiskChanges.{AreOpenSoFar, one_alike as one_open, next_open, change_open}
 use Rattle.overlap_law.proofs.WriterChanges.{found_reserved}
 
@@ -198,12 +199,25 @@ module _ (read unread : List Entry) (input : Input) (node : Node) (meets : Meets
               absurd (none_left goes.req goes.request goes.there (ap is_command goes.command) goes.of)) is,
         )
 
+    own_yet : (disk : Disk) → disk_of session so_far.node.sessions ≡ Some disk → disk.snapshot ≡ false
+        → HasLockYet log node.me session (epoch_of read) disk.inode.vid
+    own_yet disk opened working = by_kind disk.snapshot working (gone_has.disks session disk opened)
+      where
+        by_kind : (b : Bool) → b ≡ false → IsDiskKept log so_far.node.outbox read node.me (tree.remove so_far.node.requests req) session b disk.inode
+            → HasLockYet log node.me session (epoch_of read) disk.inode.vid
+        by_kind true working is = absurd (cc (working))
+        by_kind false working (named, is) = ⊎_elim
+            (λ (lock : HasLock log so_far.node.outbox node.me session (epoch_of read) disk.inode.vid).
+            lock_yet log so_far.node.outbox node.me session (epoch_of read) disk.inode.vid lock)
+            (λ (goes : IsLetGo (tree.remove so_far.node.requests req) session disk.inode.vid).
+            absurd (none_left goes.req goes.request goes.there (ap is_command goes.command) goes.of)) is
+
     unlocked_has : HasClaims log (so_far.node.outbox ++ unlock_of node.me session vid.0 ∷ []) read from node.me (tree.remove so_far.node.requests req)
         so_far.node.sessions
     unlocked_has =
         unlocked_claims log read from node.me so_far.node.outbox gone so_far.node.sessions session vid.0 (may_unlock task task_has)
         (unpublished read unread input node meets log from reads so_far.node.outbox gone so_far.node.sessions gone_has unlock (λ s opened made never. never))
-        (λ q request other got command of. absurd (none_left q request got (ap is_command command) of)) own_disk gone_has
+        (λ q request other got command of. absurd (none_left q request got (ap is_command command) of)) own_disk own_yet gone_has
 
   -- what a refusal leaves
   refused_kept : (session req : ℕ) (cause : Cause) (course : Course) (so_far : StepState)

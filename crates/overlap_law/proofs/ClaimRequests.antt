@@ -41,11 +41,12 @@ use Rattle.sheep_node.specs.Courses.{disk_after, after_driver_step, after_comman
 use Rattle.sheep_node.specs.Changes.{Arrival, Outcome, ToWork, ToEntry, ToReply, outcome_of_driver, outcome_of_check, without_ended_work}
 use Rattle.sheep_node.proofs.WantedSteps.{IsWantedStep}
 use Rattle.overlap_law.specs.CommandDisks.{opened_in}
-use Rattle.overlap_law.specs.WriterClaims.{IsNamed, IsStageKept, LetsGo, IsLetGo, IsDiskKept, HasClaims, HasLock, IsPublicationKept}
+use Rattle.overlap_law.specs.WriterClaims.{IsNamed, IsStageKept, LetsGo, IsLetGo, IsDiskKept, HasClaims, HasLock, IsPublicationKept, HasLockYet}
 use Rattle.overlap_law.specs.Writers.{unlocks}
 use Rattle.overlap_law.proofs.AwaitedChanges.{Requests, AreAwaitedSoFar}
 use Rattle.overlap_law.proofs.AwaitedCommands.{is_command}
 use Rattle.overlap_law.proofs.AwaitedSteps.{entry_of_input, MeetsCommands}
+use Rattle.overlap_law.proofs.KeptIds.{lock_yet}
 use Rattle.overlap_law.proofs.ClaimChanges.{Sessions, disk_of, LetsNothingGo, IsOfSession, one_alike, retabled_claims, put_claims, stepped_claims}
 use Rattle.overlap_law.proofs.ClaimCommands.{IsDiskSafe, AreSafe, IsStepKept}
 use Rattle.overlap_law.proofs.ClaimTransport.{PutsNoMore}
@@ -221,6 +222,11 @@ module _ (read unread : List Entry) (input : Input) (node : Node) (meets : Meets
   kept_of_safe outbox requests session true inode is = is
   kept_of_safe outbox requests session false inode (named, lock) = (named, inl lock)
 
+  yet_of_safe : (outbox : List Entry) (session : ℕ) (snapshot : Bool) (inode : Content)
+      → IsDiskSafe log outbox read from node.me session snapshot inode → snapshot ≡ false → HasLockYet log node.me session (epoch_of read) inode.vid
+  yet_of_safe outbox session true inode is working = absurd (cc (working))
+  yet_of_safe outbox session false inode (named, lock) working = lock_yet log outbox node.me session (epoch_of read) inode.vid lock
+
   -- no other request is a command of the session
   abbrev pub IsSoleIn : Requests → ℕ → ℕ → Type 0
   IsSoleIn requests req session =
@@ -250,6 +256,7 @@ module _ (read unread : List Entry) (input : Input) (node : Node) (meets : Meets
       kept.stage
       (λ disk opened. kept_of_safe outbox (tree.insert so_far.node.requests req (record { session = session; course = Commanding step.op })) session
       disk.snapshot disk.inode (kept.safe disk opened))
+      (λ disk opened working there. yet_of_safe outbox session disk.snapshot disk.inode (kept.safe disk opened) working)
 
   pub put_there : (so_far : StepState) (session req : ℕ) (step : OpStep)
       → tree.get (after_command_step session req step so_far).node.requests req ≡ Some (record { session = session; course = Commanding step.op })

@@ -10,6 +10,7 @@ use Rattle.object_id.specs.declared.node.NodeId.{NodeId}
 use Rattle.object_id.specs.declared.oid.Vid.{Vid}
 use Rattle.disk_lock.specs.declared.holder.Holder.{Holder}
 use Rattle.vdi_directory.specs.declared.effect.Effect.{Effect}
+use Rattle.epoch_log.specs.Epochs.{epoch_of}
 use Rattle.vdi_directory.specs.Decisions.{log_effects}
 use Rattle.vdi_ops.specs.Op.{OpStage, Asked, Working, Publishing, Answered, Op}
 use Rattle.sheep_node.specs.declared.course.Course.TheVariants.{Commanding}
@@ -22,7 +23,7 @@ use Rattle.overlap_law.specs.WriterClaims.{holder_at, IsGivenNoMore, HasClaims}
 use Rattle.overlap_law.proofs.AwaitedChanges.{Requests}
 use Rattle.overlap_law.proofs.ClaimChanges.{Sessions}
 use Rattle.overlap_law.proofs.ClaimTransport.{TakesNone, GivesStage, GivesReplaced, stage_on, disk_on}
-use Rattle.overlap_law.proofs.KeptIds.{no_more_stays, not_taken}
+use Rattle.overlap_law.proofs.KeptIds.{no_more_stays, not_taken, yet-writer, yet_stays}
 use Rattle.overlap_law.proofs.WriterChanges.{entry_keeps_writer}
 
 -- a session's entry is its node's
@@ -107,6 +108,10 @@ module _ (log : List Entry) (last : Entry) (outbox read : List Entry) (from : �
         (has.commands req request op there command);
     disks = λ session disk opened.
         disk_on log outbox read from me session last (none_taken session) requests disk.snapshot disk.inode (has.disks session disk opened);
+    held_yet = λ session disk opened working there.
+        let yet = has.held_yet session disk opened working there in
+        yet_stays log me session (epoch_of read) disk.inode.vid yet last
+        (spares session disk.inode.vid (yet-writer log me session (epoch_of read) disk.inode.vid yet));
   }
 
 -- ---- which entries spare a node's sessions

@@ -13,7 +13,7 @@ use Rattle.vdi_ops.specs.Op.{Task, Opening, WritingBack, Tagging, Copying, Makin
 use Rattle.sheep_node.specs.declared.course.Request.{Request}
 use Rattle.sheep_node.specs.declared.session.Session.{Session}
 use Rattle.overlap_law.specs.WriterClaims.{HasLock, HasReservation, HasPlace, IsGrantKept, IsForDisk, IsMakingKept, IsTaskKept, IsPublicationKept, IsStageKept, IsLetGo, IsDiskKept, HasClaims}
-use Rattle.overlap_law.proofs.KeptIds.{lock_by, reserved_by_then, place_by}
+use Rattle.overlap_law.proofs.KeptIds.{lock_by, reserved_by_then, place_by, yet_by}
 
 module _ (log outbox read later : List Entry) (from next : ℕ) (after : epoch_of read ≤ epoch_of later) (on : from ≤ next) (me : NodeId) where
   module _ (session : ℕ) where
@@ -133,4 +133,6 @@ module _ (log outbox read later : List Entry) (from next : ℕ) (after : epoch_o
     unlocked = has.unlocked;
     commands = λ req request op there command. stage_read request.session _ op.stage (has.commands req request op there command);
     disks = λ session disk opened. disk_read requests session disk.snapshot disk.inode (has.disks session disk opened);
+    held_yet = λ session disk opened working there.
+        yet_by log me session (epoch_of read) disk.inode.vid (has.held_yet session disk opened working there) (epoch_of later) after;
   }

@@ -86,7 +86,7 @@ module _ (log : List Entry) (n : ℕ) (node : Node) (own : node.me.0 ≡ n) (epo
     stage_may of (Answered change) same is = absurd (cc (same))
 
 module _ (script : List Statement) (range : RunsAreInRange script) where
-  sound_along : (start : MomentWithPast) → Began script start.world → {moment : MomentWithPast} → MomentTrail script start moment → HostsAreSound moment
+  pub sound_along : (start : MomentWithPast) → Began script start.world → {moment : MomentWithPast} → MomentTrail script start moment → HostsAreSound moment
   sound_along start began moments.Still = sound_hosts script range start began
   sound_along start began (moments.Then trail change) = hosts_after_sound script range start began change
 

@@ -12,14 +12,14 @@ use Rattle.vdi_directory.specs.declared.effect.Reservation.{Reservation}
 use Rattle.vdi_directory.specs.Decisions.{outcome, log_effects}
 use Rattle.vdi_directory.specs.Effects.{reservations_of, reservation_on, holder_of}
 use Rattle.vdi_directory.specs.Sound.{IsSound, IsLawful}
-use Rattle.vdi_directory.specs.States.{owner_of}
+use Rattle.vdi_directory.specs.States.{owner_of, rank, state_of}
 use Rattle.vdi_directory.proofs.DecisionLaws.{states-forward, held-works}
 use Rattle.vdi_directory.proofs.HolderLemmas.{stays-held}
 use Rattle.vdi_directory.proofs.LawfulEntries.{lawful-outcome, sound-log_effects}
 use Rattle.vdi_directory.proofs.SoundEffects.{owner-kept, not-granted}
 use Rattle.vdi_directory.proofs.StateLemmas.{log_effects-push, reservations_of-push}
 use Rattle.overlap_law.specs.Grants.{gives, granted_in, reserver, writer_of, takes_writer, may_take_writer}
-use Rattle.overlap_law.specs.WriterClaims.{holder_at, HasLock, HasReservation, HasPlace, IsGivenNoMore, IsNamed}
+use Rattle.overlap_law.specs.WriterClaims.{holder_at, HasLock, HasReservation, HasPlace, HasLockYet, IsGivenNoMore, IsNamed}
 use Rattle.overlap_law.specs.Writers.{unlocks}
 use Rattle.overlap_law.proofs.DatedEffects.{last_epoch-push}
 use Rattle.overlap_law.proofs.TakenIds.{taken_by_entry}
@@ -76,13 +76,19 @@ abbrev writer_with : List Entry → ℕ → Option Reservation → Option Holder
 writer_with log vid o =
     option_map_or (λ (reservation : Reservation). Some (reserver reservation)) o (holder_of (log_effects log) vid)
 
+held-writer : (log : List Entry) (vid : ℕ) (holder : Holder) → holder_of (log_effects log) vid ≡ Some holder
+    → writer_of (log_effects log) vid ≡ Some holder
+held-writer log vid holder held =
+    writer-by (log_effects log) vid
+    ∙ ap (writer_with log vid) (working_free (log_effects log) (sound-log_effects log) vid (held-works log vid holder held))
+    ∙ held
+
 module _ (log outbox : List Entry) (me : NodeId) (session epoch vid : ℕ) where
   pub lock-writer : HasLock log outbox me session epoch vid → writer_of (log_effects log) vid ≡ Some (holder_at me session)
-  lock-writer has =
-      writer-by (log_effects log) vid
-      ∙ ap (writer_with log vid)
-      (working_free (log_effects log) (sound-log_effects log) vid (held-works log vid (holder_at me session) has.held))
-      ∙ has.held
+  lock-writer has = held-writer log vid (holder_at me session) has.held
+
+  pub lock_yet : HasLock log outbox me session epoch vid → HasLockYet log me session epoch vid
+  lock_yet has = record { held = has.held; since = has.since }
 
   pub reservation-writer : HasReservation log outbox me session epoch vid → writer_of (log_effects log) vid ≡ Some (holder_at me session)
   reservation-writer has = writer-by (log_effects log) vid ∙ ap (writer_with log vid) has.found ∙ ap (λ (h : Holder). Some h) has.own
@@ -151,3 +157,26 @@ module _ (log outbox : List Entry) (me : NodeId) (session epoch vid : ℕ) where
     pub place_by : (old : ℕ) → HasPlace log outbox me session epoch vid old → HasPlace log outbox me session later vid old
     unfolding reserved_by_then
     place_by old has = record { has = reserved_by_then has.has; place = has.place }
+
+-- ---- a lock whose end is to be put
+
+module _ (log : List Entry) (me : NodeId) (session epoch vid : ℕ) (has : HasLockYet log me session epoch vid) where
+  pub yet-writer : writer_of (log_effects log) vid ≡ Some (holder_at me session)
+  yet-writer = held-writer log vid (holder_at me session) has.held
+
+  pub yet_stays : (entry : Entry) → may_take_writer vid (holder_at me session) entry ≡ false → HasLockYet (log ++ entry ∷ []) me session epoch vid
+  yet_stays entry other =
+      let kept = not_taken log entry vid (holder_at me session) yet-writer other in
+      record {
+        held = stays-held log entry vid (holder_at me session) has.held (takes_less vid me (outcome (log_effects log) entry).effect kept);
+        since = subst (λ (k : ℕ). k ≤ epoch) (sym (granted_same log entry vid (holder_at me session) yet-writer kept)) has.since;
+      }
+
+  pub yet_by : (later : ℕ) → epoch ≤ later → HasLockYet log me session later vid
+  yet_by later after = record { held = has.held; since = let since = has.since in omega (arith, since, after) }
+
+  -- what is locked is given again
+  pub yet-given : IsGivenNoMore log vid → ⊥
+  yet-given gone =
+      let at : rank (state_of (log_effects log) vid) ≡ 2 = ap rank (held-works log vid (holder_at me session) has.held) in
+      omega (arith, gone, at)

@@ -153,6 +153,7 @@ pub mod KeptIds
 pub mod GrantedIds
 pub mod ClaimTransport
 pub mod ClaimChanges
+pub mod ClaimUnlocks
 pub mod ClaimCommands
 pub mod DriverNames
 pub mod ClaimRequests
@@ -168,6 +169,7 @@ pub mod ClaimsElsewhere
 pub mod ClaimInputs
 pub mod ClaimsInRuns
 pub mod GrantsOfCommands
+pub mod HeldDisks
 pub mod RowsInTurn
 pub mod RecoveryViews
 pub mod StoredRows

@@ -236,6 +236,17 @@ IsDiskKept log outbox read me requests session true inode = IsGivenNoMore log in
 IsDiskKept log outbox read me requests session false inode =
     IsNamed log inode.vid inode.name × (HasLock log outbox me session (epoch_of read) inode.vid ⊎ IsLetGo requests session inode.vid)
 
+-- a session has an id's lock yet, where its unlock is to be put; the lock was granted in this epoch or before
+pub record HasLockYet (log : List Entry) (me : NodeId) (session epoch vid : ℕ) : Type 0 where
+  pub held : holder_of (log_effects log) vid ≡ Some (holder_at me session)
+  pub since : granted_in log vid ≤ epoch
+
+-- a working disk that is open is locked as long as its unlock is to be put
+abbrev pub IsHeldYet : (log outbox read : List Entry) → NodeId → ℕ → Disk → Type 0
+IsHeldYet log outbox read me session disk =
+    disk.snapshot ≡ false → 1 ≤ count_by (is_same_entry (unlock_of me session disk.inode.vid)) outbox
+    → HasLockYet log me session (epoch_of read) disk.inode.vid
+
 -- ---- an unlock that is to be put
 
 -- its session has the id, and the unlock stands there once; or nobody is given the id again
@@ -253,6 +264,7 @@ pub record HasClaims (log outbox read : List Entry) (from : ℕ) (me : NodeId) (
       → IsStageKept log outbox read from me request.session (opened_in request.session sessions) op.stage
   pub disks : (session : ℕ) (disk : Disk) → (session_among session sessions).disk ≡ Some disk
       → IsDiskKept log outbox read me requests session disk.snapshot disk.inode
+  pub held_yet : (session : ℕ) (disk : Disk) → (session_among session sessions).disk ≡ Some disk → IsHeldYet log outbox read me session disk
 
 -- each node's sessions have what their commands and disks rest on
 pub record ClaimsAreKept (log : List Entry) (hosts : Hosts) : Type 0 where

@@ -19,7 +19,7 @@ ghost use Rattle.overlap_law.specs.Packets.{Wire};
 ghost use Rattle.overlap_law.specs.Past.{MomentWithPast, run_with_past};
 ghost use Rattle.overlap_law.specs.MomentChanges.{MomentChange, MomentTrail, RunsAreInRange};
 ghost use Rattle.overlap_law.specs.Traffic.{IsInTurn};
-ghost use Rattle.overlap_law.specs.Sessions.{SessionsHaveOneInodeWork, BegunRequestsAreApart};
+ghost use Rattle.overlap_law.specs.Sessions.{SessionsHaveOneInodeWork, BegunRequestsAreApart, OpenDisksAreHeld};
 ghost use Rattle.overlap_law.specs.Writers.{ThereIsOneWriter, AttemptsHaveBegun, WritersTakeTurns, IsInOwnTurn};
 ghost use Rattle.overlap_law.specs.RequestsOfScript.{RequestsAreWithoutReply, AttemptsAreTheScripts, TheRefusedAreAnswered};
 ghost use Rattle.overlap_law.specs.TiedAttempts.{IsTied};
@@ -169,4 +169,12 @@ pub fn commands_keep_their_grants()
     ensures { (script : List Statement) (events : List Event) (start moment : MomentWithPast) → RunsAreInRange script
         → run_with_past script events ≡ Some start → MomentTrail script start moment
         → CommandsKeepTheirGrants moment.world.log moment.world.hosts }
+{}
+
+/// In each run in range a session that has a working disk open holds it by the whole log, and its node has read that; or a request of the
+/// session waits for an entry by which the disk is let go, and which is in the log already. So it is at each moment on the way of an event,
+/// and at its end.
+pub fn open_disks_are_held()
+    ensures { (script : List Statement) (events : List Event) (start moment : MomentWithPast) → RunsAreInRange script
+        → run_with_past script events ≡ Some start → MomentTrail script start moment → OpenDisksAreHeld moment.world.log moment.world.hosts }
 {}
