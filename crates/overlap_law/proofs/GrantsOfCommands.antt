@@ -27,7 +27,7 @@ module _ (log : List Entry) (n : ℕ) (node : Node) (own : node.me.0 ≡ n) (epo
   abbrev epoch : ℕ
   epoch = epoch_of node.peer.entries
 
-  locked_may : (vid : ℕ) → HasLock log node.outbox node.me session (epoch_of node.peer.entries) vid → MayWrite log n session vid node
+  pub locked_may : (vid : ℕ) → HasLock log node.outbox node.me session (epoch_of node.peer.entries) vid → MayWrite log n session vid node
   locked_may vid lock = record {
     writer =
         lock-writer log node.outbox node.me session epoch vid lock

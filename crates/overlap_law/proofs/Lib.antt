@@ -170,6 +170,12 @@ pub mod ClaimInputs
 pub mod ClaimsInRuns
 pub mod GrantsOfCommands
 pub mod HeldDisks
+pub mod AllowedCourses
+pub mod OwnMakings
+pub mod OwnMakingChanges
+pub mod CausedWorks
+pub mod WorksInMoments
+pub mod WritersOfWorks
 pub mod RowsInTurn
 pub mod RecoveryViews
 pub mod StoredRows

@@ -35,6 +35,17 @@ pub record MayWrite (log : List Entry) (n session vid : ℕ) (node : Node) : Typ
   pub kept : list_any (unlocks session vid) node.outbox ≡ false
   pub read : granted_in log vid ≤ node.peer.epoch
 
+-- a work is of a request without reply, whose session may write the object
+pub record IsMayWriteOf (log : List Entry) (n req : ℕ) (work : Work) (node : Node) : Type 0 where
+  pub request : Request
+  pub there : tree.get node.requests req ≡ Some request
+  pub may : MayWrite log n request.session (vid_of (oid_of work.work)) node
+
+-- each open create or write is
+pub record WorksMayWrite (log : List Entry) (hosts : Hosts) : Type 0 where
+  pub each : EachUp hosts (λ n node. (req : ℕ) (work : Work) → tree.get node.gateway.works req ≡ Some work → is_making work.work ≡ true
+      → IsMayWriteOf log n req work node)
+
 -- a work is of a request without reply, whose session may write the object, and its attempts are of the grant's epoch or later
 pub record IsTheWriters (log : List Entry) (attempts : List AttemptRecord) (n req : ℕ) (work : Work) (node : Node) : Type 0 where
   pub request : Request

@@ -62,7 +62,7 @@ pub use writers::{
     claims_of_sessions_are_kept, commands_keep_their_grants, each_attempt_is_for_a_request,
     entries_of_commands_are_awaited, few_effects_change_the_writer,
     grants_are_of_epochs_that_began, open_disks_are_held, open_disks_fit_commands,
-    requests_of_nodes_are_without_reply, scripts_of_a_text_have_room,
+    open_works_may_write, requests_of_nodes_are_without_reply, scripts_of_a_text_have_room,
     scripts_of_few_controls_have_room, the_refused_are_answered, the_writer_begins_in_turn,
     there_stays_one_writer,
 };

@@ -20,7 +20,7 @@ ghost use Rattle.overlap_law.specs.Past.{MomentWithPast, run_with_past};
 ghost use Rattle.overlap_law.specs.MomentChanges.{MomentChange, MomentTrail, RunsAreInRange};
 ghost use Rattle.overlap_law.specs.Traffic.{IsInTurn};
 ghost use Rattle.overlap_law.specs.Sessions.{SessionsHaveOneInodeWork, BegunRequestsAreApart, OpenDisksAreHeld};
-ghost use Rattle.overlap_law.specs.Writers.{ThereIsOneWriter, AttemptsHaveBegun, WritersTakeTurns, IsInOwnTurn};
+ghost use Rattle.overlap_law.specs.Writers.{WorksMayWrite, ThereIsOneWriter, AttemptsHaveBegun, WritersTakeTurns, IsInOwnTurn};
 ghost use Rattle.overlap_law.specs.RequestsOfScript.{RequestsAreWithoutReply, AttemptsAreTheScripts, TheRefusedAreAnswered};
 ghost use Rattle.overlap_law.specs.TiedAttempts.{IsTied};
 ghost use Rattle.overlap_law.specs.RoomOfScripts.{HasFewControls};
@@ -177,4 +177,11 @@ pub fn commands_keep_their_grants()
 pub fn open_disks_are_held()
     ensures { (script : List Statement) (events : List Event) (start moment : MomentWithPast) → RunsAreInRange script
         → run_with_past script events ≡ Some start → MomentTrail script start moment → OpenDisksAreHeld moment.world.log moment.world.hosts }
+{}
+
+/// In each run in range an open create or write is of a request whose session may write the object: it is the writer of the object's id, has
+/// no unlock of it to put, and its node has read the grant. So it is at each moment on the way of an event, and at its end.
+pub fn open_works_may_write()
+    ensures { (script : List Statement) (events : List Event) (start moment : MomentWithPast) → RunsAreInRange script
+        → run_with_past script events ≡ Some start → MomentTrail script start moment → WorksMayWrite moment.world.log moment.world.hosts }
 {}
