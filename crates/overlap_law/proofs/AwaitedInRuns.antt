@@ -187,7 +187,7 @@ module _ (script : List Statement) (range : RunsAreInRange script) where
     at_end : (event : Event) (made : EventOutcome) → step script event start.world ≡ Some made → AreAwaitedAmong made.world.log made.world.hosts
     at_end event made happened = awaited_in_worlds made.world (goes_on script event start.world made began happened)
 
-    awaited_after : {before after : MomentWithPast} → MomentChange script start before after → AreAwaitedAmong after.world.log after.world.hosts
+    pub awaited_after : {before after : MomentWithPast} → MomentChange script start before after → AreAwaitedAmong after.world.log after.world.hosts
     awaited_after (moments.StepBegins stepping is by) =
         step_awaited script range start.world began stepping.n stepping.host is.there is.up stepping.cause is.caused at_start (first_in_step stepping) changes.Still
     awaited_after (moments.StepGoesOn stepping so_far next is by within) =
@@ -220,7 +220,7 @@ module _ (script : List Statement) (range : RunsAreInRange script) where
           ((all.each n host there up).once entry is);
     }
 
-    said_sessions : CommandsAreTheSessions hosts
+    pub said_sessions : CommandsAreTheSessions hosts
     said_sessions = record {
       each = λ n host there up req request op got command.
           subst (IsOwnCourse host.node.peer.entries host.node.me request.session) command ((all.each n host there up).commands.own req request got);

@@ -199,7 +199,7 @@ module _ (script : List Statement) (range : RunsAreInRange script) where
   module _ (world : World) (began : Began script world) (n : ℕ) (host : Host) (there : tree.get world.hosts n ≡ Some host) (up : is_host_up host ≡ true)
       (up_so : host.is_lost ≡ false) (all : AreClaimedAmong world.log world.hosts) where
     -- a snapshot's disk is locked by a session of the node that puts its entry
-    snaps : (entry : Entry) → IsCause script world n host (EntryIsPut entry) → (by : NodeId) (old vid : Vid) → entry ≡ entries.Snapshot by old vid
+    pub snaps : (entry : Entry) → IsCause script world n host (EntryIsPut entry) → (by : NodeId) (old vid : Vid) → entry ≡ entries.Snapshot by old vid
         → (session : ℕ) × (writer_of (log_effects world.log) old.0 ≡ Some (holder_at host.node.me session))
     snaps entry so by old vid is =
         let first : host.node.outbox ≡ entries.Snapshot by old vid ∷ so.0 = so.1 ∙ ap (λ (e : Entry). e ∷ so.0) is in
@@ -364,7 +364,7 @@ module _ (script : List Statement) (range : RunsAreInRange script) where
     in_step stepping is so_far leads =
         step_claimed start.world began stepping.n stepping.host is.there is.up (up_not_lost stepping.host is.up) at_start stepping.cause is.caused so_far leads
 
-    claimed_after : {before after : MomentWithPast} → MomentChange script start before after → AreClaimedAmong after.world.log after.world.hosts
+    pub claimed_after : {before after : MomentWithPast} → MomentChange script start before after → AreClaimedAmong after.world.log after.world.hosts
     claimed_after (moments.StepBegins stepping is by) = in_step stepping is (first_in_step stepping) changes.Still
     claimed_after (moments.StepGoesOn stepping so_far next is by within) = in_step stepping is next (changes.Then within.leads within.change)
     claimed_after (moments.StepIsMade stepping is by) =

@@ -45,11 +45,11 @@ use Rattle.overlap_law.proofs.LeavesOfLog.{leaves_plain, leaves_joined, leaves_w
 
 -- ---- lists
 
-at_end : {X : Type 0} (xs : List X) → slice_get xs (length xs) ≡ None
+pub at_end : {X : Type 0} (xs : List X) → slice_get xs (length xs) ≡ None
 at_end [] = refl
 at_end (x ∷ xs) = at_end xs
 
-at_push : {X : Type 0} (xs : List X) (x : X) → slice_get (xs ++ x ∷ []) (length xs) ≡ Some x
+pub at_push : {X : Type 0} (xs : List X) (x : X) → slice_get (xs ++ x ∷ []) (length xs) ≡ Some x
 at_push [] x = refl
 at_push (y ∷ xs) x = at_push xs x
 

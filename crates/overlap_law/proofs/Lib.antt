@@ -176,6 +176,8 @@ pub mod OwnMakingChanges
 pub mod CausedWorks
 pub mod WorksInMoments
 pub mod WritersOfWorks
+pub mod WritersEnd
+pub mod TurnsInRuns
 pub mod RowsInTurn
 pub mod RecoveryViews
 pub mod StoredRows

@@ -9,6 +9,7 @@ use Rattle.peer_service.specs.Serve.{reply_to}
 use Rattle.message_wire.specs.declared.packet.Packet.{Packet}
 use Rattle.message_wire.specs.declared.packet.Packet.TheVariants.{Request, Reply}
 use Rattle.message_wire.specs.declared.name.MessageName.{MessageName}
+use Rattle.proof_tools.proofs.FiniteMaps.{get-insert_same}
 use Rattle.gateway.specs.Work.{is_making}
 use Rattle.gateway.specs.State.{Work, Open}
 use Rattle.sheep_node.specs.declared.course.Request as courses
@@ -48,6 +49,11 @@ pub record IsOpened (script : List Statement) (start after : MomentWithPast) (ne
   pub moment_so : after ≡ moment_in_step script stepping start next
   pub making : is_making asked.work ≡ true
   pub request : courses.Request
+  pub there : tree.get lined.node.requests req ≡ Some request
+  pub at_gateway : tree.get next.node.gateway.works req ≡ Some (record asked { stage = Open (attempt_in asked lined.node) })
+  pub requests_so : next.node.requests ≡ lined.node.requests
+  pub me_so : next.node.me ≡ lined.node.me
+  pub epoch_so : next.node.peer.epoch ≡ lined.node.peer.epoch
   pub opened : beginning (host_with_node stepping.host lined.node) lined.node.sends req asked.work (attempt_in asked lined.node) request ≡ new
 
 -- an attempt that was there, but for its fates
@@ -98,9 +104,10 @@ module _ (script : List Statement) (start before after : MomentWithPast) where
 
 -- what begins is an attempt to create or write, of a request that is there
 begun_is : (making first : Bool) (o : Option courses.Request) (make : courses.Request → AttemptRecord) (new : AttemptRecord)
-    → cond (making && first) (option_map make o) None ≡ Some new → (making ≡ true) × (request : courses.Request) × (make request ≡ new)
+    → cond (making && first) (option_map make o) None ≡ Some new
+    → (making ≡ true) × (request : courses.Request) × (o ≡ Some request) × (make request ≡ new)
 begun_is true true None make new is = absurd (cc (is))
-begun_is true true (Some request) make new is = (refl, request, same_Some (make request) new is)
+begun_is true true (Some request) make new is = (refl, request, refl, same_Some (make request) new is)
 begun_is true false o make new is = absurd (cc (is))
 begun_is false first o make new is = absurd (cc (is))
 
@@ -127,7 +134,7 @@ module _ (script : List Statement) (range : RunsAreInRange script) (start : Mome
         let current = attempt_in asked lined.node in
         more_attempts script start (at so_far) (at next) (beginning_with host lined.node.sends req asked.work (Open current)) grows
         (λ new made.
-        let (making, request, opened) = begun_is (is_making asked.work) (is_first lined.node.sends current.messages)
+        let (making, request, there, opened) = begun_is (is_making asked.work) (is_first lined.node.sends current.messages)
         (tree.get lined.node.requests req) (beginning host lined.node.sends req asked.work current) new made in
         record {
           stepping = stepping;
@@ -145,6 +152,11 @@ module _ (script : List Statement) (range : RunsAreInRange script) (start : Mome
           moment_so = refl;
           making = making;
           request = request;
+          there = there;
+          at_gateway = get-insert_same lined.node.gateway.works req (record asked { stage = Open current });
+          requests_so = refl;
+          me_so = refl;
+          epoch_so = refl;
           opened = opened;
         })
     of_change so_far next leads (changes.Holds session req asked lined comes short touched) grows = none_begins so_far next grows

@@ -84,7 +84,7 @@ module _ (script : List Statement) (range : RunsAreInRange script) where
     at_end : (event : Event) (made : EventOutcome) → step script event start.world ≡ Some made → AreOpenAmong made.world.hosts
     at_end event made happened = open_in_worlds made.world (goes_on script event start.world made began happened)
 
-    open_after : {before after : MomentWithPast} → MomentChange script start before after → AreOpenAmong after.world.hosts
+    pub open_after : {before after : MomentWithPast} → MomentChange script start before after → AreOpenAmong after.world.hosts
     open_after (moments.StepBegins stepping is by) = in_step stepping is (first_in_step stepping) changes.Still
     open_after (moments.StepGoesOn stepping so_far next is by within) = in_step stepping is next (changes.Then within.leads within.change)
     open_after (moments.StepIsMade stepping is by) = in_step stepping is (last_in_step stepping) (step_chain (input_of_cause stepping.cause) stepping.host.node)

@@ -90,7 +90,7 @@ module _ (script : List Statement) (range : RunsAreInRange script) where
     joins = λ world n began control next. (none_allowed, none_own);
   }
 
-  well_in_world : (world : World) → Began script world → HaveWellWorks world.hosts
+  pub well_in_world : (world : World) → Began script world → HaveWellWorks world.hosts
   well_in_world world began n host there =
       let placed = each_where script (Began script) PlacedWhereBegun (λ world begun. begun) placed_kept world began n host there began in
       let guests = guests_sound script range world began n host there in
@@ -130,7 +130,7 @@ module _ (script : List Statement) (range : RunsAreInRange script) where
     at_end : (event : Event) (made : EventOutcome) → step script event start.world ≡ Some made → HaveWellWorks made.world.hosts
     at_end event made happened = well_in_world made.world (goes_on script event start.world made began happened)
 
-    well_after : {before after : MomentWithPast} → MomentChange script start before after → HaveWellWorks after.world.hosts
+    pub well_after : {before after : MomentWithPast} → MomentChange script start before after → HaveWellWorks after.world.hosts
     well_after (moments.StepBegins stepping is by) = in_step stepping is by (first_in_step stepping) changes.Still
     well_after (moments.StepGoesOn stepping so_far next is by within) = in_step stepping is by next (changes.Then within.leads within.change)
     well_after (moments.StepIsMade stepping is by) = well_in_world (end_of stepping) (has_ended stepping is)

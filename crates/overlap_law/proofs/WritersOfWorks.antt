@@ -44,24 +44,27 @@ use Rattle.sheep_node.specs.SessionQueues.{session_among, command_in}
 use Rattle.sheep_node.specs.State.{Node, new_session}
 use Rattle.sheep_node.specs.WantedWorks.{IsWorkWanted, IsWantedAt, IsWorkOfDriver, IsWorkOfWrite}
 use Rattle.sheep_node.proofs.SessionViews.{IsSeen}
-use Rattle.overlap_law.specs.AwaitedEntries.{WasReserved, IsSessionsEntry, IsSessionsStage, IsSessionsCommand}
+use Rattle.sheep_world.specs.Began.{Began}
+use Rattle.overlap_law.specs.AwaitedEntries.{WasReserved, IsSessionsEntry, IsSessionsStage, IsSessionsCommand, CommandsAreTheSessions}
 use Rattle.overlap_law.specs.CommandDisks.{opened_as, opened_in, IsOpenAtLast, IsOpenAtStage, IsOpenAtCourse}
 use Rattle.overlap_law.specs.Courses.{granted_at}
 use Rattle.overlap_law.specs.Past.{MomentWithPast, run_with_past}
-use Rattle.overlap_law.specs.MomentChanges.{MomentTrail, RunsAreInRange}
+use Rattle.overlap_law.specs.MomentChanges as moments
+use Rattle.overlap_law.specs.MomentChanges.{MomentChange, MomentTrail, RunsAreInRange}
 use Rattle.overlap_law.specs.WriterClaims.{HasLock, IsMakingKept, IsStageKept, LetsGo, IsLetGo, IsDiskKept, HasClaims}
 use Rattle.overlap_law.specs.Writers.{MayWrite, IsMayWriteOf, WorksMayWrite}
 use Rattle.overlap_law.proofs.AllowedCourses.{HasWorking, IsAllowed, opened_by}
-use Rattle.overlap_law.proofs.AwaitedInRuns.{commands_sessions-in_run}
+use Rattle.overlap_law.proofs.AwaitedInRuns.{awaited_in_worlds, awaited_after, said_sessions}
 use Rattle.overlap_law.proofs.CausedWorks.{HasWellWorks}
-use Rattle.overlap_law.proofs.ClaimsInRuns.{claims-in_run}
+use Rattle.overlap_law.proofs.ClaimsInRuns.{AreClaimedAmong, claimed_in_worlds, claimed_after}
 use Rattle.overlap_law.proofs.DatedEffects.{by_entries}
-use Rattle.overlap_law.proofs.GrantsOfCommands.{sound_along, locked_may, stage_may}
+use Rattle.overlap_law.proofs.GrantsOfCommands.{locked_may, stage_may}
 use Rattle.overlap_law.proofs.KnownDisks.{Few, FewAt, IsKnownInode, IsKnownCourse, IsKnownStage, vid-of_object, vid-of_inode}
 use Rattle.overlap_law.proofs.NoRecoveredDue.{began-with_past}
-use Rattle.overlap_law.proofs.OpenDisksInRuns.{disks_fit-in_run}
+use Rattle.overlap_law.proofs.OpenDisksInRuns.{AreOpenAmong, open_in_worlds, open_after}
 use Rattle.overlap_law.proofs.OwnMakings.{IsOwnStage, MakesOwn, MakesOwnAt}
-use Rattle.overlap_law.proofs.WorksInMoments.{well_along}
+use Rattle.overlap_law.proofs.WorksInMoments.{HaveWellWorks, well_in_world, well_after}
+use Rattle.overlap_law.proofs.ReadInMoments.{HostsAreSound, sound_hosts, hosts_after_sound}
 
 -- what is reserved is an id
 reserved-is_id : (log : List Entry) (grant : Grant) → Contains (log_effects log) (effects.Reserved grant) → IsVid grant.reservation.vid.0
@@ -334,22 +337,42 @@ asked_for node well req work got = by_request (tree.get node.requests req) refl
         absurd (cc (may, never))
     by_request (Some request) there = (request, there)
 
+-- in a moment
+works_may : (moment : MomentWithPast) → HostsAreSound moment → AreClaimedAmong moment.world.log moment.world.hosts → AreOpenAmong moment.world.hosts
+    → CommandsAreTheSessions moment.world.hosts → HaveWellWorks moment.world.hosts → WorksMayWrite moment.world.log moment.world.hosts
+works_may moment sound claimed fit own well = record {
+  each = λ n host there up req work got making.
+      let read = (sound.each n host there).read in
+      let (request, asked) = asked_for host.node (well n host there) req work got in
+      record {
+        request = request;
+        there = asked;
+        may =
+            work_may moment.world.log n host.node read.own read.epoch_so (own.each n host there up) (claimed n host there up) (fit n host there)
+            (well n host there) req work got making request asked;
+      };
+}
+
 module _ (script : List Statement) (range : RunsAreInRange script) where
+  -- as an event begins, and after each change of it
+  module _ (start : MomentWithPast) (began : Began script start.world) where
+    pub works_may-at_start : WorksMayWrite start.world.log start.world.hosts
+    works_may-at_start =
+        works_may start (sound_hosts script range start began) (claimed_in_worlds script range start.world began) (open_in_worlds script range start.world began)
+        (said_sessions script range start.world.log start.world.hosts (awaited_in_worlds script range start.world began))
+        (well_in_world script range start.world began)
+
+    pub works_may-after : {before after : MomentWithPast} → MomentChange script start before after → WorksMayWrite after.world.log after.world.hosts
+    works_may-after {before} {after} change =
+        works_may after (hosts_after_sound script range start began change) (claimed_after script range start began change)
+        (open_after script range start began change)
+        (said_sessions script range after.world.log after.world.hosts (awaited_after script range start began change))
+        (well_after script range start began change)
+
+    works_may-along : {moment : MomentWithPast} → MomentTrail script start moment → WorksMayWrite moment.world.log moment.world.hosts
+    works_may-along moments.Still = works_may-at_start
+    works_may-along (moments.Then trail change) = works_may-after change
+
   pub works_may-in_run : (events : List Event) (start moment : MomentWithPast) → run_with_past script events ≡ Some start
       → MomentTrail script start moment → WorksMayWrite moment.world.log moment.world.hosts
-  works_may-in_run events start moment is trail = record {
-    each = λ n host there up req work got making.
-        let began = began-with_past script events start is in
-        let read = ((sound_along script range start began trail).each n host there).read in
-        let well = well_along script range start began trail n host there in
-        let (request, asked) = asked_for host.node well req work got in
-        record {
-          request = request;
-          there = asked;
-          may =
-              work_may moment.world.log n host.node read.own read.epoch_so
-              ((commands_sessions-in_run script range events start moment is trail).each n host there up)
-              ((claims-in_run script range events start moment is trail).each n host there up)
-              ((disks_fit-in_run script range events start moment is trail).each n host there up) well req work got making request asked;
-        };
-  }
+  works_may-in_run events start moment is trail = works_may-along start (began-with_past script events start is) trail

@@ -8,7 +8,7 @@ use Rattle.overlap_law.specs.ShapedAttempts.{AreShaped}
 use Rattle.overlap_law.specs.OpenWorks.{WorksKnowTheirFates, PacketsAreOfOpenWorks, ServedRequestsAreTouched, LosersAreTouched}
 use Rattle.overlap_law.specs.OpenWorks.{RefusedRequestsAreMute}
 use Rattle.overlap_law.specs.Traffic.{OpenAttemptsHaveMessages}
-use Rattle.overlap_law.specs.Writers.{WorksMayWrite, AttemptsHaveBegun}
+use Rattle.overlap_law.specs.Writers.{WorksMayWrite, ThereIsOneWriter, AttemptsHaveBegun}
 use Rattle.overlap_law.specs.Sessions.{SessionsHaveOneInodeWork, BegunRequestsAreApart, OpenDisksAreHeld}
 use Rattle.overlap_law.specs.Courses.{CommandsKeepTheirGrants}
 use Rattle.overlap_law.specs.RequestsOfScript.{RequestsAreWithoutReply, AttemptsAreTheScripts, TheRefusedAreAnswered}
@@ -36,6 +36,7 @@ pub record IsKeptSoFar (script : List Statement) (moment : MomentWithPast) : Typ
   pub inodes : SessionsHaveOneInodeWork moment.world.hosts
   pub apart : BegunRequestsAreApart moment.world.hosts
   pub may_write : WorksMayWrite moment.world.log moment.world.hosts
+  pub one_writer : ThereIsOneWriter moment.world.log moment.world.wire moment.past.attempts
   pub held : OpenDisksAreHeld moment.world.log moment.world.hosts
   pub granted : CommandsKeepTheirGrants moment.world.log moment.world.hosts
   pub ends : RowsHaveEnds moment.world.hosts

@@ -64,5 +64,5 @@ pub use writers::{
     grants_are_of_epochs_that_began, open_disks_are_held, open_disks_fit_commands,
     open_works_may_write, requests_of_nodes_are_without_reply, scripts_of_a_text_have_room,
     scripts_of_few_controls_have_room, the_refused_are_answered, the_writer_begins_in_turn,
-    there_stays_one_writer,
+    there_is_one_writer, there_stays_one_writer,
 };

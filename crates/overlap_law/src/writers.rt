@@ -21,6 +21,7 @@ ghost use Rattle.overlap_law.specs.MomentChanges.{MomentChange, MomentTrail, Run
 ghost use Rattle.overlap_law.specs.Traffic.{IsInTurn};
 ghost use Rattle.overlap_law.specs.Sessions.{SessionsHaveOneInodeWork, BegunRequestsAreApart, OpenDisksAreHeld};
 ghost use Rattle.overlap_law.specs.Writers.{WorksMayWrite, ThereIsOneWriter, AttemptsHaveBegun, WritersTakeTurns, IsInOwnTurn};
+ghost use Rattle.overlap_law.specs.OpenWorks.{PacketsAreOfOpenWorks};
 ghost use Rattle.overlap_law.specs.RequestsOfScript.{RequestsAreWithoutReply, AttemptsAreTheScripts, TheRefusedAreAnswered};
 ghost use Rattle.overlap_law.specs.TiedAttempts.{IsTied};
 ghost use Rattle.overlap_law.specs.RoomOfScripts.{HasFewControls};
@@ -184,4 +185,18 @@ pub fn open_disks_are_held()
 pub fn open_works_may_write()
     ensures { (script : List Statement) (events : List Event) (start moment : MomentWithPast) → RunsAreInRange script
         → run_with_past script events ≡ Some start → MomentTrail script start moment → WorksMayWrite moment.world.log moment.world.hosts }
+{}
+
+/// There is one writer of each id: in each run in range an attempt is the writer's under its grant, or has nothing in flight and is of no later
+/// epoch than the grant, or its gateway's incarnation left before the grant. For an attempt that begins is of a session that may write the id;
+/// and at an entry by which a session loses an id nothing is in flight of its attempts on it, or the entry is the leave of its node. So it is
+/// at each moment on the way of an event, and at its end.
+pub fn there_is_one_writer()
+    ensures turns { (script : List Statement) (start before after : MomentWithPast) → RunsAreInRange script → Began script start.world
+        → MomentChange script start before after → IsTied before
+        → PacketsAreOfOpenWorks before.world.hosts before.world.wire before.past.attempts
+        → WritersTakeTurns before.world.log after.world.log before.world.wire before.past.attempts after.past.attempts }
+    ensures run { (script : List Statement) (events : List Event) (start moment : MomentWithPast) → RunsAreInRange script
+        → run_with_past script events ≡ Some start → MomentTrail script start moment
+        → ThereIsOneWriter moment.world.log moment.world.wire moment.past.attempts }
 {}
