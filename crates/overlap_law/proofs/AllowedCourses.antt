@@ -1,14 +1,12 @@
 -- A write is on a working disk that its session has open, and so is a check; and no session asks for an object: every change keeps that.
 use Rattle.std.proofs.Common.{◌≡◌, ◌≢◌, ℕ, ◌==◌, Bool, true, false, cond, List, [], ◌∷◌, ◌++◌, length, Option, Some, None, refl, sym, ap, subst, ◌∙◌, ⊎_elim}
 use Rattle.std.specs.Ordering.{nat_cmp}
-use Rattle.std.specs.Prelude.{IfSome}
 use Rattle.std.specs.FinMap as tree
 use Rattle.std.proofs.lemmas.Bool.{cases_eq}
 use Rattle.std.proofs.lemmas.Option.{same_Some}
 use Rattle.proof_tools.proofs.FiniteMaps.{get-insert_other, get-remove_other, get-remove_same}
 use Rattle.object_id.specs.declared.cause.Cause.{Cause}
 use Rattle.object_id.specs.declared.cause.Cause.TheVariants.{Halt}
-use Rattle.object_id.specs.declared.node.NodeId.{NodeId}
 use Rattle.object_id.specs.Fields.{zeros}
 use Rattle.inode.specs.Layout.{Content}
 use Rattle.peer_proto.specs.declared.guest.DiskAsk.{DiskAsk}
@@ -40,11 +38,10 @@ use Rattle.sheep_node.specs.declared.course.Course.{Course}
 use Rattle.sheep_node.specs.declared.course.Request.{Request}
 use Rattle.sheep_node.specs.declared.session.Session.{Session}
 use Rattle.sheep_node.specs.declared.course.Course.TheVariants.{Waiting, Driving, Commanding, Checking, DoingWork, AwaitingDecision}
-use Rattle.sheep_node.specs.State.{Node, initial_node}
+use Rattle.sheep_node.specs.State.{Node}
 use Rattle.sheep_node.specs.StepState.{StepState, at_first, session_in, request_ended, with_sole_request}
 use Rattle.sheep_node.specs.Courses.{after_driver_step, disk_after, inode_open, after_command_step}
 use Rattle.sheep_node.specs.Guests.{queued_as, seen_by_command}
-use Rattle.sheep_node.specs.Step.{node_step}
 use Rattle.sheep_node.specs.May.{May}
 use Rattle.sheep_node.specs.SessionQueues.{session_among, QueuesAreDiskRequests, CommandsAreAlone}
 use Rattle.sheep_node.specs.Changes as changes
@@ -54,7 +51,7 @@ use Rattle.sheep_node.proofs.RefusedCourses.{course_refused-keeps, request_refus
 use Rattle.sheep_node.proofs.SoleParts.{CommandsAre, IsFreeFor, command_is_free}
 use Rattle.sheep_node.proofs.SoleCommands.{free, change_keeps_alone, received_alone}
 use Rattle.sheep_node.proofs.SessionViews.{IsSeen, same_seen, free_seen, own_seen}
-use Rattle.sheep_node.proofs.StepChain.{kept_by_chain, step_chain}
+use Rattle.sheep_node.proofs.StepChain.{kept_by_chain}
 use Rattle.sheep_node.proofs.ReceivedInputs.{received_keeps}
 use Rattle.sheep_node.proofs.WantedSteps.{driver_begins-wanted, driver_goes_on-wanted}
 use Rattle.overlap_law.specs.CommandDisks.{opened_as}

@@ -8,7 +8,6 @@ use Rattle.std.proofs.lemmas.List.Folds.{list_any-append}
 use Rattle.std.proofs.lemmas.Option.{same_Some}
 use Rattle.proof_tools.proofs.FiniteMaps.{get-insert_same, get-insert_other, get-insert_cases, get-remove_same, get-remove_other}
 use Rattle.object_id.specs.declared.entry.Entry.{Entry}
-use Rattle.object_id.specs.declared.entry.Entry.TheVariants.{Unlock}
 use Rattle.object_id.specs.declared.node.NodeId.{NodeId}
 use Rattle.object_id.specs.Same.{is_same_entry}
 use Rattle.guest_driver.specs.declared.disk.Disk.{Disk}
@@ -29,7 +28,7 @@ use Rattle.overlap_law.specs.Writers.{unlocks}
 use Rattle.overlap_law.proofs.AwaitedChanges.{Requests}
 use Rattle.overlap_law.proofs.AwaitedCommands.{is_command}
 use Rattle.overlap_law.proofs.ClaimTransport.{KeepsAll, PutsNoMore, stage_over, disk_over}
-use Rattle.overlap_law.proofs.CountedEntries.{times, once_if, times-push, same_entry, itself}
+use Rattle.overlap_law.proofs.CountedEntries.{times, once_if, times-push, same_entry}
 
 abbrev pub Sessions : Type 0
 Sessions = tree.FinMap nat_cmp Session

@@ -1,33 +1,22 @@
 -- An unlock is put: its session claims the id no more, and where the id is that of an open disk it has that locked until then.
-use Rattle.std.proofs.Common.{◌≡◌, ◌≢◌, ◌⊎◌, inl, inr, ⊎_elim, ℕ, ◌+◌, ◌≤◌, ◌==◌, Bool, true, false, ◌&&◌, ◌||◌, List, [], ◌∷◌, ◌++◌, Option, Some, None, unwrap_or, refl, sym, ap, subst, ◌∙◌, arith}
-use Rattle.std.specs.List.{list_any}
-use Rattle.std.specs.Ordering.{nat_cmp}
+use Rattle.std.proofs.Common.{◌≡◌, ◌≢◌, ⊎_elim, ℕ, ◌+◌, ◌≤◌, ◌==◌, Bool, true, false, ◌&&◌, ◌||◌, List, [], ◌∷◌, ◌++◌, Some, refl, sym, ap, subst, ◌∙◌, arith}
 use Rattle.std.specs.FinMap as tree
-use Rattle.std.proofs.lemmas.Bool.{both_ways, cases_eq, and_from, eq-eqb, ne_eqb}
+use Rattle.std.proofs.lemmas.Bool.{cases_eq, ne_eqb}
 use Rattle.std.proofs.lemmas.List.Folds.{list_any-append}
-use Rattle.std.proofs.lemmas.Option.{same_Some}
-use Rattle.proof_tools.proofs.FiniteMaps.{get-insert_same, get-insert_other, get-insert_cases, get-remove_same, get-remove_other}
 use Rattle.object_id.specs.declared.entry.Entry.{Entry}
 use Rattle.object_id.specs.declared.entry.Entry.TheVariants.{Unlock}
 use Rattle.object_id.specs.declared.node.NodeId.{NodeId}
 use Rattle.object_id.specs.Same.{is_same_entry}
 use Rattle.guest_driver.specs.declared.disk.Disk.{Disk}
-use Rattle.inode.specs.Layout.{Content}
 use Rattle.vdi_ops.specs.Entries.{unlock_of}
-use Rattle.vdi_ops.specs.Op.{OpStage, Op}
+use Rattle.vdi_ops.specs.Op.{Op}
 use Rattle.epoch_log.specs.Epochs.{epoch_of}
-use Rattle.sheep_node.specs.declared.course.Course.{Course}
 use Rattle.sheep_node.specs.declared.course.Request.{Request}
-use Rattle.sheep_node.specs.declared.session.Session.{Session}
 use Rattle.sheep_node.specs.declared.course.Course.TheVariants.{Commanding}
-use Rattle.sheep_node.specs.SessionQueues.{session_among}
-use Rattle.sheep_node.specs.State.{new_session}
-use Rattle.sheep_node.proofs.QueueChanges.{same_view}
-use Rattle.overlap_law.specs.CommandDisks.{opened_as, opened_in}
-use Rattle.overlap_law.specs.WriterClaims.{HasLock, IsGivenNoMore, IsNamed, IsStageKept, LetsGo, IsLetGo, IsDiskKept, IsUnlockKept, HasClaims, HasLockYet, IsHeldYet}
+use Rattle.overlap_law.specs.CommandDisks.{opened_in}
+use Rattle.overlap_law.specs.WriterClaims.{IsStageKept, IsDiskKept, IsUnlockKept, HasLockYet}
 use Rattle.overlap_law.specs.Writers.{unlocks}
 use Rattle.overlap_law.proofs.AwaitedChanges.{Requests}
-use Rattle.overlap_law.proofs.AwaitedCommands.{is_command}
 use Rattle.overlap_law.proofs.ClaimTransport.{KeepsAll, PutsNoMore, stage_over, disk_over}
 use Rattle.overlap_law.proofs.CountedEntries.{times, once_if, times-push, same_entry, itself}
 use Rattle.overlap_law.proofs.ClaimChanges.{Sessions, disk_of, Claims}

@@ -153,8 +153,7 @@ module _ (script : List Statement) (is_script : IsScript script) (grows : (world
 
     old_started : (q oid : ℕ) → Contains (apart.made q) oid → IsStarted script after.guests q
     old_started q oid had =
-        let (session, begun) = apart.started q oid had in
-        (
+        let (session, begun) = apart.started q oid had in (
           session,
           begun_so session q
               (still_begun script world.guests (progress_at_cause cause world) (found_grows script world began n host there cause) session q begun),
@@ -172,9 +171,11 @@ module _ (script : List Statement) (is_script : IsScript script) (grows : (world
           → Contains (cond b (new_objects (session_among session.number host.node.sessions).disk ask) (apart.made q)) oid
           → IsStarted script (world_after_cause script n host (GuestAsks session req ask) world).guests q
       by_number true same has =
-          subst (IsStarted script (world_after_cause script n host (GuestAsks session req ask) world).guests) (sym (eqb-true q req same))
-          (session.number, begun_so (GuestAsks session req ask) caused session.number req
-          (found_brings script world began n host there (GuestAsks session req ask) caused req session.number ask refl))
+          subst (IsStarted script (world_after_cause script n host (GuestAsks session req ask) world).guests) (sym (eqb-true q req same)) (
+            session.number,
+            begun_so (GuestAsks session req ask) caused session.number req
+                (found_brings script world began n host there (GuestAsks session req ask) caused req session.number ask refl),
+          )
       by_number false other has = old_started (GuestAsks session req ask) caused q oid has
   started_after (RequestComes name to request) caused q oid has = old_started (RequestComes name to request) caused q oid has
   started_after (ReplyComes name from rsp) caused q oid has = old_started (ReplyComes name from rsp) caused q oid has
@@ -223,8 +224,11 @@ module _ (script : List Statement) (is_script : IsScript script) (grows : (world
           = ap (λ (b : Bool). cond b (new_objects (session_among session.number host.node.sessions).disk ask) (apart.made req)) (eq-eqb req req refl)
           ∙ ap (λ (o : Option Disk). new_objects o ask) open_so ∙ ap (new_objects (Some disk)) same in
           All-weaker (Contains all) (IsOwn (Set (GuestAsks session req ask)) disk.inode.vid)
-          (λ piece among. inl (req, subst (λ (oids : List ℕ). Contains oids (own_object disk.inode.vid piece)) (sym new)
-          (Contains-map (own_object disk.inode.vid) all piece among))) all (All-contains_itself all)
+          (λ piece among. inl (
+            req,
+            subst (λ (oids : List ℕ). Contains oids (own_object disk.inode.vid piece)) (sym new)
+                (Contains-map (own_object disk.inode.vid) all piece among),
+          )) all (All-contains_itself all)
       by_ask o open_so (asks.Vdi command) same = tt
       by_ask o open_so (asks.Object work) same =
           let inside = asked_inside caused.line ask caused.asks in

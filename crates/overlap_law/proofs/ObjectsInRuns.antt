@@ -258,8 +258,7 @@ module _ (script : List Statement) (is_script : IsScript script) (grows : (world
           × AreWithin (IsSetApart (λ (req : ℕ). [])) (initial_member_node script member).requests (initial_member_node script member).sessions
       first_within member =
           let node = nodes.initial_node member.node (tries_of script) in
-          let input : Input = inputs.LogEntry (format_entry script) in
-          (
+          let input : Input = inputs.LogEntry (format_entry script) in (
             stepped_has (IsSetApart (λ (req : ℕ). [])) node (none_had (IsSetApart (λ (req : ℕ). [])) member.node (tries_of script)) input tt,
             stay_within (IsSetApart (λ (req : ℕ). [])) (λ vid most. inr (vid, most, refl)) input node (record {
               numbers = le-leb 0 SENDS_MAX (omega arith);

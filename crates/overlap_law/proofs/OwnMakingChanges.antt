@@ -1,5 +1,5 @@
 -- Along a step a command creates the inode of the id that it was granted.
-use Rattle.std.proofs.Common.{◌≡◌, ◌≢◌, ◌⊎◌, inl, inr, ℕ, ◌+◌, List, [], ◌∷◌, ◌++◌, Contains, Option, Some, None, unwrap_or, refl, sym, ap, subst, ◌∙◌, ⊎_elim}
+use Rattle.std.proofs.Common.{◌≡◌, ◌≢◌, inl, inr, ℕ, ◌+◌, List, [], ◌∷◌, ◌++◌, Contains, Option, Some, None, unwrap_or, refl, sym, ap, subst, ◌∙◌, ⊎_elim}
 use Rattle.std.specs.Ordering.{nat_cmp}
 use Rattle.std.specs.FinMap as tree
 use Rattle.std.proofs.lemmas.Bool.{cases_eq}
@@ -20,7 +20,7 @@ use Rattle.sheep_node.specs.declared.session.Session.{Session}
 use Rattle.sheep_node.specs.State.{Node, new_session}
 use Rattle.sheep_node.specs.StepState.{StepState, at_first, session_in}
 use Rattle.sheep_node.specs.Guests.{queued_as}
-use Rattle.sheep_node.specs.OneWork.{may_work_at, waiting_in, HasOneWorkPerRequest}
+use Rattle.sheep_node.specs.OneWork.{may_work_at, waiting_in}
 use Rattle.sheep_node.specs.WantedWorks.{HasWork}
 use Rattle.sheep_node.specs.Changes as changes
 use Rattle.sheep_node.specs.Changes.{ToWork, ToEntry, ToReply, without_ended_work, without_denied_work, zones_of_members, attempt_in, IsApart, IsSoundStep, WorkIsNext, AtOnce, InTurn, Again, AgainAlone, input_received, Change, Leads}

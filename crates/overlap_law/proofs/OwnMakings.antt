@@ -1,12 +1,11 @@
 -- The inode that a command creates is that of the id which it was granted, and what a check writes is the disk's: every change keeps that of the
 -- works that are open, and of those that wait in a line.
-use Rattle.std.proofs.Common.{◌≡◌, ◌≢◌, ◌⊎◌, inl, inr, ℕ, Bool, true, false, List, [], ◌∷◌, ◌++◌, All, Contains, Option, Some, None, IfSome, option_map, option_and_then, unwrap_or, refl, sym, ap, subst, ◌∙◌, ⊎_elim}
-use Rattle.std.specs.Ordering.{nat_cmp}
+use Rattle.std.proofs.Common.{◌≡◌, ◌≢◌, inl, inr, ℕ, true, false, List, [], ◌∷◌, All, Option, Some, None, IfSome, option_map, option_and_then, refl, sym, ap, subst, ◌∙◌, ⊎_elim}
 use Rattle.std.specs.FinMap as tree
 use Rattle.std.proofs.lemmas.Bool.{cases_eq}
 use Rattle.std.proofs.lemmas.List.Elements.{All-head}
 use Rattle.std.proofs.lemmas.Option.{same_Some}
-use Rattle.proof_tools.proofs.FiniteMaps.{get-insert_same, get-insert_other, get-insert_cases, get-remove_other, get-remove_same}
+use Rattle.proof_tools.proofs.FiniteMaps.{get-insert_same, get-insert_other, get-remove_other, get-remove_same}
 use Rattle.object_id.specs.declared.entry.Entry.{Entry}
 use Rattle.object_id.specs.declared.entry.Entry.TheVariants as entries
 use Rattle.object_id.specs.declared.entry.Origin.TheVariants.{Fresh, SnapshotOf, CloneOf}
@@ -350,8 +349,8 @@ module _ {input : Input} {node : Node} (sound : IsSoundStep input node) (few : C
         (steps_free so_far session req next moved (CheckGoesOn number work attempt status bytes check step ends is) sound all.1.0).free
         (freed_own session req work status so_far all.1.1),
     (let is_few = few so_far all.0 req (record { session = session; course = Checking check }) check ends.ends.request refl in
-    check_own session req step.check step.act (without_ended_work session req work status so_far)
-    (check_goes_on_own bytes check step is is_few.0 is_few.1)),
+        check_own session req step.check step.act (without_ended_work session req work status so_far)
+        (check_goes_on_own bytes check step is is_few.0 is_few.1)),
   )
   steps_own so_far session req next moved (ObjectBegins asked arrival) all = (
     sole_own session req (DoingWork asked) so_far (steps_free so_far session req next moved (ObjectBegins asked arrival) sound all.1.0).free all.1.1,

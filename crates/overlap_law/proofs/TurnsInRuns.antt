@@ -1,9 +1,8 @@
 -- Writers take turns over each change of a moment; so there is one writer of each id, in every run in range.
-use Rattle.std.proofs.Common.{◌≡◌, ◌≢◌, ◌⊎◌, inl, inr, ⊎_elim, ℕ, suc, ◌+◌, ◌-◌, ◌≤◌, ◌<◌, Bool, true, false, List, [], ◌∷◌, ◌++◌, length, Option, Some, None, refl, sym, ap, subst, ◌∙◌, arith, not}
+use Rattle.std.proofs.Common.{◌≡◌, inl, inr, ⊎_elim, ℕ, suc, ◌+◌, ◌-◌, ◌≤◌, ◌<◌, true, false, List, [], ◌∷◌, ◌++◌, length, Some, refl, sym, ap, subst, ◌∙◌, arith, not}
 use Rattle.std.specs.List.{slice_get}
 use Rattle.std.specs.FinMap as tree
 use Rattle.std.proofs.lemmas.Bool.{and_parts, both_ways, cases_lt, eqb-true, not-true}
-use Rattle.std.proofs.lemmas.List.{length-append}
 use Rattle.std.proofs.lemmas.Option.{same_Some}
 use Rattle.proof_tools.proofs.FiniteMaps.{get-insert_same}
 use Rattle.object_id.specs.declared.entry.Entry.{Entry}
@@ -14,24 +13,21 @@ use Rattle.cluster_script.specs.Settings.{vnodes_of}
 use Rattle.disk_lock.specs.declared.holder.Holder.{Holder}
 use Rattle.epoch_log.specs.Epochs.{epoch_of}
 use Rattle.vdi_directory.specs.Decisions.{outcome, log_effects}
-use Rattle.sheep_node.specs.declared.course.Request.{Request}
 use Rattle.sheep_node.specs.declared.event.Event.{Event}
 use Rattle.sheep_node.specs.May.{has_numbers}
 use Rattle.sheep_node.proofs.LogLaws.{epoch_more}
 use Rattle.sheep_world.specs.Began.{Began}
-use Rattle.sheep_world.specs.EventKinds.{IsNodeLeave}
 use Rattle.sheep_world.specs.MembershipChanges.{join_of, last_weight}
 use Rattle.sheep_world.specs.NodeCauses.{NodeCause, GuestAsks, RequestComes, ReplyComes, LossIsTold, EntryIsRead, EntryIsPut, RecoveryTicks, WorkIsRetried, IsCause, host_with_node, log_after_cause}
 use Rattle.sheep_world.specs.Step.{EventOutcome}
-use Rattle.sheep_world.specs.World.{Host, World, is_host_up}
+use Rattle.sheep_world.specs.World.{Host, is_host_up}
 use Rattle.overlap_law.specs.Attempts.{AttemptRecord, object_of}
 use Rattle.overlap_law.specs.Each.{EachAttempt}
 use Rattle.overlap_law.specs.Grants.{leaves_of, leave_of, takes_writer, may_take_writer}
-use Rattle.overlap_law.specs.Past.{MomentWithPast, first_moment, run_with_past}
+use Rattle.overlap_law.specs.Past.{MomentWithPast, run_with_past}
 use Rattle.overlap_law.specs.MomentChanges as moments
 use Rattle.overlap_law.specs.MomentChanges.{MomentChange, MomentTrail, RunsAreInRange, KeptByChanges}
 use Rattle.overlap_law.specs.OpenWorks.{PacketsAreOfOpenWorks}
-use Rattle.overlap_law.specs.StepMoments.{SteppingNode, IsStepping}
 use Rattle.overlap_law.specs.TiedAttempts.{IsTied}
 use Rattle.overlap_law.specs.Writers.{session_holder, IsUnderTheGrant, EndsInOrder, AttemptsHaveBegun, ThereIsOneWriter, WritersTakeTurns}
 use Rattle.overlap_law.proofs.AwaitedInMoments.{change_awaited, awaited_kept}
@@ -41,7 +37,7 @@ use Rattle.overlap_law.proofs.LeavesOfLog.{leaves_own}
 use Rattle.overlap_law.proofs.LogsOfMoments.{log-by_changes}
 use Rattle.overlap_law.proofs.NewAttempts.{WasAttempt, IsOpened, come_from}
 use Rattle.overlap_law.proofs.ReadInMoments.{hosts_after_sound}
-use Rattle.overlap_law.proofs.RunsByChanges.{run-kept, on_the_way}
+use Rattle.overlap_law.proofs.RunsByChanges.{on_the_way}
 use Rattle.overlap_law.proofs.TakenIds.{taken_by_entry}
 use Rattle.overlap_law.proofs.TiedInRuns.{change_tied}
 use Rattle.overlap_law.proofs.TrafficWriters.{keeps_one_writer}

@@ -1,21 +1,18 @@
 -- In each world of a run in range, and at each moment on the way of its events, the works of a node are those that its requests wait for, each
 -- with what its session may have open for it.
-use Rattle.std.proofs.Common.{◌≡◌, ◌≢◌, ⊎_elim, ℕ, List, [], ◌∷◌, All, Some, refl, subst, ap, ◌∙◌, arith}
+use Rattle.std.proofs.Common.{◌≡◌, ◌≢◌, ⊎_elim, ℕ, List, [], All, Some, subst, arith}
 use Rattle.std.specs.FinMap as tree
 use Rattle.std.proofs.lemmas.Bool.{le-leb}
 use Rattle.proof_tools.proofs.FiniteMaps.{get-insert_same, get-insert_cases}
 use Rattle.epoch_log.specs.Appending.{IsReservable}
 use Rattle.cluster_script.specs.declared.statement.Statement.{Statement}
 use Rattle.cluster_script.specs.Settings.{tries_of}
-use Rattle.peer_proto.specs.declared.work.ObjWork.{ObjWork}
 use Rattle.peer_service.specs.State.{effects_of}
-use Rattle.sheep_node.specs.declared.ask.Ask.TheVariants as asks
 use Rattle.sheep_node.specs.declared.event.Event.{Event}
 use Rattle.sheep_node.specs.declared.input.Input.TheVariants as inputs
 use Rattle.sheep_node.specs.declared.limits.TheConstants.{SENDS_MAX}
 use Rattle.sheep_node.specs.Changes as changes
 use Rattle.sheep_node.specs.State as nodes
-use Rattle.sheep_node.specs.Step.{node_step}
 use Rattle.sheep_node.specs.StepState.{StepState}
 use Rattle.sheep_node.proofs.NumberChanges.{one_work_at_opening}
 use Rattle.sheep_node.proofs.QueueChanges.{none_queued}
@@ -37,7 +34,7 @@ use Rattle.overlap_law.specs.MomentChanges as moments
 use Rattle.overlap_law.specs.MomentChanges.{MomentChange, MomentTrail, RunsAreInRange}
 use Rattle.overlap_law.specs.Past.{MomentWithPast}
 use Rattle.overlap_law.specs.Reached.{Hosts}
-use Rattle.overlap_law.specs.StepMoments.{SteppingNode, IsStepping, StepsByChanges, first_in_step, last_in_step, LeadsInStep, hosts_in_step}
+use Rattle.overlap_law.specs.StepMoments.{SteppingNode, IsStepping, StepsByChanges, first_in_step, LeadsInStep, hosts_in_step}
 use Rattle.overlap_law.proofs.AllowedCourses.{none_allowed, allowed_in_chain}
 use Rattle.overlap_law.proofs.CausedWorks.{HasWellWorks, IsPlaced, back_allowed, by_changes, few_from, own_then, step_allowed, well_then}
 use Rattle.overlap_law.proofs.KnownDiskSteps.{none_known}
@@ -62,8 +59,7 @@ module _ (script : List Statement) (range : RunsAreInRange script) where
         let input = inputs.LogEntry (format_entry script) in
         let one = one_work_at_opening member.node (tries_of script) in
         let reservable = subst (All IsReservable) (step_reads input new)
-        (valid_disks_stay input new tt (valid_disks_at_opening member.node (tries_of script))).read in
-        (
+        (valid_disks_stay input new tt (valid_disks_at_opening member.node (tries_of script))).read in (
           allowed_in_chain input new
               (record { numbers = le-leb 0 SENDS_MAX (omega arith); condition = first_may (format_entry script) [] (opens_log script range.is_script).log })
               none_queued (commands_alone_at_opening member.node (tries_of script)) (λ req session work from. absurd (cc (from))) none_allowed _
@@ -81,8 +77,7 @@ module _ (script : List Statement) (range : RunsAreInRange script) where
         let input = inputs.Back log in
         let after = host_after_return log host in
         let reservable = subst (All IsReservable) (step_reads input host.node)
-        (nodes-valid script range.is_script range.room (world_after_return script n host world) next n after (get-insert_same world.hosts n after)).read in
-        (
+        (nodes-valid script range.is_script range.room (world_after_return script n host world) next n after (get-insert_same world.hosts n after)).read in (
           back_allowed log host.node,
           (own_in_chain input host.node (tt, (together script range world began).driven n host there)
               (few_from input host.node reservable tt (nodes_know script range world began n host there)) (so began).1 _ (step_chain input host.node)).1.1,

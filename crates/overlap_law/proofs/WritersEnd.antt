@@ -1,14 +1,13 @@
 -- An entry by which a session loses an id finds nothing in flight of the session's attempts on it, or is the leave of its node.
-use Rattle.std.proofs.Common.{◌≡◌, ◌≢◌, ◌⊎◌, inl, inr, ⊎_elim, ℕ, suc, ◌+◌, ◌-◌, ◌≤◌, ◌<◌, ◌==◌, Bool, true, false, ◌&&◌, ◌||◌, List, [], ◌∷◌, ◌++◌, All, length, Option, Some, None, refl, sym, ap, subst, ◌∙◌, arith}
+use Rattle.std.proofs.Common.{◌≡◌, ◌≢◌, inl, ⊎_elim, ℕ, ◌≤◌, ◌==◌, Bool, true, false, ◌&&◌, ◌||◌, List, ◌∷◌, All, length, Option, Some, None, refl, sym, ap, subst, ◌∙◌}
 use Rattle.std.specs.List.{list_any, slice_get}
 use Rattle.std.specs.FinMap as tree
-use Rattle.std.proofs.lemmas.Bool.{and_from, and_parts, both_ways, cases_eq, cases_lt, eq-eqb, eqb-true, or_parts}
+use Rattle.std.proofs.lemmas.Bool.{and_from, and_parts, both_ways, cases_eq, eq-eqb, eqb-true, or_parts}
 use Rattle.std.proofs.lemmas.List.Elements.{All-head}
 use Rattle.std.proofs.lemmas.Option.{same_Some}
 use Rattle.object_id.specs.declared.entry.Entry.{Entry}
 use Rattle.object_id.specs.declared.entry.Entry.TheVariants.{Format, Join, Leave, Reweight, Recovered, Reserve, Publish, Clone, Snapshot, Delete, Lock, Unlock}
 use Rattle.object_id.specs.declared.node.NodeId.{NodeId}
-use Rattle.object_id.specs.declared.oid.Vid.{Vid}
 use Rattle.object_id.specs.Oid.{vid_of}
 use Rattle.cluster_script.specs.declared.statement.Statement.{Statement}
 use Rattle.disk_lock.specs.declared.holder.Holder.{Holder}
@@ -16,11 +15,9 @@ use Rattle.epoch_log.specs.Epochs.{epoch_of}
 use Rattle.vdi_directory.specs.Decisions.{outcome, log_effects}
 use Rattle.peer_proto.specs.Work.{oid_of}
 use Rattle.gateway.specs.State.{Work}
-use Rattle.gateway.specs.Work.{is_making}
-use Rattle.vdi_ops.specs.Op.{OpStage, Publishing, IsAwaitedAtOpStage}
+use Rattle.vdi_ops.specs.Op.{Publishing, IsAwaitedAtOpStage}
 use Rattle.vdi_ops.specs.declared.act.OpAct.TheVariants as op_acts
 use Rattle.sheep_node.specs.declared.course.Course.{Course}
-use Rattle.sheep_node.specs.declared.course.Course.TheVariants.{Commanding}
 use Rattle.sheep_node.specs.declared.course.Request.{Request}
 use Rattle.sheep_node.specs.Courses.{inode_open}
 use Rattle.sheep_node.specs.May.{is_disk_course}
@@ -29,7 +26,7 @@ use Rattle.sheep_node.specs.SessionQueues.{session_among, command_in}
 use Rattle.sheep_node.specs.WantedWorks.{IsWorkWanted, IsWantedAt}
 use Rattle.sheep_world.specs.Began.{Began}
 use Rattle.sheep_world.specs.NodeCauses.{EntryIsPut, IsCause}
-use Rattle.sheep_world.specs.World.{Host, World, is_host_up}
+use Rattle.sheep_world.specs.World.{Host, is_host_up}
 use Rattle.sheep_world.proofs.NodesByTheLog.{knows_its_number}
 use Rattle.overlap_law.specs.Attempts.{AttemptRecord, object_of}
 use Rattle.overlap_law.specs.AwaitedEntries.{IsCommandEntry}

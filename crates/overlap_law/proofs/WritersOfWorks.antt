@@ -1,6 +1,6 @@
 -- Each open create or write of a node is on an id that its request's session may write: in each world of a run in range, and at each moment on the
 -- way of its events.
-use Rattle.std.proofs.Common.{◌≡◌, ◌⊎◌, inl, inr, ⊎_elim, ℕ, ◌<◌, Bool, true, false, List, [], ◌∷◌, ◌++◌, All, Contains, length, Option, Some, None, IfSome, unwrap_or, refl, sym, ap, subst, ◌∙◌}
+use Rattle.std.proofs.Common.{◌≡◌, inl, ⊎_elim, ℕ, Bool, true, false, List, [], ◌∷◌, ◌++◌, All, Contains, length, Option, Some, None, IfSome, unwrap_or, refl, sym, ap, subst, ◌∙◌}
 use Rattle.std.specs.FinMap as tree
 use Rattle.std.proofs.lemmas.List.Elements.{All-head, Contains-append_cases}
 use Rattle.std.proofs.lemmas.Option.{same_Some}
@@ -23,11 +23,9 @@ use Rattle.vdi_directory.proofs.DecisionLaws.{grant_outcome-unused}
 use Rattle.vdi_directory.proofs.StateLemmas.{log_effects-none, log_effects-push}
 use Rattle.gateway.specs.Work.{is_making}
 use Rattle.gateway.specs.State.{Work}
-use Rattle.guest_driver.specs.declared.act.DriverAct.TheVariants as driver_acts
 use Rattle.guest_driver.specs.declared.disk.Disk.{Disk}
 use Rattle.guest_driver.specs.Driver as drivers
 use Rattle.guest_driver.specs.Driver.{Driver, Reads, Writes, DriverStage, InPlace, Fetching, Creating, Entering}
-use Rattle.guest_driver.specs.OnDisk.{pieces_left}
 use Rattle.guest_driver.specs.PieceWorks.{object_bytes}
 use Rattle.guest_driver.specs.Pieces.{Piece}
 use Rattle.vdi_ops.specs.declared.act.OpAct.TheVariants as op_acts
@@ -42,7 +40,7 @@ use Rattle.sheep_node.specs.May.{is_disk_course}
 use Rattle.sheep_node.specs.OneWork.{may_work_at}
 use Rattle.sheep_node.specs.SessionQueues.{session_among, command_in}
 use Rattle.sheep_node.specs.State.{Node, new_session}
-use Rattle.sheep_node.specs.WantedWorks.{IsWorkWanted, IsWantedAt, IsWorkOfDriver, IsWorkOfWrite}
+use Rattle.sheep_node.specs.WantedWorks.{IsWorkWanted, IsWantedAt, IsWorkOfWrite}
 use Rattle.sheep_node.proofs.SessionViews.{IsSeen}
 use Rattle.sheep_world.specs.Began.{Began}
 use Rattle.overlap_law.specs.AwaitedEntries.{WasReserved, IsSessionsEntry, IsSessionsStage, IsSessionsCommand, CommandsAreTheSessions}
@@ -52,14 +50,14 @@ use Rattle.overlap_law.specs.Past.{MomentWithPast, run_with_past}
 use Rattle.overlap_law.specs.MomentChanges as moments
 use Rattle.overlap_law.specs.MomentChanges.{MomentChange, MomentTrail, RunsAreInRange}
 use Rattle.overlap_law.specs.WriterClaims.{HasLock, IsMakingKept, IsStageKept, LetsGo, IsLetGo, IsDiskKept, HasClaims}
-use Rattle.overlap_law.specs.Writers.{MayWrite, IsMayWriteOf, WorksMayWrite}
-use Rattle.overlap_law.proofs.AllowedCourses.{HasWorking, IsAllowed, opened_by}
+use Rattle.overlap_law.specs.Writers.{MayWrite, WorksMayWrite}
+use Rattle.overlap_law.proofs.AllowedCourses.{IsAllowed, opened_by}
 use Rattle.overlap_law.proofs.AwaitedInRuns.{awaited_in_worlds, awaited_after, said_sessions}
 use Rattle.overlap_law.proofs.CausedWorks.{HasWellWorks}
 use Rattle.overlap_law.proofs.ClaimsInRuns.{AreClaimedAmong, claimed_in_worlds, claimed_after}
 use Rattle.overlap_law.proofs.DatedEffects.{by_entries}
 use Rattle.overlap_law.proofs.GrantsOfCommands.{locked_may, stage_may}
-use Rattle.overlap_law.proofs.KnownDisks.{Few, FewAt, IsKnownInode, IsKnownCourse, IsKnownStage, vid-of_object, vid-of_inode}
+use Rattle.overlap_law.proofs.KnownDisks.{FewAt, IsKnownInode, IsKnownCourse, IsKnownStage, vid-of_object, vid-of_inode}
 use Rattle.overlap_law.proofs.NoRecoveredDue.{began-with_past}
 use Rattle.overlap_law.proofs.OpenDisksInRuns.{AreOpenAmong, open_in_worlds, open_after}
 use Rattle.overlap_law.proofs.OwnMakings.{IsOwnStage, MakesOwn, MakesOwnAt}
