@@ -340,9 +340,9 @@ pub fn what_works_ask_can_be_spelled()
         → (world : World) → Began script world → (node : ℕ) (host : Host) → host_at node world ≡ Some host → IsSoundNode host.node }
 {}
 
-/// Each node has rows of fewer than 2^29 objects, in each world of a run, as long as there is room for an epoch: a script has at most 10,000
-/// requests, each touches few objects of its disk, and there are fewer than 2^24 inodes. So the rows of the nodes can be told: each is as
-/// the rows of its object are.
+/// Each node has rows of fewer than 2^29 objects, in each world of a run, as long as there is room for an epoch: a script has at most
+/// 10,000 requests, each touches few objects of its disk, and there are fewer than 2^24 inodes. So the rows of the nodes can be told: each
+/// is as the rows of its object are.
 pub fn nodes_have_rows_of_few_objects()
     ensures few { (script : List Statement) → IsScript script → ((world : World) → Began script world → MayGrow world)
         → (world : World) → Began script world → ObjectsAreFew world }

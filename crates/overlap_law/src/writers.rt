@@ -14,7 +14,8 @@ ghost use Rattle.sheep_world.specs.World.{World};
 ghost use Rattle.sheep_world.specs.LogHolds.{MayGrow};
 ghost use Rattle.sheep_world.specs.HoldsTogether.{MessagesAreInRange};
 ghost use Rattle.overlap_law.specs.Attempts.{AttemptRecord};
-ghost use Rattle.overlap_law.specs.Grants.{gives, reserved_in, granted_in, published_in, writer_of, takes_writer, may_take_writer, given_to};
+ghost use Rattle.overlap_law.specs.Grants.{gives, reserved_in, granted_in, published_in, given_to};
+ghost use Rattle.overlap_law.specs.Grants.{writer_of, takes_writer, may_take_writer};
 ghost use Rattle.overlap_law.specs.Packets.{Wire};
 ghost use Rattle.overlap_law.specs.Past.{MomentWithPast, run_with_past};
 ghost use Rattle.overlap_law.specs.MomentChanges.{MomentChange, MomentTrail, RunsAreInRange};
@@ -177,20 +178,21 @@ pub fn commands_keep_their_grants()
 /// and at its end.
 pub fn open_disks_are_held()
     ensures { (script : List Statement) (events : List Event) (start moment : MomentWithPast) → RunsAreInRange script
-        → run_with_past script events ≡ Some start → MomentTrail script start moment → OpenDisksAreHeld moment.world.log moment.world.hosts }
+        → run_with_past script events ≡ Some start → MomentTrail script start moment
+        → OpenDisksAreHeld moment.world.log moment.world.hosts }
 {}
 
-/// In each run in range an open create or write is of a request whose session may write the object: it is the writer of the object's id, has
-/// no unlock of it to put, and its node has read the grant. So it is at each moment on the way of an event, and at its end.
+/// In each run in range an open create or write is of a request whose session may write the object: it is the writer of the object's id,
+/// has no unlock of it to put, and its node has read the grant. So it is at each moment on the way of an event, and at its end.
 pub fn open_works_may_write()
     ensures { (script : List Statement) (events : List Event) (start moment : MomentWithPast) → RunsAreInRange script
         → run_with_past script events ≡ Some start → MomentTrail script start moment → WorksMayWrite moment.world.log moment.world.hosts }
 {}
 
-/// There is one writer of each id: in each run in range an attempt is the writer's under its grant, or has nothing in flight and is of no later
-/// epoch than the grant, or its gateway's incarnation left before the grant. For an attempt that begins is of a session that may write the id;
-/// and at an entry by which a session loses an id nothing is in flight of its attempts on it, or the entry is the leave of its node. So it is
-/// at each moment on the way of an event, and at its end.
+/// There is one writer of each id: in each run in range an attempt is the writer's under its grant, or has nothing in flight and is of no
+/// later epoch than the grant, or its gateway's incarnation left before the grant. For an attempt that begins is of a session that may
+/// write the id; and at an entry by which a session loses an id nothing is in flight of its attempts on it, or the entry is the leave of
+/// its node. So it is at each moment on the way of an event, and at its end.
 pub fn there_is_one_writer()
     ensures turns { (script : List Statement) (start before after : MomentWithPast) → RunsAreInRange script → Began script start.world
         → MomentChange script start before after → IsTied before
