@@ -61,7 +61,8 @@ module _ (P : Packet → Type 0) where
       by_tie true same = subst P (same_Some own_packet packet same) is
       by_tie false before = so name packet before
 
-  with_reply_so : (name : MessageName) (from : NodeId) (b : Bool) (rsp : PeerRsp) (wire : Wire) → P (Reply from (say_bytes rsp)) → AllSo wire
+  with_reply_so : (name : MessageName) (from : NodeId) (b : Bool) (rsp : PeerRsp) (wire : Wire) → P (Reply from (say_bytes rsp))
+      → AllSo wire
       → AllSo (wire_with_reply name from b (Some rsp) wire)
   with_reply_so name from true rsp wire said so = with_one_so name (Reply from (say_bytes rsp)) wire said so
   with_reply_so name from false rsp wire said so = without_one_so name wire so
@@ -121,7 +122,8 @@ module _ (P : Packet → Type 0) where
     by_any RecoveryTicks node = tt
     by_any WorkIsRetried node = tt
 
-    pub any_reply : (script : List Statement) (event : Event) (world : World) (made : EventOutcome) (kind : EventKind script event world made)
+    pub any_reply : (script : List Statement) (event : Event) (world : World) (made : EventOutcome)
+        (kind : EventKind script event world made)
         → RepliesSo script event world made kind
     any_reply script event world made (NodeStep h) = by_any h.cause h.host.node
     any_reply script event world made (UntoldLoss h) = tt

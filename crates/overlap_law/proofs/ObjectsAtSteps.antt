@@ -1,4 +1,4 @@
--- As a node steps, what it has, asks and says stays among the objects that are set apart, where those of a write that comes are set apart with it.
+-- As a node steps, what it has, asks and says stays among the objects that are set apart, with those of the write that comes, if one does.
 use Rattle.std.proofs.Common.{◌≡◌, ◌≢◌, inl, inr, arith, ℕ, ◌==◌, ◌≤◌, Bool, true, false, cond, List, [], length, map, All, Contains, Option, Some, None, IfSome, Ok, unwrap_or, refl, sym, ap, subst, ◌∙◌}
 use Rattle.std.specs.FinMap as tree
 use Rattle.std.proofs.lemmas.Bool.{eqb-true, eq-eqb}
@@ -87,7 +87,8 @@ made_after made host (GuestAsks session req ask) q =
     cond (q == req) (new_objects (session_among session.number host.node.sessions).disk ask) (made q)
 made_after made host _ q = made q
 
-module _ (script : List Statement) (is_script : IsScript script) (grows : (world : World) → Began script world → MayGrow world) (world : World)
+module _ (script : List Statement) (is_script : IsScript script) (grows : (world : World) → Began script world → MayGrow world)
+    (world : World)
     (began : Began script world) (is : IsSoundWorld script world) (replies : RepliesFit world) (apart : ObjectsAreSetApart script world)
     (n : ℕ) (host : Host) (there : tree.get world.hosts n ≡ Some host) (up : is_host_up host ≡ true) where
   -- what is set apart stays so
@@ -120,7 +121,8 @@ module _ (script : List Statement) (is_script : IsScript script) (grows : (world
       by_got None got = tt
       by_got (Some one) got = ((nodes_know_by script is_script grows world began n host there).each_session session one got).disk
 
-  few_new : (disk : Option Disk) (ask : Ask) → IfSome disk (λ (disk : Disk). IsKnownInode (effects_of host.node.peer) disk.inode) → IsSmall ask
+  few_new : (disk : Option Disk) (ask : Ask) → IfSome disk (λ (disk : Disk). IsKnownInode (effects_of host.node.peer) disk.inode)
+      → IsSmall ask
       → length (new_objects disk ask) ≤ 16385
   few_new None ask known small = omega arith
   few_new (Some disk) (asks.Disk ask) known small = few_asked disk.inode ask known.disk.spec_valid small
@@ -156,7 +158,8 @@ module _ (script : List Statement) (is_script : IsScript script) (grows : (world
         let (session, begun) = apart.started q oid had in (
           session,
           begun_so session q
-              (still_begun script world.guests (progress_at_cause cause world) (found_grows script world began n host there cause) session q begun),
+              (still_begun script world.guests (progress_at_cause cause world)
+              (found_grows script world began n host there cause) session q begun),
         )
 
   pub started_after : (cause : NodeCause) (caused : IsCause script world n host cause) (q oid : ℕ)
@@ -221,7 +224,8 @@ module _ (script : List Statement) (is_script : IsScript script) (grows : (world
       by_ask (Some disk) open_so (asks.Disk (disk_asks.Write offset payload)) same =
           let all : List Piece = pieces disk.inode.spec.shift offset (length payload) in
           let new : made_after apart.made host (GuestAsks session req ask) req ≡ map (own_object disk.inode.vid) all
-          = ap (λ (b : Bool). cond b (new_objects (session_among session.number host.node.sessions).disk ask) (apart.made req)) (eq-eqb req req refl)
+          = ap (λ (b : Bool). cond b (new_objects (session_among session.number host.node.sessions).disk ask) (apart.made req))
+          (eq-eqb req req refl)
           ∙ ap (λ (o : Option Disk). new_objects o ask) open_so ∙ ap (new_objects (Some disk)) same in
           All-weaker (Contains all) (IsOwn (Set (GuestAsks session req ask)) disk.inode.vid)
           (λ piece among. inl (
@@ -255,18 +259,19 @@ module _ (script : List Statement) (is_script : IsScript script) (grows : (world
     inodes : (vid : ℕ) → vid ≤ VID_MAX → L (inode_number vid)
     inodes vid most = inr (vid, most, refl)
 
-    has : HasWithin L host.node
-    has = node_grows (IsSetApart apart.made) L more host.node (apart.hosts n host there).0
+    has_so : HasWithin L host.node
+    has_so = node_grows (IsSetApart apart.made) L more host.node (apart.hosts n host there).0
 
     requests : AreWithin L host.node.requests host.node.sessions
     requests = requests_grow (IsSetApart apart.made) L more host.node.requests host.node.sessions (apart.hosts n host there).1
 
     pub record IsStepWithin : Type 0 where
-      pub requests_so : AreWithin L (node_step (input_of_cause cause) host.node).node.requests (node_step (input_of_cause cause) host.node).node.sessions
+      pub requests_so : AreWithin L
+          (node_step (input_of_cause cause) host.node).node.requests (node_step (input_of_cause cause) host.node).node.sessions
       pub sends_so : All (SentWithin L) (node_step (input_of_cause cause) host.node).outputs.sends
 
-    brings : BringsWithin L host.node has (input_of_cause cause)
-    brings = by_cause cause caused more has
+    brings : BringsWithin L host.node has_so (input_of_cause cause)
+    brings = by_cause cause caused more has_so
       where
         by_cause : (cause : NodeCause) → IsCause script world n host cause → ((oid : ℕ) → IsSetApart apart.made oid → Set cause oid)
             → (has : HasWithin (Set cause) host.node)
@@ -285,7 +290,7 @@ module _ (script : List Statement) (is_script : IsScript script) (grows : (world
         by_cause WorkIsRetried caused more has = tt
 
     pub has_after : HasWithin L (node_step (input_of_cause cause) host.node).node
-    has_after = stepped_has L host.node has (input_of_cause cause) brings
+    has_after = stepped_has L host.node has_so (input_of_cause cause) brings
 
     by_may : May (input_of_cause cause) host.node → InputNamesObjects (input_of_cause cause)
         → AreWithin L (node_step (input_of_cause cause) host.node).node.requests (node_step (input_of_cause cause) host.node).node.sessions
@@ -296,7 +301,8 @@ module _ (script : List Statement) (is_script : IsScript script) (grows : (world
         → All (SentWithin L) (input_received (input_of_cause cause) (at_first host.node)).outputs.sends
         → All (SentWithin L) (node_step (input_of_cause cause) host.node).outputs.sends
     sends_by may named received =
-        sends_within L inodes (input_of_cause cause) host.node may named (is.hosts n host there).node (input_within cause caused) requests received
+        sends_within L inodes (input_of_cause cause) host.node may named (is.hosts n host there).node
+        (input_within cause caused) requests received
 
     none_sent : (sends : List (NodeId × PeerReq)) → sends ≡ [] → All (SentWithin L) sends
     none_sent sends none = subst (All (SentWithin L)) (sym none) (All-nil (SentWithin L))

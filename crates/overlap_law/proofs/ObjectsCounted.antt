@@ -45,7 +45,8 @@ apart_below : {X : Type 0} (x : ℕ) (es : List (ℕ × X)) → T (below_all nat
 apart_below x [] below = tt
 apart_below x (e ∷ es) below = (
   ne_eqb x e.0 (λ same.
-      let less : nat_cmp x e.0 ≡ Less = less_from_test (nat_cmp x e.0) (T_and_left (is_lt (nat_cmp x e.0)) (below_all nat_cmp x es) below) in
+      let less : nat_cmp x e.0 ≡ Less = less_from_test (nat_cmp x e.0)
+      (T_and_left (is_lt (nat_cmp x e.0)) (below_all nat_cmp x es) below) in
       let tied : nat_cmp x x ≡ Equal = tied_itself nat_cmp_total x in
       let own : nat_cmp x x ≡ Less = ap (nat_cmp x) same ∙ less in
       absurd (cc (tied, own))),

@@ -67,7 +67,8 @@ use Rattle.overlap_law.proofs.StartedAttempts.{IsStarted}
 few_objects : (script : List Statement) → IsScript script → (world : World) → ObjectsAreSetApart script world → ObjectsAreFew world
 few_objects script is_script world apart = record {
   few = λ n host there.
-      keys_few apart.made (length (requests_of script)) (2 ^ 24) host.node.peer.rows apart.short (few_requests script is_script) (omega arith)
+      keys_few apart.made (length (requests_of script)) (2 ^ 24) host.node.peer.rows apart.short (few_requests script is_script)
+      (omega arith)
       (All-weaker (IsSetApart apart.made) (IsCounted apart.made (length (requests_of script)) (2 ^ 24)) counted
       (tree.keys host.node.peer.rows) (apart.hosts n host there).0.rows);
 }
@@ -121,7 +122,8 @@ module _ (script : List Statement) (is_script : IsScript script) (grows : (world
           let within = step_within script is_script grows world began is replies apart n host there up cause caused in
           (has_after script is_script grows world began is replies apart n host there up cause caused, within.requests_so)
 
-      stepped_hosts : (m : ℕ) (now : Host) → tree.get (tree.insert world.hosts n (host_after_step cause host)) m ≡ Some now → IsHostWithin L now
+      stepped_hosts : (m : ℕ) (now : Host) → tree.get (tree.insert world.hosts n (host_after_step cause host)) m ≡ Some now
+          → IsHostWithin L now
       stepped_hosts m now got = ⊎_elim
           (λ (own : (m ≡ n) × (host_after_step cause host ≡ now)). subst (IsHostWithin L) own.1 stepped)
           (λ (other : (m ≢ n) × (tree.get world.hosts m ≡ Some now)). host_grows K L grown now (apart.hosts m now other.1))
@@ -157,7 +159,8 @@ module _ (script : List Statement) (is_script : IsScript script) (grows : (world
 
     -- ---- where none does, no more is set apart
 
-    old_started : Grows world.guests made.world.guests → (req oid : ℕ) → Contains (apart.made req) oid → IsStarted script made.world.guests req
+    old_started : Grows world.guests made.world.guests → (req oid : ℕ) → Contains (apart.made req) oid
+        → IsStarted script made.world.guests req
     old_started grow req oid had =
         let (session, begun) = apart.started req oid had in
         (session, still_begun script world.guests made.world.guests grow session req begun)
@@ -192,11 +195,13 @@ module _ (script : List Statement) (is_script : IsScript script) (grows : (world
     apart_after (NodeStep h) =
         let L : ℕ → Type 0 = IsSetApart (made_after apart.made h.host h.cause) in
         let within = step_within script is_script grows world began is replies apart h.n h.host h.there h.up h.cause h.caused in
-        let spelled = subst (λ (m : EventOutcome). All (λ (send : NodeId × PeerReq). IsPeerReq send.1) m.world.outputs.sends) (sym h.made_so) after.sent in
+        let spelled = subst (λ (m : EventOutcome). All (λ (send : NodeId × PeerReq). IsPeerReq send.1) m.world.outputs.sends)
+        (sym h.made_so) after.sent in
         record {
           made = made_after apart.made h.host h.cause;
           short = short_after script is_script grows world began is replies apart h.n h.host h.there h.up h.cause h.caused;
-          started = subst (λ (m : EventOutcome). (req oid : ℕ) → Contains (made_after apart.made h.host h.cause req) oid → IsStarted script m.world.guests req)
+          started = subst (λ (m : EventOutcome). (req oid : ℕ) → Contains
+              (made_after apart.made h.host h.cause req) oid → IsStarted script m.world.guests req)
               h.made_so (started_after script is_script grows world began is replies apart h.n h.host h.there h.up h.cause h.caused);
           asked = asked_after script is_script grows world began is replies apart h.n h.host h.there h.up h.cause h.caused;
           hosts = subst (λ (m : EventOutcome). (q : ℕ) (now : Host) → tree.get m.world.hosts q ≡ Some now → IsHostWithin L now) h.made_so
@@ -255,11 +260,13 @@ module _ (script : List Statement) (is_script : IsScript script) (grows : (world
       First = IsSetApart (λ (req : ℕ). [])
 
       first_within : (member : Member) → HasWithin (IsSetApart (λ (req : ℕ). [])) (initial_member_node script member)
-          × AreWithin (IsSetApart (λ (req : ℕ). [])) (initial_member_node script member).requests (initial_member_node script member).sessions
+          × AreWithin (IsSetApart (λ (req : ℕ). [])) (initial_member_node script member).requests
+          (initial_member_node script member).sessions
       first_within member =
           let node = nodes.initial_node member.node (tries_of script) in
           let input : Input = inputs.LogEntry (format_entry script) in (
-            stepped_has (IsSetApart (λ (req : ℕ). [])) node (none_had (IsSetApart (λ (req : ℕ). [])) member.node (tries_of script)) input tt,
+            stepped_has (IsSetApart (λ (req : ℕ). [])) node (none_had (IsSetApart (λ (req : ℕ). [])) member.node
+                (tries_of script)) input tt,
             stay_within (IsSetApart (λ (req : ℕ). [])) (λ vid most. inr (vid, most, refl)) input node (record {
               numbers = le-leb 0 SENDS_MAX (omega arith);
               condition = first_may (format_entry script) [] (opens_log script is_script).log;

@@ -40,7 +40,8 @@ abbrev pub IsSmall : Ask → Type 0
 IsSmall (asks.Disk ask) = bytes_written ask ≤ WRITE_BYTES_MAX
 IsSmall _ = Unit {0}
 
-asked_small : (before : List Statement) (line : Statement) (ask : Ask) → MayStand before line → ask_of_statement line ≡ Some ask → IsSmall ask
+asked_small : (before : List Statement) (line : Statement) (ask : Ask) → MayStand before line → ask_of_statement line ≡ Some ask
+    → IsSmall ask
 asked_small before (lines.Create session policy shift name size) ask may is = given IsSmall is tt
 asked_small before (lines.OpenDisk session name tag) ask may is = given IsSmall is tt
 asked_small before (lines.Close session) ask may is = given IsSmall is tt
@@ -55,7 +56,8 @@ asked_small before (lines.Delete session name tag) ask may is = given IsSmall is
 asked_small before (lines.Check session) ask may is = given IsSmall is tt
 asked_small before _ ask may is = absurd (cc (is))
 
-pub request_small : (script : List Statement) → IsScript script → (req : ℕ) (line : Statement) (ask : Ask) → request_at script req ≡ Some line
+pub request_small : (script : List Statement) → IsScript script → (req : ℕ) (line : Statement) (ask : Ask)
+    → request_at script req ≡ Some line
     → ask_of_statement line ≡ Some ask → IsSmall ask
 request_small script is_script zero line ask at is = absurd (cc (at))
 request_small script is_script (suc place) line ask at is =

@@ -193,7 +193,8 @@ module _ (K : ℕ → Type 0) where
       same_seen open_in IsCourseWithin sessions number session same (tree.get requests q) (all q)
 
   -- a request is in another course, and its session changes so that others stay as they are
-  moved_within : (req number : ℕ) (course : Course) (session : Session) (so_far : StepState) → IsCourseWithin (inode_open session.disk) course
+  moved_within : (req number : ℕ) (course : Course) (session : Session) (so_far : StepState)
+      → IsCourseWithin (inode_open session.disk) course
       → ((q : ℕ) → q ≢ req → IsSeen open_in IsCourseWithin so_far.node.sessions (tree.get so_far.node.requests q)
       → IsSeen open_in IsCourseWithin (tree.insert so_far.node.sessions number session) (tree.get so_far.node.requests q))
       → StepsWithin so_far
@@ -293,7 +294,8 @@ module _ (K : ℕ → Type 0) where
         command_within session req step so_far (free may queued sole so_far session req (asks.Vdi ask) None arrival refl) all.1
     steps_within so_far session req next moved (CommandGoesOn number work attempt status bytes op step ends is) all =
         command_within session req step (without_ended_work session req work status so_far)
-        (command_is_free session req (Commanding op) so_far ends.ends.request refl all.0) (freed_within session req work status so_far all.1)
+        (command_is_free session req (Commanding op) so_far ends.ends.request refl all.0)
+        (freed_within session req work status so_far all.1)
     steps_within so_far session req next moved (CommandDecided entry op step from read there waits is) all =
         command_within session req step so_far (command_is_free session req (Commanding op) so_far there refl all.0) all.1
     steps_within so_far session req next moved (CheckBegins inode arrival on) all =
@@ -366,7 +368,8 @@ module _ (K : ℕ → Type 0) where
         ended_within session req reply moved (steps_within so_far session req (ToReply reply) moved steps all)
     change_keeps_within so_far next (changes.Arrives session req ask disk arrival on) all =
         let after : Session
-        = record (session_in session so_far) { queue = (session_in session so_far).queue ++ queued_as disk.inode.spec.shift req ask ∷ [] } in
+        = record
+        (session_in session so_far) { queue = (session_in session so_far).queue ++ queued_as disk.inode.spec.shift req ask ∷ [] } in
         moved_within req session (Waiting ask) after so_far (asks_within so_far session req ask disk None arrival on)
         (λ q other seen. same_seen open_in IsCourseWithin so_far.node.sessions session after refl (tree.get so_far.node.requests q) seen)
         all.1

@@ -1,5 +1,5 @@
--- The objects that a node has rows of, has still to recover, was named or searches are among some, if those that it is asked to create, and that
--- it is named, are.
+-- The objects that a node has rows of, has still to recover, was named or searches are among some, if those that it is asked to create, and
+-- that it is named, are.
 use Rattle.std.proofs.Common.{◌≡◌, ℕ, ◌+◌, ◌-◌, ◌==◌, nat_lt, nat_le, Bool, true, false, not, cond, List, [], ◌∷◌, length, map, filter, All, Option, Some, None, IfSome, Result, Ok, Err, unwrap_or, refl, sym, subst}
 use Rattle.std.specs.List.{list_any}
 use Rattle.std.specs.Option.{option_map, option_map_or}
@@ -86,7 +86,8 @@ module _ (K : ℕ → Type 0) where
 
   pub keys_made : (es : List (ℕ × List SeenRow)) → All K (map (λ (e : ℕ × List SeenRow). e.0) es) → AreRowsOf (tree.from_entries es)
   keys_made [] all =
-      subst (λ (es : List (ℕ × List SeenRow)). All K (map (λ (e : ℕ × List SeenRow). e.0) es)) (sym (entries-from_entries [] tt)) (All-nil K)
+      subst (λ (es : List (ℕ × List SeenRow)). All K (map (λ (e : ℕ × List SeenRow). e.0) es)) (sym (entries-from_entries [] tt))
+      (All-nil K)
   keys_made (e ∷ es) all =
       All-keys-insert K (tree.from_entries es) e.0 e.1 (All-head K e.0 (map (λ (e : ℕ × List SeenRow). e.0) es) all)
       (keys_made es (All-tail K e.0 (map (λ (e : ℕ × List SeenRow). e.0) es) all))
@@ -139,7 +140,8 @@ module _ (K : ℕ → Type 0) where
       pending = filtered (λ (other : ℕ). not (other == key.oid)) peer.pending is.pending;
     }
 
-    write_within : (key : Key) (offset : ℕ) (piece : List ℕ) → IsPeerWithin (peer_write_step (write_at peer.rows key offset piece) peer).peer
+    write_within : (key : Key) (offset : ℕ) (piece : List ℕ)
+        → IsPeerWithin (peer_write_step (write_at peer.rows key offset piece) peer).peer
     write_within key offset piece = by_row (open_row peer.rows key) refl
       where
         new : AllRows
@@ -257,13 +259,17 @@ module _ (K : ℕ → Type 0) where
       let shut = closed_within peer is in
       let logged : Peer = with_log entries (closed_at_end peer) in
       let left : Peer = peer_settled_to (settled_of entries) logged in
-      without_within left (settled_within logged (record { rows = shut.rows; pending = All-nil K }) (settled_of entries)) (is_dead_object left)
+      without_within left (settled_within logged (record { rows = shut.rows; pending = All-nil K }) (settled_of entries))
+      (is_dead_object left)
 
   -- ---- a recovery
 
   pub named_within : (state : RecoveryState) → IsStateWithin state → IsStateWithin (when_listed state)
   named_within state is =
-      cond_either IsStateWithin (is_listed state.recovery) (record state { shown = shown_with_pending (to_recover state) state.shown }) state
+      cond_either IsStateWithin (is_listed state.recovery) (record state {
+        shown = shown_with_pending
+            (to_recover state) state.shown;
+      }) state
       (record {
         rows = is.rows;
         pending = All-filter (is_to_recover state.recovery.me state.recovery.epoch state.shown) K
@@ -305,11 +311,13 @@ module _ (K : ℕ → Type 0) where
     level_within = by_policy (live_policy state.shown search.oid)
       where
         by_policy : (o : Option Policy)
-            → IsStateWithin (option_map_or (λ (policy : Policy). level_over_by policy search (rows_found state policy search) state) o state)
+            → IsStateWithin
+            (option_map_or (λ (policy : Policy). level_over_by policy search (rows_found state policy search) state) o state)
         by_policy None = is
         by_policy (Some policy) =
             cond_either IsStateWithin (are_enough policy (kind_of search.oid) (rows_found state policy search))
-            (with_part_found search.oid (own_index policy search state) (own_part policy search (rows_found state policy search) state) state)
+            (with_part_found search.oid (own_index policy search state)
+            (own_part policy search (rows_found state policy search) state) state)
             (level_without_part search state)
             (found_within (own_index policy search state) (own_part policy search (rows_found state policy search) state))
             (cond_either IsStateWithin search.again (to_ask search.oid search.level state) (one_lower search state)

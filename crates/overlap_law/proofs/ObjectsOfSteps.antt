@@ -1,5 +1,5 @@
--- A step leaves what a node has rows of, has still to recover, was named and searches among some objects, if what it is asked to create and what
--- it is named is among them.
+-- A step leaves what a node has rows of, has still to recover, was named and searches among some objects, if what it is asked to create and
+-- what it is named is among them.
 use Rattle.std.proofs.Common.{ℕ, ◌==◌, nat_lt, List, [], ◌∷◌, map, All, Option, Some, None, IfSome, sym, subst}
 use Rattle.std.specs.Option.{option_map_or}
 use Rattle.std.specs.FinMap as tree
@@ -77,7 +77,8 @@ module _ (K : ℕ → Type 0) where
           → IfSome (recoveries.still_on state.shown.pending o) (λ (search : Search). K search.oid)
       by_search None own = tt
       by_search (Some search) own =
-          cond_either (λ (o : Option Search). IfSome o (λ (search : Search). K search.oid)) (is_pending_object search.oid state.shown.pending)
+          cond_either (λ (o : Option Search). IfSome o (λ (search : Search). K search.oid))
+          (is_pending_object search.oid state.shown.pending)
           (Some search) None own tt
 
   row_within : (oid : ℕ) (from : NodeId) (said : Option PeerSay) (state : RecoveryState) → IsStateWithin K state
@@ -198,7 +199,8 @@ module _ (K : ℕ → Type 0) where
     state_stepped after within =
         record { rows = within.rows; pending = within.pending; listed = within.listed; searched = within.searched }
 
-    replied : (rsp : PeerRsp) → SaidWithin K rsp.say → HasWithin K (recovery_stepped (recovery_steps.recovery_on_reply rsp state) (at_first node)).node
+    replied : (rsp : PeerRsp) → SaidWithin K rsp.say
+        → HasWithin K (recovery_stepped (recovery_steps.recovery_on_reply rsp state) (at_first node)).node
     unfolding recovery_steps.recovery_on_reply
     replied rsp told = state_stepped (message_end rsp.number (Some rsp.say) state) (message_ends rsp.number (Some rsp.say) state told is)
 

@@ -85,9 +85,11 @@ module _ (K : ℕ → Type 0) (inodes : (vid : ℕ) → vid ≤ VID_MAX → K (i
   task_within vid (Tagging old inode) work range is = is_within work _ is.work_of tt
   task_within vid (Copying ids header) work range is = is_within work _ is.work_of tt
   task_within vid (Making entry opened) work range is =
-      is_within work _ is.work_of (inodes is.inode.vid (small_vid is.inode.vid (subst (λ (work : ObjWork). IsOid (oid_of work)) is.work_of range.oid)))
+      is_within work _ is.work_of (inodes is.inode.vid (small_vid is.inode.vid
+      (subst (λ (work : ObjWork). IsOid (oid_of work)) is.work_of range.oid)))
 
-  stage_within : (stage : OpStage) (work : ObjWork) → IsWorkInRange work → IsAwaitedAtOpStage (op_acts.Work work) stage → CreatesWithin K work
+  stage_within : (stage : OpStage) (work : ObjWork) → IsWorkInRange work → IsAwaitedAtOpStage (op_acts.Work work) stage
+      → CreatesWithin K work
   stage_within (Asked entry) work range is = absurd (cc (is))
   stage_within (Working vid task) work range (one, same, of) =
       let is : work ≡ one = cc (same) in
@@ -195,7 +197,8 @@ module _ (K : ℕ → Type 0) (inodes : (vid : ℕ) → vid ≤ VID_MAX → K (i
     change_sends so_far next (changes.Rejects session req ask cause arrival) onward all = all
     change_sends so_far next (changes.Recovers due) onward all = all
 
-    leads_send : (last : StepState) → Leads input node first last → All (SentWithin K) first.outputs.sends → All (SentWithin K) last.outputs.sends
+    leads_send : (last : StepState) → Leads input node first last → All (SentWithin K) first.outputs.sends
+        → All (SentWithin K) last.outputs.sends
     leads_send last changes.Still all = all
     leads_send last (changes.Then {so_far} {next} leads change) all =
         change_sends so_far next change (changes.Then leads change) (leads_send so_far leads all)
