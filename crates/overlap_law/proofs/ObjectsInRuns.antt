@@ -200,8 +200,8 @@ module _ (script : List Statement) (is_script : IsScript script) (grows : (world
         record {
           made = made_after apart.made h.host h.cause;
           short = short_after script is_script grows world began is replies apart h.n h.host h.there h.up h.cause h.caused;
-          started = subst (λ (m : EventOutcome). (req oid : ℕ) → Contains
-              (made_after apart.made h.host h.cause req) oid → IsStarted script m.world.guests req)
+          started = subst (λ (m : EventOutcome). (req oid : ℕ) → Contains (made_after apart.made h.host h.cause req) oid
+              → IsStarted script m.world.guests req)
               h.made_so (started_after script is_script grows world began is replies apart h.n h.host h.there h.up h.cause h.caused);
           asked = asked_after script is_script grows world began is replies apart h.n h.host h.there h.up h.cause h.caused;
           hosts = subst (λ (m : EventOutcome). (q : ℕ) (now : Host) → tree.get m.world.hosts q ≡ Some now → IsHostWithin L now) h.made_so
@@ -256,17 +256,14 @@ module _ (script : List Statement) (is_script : IsScript script) (grows : (world
         absurd (cc (there, none));
   }
     where
-      First : ℕ → Type 0
-      First = IsSetApart (λ (req : ℕ). [])
-
       first_within : (member : Member) → HasWithin (IsSetApart (λ (req : ℕ). [])) (initial_member_node script member)
           × AreWithin (IsSetApart (λ (req : ℕ). [])) (initial_member_node script member).requests
           (initial_member_node script member).sessions
       first_within member =
           let node = nodes.initial_node member.node (tries_of script) in
           let input : Input = inputs.LogEntry (format_entry script) in (
-            stepped_has (IsSetApart (λ (req : ℕ). [])) node (none_had (IsSetApart (λ (req : ℕ). [])) member.node
-                (tries_of script)) input tt,
+            stepped_has (IsSetApart (λ (req : ℕ). [])) node
+                (none_had (IsSetApart (λ (req : ℕ). [])) member.node (tries_of script)) input tt,
             stay_within (IsSetApart (λ (req : ℕ). [])) (λ vid most. inr (vid, most, refl)) input node (record {
               numbers = le-leb 0 SENDS_MAX (omega arith);
               condition = first_may (format_entry script) [] (opens_log script is_script).log;

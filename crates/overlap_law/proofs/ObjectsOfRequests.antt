@@ -368,8 +368,9 @@ module _ (K : ℕ → Type 0) where
         ended_within session req reply moved (steps_within so_far session req (ToReply reply) moved steps all)
     change_keeps_within so_far next (changes.Arrives session req ask disk arrival on) all =
         let after : Session
-        = record
-        (session_in session so_far) { queue = (session_in session so_far).queue ++ queued_as disk.inode.spec.shift req ask ∷ [] } in
+        = record (session_in session so_far) {
+          queue = (session_in session so_far).queue ++ queued_as disk.inode.spec.shift req ask ∷ [];
+        } in
         moved_within req session (Waiting ask) after so_far (asks_within so_far session req ask disk None arrival on)
         (λ q other seen. same_seen open_in IsCourseWithin so_far.node.sessions session after refl (tree.get so_far.node.requests q) seen)
         all.1

@@ -267,8 +267,7 @@ module _ (K : ℕ → Type 0) where
   pub named_within : (state : RecoveryState) → IsStateWithin state → IsStateWithin (when_listed state)
   named_within state is =
       cond_either IsStateWithin (is_listed state.recovery) (record state {
-        shown = shown_with_pending
-            (to_recover state) state.shown;
+        shown = shown_with_pending (to_recover state) state.shown;
       }) state
       (record {
         rows = is.rows;

@@ -85,8 +85,8 @@ module _ (K : ℕ → Type 0) (inodes : (vid : ℕ) → vid ≤ VID_MAX → K (i
   task_within vid (Tagging old inode) work range is = is_within work _ is.work_of tt
   task_within vid (Copying ids header) work range is = is_within work _ is.work_of tt
   task_within vid (Making entry opened) work range is =
-      is_within work _ is.work_of (inodes is.inode.vid (small_vid is.inode.vid
-      (subst (λ (work : ObjWork). IsOid (oid_of work)) is.work_of range.oid)))
+      is_within work _ is.work_of
+      (inodes is.inode.vid (small_vid is.inode.vid (subst (λ (work : ObjWork). IsOid (oid_of work)) is.work_of range.oid)))
 
   stage_within : (stage : OpStage) (work : ObjWork) → IsWorkInRange work → IsAwaitedAtOpStage (op_acts.Work work) stage
       → CreatesWithin K work

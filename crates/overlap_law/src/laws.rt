@@ -329,14 +329,11 @@ pub fn attempts_of_the_refused_are_mute()
         → RefusedRequestsAreMute moment.world.wire moment.past.refused moment.past.attempts }
 {}
 
-/// In each world of a run what was sent last for works can be spelled, and each node is sound, as long as there is room for an epoch and
-/// what is replied fits. So all that is left of the range of messages is what nodes reply.
+/// In each world of a run what was sent last for works can be spelled, and each node is sound, as long as there is room for an epoch.
 pub fn what_works_ask_can_be_spelled()
     ensures asked { (script : List Statement) → IsScript script → ((world : World) → Began script world → MayGrow world)
-        → ((world : World) → Began script world → RepliesFit world)
         → (world : World) → Began script world → WorksAskInRange world }
     ensures nodes { (script : List Statement) → IsScript script → ((world : World) → Began script world → MayGrow world)
-        → ((world : World) → Began script world → RepliesFit world)
         → (world : World) → Began script world → (node : ℕ) (host : Host) → host_at node world ≡ Some host → IsSoundNode host.node }
 {}
 
