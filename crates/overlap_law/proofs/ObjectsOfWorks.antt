@@ -40,7 +40,7 @@ use Rattle.sheep_node.specs.NodeInvariant.{IsSoundNode}
 use Rattle.sheep_node.specs.WantedWorks.{IsWorkOfWrite, IsWorkOfDriver, IsWorkOfCheck, IsWorkWanted, IsWantedAt}
 use Rattle.sheep_node.specs.WorkRange.{IsWorkInRange}
 use Rattle.sheep_node.specs.Changes as changes
-use Rattle.sheep_node.specs.Changes.{ToWork, attempt_in, WorkIsNext, Change, Leads, input_received}
+use Rattle.sheep_node.specs.Changes.{ToWork, attempt_in, Change, Leads, input_received}
 use Rattle.sheep_node.proofs.OneWorkParts.{Sessions}
 use Rattle.sheep_node.proofs.SessionViews.{open_in, IsSeen}
 use Rattle.sheep_node.proofs.SoundLaws.{works_sound_in_chain}
