@@ -3,7 +3,7 @@
 ghost use Rattle.std.specs.Prelude.{◌≡◌};
 ghost use Rattle.live_run.specs.Steps.{IsOther};
 
-use cluster_script::parse;
+use crate::merges::script_of;
 use live_cells::{NodeCell, StampList, Step};
 use live_run::Kept;
 use object_id::{NoMemory, NodeId};
@@ -54,7 +54,7 @@ fn what_is_kept_is_there(rt: HostRuntime) -> Result<(), Fail> {
 
 /// Whether it merges to the loss and the end of the phase.
 fn merges(alloc: Global) -> Result<bool, Fail> {
-    let script = parse(alloc, FAIL.as_bytes())?;
+    let script = script_of(alloc, FAIL)?;
     let kept = kept_of(alloc)?;
     let run = kept.merged(alloc, &script)?;
     Ok(run.events() == FAIL_EVENTS.as_slice())

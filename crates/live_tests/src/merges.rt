@@ -4,7 +4,7 @@ use crate::kept_run::kept_steps;
 use cluster_script::{Script, parse};
 use live_cells::Step;
 use live_run::{MergeFault, merge_all};
-use object_id::NodeId;
+use object_id::{INPUT_BYTES_MAX, NodeId};
 use schedule::run_seeded;
 use sheep_node::{Event, Input};
 use std::alloc::Global;
@@ -35,7 +35,11 @@ const TWO_SESSIONS: &str =
     "cluster 2\nsession 1 node 0\nsession 2 node 1\n1 vdi create -c 2 -z 12 a 4K\n1 vdi open a\n1 vdi write 0 512 fill 1\n1 vdi close\n\
 settle\n2 vdi open a\n2 vdi read 0 512\n";
 
-fn script_of(alloc: Global, text: &str) -> Result<Script, Fail> {
+/// The script of a text that is one.
+pub(crate) fn script_of(alloc: Global, text: &str) -> Result<Script, Fail> {
+    if INPUT_BYTES_MAX < text.len() {
+        return Err(Fail::from("the text is short"));
+    }
     Ok(parse(alloc, text.as_bytes())?)
 }
 
