@@ -182,7 +182,7 @@ module _ {input : Input} {node : Node} where
 
     -- ---- every change
 
-    change_keeps_lined : (so_far next : StepState) → Change input node so_far next → StepHasOneWork so_far → StepIsLined so_far → StepIsLined next
+    pub change_keeps_lined : (so_far next : StepState) → Change input node so_far next → StepHasOneWork so_far → StepIsLined so_far → StepIsLined next
     change_keeps_lined so_far next (changes.Marks req number work attempt status learns over) good lined =
         work_lined so_far.node.gateway.works so_far.node.requests so_far.node.sessions req work
         (record work { stage = Open (attempt_with_status number status attempt) }) learns.there refl lined
@@ -235,7 +235,7 @@ module _ {input : Input} {node : Node} where
     change_keeps_lined so_far next (changes.Rejects session req ask cause arrival) good lined = lined
     change_keeps_lined so_far next (changes.Recovers due) good lined = lined
 
-none_lined : LinesAreOpen tree.empty tree.empty tree.empty
+pub none_lined : LinesAreOpen tree.empty tree.empty tree.empty
 none_lined = record {
   current = λ number req. (
     (λ is.

@@ -53,7 +53,7 @@ pub mod EventEffects
 mod ClientLaws
 mod DrivenEvents
 mod FirstDriven
-mod AskReplies
+pub mod AskReplies
 mod ScriptLookUps
 mod HistoryBlocks
 mod CheckHistory
