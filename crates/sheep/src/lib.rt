@@ -25,6 +25,3 @@ pub use laws::{
 pub use sheep_words::{Mode, mode_of};
 pub use status::Status;
 pub use top::sheep;
-
-#[cfg(test)]
-mod tests;

@@ -127,7 +127,7 @@ fn reserve(by: NodeId, session: u32, words: &mut Words) -> Result<Entry, Fault> 
 }
 
 /// Writes an entry of the log: its kind, and its fields in order.
-pub(crate) fn write_entry(out: &mut String, entry: &Entry) -> Result<(), AllocError> {
+pub fn write_entry(out: &mut String, entry: &Entry) -> Result<(), AllocError> {
     match entry {
         Entry::Format { members } => {
             write!(out, "format {}", members.len())?;

@@ -14,7 +14,7 @@ use std::alloc::{AllocError, Global};
 use std::fmt::Write;
 
 /// The input that a line spells.
-pub(crate) fn input_of(alloc: Global, line: &str) -> Result<Input, Fault> {
+pub fn input_of(alloc: Global, line: &str) -> Result<Input, Fault> {
     let mut words = Words::new(alloc, line);
     let kind = words.word()?;
     read_input(kind, &mut words)
@@ -122,7 +122,7 @@ fn read_clone(words: &mut Words) -> Result<VdiAsk, Fault> {
 }
 
 /// Writes an input as `input_of` reads it.
-pub(crate) fn write_input(alloc: Global, out: &mut String, input: &Input) -> Result<(), NoMemory> {
+pub fn write_input(alloc: Global, out: &mut String, input: &Input) -> Result<(), NoMemory> {
     match input {
         Input::Guest { req, session, ask } => {
             write!(out, "guest {req} {session} ")?;

@@ -13,32 +13,24 @@
 //! `World::ask` and `World::drive`; and it is read through its public readers.
 #![tactic(auto)]
 
-#[cfg(test)]
-mod act_words;
 mod case;
 mod case_fault;
 mod client_lines;
-#[cfg(test)]
-mod commands;
-#[cfg(test)]
-mod copies;
-#[cfg(test)]
-mod disk_requests;
 mod entry_words;
 mod fault;
 mod history_words;
 mod input_words;
 mod life;
-#[cfg(test)]
-mod one_node;
 mod output_words;
-#[cfg(test)]
-mod trial;
 mod words;
 mod work_words;
 mod world_words;
 
 pub use case::end_of;
 pub use case_fault::CaseFault;
+pub use entry_words::write_entry;
 pub use fault::Fault;
+pub use input_words::{input_of, write_input};
 pub use life::Life;
+pub use output_words::{outputs_line, write_reply};
+pub use work_words::write_work;

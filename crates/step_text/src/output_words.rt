@@ -9,7 +9,7 @@ use std::alloc::{AllocError, Global};
 use std::fmt::Write;
 
 /// The outputs of a step on one line: what it sends, says, replies and puts, each ended by `;`. Messages stand as their bytes.
-pub(crate) fn outputs_line(alloc: Global, given: &Outputs) -> Result<String, NoMemory> {
+pub fn outputs_line(alloc: Global, given: &Outputs) -> Result<String, NoMemory> {
     let mut out = String::new(alloc);
     write_messages(alloc, &mut out, given)?;
     write_told(&mut out, given)?;
@@ -56,7 +56,7 @@ fn write_told(out: &mut String, given: &Outputs) -> Result<(), AllocError> {
 }
 
 /// Writes a guest's reply: its kind, and what it gives.
-pub(crate) fn write_reply(out: &mut String, reply: &GuestRsp) -> Result<(), AllocError> {
+pub fn write_reply(out: &mut String, reply: &GuestRsp) -> Result<(), AllocError> {
     match reply {
         GuestRsp::Done => out.push_str("done"),
         GuestRsp::Piece(piece) => {

@@ -42,7 +42,7 @@ pub(crate) fn read_work(words: &mut Words) -> Result<ObjWork, Fault> {
 }
 
 /// Writes a work on an object: its kind, the object's id and policy, and the other fields in order.
-pub(crate) fn write_work(out: &mut String, work: &ObjWork) -> Result<(), AllocError> {
+pub fn write_work(out: &mut String, work: &ObjWork) -> Result<(), AllocError> {
     match work {
         ObjWork::Create {
             oid,

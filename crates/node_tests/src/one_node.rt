@@ -1,11 +1,10 @@
 //! Worked rows on a cluster of one node: what the node sends comes to itself, and what it puts is the next entry of its log.
 
-use crate::fault::Fault;
-use crate::life::Life;
 use std::alloc::Global;
 use std::collections::VecDeque;
 use std::fmt::Write;
 use std::test::Fail;
+use step_text::{Fault, Life};
 
 /// More steps than a request of these rows takes.
 const STEPS_MAX: u32 = 64;

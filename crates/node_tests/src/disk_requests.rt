@@ -7,7 +7,6 @@ ghost use Rattle.peer_proto.specs.Work.{IsWork};
 ghost use Rattle.guest_driver.specs.OnDisk.{IsDriverOn};
 
 use crate::act_words::write_driver_act;
-use crate::output_words::write_reply;
 use guest_driver::{
     Disk, Driver, DriverAct, InodeQueue, WaitingWork, begin_disk, disk_refusal, is_ask,
 };
@@ -17,6 +16,7 @@ use peer_proto::{DiskAsk, GuestRsp, ObjWork, WorkDone};
 use std::alloc::Global;
 use std::fmt::Write;
 use std::test::Fail;
+use step_text::write_reply;
 
 /// What a disk has open, in words: its name, whether it is a snapshot, and its table.
 fn disk_words(alloc: Global, disk: &Disk) -> Result<String, NoMemory> {

@@ -1,11 +1,9 @@
 //! What the parts of a node do, act by act, as words: each act is ended by `;`.
 
-use crate::entry_words::write_entry;
-use crate::output_words::write_reply;
-use crate::work_words::write_work;
 use guest_driver::DriverAct;
 use peer_proto::{GuestRsp, ObjWork};
 use std::alloc::AllocError;
+use step_text::{write_entry, write_reply, write_work};
 use vdi_ops::{OpAct, OpEnd};
 
 /// Writes an act of a command.

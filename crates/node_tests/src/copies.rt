@@ -1,15 +1,13 @@
 //! Each copy with ample memory: a body that never finds any would meet the contracts too.
 
 use crate::act_words::{write_driver_act, write_end, write_op_act};
-use crate::fault::Fault;
-use crate::input_words::{input_of, write_input};
-use crate::output_words::outputs_line;
 use guest_driver::DriverAct;
 use object_id::{Bytes, Cause, Entry, NodeId, Oid, Policy, Vid};
 use peer_proto::{GuestRsp, ObjWork, PeerRsp, SendList};
 use sheep_node::{Input, Outputs, ReplyList};
 use std::alloc::Global;
 use std::test::Fail;
+use step_text::{Fault, input_of, outputs_line, write_input};
 use vdi_ops::{OpAct, OpEnd};
 
 /// A request to read, and a refusal, as `peer_proto` spells them.

@@ -1,8 +1,8 @@
 //! What no clause says: that the calls come through with ample memory, and what the rules mean on small scripts.
 ghost use Rattle.std.specs.Prelude.{◌<◌};
 
-use crate::{Status, sheep};
 use object_id::{Bytes, fnv1a};
+use sheep::{Status, sheep};
 use sheep_base::{MemSink, MemSource, SureSink, SureSource};
 use std::alloc::Global;
 use std::test::Fail;
