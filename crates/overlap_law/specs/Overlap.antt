@@ -1,5 +1,5 @@
 -- The invariant of the epoch overlap: the whole of it, over the parts of a moment; and what is owed of it.
-use Rattle.std.specs.Prelude.{◌≡◌, List, Some}
+use Rattle.std.specs.Prelude.{◌≡◌, ℕ, Bool, List, Some}
 use Rattle.object_id.specs.declared.node.NodeId.{NodeId}
 use Rattle.vdi_directory.specs.Decisions.{log_effects}
 use Rattle.cluster_script.specs.declared.statement.Statement.{Statement}
@@ -18,35 +18,33 @@ use Rattle.overlap_law.specs.RequestsOfScript.{RequestsAreTheScripts, AttemptsAr
 use Rattle.overlap_law.specs.Groups.{FlightIsKept, AttemptsAreKept, WritersAreKept, TermsAreKept, RowsAreKept, SearchesAreKept}
 use Rattle.overlap_law.specs.Groups.{TablesAreKept, WrittenIsKept, PiecesAreKept, CoursesAreKept}
 
--- the whole: the groups, and that the replies so far are legal and refused requests change nothing
-pub record Overlap (moment : MomentWithPast) : Type 0 where
+-- the whole, of the objects that a test calls live and good, and of the ids that one calls good: the groups, and that the replies so far
+-- are legal and refused requests change nothing
+pub record OverlapAt (live good good_id : ℕ → Bool) (moment : MomentWithPast) : Type 0 where
   pub flight : FlightIsKept moment.world.log moment.world.hosts moment.world.wire moment.past.attempts
-  pub attempts : AttemptsAreKept (targets_by moment.world.log) moment.world.log (is_available_disk moment.world.log moment.past.unavailable)
-      moment.world.hosts moment.world.wire moment.past.refused moment.past.lost moment.past.attempts
+  pub attempts : AttemptsAreKept (targets_by moment.world.log) moment.world.log good_id moment.world.hosts moment.world.wire
+      moment.past.refused moment.past.lost moment.past.attempts
   pub writers : WritersAreKept moment.world.log moment.world.hosts moment.world.wire moment.past.attempts
   pub terms : TermsAreKept moment.world.log moment.world.hosts
-  pub rows : RowsAreKept (targets_by moment.world.log) moment.world.log (log_effects moment.world.log)
-      (is_live_object moment.world.log moment.past.attempts)
-      (is_good moment.world.log moment.past.attempts moment.past.unavailable) moment.world.hosts moment.past.attempts
-  pub searches : SearchesAreKept (targets_by moment.world.log) moment.world.log (log_effects moment.world.log)
-      (is_live_object moment.world.log moment.past.attempts) (is_good moment.world.log moment.past.attempts moment.past.unavailable)
-      moment.past.listed
+  pub rows : RowsAreKept (targets_by moment.world.log) moment.world.log (log_effects moment.world.log) live good moment.world.hosts
+      moment.past.attempts
+  pub searches : SearchesAreKept (targets_by moment.world.log) moment.world.log (log_effects moment.world.log) live good moment.past.listed
       moment.world.hosts moment.world.wire moment.past.attempts
-  pub tables : TablesAreKept moment.world.log (log_effects moment.world.log) (is_live_object moment.world.log moment.past.attempts)
-      (is_available_disk moment.world.log moment.past.unavailable) moment.world.hosts moment.past.attempts
-  pub written : WrittenIsKept (ledger_of moment.past.history) (log_effects moment.world.log)
-      (is_available_disk moment.world.log moment.past.unavailable)
-      moment.world.hosts moment.past.attempts
-  pub courses : CoursesAreKept moment.world.log (log_effects moment.world.log) (is_available_disk moment.world.log moment.past.unavailable)
-      moment.world.hosts moment.past.attempts
-  pub pieces : PiecesAreKept (ledger_of moment.past.history) (log_effects moment.world.log)
-      (is_available_disk moment.world.log moment.past.unavailable)
-      moment.world.hosts moment.past.attempts
-  pub lacked : NothingIsLacked (log_effects moment.world.log) (is_available_disk moment.world.log moment.past.unavailable)
-      moment.world.hosts moment.world.wire
+  pub tables : TablesAreKept moment.world.log (log_effects moment.world.log) live good_id moment.world.hosts moment.past.attempts
+  pub written : WrittenIsKept (ledger_of moment.past.history) (log_effects moment.world.log) good_id moment.world.hosts
+      moment.past.attempts
+  pub courses : CoursesAreKept moment.world.log (log_effects moment.world.log) good_id moment.world.hosts moment.past.attempts
+  pub pieces : PiecesAreKept (ledger_of moment.past.history) (log_effects moment.world.log) good_id moment.world.hosts moment.past.attempts
+  pub lacked : NothingIsLacked (log_effects moment.world.log) good_id moment.world.hosts moment.world.wire
   pub legal : IsLegalWhereAvailable moment.past
   pub no_items : RefusedHaveNoItems moment.past.refused moment.past.history
   pub nothing_made : RefusedMakeNothing moment.past.refused moment.past.lost moment.past.attempts
+
+-- the whole, of what is live and good at the moment
+abbrev pub Overlap : MomentWithPast → Type 0
+Overlap moment = OverlapAt (is_live_object moment.world.log moment.past.attempts)
+    (is_good moment.world.log moment.past.attempts moment.past.unavailable) (is_available_disk moment.world.log moment.past.unavailable)
+    moment
 
 -- the invariant of a run of a script, whose requests the gateways have
 pub record OverlapOf (script : List Statement) (moment : MomentWithPast) : Type 0 where
