@@ -48,7 +48,7 @@ module _ (script : List Statement) (start : MomentWithPast) (tied : IsTied start
   module _ (n : ℕ) (host : Host) (ready : IsReady script start.world n host) (later : List MessageName) (j : ℕ) (was : AttemptRecord)
       (gateway : was.gateway.0 ≡ n) (place : ℕ) (target : NodeId) (among : slice_get was.targets place ≡ Some target) where
     -- a message that was served, or flew, or that was lost by then
-    abbrev MayHaveTouched : Type 0
+    abbrev pub MayHaveTouched : Type 0
     MayHaveTouched = ((fate : MessageFate) × (slice_get was.fates place ≡ Some fate) × ((fate ≡ Served) ⊎ (fate ≡ Flying))) ⊎ Contains later (message_name_at was place)
 
     -- as far as the step has come, the attempt was there at first, or has later numbers

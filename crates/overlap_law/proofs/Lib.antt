@@ -213,3 +213,6 @@ pub mod ObjectsInRuns
 pub mod RangeOfFewObjects
 pub mod AskedMakers
 pub mod MakersInTraffic
+pub mod FewerObjects
+mod BornStays
+pub mod BornInRuns

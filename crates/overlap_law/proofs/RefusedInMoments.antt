@@ -1,4 +1,5 @@
--- What is refused, over a change of a moment: a request that is refused then is no more at its node, and no message of its attempts was served.
+-- What is refused, over a change of a moment: a request that is refused then is no more at its node, and no message of its attempts was served
+-- or lost.
 use Rattle.std.proofs.Common.{◌≡◌, ◌⊎◌, inl, inr, ⊎_elim, ℕ, zero, suc, ◌+◌, ◌==◌, not, ◌||◌, Bool, true, false, cond, List, [], ◌∷◌, ◌++◌, map, filter, Contains, Option, Some, None, is_some, slice_get, refl, sym, ap, subst, ◌∙◌, append-nil}
 use Rattle.std.specs.List.{list_any}
 use Rattle.std.specs.FinMap as tree
@@ -11,6 +12,7 @@ use Rattle.proof_tools.proofs.FiniteMaps.{get-insert_same}
 use Rattle.object_id.specs.declared.entry.Entry.{Entry}
 use Rattle.object_id.specs.declared.node.NodeId.{NodeId}
 use Rattle.cluster_script.specs.declared.statement.Statement.{Statement}
+use Rattle.message_wire.specs.declared.name.MessageName.{MessageName}
 use Rattle.peer_proto.specs.declared.guest.GuestRsp.{GuestRsp}
 use Rattle.gateway.specs.Attempt.{may_be_made}
 use Rattle.gateway.specs.State.{is_touched}
@@ -36,14 +38,15 @@ use Rattle.overlap_law.specs.Attempts.{AttemptRecord, Served}
 use Rattle.overlap_law.specs.Holders.{is_object_among}
 use Rattle.overlap_law.specs.Past.{MomentWithPast, past_after_event, moment_after}
 use Rattle.overlap_law.specs.PastWords.{is_refusal, refuses_request, refused_in}
-use Rattle.overlap_law.specs.OpenWorks.{IsAwaitedAt}
+use Rattle.overlap_law.specs.Packets.{message_name_at}
+use Rattle.overlap_law.specs.OpenWorks.{IsAwaitedAt, MayTouch}
 use Rattle.overlap_law.specs.StepMoments.{SteppingNode, IsStepping, StepsByChanges, StepsAtOnce, first_in_step, last_in_step, LeadsInStep, IsWithinStep, moment_in_step, attempts_of_change}
 use Rattle.overlap_law.specs.MomentChanges as moments
 use Rattle.overlap_law.specs.MomentChanges.{MomentChange, RunsAreInRange}
 use Rattle.overlap_law.specs.TiedAttempts.{IsTied}
 use Rattle.overlap_law.proofs.AttemptsInSteps.{attempts-grow}
 use Rattle.overlap_law.proofs.DrivenInMoments.{RequestsHaveWorked, driven_at}
-use Rattle.overlap_law.proofs.DueMessages.{HoldsBefore, TouchOrAreAwaited, told_made}
+use Rattle.overlap_law.proofs.DueMessages.{HoldsBefore, TouchOrAreAwaited, MayHaveTouched, told_made}
 use Rattle.overlap_law.proofs.FreshRequests.{none_for_new}
 use Rattle.overlap_law.proofs.KnownFatesLater.{WasMarked}
 use Rattle.overlap_law.proofs.KnownSteps.{IsKnownStep, known_step}
@@ -154,7 +157,7 @@ got_front {X = X} (y ∷ xs) ys (suc j) x got = got_front {X = X} xs ys j x got
 
 -- ---- a request that is refused
 
--- it is no more at its node, and no message of its attempts there was served
+-- it is no more at its node, and no message of its attempts there was served or lost
 pub record IsRefusedNow (script : List Statement) (after : MomentWithPast) (req : ℕ) : Type 0 where
   pub n : ℕ
   pub host : Host
@@ -163,8 +166,8 @@ pub record IsRefusedNow (script : List Statement) (after : MomentWithPast) (req 
   pub none : tree.contains_key host.node.requests req ≡ false
   pub session : ℕ
   pub asked : IsAskedIn script n host.incarnation req session
-  pub unserved : (j : ℕ) (now : AttemptRecord) → slice_get after.past.attempts j ≡ Some now → now.req ≡ req → now.gateway.0 ≡ n → (place : ℕ) (target : NodeId)
-      → slice_get now.targets place ≡ Some target → slice_get now.fates place ≡ Some Served → ⊥
+  pub untouching : (j : ℕ) (now : AttemptRecord) → slice_get after.past.attempts j ≡ Some now → now.req ≡ req → now.gateway.0 ≡ n → (place : ℕ)
+      (target : NodeId) → slice_get now.targets place ≡ Some target → MayTouch after.past.lost now place → ⊥
 
 module _ (script : List Statement) (range : RunsAreInRange script) (start : MomentWithPast) (began : Began script start.world) (first : HoldsBefore script start) where
   module _ (stepping : SteppingNode) (so_far next : StepState) (is : IsStepping script start.world stepping) (by : StepsByChanges stepping.cause)
@@ -207,13 +210,28 @@ module _ (script : List Statement) (range : RunsAreInRange script) (start : Mome
     module _ (tied : IsTied before) (due : TouchOrAreAwaited before) (worked : RequestsHaveWorked before) (req : ℕ) (gone : tree.contains_key next.node.requests req ≡ false)
         (may : MayBeRefused (input_of_cause stepping.cause) stepping.host.node known.sound so_far good req) where
       module _ (j : ℕ) (attempt : AttemptRecord) (got : slice_get after.past.attempts j ≡ Some attempt) (own : attempt.req ≡ req) (gateway : attempt.gateway.0 ≡ stepping.n)
-          (place : ℕ) (target : NodeId) (among : slice_get attempt.targets place ≡ Some target) (served : slice_get attempt.fates place ≡ Some Served) where
+          (place : ℕ) (target : NodeId) (among : slice_get attempt.targets place ≡ Some target) (touching : MayTouch after.past.lost attempt place) where
         no_work : may_work_at (tree.get next.node.requests attempt.req) ≡ true → ⊥
         no_work is = by_request (tree.get next.node.requests attempt.req) is (ap (tree.contains_key next.node.requests) own ∙ gone)
           where
             by_request : (o : Option requests.Request) → may_work_at o ≡ true → is_some o ≡ false → ⊥
             by_request None may none = cc (may)
             by_request (Some request) may none = cc (none)
+
+        -- what is lost is so from the step's beginning on
+        touched_before : MayTouch before.past.lost attempt place
+        touched_before = ⊎_elim
+            (λ (served : slice_get attempt.fates place ≡ Some Served). inl served)
+            (λ (lost : Contains after.past.lost (message_name_at attempt place)).
+            inr (subst (λ (all : List MessageName). Contains all (message_name_at attempt place))
+            (lost_in_step script stepping start next ∙ sym (lost_in_step script stepping start so_far)) lost))
+            touching
+
+        have_touched : MayHaveTouched script start first.tied first.lost stepping.n stepping.host known.ready after.past.lost j attempt gateway place target among
+        have_touched = ⊎_elim
+            (λ (served : slice_get attempt.fates place ≡ Some Served). inl (Served, served, inl refl))
+            (λ (lost : Contains after.past.lost (message_name_at attempt place)). inr lost)
+            touching
 
         by_untouched : slice_get before.past.attempts j ≡ Some attempt → IsUntouched (input_of_cause stepping.cause) stepping.host.node known.sound so_far good req → ⊥
         by_untouched at u = ⊎_elim
@@ -231,15 +249,15 @@ module _ (script : List Statement) (range : RunsAreInRange script) (start : Mome
             let made : may_be_made h.status ≡ true
             = told_made script start first.tied first.lost stepping.n stepping.host known.ready after.past.lost j attempt gateway place target among stepping.cause is.caused h.status told
             (known.given (attempt.first + place) h.status told) (origin_so_far script range start began stepping so_far is by j attempt at) (lost_in_step script stepping start next)
-            (inl (Served, served, inl refl)) in
+            have_touched in
             u.told a.work (ap (tree.get so_far.node.gateway.works) (sym own) ∙ a.opened.there) a.opened.making (attempt.first + place) h.status told made)
             (change_goes (input_of_cause stepping.cause) stepping.host.node known.sound so_far good attempt.req a.work a.current place a.message
             (record { there = a.opened.there; stage = a.opened.stage; at = a.at; status = a.unanswered }) next within.change))
             (due.each stepping.n was (get-insert_same start.world.hosts stepping.n was) up j attempt at gateway
-            (ap (tree.contains_key so_far.node.requests) own ∙ u.asked) place target among (inl served))
+            (ap (tree.contains_key so_far.node.requests) own ∙ u.asked) place target among touched_before)
 
-        old_unserved : slice_get before.past.attempts j ≡ Some attempt → ⊥
-        old_unserved at = ⊎_elim
+        old_touching : slice_get before.past.attempts j ≡ Some attempt → ⊥
+        old_touching at = ⊎_elim
             (λ (arrives : Arrives req (input_of_cause stepping.cause) stepping.host.node so_far).
             none_for_new script start before first.started j attempt at
             (subst (BeginsWith script start before) (sym own) (begins script range start began stepping so_far is by req arrives)))
@@ -252,16 +270,23 @@ module _ (script : List Statement) (range : RunsAreInRange script) (start : Mome
             others)
             may
 
-        none_served : ⊥
-        none_served = ⊎_elim
+        none_touching : ⊥
+        none_touching = ⊎_elim
             (λ (w : WasMarked before.past.attempts j attempt).
             let more = attempts_of_change stepping.host so_far next within.change in
             let grown = attempts-grow script start stepping is known.sound known.given by so_far next within in
             let same : w.was ≡ attempt
             = same_Some w.was attempt
             (sym (got_front before.past.attempts more j w.was w.at) ∙ ap (λ (all : List AttemptRecord). slice_get all j) (sym grown) ∙ got) in
-            old_unserved (w.at ∙ ap (λ (a : AttemptRecord). Some a) same))
-            (λ (b : HasBegun before.world.hosts after.world.hosts attempt). let flies = b.begun.flying place Served served in absurd (cc (flies)))
+            old_touching (w.at ∙ ap (λ (a : AttemptRecord). Some a) same))
+            (λ (b : HasBegun before.world.hosts after.world.hosts attempt).
+            let here : b.n ≡ stepping.n = sym b.begun.gateway ∙ gateway in
+            let same : b.begun.sent_by.after ≡ now
+            = same_Some b.begun.sent_by.after now
+            (sym b.begun.sent_by.there_after ∙ ap (tree.get after.world.hosts) here ∙ get-insert_same start.world.hosts stepping.n now) in
+            let open_now : tree.get next.node.gateway.works attempt.req ≡ Some b.begun.work
+            = ap (λ (host : Host). tree.get host.node.gateway.works attempt.req) (sym same) ∙ b.begun.opened.there in
+            no_work ((driven_at script range start began stepping is next leads stepping.n now (get-insert_same start.world.hosts stepping.n now)).open_works attempt.req b.begun.work open_now))
             (came_from before.world.hosts after.world.hosts before.world.wire before.past.attempts
             (traffic script range start began (moments.StepGoesOn stepping so_far next is by within)) j attempt got)
 
@@ -279,8 +304,8 @@ module _ (script : List Statement) (range : RunsAreInRange script) (start : Mome
           none = none;
           session = session;
           asked = asked;
-          unserved = λ j attempt got own gateway place target among served.
-              none_served tied due worked reply.0 none may j attempt got own gateway place target among served;
+          untouching = λ j attempt got own gateway place target among touching.
+              none_touching tied due worked reply.0 none may j attempt got own gateway place target among touching;
         }
 
   -- ---- every change

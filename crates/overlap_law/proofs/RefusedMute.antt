@@ -1,6 +1,6 @@
--- The attempts of a refused request are mute, and nothing of them is in flight: each change of a moment keeps that, and that a refused request is
--- at no node any more.
-use Rattle.std.proofs.Common.{◌≡◌, ◌⊎◌, ⊎_elim, arith, ℕ, zero, suc, not, ◌||◌, Bool, true, false, List, [], ◌∷◌, length, Option, Some, None, is_some, slice_get, refl, sym, ap, subst, ◌∙◌}
+-- The attempts of a refused request are mute, no message of them was lost, and nothing of them is in flight: each change of a moment keeps
+-- that, and that a refused request is at no node any more.
+use Rattle.std.proofs.Common.{◌≡◌, ◌⊎◌, inl, inr, ⊎_elim, arith, ℕ, zero, suc, not, ◌||◌, Bool, true, false, List, [], ◌∷◌, Contains, length, Option, Some, None, is_some, slice_get, refl, sym, ap, subst, ◌∙◌}
 use Rattle.std.specs.List.{list_any}
 use Rattle.std.specs.FinMap as tree
 use Rattle.std.proofs.lemmas.Bool.{not-true}
@@ -8,6 +8,7 @@ use Rattle.std.proofs.lemmas.Option.{same_Some}
 use Rattle.object_id.specs.declared.node.NodeId.{NodeId}
 use Rattle.cluster_script.specs.declared.statement.Statement.{Statement}
 use Rattle.cluster_script.specs.Sessions.{ScriptSession, session_numbered}
+use Rattle.message_wire.specs.declared.name.MessageName.{MessageName}
 use Rattle.message_wire.specs.declared.packet.Packet.{Packet}
 use Rattle.sheep_node.specs.declared.course.Request as requests
 use Rattle.sheep_node.specs.OneWork.{may_work_at}
@@ -16,7 +17,7 @@ use Rattle.sheep_world.specs.Began.{Began}
 use Rattle.overlap_law.specs.Attempts.{AttemptRecord, MessageFate, Flying, Served, Doomed}
 use Rattle.overlap_law.specs.Words.{is_served, is_mute}
 use Rattle.overlap_law.specs.Holders.{is_object_among}
-use Rattle.overlap_law.specs.Each.{EachUp}
+use Rattle.overlap_law.specs.Each.{EachUp, EachAttempt}
 use Rattle.overlap_law.specs.Fates.{IsFateIn}
 use Rattle.overlap_law.specs.Packets.{message_name_at, is_name_in_wire}
 use Rattle.overlap_law.specs.Past.{MomentWithPast}
@@ -30,6 +31,7 @@ use Rattle.overlap_law.proofs.DrivenInMoments.{RequestsHaveWorked, driven_after}
 use Rattle.overlap_law.proofs.DueMessages.{HoldsBefore, TouchOrAreAwaited}
 use Rattle.overlap_law.proofs.FreshRequests.{begins_new}
 use Rattle.overlap_law.proofs.KnownFatesLater.{WasMarked}
+use Rattle.overlap_law.proofs.LostMessages.{lost_from}
 use Rattle.overlap_law.proofs.RefusedInMoments.{IsRefusedNow, refused_from}
 use Rattle.overlap_law.proofs.SessionsOfRequests.{IsAskedIn}
 use Rattle.overlap_law.proofs.StartedAttempts.{IsStarted}
@@ -85,6 +87,8 @@ target_of {X = X} {Y = Y} (z ∷ xs) (y ∷ ys) long (suc place) x at =
 
 pub record RefusedAreOver (moment : MomentWithPast) : Type 0 where
   pub mute : RefusedRequestsAreMute moment.world.wire moment.past.refused moment.past.attempts
+  pub unlost : EachAttempt moment.past.attempts (λ j attempt. is_object_among attempt.req moment.past.refused ≡ true → (place : ℕ) (target : NodeId)
+      → slice_get attempt.targets place ≡ Some target → Contains moment.past.lost (message_name_at attempt place) → ⊥)
   pub gone : EachUp moment.world.hosts (λ n node. (req : ℕ) → is_object_among req moment.past.refused ≡ true → tree.contains_key node.requests req ≡ false)
 
 module _ (script : List Statement) (range : RunsAreInRange script) (start before after : MomentWithPast) (began : Began script start.world)
@@ -202,6 +206,21 @@ module _ (script : List Statement) (range : RunsAreInRange script) (start before
           cc (some, none))
           (served_before w.told f Served either refl)
 
+      -- what was lost then was in the wire, or lost before
+      old_unlost : (place : ℕ) (target : NodeId) → slice_get attempt.targets place ≡ Some target
+          → Contains after.past.lost (message_name_at attempt place) → ⊥
+      old_unlost place target among lost =
+          let among_then : slice_get w.was.targets place ≡ Some target = ap (λ (a : AttemptRecord). slice_get a.targets place) w.same ∙ among in
+          let lost_then : Contains after.past.lost (message_name_at w.was place)
+          = subst (λ (a : AttemptRecord). Contains after.past.lost (message_name_at a place)) (sym w.same) lost in
+          ⊎_elim
+          (λ (old : Contains before.past.lost (message_name_at w.was place)). over.unlost j w.was w.at was_own place target among_then old)
+          (λ (new : (is_name_in_wire before.world.wire (message_name_at w.was place) ≡ true) × (is_name_in_wire after.world.wire (message_name_at w.was place) ≡ false)).
+          let some = new.0 in
+          let none = then_quiet place target among_then in
+          cc (some, none))
+          (lost_from script range start began change (message_name_at w.was place) lost_then)
+
     abbrev Came : Type 0
     Came = WasMarked before.past.attempts j attempt ⊎ HasBegun before.world.hosts after.world.hosts attempt
 
@@ -226,7 +245,17 @@ module _ (script : List Statement) (range : RunsAreInRange script) (start before
         came)
         (λ (r : IsRefusedNow script after attempt.req).
         let (target, among) = target_of attempt.fates attempt.targets (tied_after.fates.whole j attempt got) place Served served in
-        r.unserved j attempt got refl (now_gateway r) place target among served)
+        r.untouching j attempt got refl (now_gateway r) place target among (inl served))
+        (from attempt.req is)
+
+    none_lost : (place : ℕ) (target : NodeId) → slice_get attempt.targets place ≡ Some target
+        → Contains after.past.lost (message_name_at attempt place) → ⊥
+    none_lost place target among lost = ⊎_elim
+        (λ (was : WasRefused attempt.req). ⊎_elim
+        (λ (w : WasMarked before.past.attempts j attempt). old_unlost w was place target among lost)
+        none_begins
+        came)
+        (λ (r : IsRefusedNow script after attempt.req). r.untouching j attempt got refl (now_gateway r) place target among (inr lost))
         (from attempt.req is)
 
     not_in_wire : (place : ℕ) (target : NodeId) → slice_get attempt.targets place ≡ Some target → (b : Bool)
@@ -243,5 +272,6 @@ module _ (script : List Statement) (range : RunsAreInRange script) (start before
             not_in_wire j attempt got is place target among (is_name_in_wire after.world.wire (message_name_at attempt place)) refl;
       };
     };
+    unlost = λ j attempt got is place target among lost. none_lost j attempt got is place target among lost;
     gone = λ n host there up req is. gone_then n host there up req is;
   }

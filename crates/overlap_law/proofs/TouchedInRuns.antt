@@ -63,7 +63,7 @@ got_within {X = X} (x ∷ xs) (suc place) within =
     got_within {X = X} xs place (omega (arith, less))
 
 -- a message of an attempt that was lost stands at a place of it
-lost_place : (lost : List MessageName) (attempt : AttemptRecord) → has_lost lost attempt ≡ true
+pub lost_place : (lost : List MessageName) (attempt : AttemptRecord) → has_lost lost attempt ≡ true
     → (place : ℕ) × (target : NodeId) × (slice_get attempt.targets place ≡ Some target) × Contains lost (message_name_at attempt place)
 lost_place lost attempt is =
     let (name, there, has) = any_in (λ (name : MessageName). has_message name.sender name.number attempt) lost is in

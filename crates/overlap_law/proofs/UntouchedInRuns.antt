@@ -1,9 +1,10 @@
--- In every run in range the attempts of a refused request are mute, and nothing of them is in flight.
-use Rattle.std.proofs.Common.{◌≡◌, List, Some, option_map, ap}
+-- In every run in range the attempts of a refused request are mute, no message of them was lost, and nothing of them is in flight.
+use Rattle.std.proofs.Common.{◌≡◌, Bool, true, false, List, Some, option_map, refl, ap}
 use Rattle.cluster_script.specs.declared.statement.Statement.{Statement}
 use Rattle.sheep_node.specs.declared.event.Event.{Event}
 use Rattle.sheep_world.specs.Began.{Began}
 use Rattle.overlap_law.specs.Past.{MomentWithPast, moment_after, first_moment, run_with_past}
+use Rattle.overlap_law.specs.Headline.{RefusedMakeNothing, has_lost}
 use Rattle.overlap_law.specs.OpenWorks.{RefusedRequestsAreMute}
 use Rattle.overlap_law.specs.RequestsOfScript.{AttemptsAreTheScripts}
 use Rattle.overlap_law.specs.MomentChanges.{MomentTrail, Still, Then, RunsAreInRange}
@@ -14,7 +15,7 @@ use Rattle.overlap_law.proofs.NoRecoveredDue.{began-with_past}
 use Rattle.overlap_law.proofs.RefusedInRuns.{AreAnsweredAt, opens_answered, events_answered}
 use Rattle.overlap_law.proofs.RefusedMute.{RefusedAreOver, change_over}
 use Rattle.overlap_law.proofs.RunsByEvents.{KeptByEvents, run-kept_by_events}
-use Rattle.overlap_law.proofs.TouchedInRuns.{HoldsAt, along_trail, opens_so, events_keep}
+use Rattle.overlap_law.proofs.TouchedInRuns.{HoldsAt, along_trail, opens_so, events_keep, lost_place}
 
 module _ (script : List Statement) (range : RunsAreInRange script) where
   -- what holds of the refused in the middle of an event
@@ -53,6 +54,7 @@ module _ (script : List Statement) (range : RunsAreInRange script) where
       scripts = record { each = λ j attempt got. absurd (cc (got)) };
       over = record {
         mute = record { mute = λ j attempt got. absurd (cc (got)); quiet = λ j attempt got. absurd (cc (got)) };
+        unlost = λ j attempt got. absurd (cc (got));
         gone = λ n host there up req is. absurd (cc (is));
       };
     };
@@ -75,3 +77,20 @@ module _ (script : List Statement) (range : RunsAreInRange script) where
   pub untouched-in_run : (events : List Event) (moment : MomentWithPast) → run_with_past script events ≡ Some moment
       → RefusedRequestsAreMute moment.world.wire moment.past.refused moment.past.attempts
   untouched-in_run events moment is = (holds_then events moment is).too.over.mute
+
+  -- so no message of a refused request succeeded or was lost
+  pub nothing_made-in_run : (events : List Event) (moment : MomentWithPast) → run_with_past script events ≡ Some moment
+      → RefusedMakeNothing moment.past.refused moment.past.lost moment.past.attempts
+  nothing_made-in_run events moment is j attempt got refused = record {
+    none_succeeded = over.mute.mute j attempt got refused;
+    none_lost = by_test (has_lost moment.past.lost attempt) refl;
+  }
+    where
+      over : RefusedAreOver moment
+      over = (holds_then events moment is).too.over
+
+      by_test : (b : Bool) → has_lost moment.past.lost attempt ≡ b → has_lost moment.past.lost attempt ≡ false
+      by_test false lost = lost
+      by_test true lost =
+          let (place, target, among, named) = lost_place moment.past.lost attempt lost in
+          absurd (over.unlost j attempt got refused place target among named)

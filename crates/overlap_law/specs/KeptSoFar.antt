@@ -14,10 +14,10 @@ use Rattle.overlap_law.specs.Courses.{CommandsKeepTheirGrants}
 use Rattle.overlap_law.specs.RequestsOfScript.{RequestsAreWithoutReply, AttemptsAreTheScripts, TheRefusedAreAnswered}
 use Rattle.overlap_law.specs.Holders.{is_live_object}
 use Rattle.overlap_law.specs.Rows.{RowsHaveEnds, OneRowIsOpen, RowsAreApart, ServedRowsStay}
-use Rattle.overlap_law.specs.Headline.{OtherEpochsChangeNothing}
+use Rattle.overlap_law.specs.Headline.{OtherEpochsChangeNothing, RefusedMakeNothing}
 
--- the groups of the wire and of epochs, what of the attempts, of the writers, of commands and of rows, and the headline's part on peers
--- of another epoch
+-- the groups of the wire and of epochs, what of the attempts, of the writers, of commands and of rows, and the headline's parts on refused
+-- requests and on peers of another epoch
 pub record IsKeptSoFar (script : List Statement) (moment : MomentWithPast) : Type 0 where
   pub wire : FlightIsKept moment.world.log moment.world.hosts moment.world.wire moment.past.attempts
   pub epochs : TermsAreKept moment.world.log moment.world.hosts
@@ -28,6 +28,7 @@ pub record IsKeptSoFar (script : List Statement) (moment : MomentWithPast) : Typ
   pub touched : ServedRequestsAreTouched moment.world.hosts moment.world.wire moment.past.attempts
   pub losers : LosersAreTouched moment.world.hosts moment.past.lost moment.past.attempts
   pub untouched : RefusedRequestsAreMute moment.world.wire moment.past.refused moment.past.attempts
+  pub nothing_made : RefusedMakeNothing moment.past.refused moment.past.lost moment.past.attempts
   pub messages : OpenAttemptsHaveMessages moment.world.hosts
   pub begun : AttemptsHaveBegun moment.world.log moment.past.attempts
   pub scripts : AttemptsAreTheScripts script moment.past.attempts

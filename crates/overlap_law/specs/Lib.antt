@@ -46,3 +46,4 @@ pub mod AwaitedEntries
 pub mod CommandDisks
 pub mod WriterClaims
 pub mod RowsInRange
+pub mod BornObjects

@@ -1,5 +1,5 @@
 -- The invariant of the epoch overlap: the whole of it, over the parts of a moment; and what is owed of it.
-use Rattle.std.specs.Prelude.{◌≡◌, ℕ, Bool, List, Some}
+use Rattle.std.specs.Prelude.{◌≡◌, ℕ, Bool, true, List, Some}
 use Rattle.object_id.specs.declared.node.NodeId.{NodeId}
 use Rattle.vdi_directory.specs.Decisions.{log_effects}
 use Rattle.cluster_script.specs.declared.statement.Statement.{Statement}
@@ -39,6 +39,10 @@ pub record OverlapAt (live good good_id : ℕ → Bool) (moment : MomentWithPast
   pub legal : IsLegalWhereAvailable moment.past
   pub no_items : RefusedHaveNoItems moment.past.refused moment.past.history
   pub nothing_made : RefusedMakeNothing moment.past.refused moment.past.lost moment.past.attempts
+
+-- a test that calls fewer so than another
+abbrev pub CallsFewer : (ℕ → Bool) → (ℕ → Bool) → Type 0
+CallsFewer few many = (number : ℕ) → few number ≡ true → many number ≡ true
 
 -- the whole, of what is live and good at the moment
 abbrev pub Overlap : MomentWithPast → Type 0

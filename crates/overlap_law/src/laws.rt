@@ -22,7 +22,7 @@ ghost use Rattle.sheep_world.specs.LogHolds.{MayGrow};
 ghost use Rattle.overlap_law.specs.Attempts.{MessageFate, Flying, Served, AttemptRecord, has_message, attempt_with_fate};
 ghost use Rattle.overlap_law.specs.Words.{Hosts, is_beyond, is_made, is_doomed, has_served, unit_start, unit_end, covers_unit, base_of};
 ghost use Rattle.overlap_law.specs.Words.{own_base_of};
-ghost use Rattle.overlap_law.specs.Headline.{OtherEpochsChangeNothing};
+ghost use Rattle.overlap_law.specs.Headline.{OtherEpochsChangeNothing, RefusedMakeNothing};
 ghost use Rattle.overlap_law.specs.Past.{MomentWithPast, run_with_past, without_past, next_moment, first_moment};
 ghost use Rattle.overlap_law.specs.StepMoments.{SteppingNode, IsStepping, StepsByChanges, IsWithinStep, moment_in_step, attempts_of_change};
 ghost use Rattle.overlap_law.specs.MomentChanges.{MomentChange, MomentTrail, RunsAreInRange, EventsAreTrails};
@@ -327,6 +327,14 @@ pub fn attempts_of_the_refused_are_mute()
     ensures run { (script : List Statement) (events : List Event) (moment : MomentWithPast) → RunsAreInRange script
         → run_with_past script events ≡ Some moment
         → RefusedRequestsAreMute moment.world.wire moment.past.refused moment.past.attempts }
+{}
+
+/// In each run in range no message to create or write of a refused request succeeded, and neither it nor the reply to it was lost. So the
+/// headline says it of each run.
+pub fn refused_requests_make_nothing()
+    ensures { (script : List Statement) (events : List Event) (moment : MomentWithPast) → RunsAreInRange script
+        → run_with_past script events ≡ Some moment
+        → RefusedMakeNothing moment.past.refused moment.past.lost moment.past.attempts }
 {}
 
 /// In each world of a run what was sent last for works can be spelled, and each node is sound, as long as there is room for an epoch.

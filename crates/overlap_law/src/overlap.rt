@@ -1,5 +1,5 @@
 //! What the invariant of the overlap gives at once.
-ghost use Rattle.std.specs.Prelude.{◌≡◌, ℕ, ◌<◌, true, List, Some, Ok};
+ghost use Rattle.std.specs.Prelude.{◌≡◌, ℕ, ◌<◌, Bool, true, List, Some, Ok};
 ghost use Rattle.std.specs.FinMap as tree;
 ghost use Rattle.object_id.specs.declared.node.NodeId.{NodeId};
 ghost use Rattle.object_id.specs.declared.entry.Entry.{Entry};
@@ -19,7 +19,7 @@ ghost use Rattle.overlap_law.specs.Grants.{leave_of};
 ghost use Rattle.overlap_law.specs.Packets.{Wire};
 ghost use Rattle.overlap_law.specs.Flight.{TheGoneAreFenced};
 ghost use Rattle.overlap_law.specs.NodeEpochs.{TheSettledHaveRecovered};
-ghost use Rattle.overlap_law.specs.Overlap.{Overlap};
+ghost use Rattle.overlap_law.specs.Overlap.{Overlap, OverlapAt, CallsFewer};
 
 /// The replies are legal in each moment of which the invariant holds.
 pub fn the_overlap_gives_legal_replies()
@@ -57,4 +57,12 @@ pub fn the_messages_of_the_gone_are_fenced()
 /// Each member of the settled epoch has recovered in it, by what settled means: no event has anything to show there.
 pub fn the_settled_have_recovered()
     ensures { (log : List Entry) (hosts : Hosts) → TheSettledHaveRecovered log hosts }
+{}
+
+/// What the invariant says of the objects that some tests call live and good, and of the ids of disks that one calls good, it says of those
+/// that tests call so which call fewer so.
+pub fn the_overlap_holds_of_fewer()
+    ensures { (live good good_id few_live few_good few_ids : ℕ → Bool) (moment : MomentWithPast) → CallsFewer few_live live
+        → CallsFewer few_good good → CallsFewer few_ids good_id → OverlapAt live good good_id moment
+        → OverlapAt few_live few_good few_ids moment }
 {}

@@ -7,6 +7,7 @@ ghost use Rattle.overlap_law.specs.Past.{MomentWithPast, run_with_past};
 ghost use Rattle.overlap_law.specs.MomentChanges.{MomentChange, MomentTrail, RunsAreInRange};
 ghost use Rattle.overlap_law.specs.Traffic.{MakersAreOfAttempts};
 ghost use Rattle.overlap_law.specs.Holders.{is_live_object};
+ghost use Rattle.overlap_law.specs.BornObjects.{ObjectsWereBorn};
 ghost use Rattle.overlap_law.specs.Rows.{RowsHaveEnds, OneRowIsOpen, RowsAreApart, ServedRowsStay};
 
 /// In each run in range the rows of an object at a node stand in turn: each begins no later than it ends, and a closed one of a node that
@@ -36,4 +37,12 @@ pub fn requests_are_of_attempts()
         → MakersAreOfAttempts after.world.wire after.past.attempts }
     ensures run { (script : List Statement) (events : List Event) (moment : MomentWithPast) → RunsAreInRange script
         → run_with_past script events ≡ Some moment → MakersAreOfAttempts moment.world.wire moment.past.attempts }
+{}
+
+/// In each run in range what nodes have rows of, have still to recover, and search, and what their recoveries were told of, was born; so was
+/// what lists on their way name. An object that is born with an event has nothing before it.
+pub fn what_nodes_have_was_born()
+    ensures { (script : List Statement) (events : List Event) (moment : MomentWithPast) → RunsAreInRange script
+        → run_with_past script events ≡ Some moment
+        → ObjectsWereBorn moment.world.hosts moment.world.wire moment.past.attempts }
 {}

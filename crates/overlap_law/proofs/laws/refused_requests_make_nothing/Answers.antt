@@ -1,0 +1,5 @@
+use Rattle.overlap_law.proofs.UntouchedInRuns.{nothing_made-in_run}
+use Rattle.overlap_law.proofs.laws.refused_requests_make_nothing.Goals as goal
+
+pub returns : goal.returns
+returns c = λ script events moment range is. nothing_made-in_run script range events moment is
