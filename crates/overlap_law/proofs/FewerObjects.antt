@@ -8,6 +8,7 @@ use Rattle.object_id.specs.Oid.{inode_number, vid_of}
 use Rattle.disk_history.specs.Ledger.{Ledger}
 use Rattle.disk_history.specs.Ledger as histories
 use Rattle.vdi_directory.specs.declared.effect.Effect.{Effect}
+use Rattle.vdi_directory.specs.Decisions.{log_effects}
 use Rattle.peer_proto.specs.declared.work.ObjWork.{ObjWork}
 use Rattle.guest_driver.specs.declared.disk.Disk.{Disk}
 use Rattle.vdi_ops.specs.Op.{OpStage, Asked, Working, Publishing, Answered, Task, Opening, WritingBack, Tagging, Copying, Making}
@@ -90,9 +91,9 @@ module _ {live good few_live few_good : ℕ → Bool} (lives : CallsFewer few_li
 
 -- ---- the rest, by the ids of disks
 
-module _ {good_id few_ids : ℕ → Bool} (ids : CallsFewer few_ids good_id) {effects : List Effect} {hosts : Hosts}
-    {attempts : List AttemptRecord} where
-  tables_of_fewer : {live few_live : ℕ → Bool} → CallsFewer few_live live → {log : List Entry}
+module _ {good_id few_ids : ℕ → Bool} (ids : CallsFewer few_ids good_id) where
+  tables_of_fewer : {live few_live : ℕ → Bool} → CallsFewer few_live live → {log : List Entry} {effects : List Effect} {hosts : Hosts}
+      {attempts : List AttemptRecord}
       → TablesAreKept log effects live good_id hosts attempts → TablesAreKept log effects few_live few_ids hosts attempts
   tables_of_fewer lives tables = record {
     entries = record {
@@ -117,9 +118,9 @@ module _ {good_id few_ids : ℕ → Bool} (ids : CallsFewer few_ids good_id) {ef
   }
 
   -- a block of a disk is one by the greater test, too
-  block_by_more : {ledger : Ledger} {vid index unit : ℕ} {disk : histories.Disk} {spec : VdiSpec}
+  block_by_more : {ledger : Ledger} {effects : List Effect} {vid index unit : ℕ} {disk : histories.Disk} {spec : VdiSpec}
       → IsBlockOfDisk ledger effects few_ids vid disk spec index unit → IsBlockOfDisk ledger effects good_id vid disk spec index unit
-  block_by_more {ledger} {vid} block = record {
+  block_by_more {ledger} {effects} {vid} block = record {
     there = block.there;
     kept = block.kept;
     live = block.live;
@@ -130,7 +131,8 @@ module _ {good_id few_ids : ℕ → Bool} (ids : CallsFewer few_ids good_id) {ef
     block = block.block;
   }
 
-  written_of_fewer : {ledger : Ledger} → WrittenIsKept ledger effects good_id hosts attempts → WrittenIsKept ledger effects few_ids hosts attempts
+  written_of_fewer : {ledger : Ledger} {effects : List Effect} {hosts : Hosts} {attempts : List AttemptRecord}
+      → WrittenIsKept ledger effects good_id hosts attempts → WrittenIsKept ledger effects few_ids hosts attempts
   written_of_fewer all = record {
     written = record {
       entered = λ vid index unit disk spec is. all.written.entered vid index unit disk spec (block_by_more is);
@@ -144,7 +146,8 @@ module _ {good_id few_ids : ℕ → Bool} (ids : CallsFewer few_ids good_id) {ef
     };
   }
 
-  pieces_of_fewer : {ledger : Ledger} → PiecesAreKept ledger effects good_id hosts attempts → PiecesAreKept ledger effects few_ids hosts attempts
+  pieces_of_fewer : {ledger : Ledger} {effects : List Effect} {hosts : Hosts} {attempts : List AttemptRecord}
+      → PiecesAreKept ledger effects good_id hosts attempts → PiecesAreKept ledger effects few_ids hosts attempts
   pieces_of_fewer all = record {
     named = record {
       each = λ n host at up work vid index to_do is. all.named.each n host at up work vid index to_do (ids vid is);
@@ -180,65 +183,67 @@ module _ {good_id few_ids : ℕ → Bool} (ids : CallsFewer few_ids good_id) {ef
 
   -- ---- what a request waits for
 
-  task_of_fewer : (disk : Option Disk) (vid : Vid) (task : Task) (work : ObjWork) → IsOfTask effects good_id attempts disk vid task work
-      → IsOfTask effects few_ids attempts disk vid task work
-  task_of_fewer disk vid (Opening snapshot ids_above header) work is = is
-  task_of_fewer disk vid (WritingBack inode) work is = is
-  task_of_fewer disk vid (Tagging old inode) work is = is
-  task_of_fewer disk vid (Copying ids_above header) work is = is
-  task_of_fewer disk vid (Making entry opened) work is = record {
-    inode = is.inode;
-    own = is.own;
-    work_of = is.work_of;
-    same = is.same;
-    drawn = λ index good. is.drawn index (ids vid.0 good);
-  }
+  module _ (effects : List Effect) (attempts : List AttemptRecord) where
+    task_of_fewer : (disk : Option Disk) (vid : Vid) (task : Task) (work : ObjWork) → IsOfTask effects good_id attempts disk vid task work
+        → IsOfTask effects few_ids attempts disk vid task work
+    task_of_fewer disk vid (Opening snapshot ids_above header) work is = is
+    task_of_fewer disk vid (WritingBack inode) work is = is
+    task_of_fewer disk vid (Tagging old inode) work is = is
+    task_of_fewer disk vid (Copying ids_above header) work is = is
+    task_of_fewer disk vid (Making entry opened) work is = record {
+      inode = is.inode;
+      own = is.own;
+      work_of = is.work_of;
+      same = is.same;
+      drawn = λ index good. is.drawn index (ids vid.0 good);
+    }
 
-  stage_of_fewer : (disk : Option Disk) (stage : OpStage) (work : ObjWork) → IsOfStage effects good_id attempts disk stage work
-      → IsOfStage effects few_ids attempts disk stage work
-  stage_of_fewer disk (Asked entry) work is = is
-  stage_of_fewer disk (Working vid task) work is = task_of_fewer disk vid task work is
-  stage_of_fewer disk (Publishing entry opened) work is = is
-  stage_of_fewer disk (Answered change) work is = is
+    stage_of_fewer : (disk : Option Disk) (stage : OpStage) (work : ObjWork) → IsOfStage effects good_id attempts disk stage work
+        → IsOfStage effects few_ids attempts disk stage work
+    stage_of_fewer disk (Asked entry) work is = is
+    stage_of_fewer disk (Working vid task) work is = task_of_fewer disk vid task work is
+    stage_of_fewer disk (Publishing entry opened) work is = is
+    stage_of_fewer disk (Answered change) work is = is
 
-  waits_of_fewer : (disk : Option Disk) (course : Course) (work : ObjWork) → WaitsFor effects good_id attempts disk course work
-      → WaitsFor effects few_ids attempts disk course work
-  waits_of_fewer disk (Waiting ask) work is = is
-  waits_of_fewer disk (Driving driver) work is = is
-  waits_of_fewer disk (Commanding op) work is = stage_of_fewer disk op.stage work is
-  waits_of_fewer disk (Checking check) work is = is
-  waits_of_fewer disk (DoingWork asked) work is = is
-  waits_of_fewer disk (AwaitingDecision entry) work is = is
+    waits_of_fewer : (disk : Option Disk) (course : Course) (work : ObjWork) → WaitsFor effects good_id attempts disk course work
+        → WaitsFor effects few_ids attempts disk course work
+    waits_of_fewer disk (Waiting ask) work is = is
+    waits_of_fewer disk (Driving driver) work is = is
+    waits_of_fewer disk (Commanding op) work is = stage_of_fewer disk op.stage work is
+    waits_of_fewer disk (Checking check) work is = is
+    waits_of_fewer disk (DoingWork asked) work is = is
+    waits_of_fewer disk (AwaitingDecision entry) work is = is
 
-  waited_for_of_fewer : (node : Node) (req : ℕ) (work : ObjWork) → IsWaitedFor effects good_id attempts node req work
-      → IsWaitedFor effects few_ids attempts node req work
-  waited_for_of_fewer node req work is = record {
-    request = is.request;
-    session = is.session;
-    there = is.there;
-    of = is.of;
-    waits = waits_of_fewer is.session.disk is.request.course work is.waits;
-  }
+    waited_for_of_fewer : (node : Node) (req : ℕ) (work : ObjWork) → IsWaitedFor effects good_id attempts node req work
+        → IsWaitedFor effects few_ids attempts node req work
+    waited_for_of_fewer node req work is = record {
+      request = is.request;
+      session = is.session;
+      there = is.there;
+      of = is.of;
+      waits = waits_of_fewer is.session.disk is.request.course work is.waits;
+    }
 
-  courses_of_fewer : {log : List Entry} → CoursesAreKept log effects good_id hosts attempts → CoursesAreKept log effects few_ids hosts attempts
-  courses_of_fewer all = record {
-    waited_for = record {
-      opened = λ n host at up req work there. waited_for_of_fewer host.node req work.work (all.waited_for.opened n host at up req work there);
-      lined = λ n host at up number place session waiting of there.
-          waited_for_of_fewer host.node waiting.req waiting.work (all.waited_for.lined n host at up number place session waiting of there);
-    };
-    granted = all.granted;
-    drawn = record { each = λ j attempt there vid index object is. all.drawn.each j attempt there vid index object (ids vid is) };
-    created = record {
-      created = all.created.created;
-      table = λ n host at up req index request op entry inode there on publishing is.
-          all.created.table n host at up req index request op entry inode there on publishing (ids inode.vid is);
-    };
-  }
+    courses_of_fewer : {log : List Entry} {hosts : Hosts} → CoursesAreKept log effects good_id hosts attempts
+        → CoursesAreKept log effects few_ids hosts attempts
+    courses_of_fewer all = record {
+      waited_for = record {
+        opened = λ n host at up req work there. waited_for_of_fewer host.node req work.work (all.waited_for.opened n host at up req work there);
+        lined = λ n host at up number place session waiting of there.
+            waited_for_of_fewer host.node waiting.req waiting.work (all.waited_for.lined n host at up number place session waiting of there);
+      };
+      granted = all.granted;
+      drawn = record { each = λ j attempt there vid index object is. all.drawn.each j attempt there vid index object (ids vid is) };
+      created = record {
+        created = all.created.created;
+        table = λ n host at up req index request op entry inode there on publishing is.
+            all.created.table n host at up req index request op entry inode there on publishing (ids inode.vid is);
+      };
+    }
 
 -- the whole
-pub overlap_of_fewer : {live good good_id few_live few_good few_ids : ℕ → Bool} → CallsFewer few_live live → CallsFewer few_good good
-    → CallsFewer few_ids good_id → (moment : MomentWithPast) → OverlapAt live good good_id moment
+pub overlap_of_fewer : {live good good_id few_live few_good few_ids : ℕ → Bool} → CallsFewer few_live live
+    → CallsFewer few_good good → CallsFewer few_ids good_id → (moment : MomentWithPast) → OverlapAt live good good_id moment
     → OverlapAt few_live few_good few_ids moment
 overlap_of_fewer {live} {good} {good_id} lives goods ids moment all = record {
   flight = all.flight;
@@ -266,7 +271,7 @@ overlap_of_fewer {live} {good} {good_id} lives goods ids moment all = record {
   searches = searches_of_fewer lives goods all.searches;
   tables = tables_of_fewer ids lives all.tables;
   written = written_of_fewer ids all.written;
-  courses = courses_of_fewer ids all.courses;
+  courses = courses_of_fewer ids (log_effects moment.world.log) moment.past.attempts all.courses;
   pieces = pieces_of_fewer ids all.pieces;
   lacked = record {
     known = λ n host at up vid message meant alive is. all.lacked.known n host at up vid message meant alive (ids vid is);
