@@ -2,7 +2,6 @@
 use Rattle.std.proofs.Common.{◌≡◌, ⊎_elim, ℕ, Bool, false, cond, List, [], map, Some, None, option_map, refl, ap, subst, ◌∙◌}
 use Rattle.object_id.specs.declared.node.NodeId.{NodeId}
 use Rattle.cluster_script.specs.declared.statement.Statement.{Statement}
-use Rattle.cluster_script.specs.Language.{IsScript}
 use Rattle.sheep_node.specs.declared.ask.Ask.{Ask}
 use Rattle.sheep_node.specs.declared.event.Event.{Event}
 use Rattle.sheep_node.specs.declared.input.Input.TheVariants as inputs
@@ -13,9 +12,12 @@ use Rattle.sheep_world.specs.ClientAsks.{next_ask_number}
 use Rattle.sheep_world.specs.RunsWithAsks.{Move, Happens}
 use Rattle.sheep_world.proofs.HostChangeLaws.{each_kept, each_opens, hosts_of_nodes}
 use Rattle.overlap_law.specs.Headline.{OtherEpochsChangeNothing, KeepsHeadline, Headline, HeadlineWithAsks}
-use Rattle.overlap_law.specs.Overlap.{OverlapOf, OpensWithOverlap, KeepsOverlap, AsksKeepOverlap}
-use Rattle.overlap_law.specs.Past.{MomentWithPast, moment_after}
+use Rattle.overlap_law.specs.MomentChanges.{RunsAreInRange}
+use Rattle.overlap_law.specs.Overlap.{OverlapOf, KeepsOverlap, KeepsOverlapBesideAsks, AsksKeepOverlap}
+use Rattle.overlap_law.specs.Past.{MomentWithPast, moment_after, run_with_past}
 use Rattle.overlap_law.specs.RunsWithAsks.{moment_after_ask, run_with_asks_and_past}
+use Rattle.overlap_law.proofs.OpeningOverlap.{overlap_opens}
+use Rattle.overlap_law.proofs.RunsByEvents.{run-kept_by_events}
 use Rattle.overlap_law.proofs.AskedReads.{StepsOnAsk, ask-hosts}
 use Rattle.overlap_law.proofs.AskedRuns.{KeptByMoves, kept-by_moves, with_asks-events}
 use Rattle.overlap_law.proofs.EpochLemmas.{other_epoch-changes_nothing}
@@ -87,16 +89,16 @@ module _ (script : List Statement) where
 
 -- ---- the invariant
 
--- what is owed of the opening, of events and of a client's reads
-module _ (script : List Statement) (is_script : IsScript script) (first : OpensWithOverlap script) (by_events : (event : Event) → KeepsOverlap script event)
+-- what is owed of events and of a client's reads
+module _ (script : List Statement) (range : RunsAreInRange script) (by_events : (event : Event) → KeepsOverlapBesideAsks script event)
     (by_reads : (node : NodeId) (ask : Ask) → AsksKeepOverlap script node ask) where
   overlap_kept : KeptByMoves script (OverlapOf script)
   overlap_kept = record {
-    opens = first is_script;
+    opens = overlap_opens script range;
     happens = λ event before made began is holds.
-        by_events event is_script before (moment_after script event before made) holds (ap (option_map (moment_after script event before)) is);
+        by_events event range before (moment_after script event before made) began holds (ap (option_map (moment_after script event before)) is);
     asked = λ node ask before began may holds.
-        by_reads node ask is_script before (moment_after_ask node ask before) holds
+        by_reads node ask range before (moment_after_ask node ask before) began holds
         (ap (λ (b : Bool). cond b (Some (moment_after_ask node ask before)) None) may);
   }
 
@@ -112,6 +114,29 @@ module _ (script : List Statement) (is_script : IsScript script) (first : OpensW
         nothing_made = holds.overlap.nothing_made;
         other_epochs = asked-peers script moves moment is;
       }
+
+-- ---- runs of events alone
+
+module _ (script : List Statement) (range : RunsAreInRange script) (by_events : (event : Event) → KeepsOverlap script event) where
+  events-overlap : (events : List Event) (moment : MomentWithPast) → run_with_past script events ≡ Some moment → OverlapOf script moment
+  events-overlap =
+      run-kept_by_events script (OverlapOf script) (overlap_opens script range)
+      (λ event before made began is holds.
+      by_events event range before (moment_after script event before made) began holds (ap (option_map (moment_after script event before)) is))
+
+  pub events-headline : (events : List Event) (moment : MomentWithPast) → run_with_past script events ≡ Some moment → KeepsHeadline script moment
+  events-headline events moment is =
+      let holds = events-overlap events moment is in
+      record {
+        legal = holds.overlap.legal;
+        no_items = holds.overlap.no_items;
+        nothing_made = holds.overlap.nothing_made;
+        other_epochs = events-peers events moment is;
+      }
+    where
+      events-peers : (events : List Event) (moment : MomentWithPast) → run_with_past script events ≡ Some moment
+          → OtherEpochsChangeNothing script moment.world
+      events-peers events moment is = asked-peers script (map Happens events) moment (with_asks-events script events ∙ is)
 
 -- the headline of runs of events is a part of that of runs with asks
 pub headline-events : (script : List Statement) → HeadlineWithAsks script → Headline script

@@ -216,3 +216,4 @@ pub mod MakersInTraffic
 pub mod FewerObjects
 mod BornStays
 pub mod BornInRuns
+pub mod OpeningOverlap

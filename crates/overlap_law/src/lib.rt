@@ -40,16 +40,17 @@ pub use laws::{
     no_read_of_what_was_borne_is_left_out, nodes_have_rows_of_few_objects,
     open_works_have_messages, other_attempts_hear_nothing, packets_are_of_open_works,
     peers_of_another_epoch_change_nothing, recoveries_are_of_members_that_came,
-    refused_requests_make_nothing, runs_of_few_controls_are_in_range, the_attempts_are_shaped, the_attempts_stay_in_order,
-    the_past_follows_the_run, the_recovered_have_all, the_wire_and_the_attempts_stay_tied,
-    the_wire_is_kept, the_wire_is_linked, units_follow_each_other, what_becomes_of_an_attempt,
-    what_is_asked_is_of_the_past, what_is_doomed_stays_doomed, what_is_made_stays_made,
-    what_nodes_have_read_is_of_the_log, who_joins_is_new,
+    refused_requests_make_nothing, runs_of_few_controls_are_in_range, the_attempts_are_shaped,
+    the_attempts_stay_in_order, the_past_follows_the_run, the_recovered_have_all,
+    the_wire_and_the_attempts_stay_tied, the_wire_is_kept, the_wire_is_linked,
+    units_follow_each_other, what_becomes_of_an_attempt, what_is_asked_is_of_the_past,
+    what_is_doomed_stays_doomed, what_is_made_stays_made, what_nodes_have_read_is_of_the_log,
+    who_joins_is_new,
 };
 pub use overlap::{
-    the_messages_of_the_gone_are_fenced, the_overlap_gives_complete_lists,
-    the_overlap_gives_holders, the_overlap_gives_legal_replies, the_overlap_holds_of_fewer,
-    the_overlap_makes_attempts_stand, the_settled_have_recovered,
+    a_script_opens_with_the_overlap, the_messages_of_the_gone_are_fenced,
+    the_overlap_gives_complete_lists, the_overlap_gives_holders, the_overlap_gives_legal_replies,
+    the_overlap_holds_of_fewer, the_overlap_makes_attempts_stand, the_settled_have_recovered,
 };
 pub use rows::{
     requests_are_of_attempts, rows_stand_in_turn, served_rows_stay, what_nodes_have_was_born,

@@ -3,6 +3,7 @@ ghost use Rattle.std.specs.Prelude.{◌≡◌, ℕ, ◌<◌, Bool, true, List, S
 ghost use Rattle.std.specs.FinMap as tree;
 ghost use Rattle.object_id.specs.declared.node.NodeId.{NodeId};
 ghost use Rattle.object_id.specs.declared.entry.Entry.{Entry};
+ghost use Rattle.cluster_script.specs.declared.statement.Statement.{Statement};
 ghost use Rattle.peer_proto.specs.declared.ask.PeerReq.{PeerReq};
 ghost use Rattle.peer_proto.specs.Ask.{ask_in};
 ghost use Rattle.message_wire.specs.declared.name.MessageName.{MessageName};
@@ -10,7 +11,7 @@ ghost use Rattle.message_wire.specs.declared.packet.Packet.TheVariants.{Request}
 ghost use Rattle.overlap_law.specs.Reached.{Hosts};
 ghost use Rattle.epoch_log.specs.Epochs.{settled_of};
 ghost use Rattle.overlap_law.specs.Holders.{targets_by};
-ghost use Rattle.overlap_law.specs.Past.{MomentWithPast, counts};
+ghost use Rattle.overlap_law.specs.Past.{MomentWithPast, counts, first_moment};
 ghost use Rattle.overlap_law.specs.Contents.{AttemptsStand};
 ghost use Rattle.overlap_law.specs.Facts.{CompleteLists, HoldersOfTheBase, EachGood};
 ghost use Rattle.overlap_law.specs.Headline.{IsLegalWhereAvailable};
@@ -19,7 +20,8 @@ ghost use Rattle.overlap_law.specs.Grants.{leave_of};
 ghost use Rattle.overlap_law.specs.Packets.{Wire};
 ghost use Rattle.overlap_law.specs.Flight.{TheGoneAreFenced};
 ghost use Rattle.overlap_law.specs.NodeEpochs.{TheSettledHaveRecovered};
-ghost use Rattle.overlap_law.specs.Overlap.{Overlap, OverlapAt, CallsFewer};
+ghost use Rattle.overlap_law.specs.MomentChanges.{RunsAreInRange};
+ghost use Rattle.overlap_law.specs.Overlap.{Overlap, OverlapAt, OverlapOf, CallsFewer};
 
 /// The replies are legal in each moment of which the invariant holds.
 pub fn the_overlap_gives_legal_replies()
@@ -65,4 +67,9 @@ pub fn the_overlap_holds_of_fewer()
     ensures { (live good good_id few_live few_good few_ids : ℕ → Bool) (moment : MomentWithPast) → CallsFewer few_live live
         → CallsFewer few_good good → CallsFewer few_ids good_id → OverlapAt live good good_id moment
         → OverlapAt few_live few_good few_ids moment }
+{}
+
+/// The moment that a script opens with has the invariant, if the script's runs are in range: nobody has asked, written or recovered anything.
+pub fn a_script_opens_with_the_overlap()
+    ensures { (script : List Statement) → RunsAreInRange script → OverlapOf script (first_moment script) }
 {}

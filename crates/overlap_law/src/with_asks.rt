@@ -4,7 +4,6 @@ ghost use Rattle.std.specs.List.{AllByRecursion};
 ghost use Rattle.std.specs.Option.{option_map};
 ghost use Rattle.object_id.specs.declared.node.NodeId.{NodeId};
 ghost use Rattle.cluster_script.specs.declared.statement.Statement.{Statement};
-ghost use Rattle.cluster_script.specs.Language.{IsScript};
 ghost use Rattle.gateway.specs.State.{is_touched};
 ghost use Rattle.sheep_node.specs.declared.ask.Ask.{Ask};
 ghost use Rattle.sheep_node.specs.declared.event.Event.{Event};
@@ -18,7 +17,8 @@ ghost use Rattle.overlap_law.specs.BegunAttempts.{attempts_begun};
 ghost use Rattle.overlap_law.specs.Headline.{IsLegalWhereAvailable, RefusedHaveNoItems, RefusedMakeNothing, OtherEpochsChangeNothing};
 ghost use Rattle.overlap_law.specs.Headline.{Headline, HeadlineWithAsks};
 ghost use Rattle.overlap_law.specs.RequestsOfScript.{AttemptsAreTheScripts, TheRefusedAreAnswered, JoinsAreNew};
-ghost use Rattle.overlap_law.specs.Overlap.{OverlapOf, OpensWithOverlap, KeepsOverlap, AsksKeepOverlap};
+ghost use Rattle.overlap_law.specs.MomentChanges.{RunsAreInRange};
+ghost use Rattle.overlap_law.specs.Overlap.{OverlapOf, KeepsOverlap, KeepsOverlapBesideAsks, AsksKeepOverlap};
 ghost use Rattle.overlap_law.specs.Past.{MomentWithPast, run_with_past, without_past};
 ghost use Rattle.overlap_law.specs.RunsWithAsks.{next_move_with_past, run_with_asks_and_past};
 
@@ -91,14 +91,15 @@ pub fn what_a_clients_read_keeps()
         → JoinsAreNew script before.world → JoinsAreNew script after.world }
 {}
 
-/// What is owed is enough for the headline. If the invariant holds of the moment that a script opens with, and each event and each
-/// client's read keeps it, it holds in every run with asks, and the headline of those runs follows; and by that the headline of runs of
-/// events.
+/// What is owed is enough for the headline. A script opens with the invariant. If each event keeps it, the headline follows. If each event
+/// and each client's read keeps it also in runs with asks, it holds in every one of those, and their headline follows; the headline of runs
+/// of events is a part of that one.
 pub fn what_is_owed_gives_the_headline()
-    ensures invariant { (script : List Statement) → IsScript script → OpensWithOverlap script
-        → ((event : Event) → KeepsOverlap script event) → ((node : NodeId) (ask : Ask) → AsksKeepOverlap script node ask)
+    ensures invariant { (script : List Statement) → RunsAreInRange script
+        → ((event : Event) → KeepsOverlapBesideAsks script event) → ((node : NodeId) (ask : Ask) → AsksKeepOverlap script node ask)
         → (moves : List Move) (moment : MomentWithPast) → run_with_asks_and_past script moves ≡ Some moment → OverlapOf script moment }
-    ensures asked { (script : List Statement) → OpensWithOverlap script → ((event : Event) → KeepsOverlap script event)
+    ensures asked { (script : List Statement) → RunsAreInRange script → ((event : Event) → KeepsOverlapBesideAsks script event)
         → ((node : NodeId) (ask : Ask) → AsksKeepOverlap script node ask) → HeadlineWithAsks script }
-    ensures events { (script : List Statement) → HeadlineWithAsks script → Headline script }
+    ensures events { (script : List Statement) → RunsAreInRange script → ((event : Event) → KeepsOverlap script event) → Headline script }
+    ensures part { (script : List Statement) → HeadlineWithAsks script → Headline script }
 {}
