@@ -145,7 +145,7 @@ module _ (script : List Statement) (range : RunsAreInRange script) where
     sound : HasSoundGuests host.node
     sound = guests_sound script range world began n host there
 
-    caused_may : (cause : NodeCause) → IsNotServed cause → IsCause script world n host cause → May (input_of_cause cause) host.node
+    pub caused_may : (cause : NodeCause) → IsNotServed cause → IsCause script world n host cause → May (input_of_cause cause) host.node
     caused_may (GuestAsks session req ask) not asked =
         let fits = (and_parts (nat_le (phase_of_request script req) world.phase) (fits_beside script req (progress_at session.number world).unanswered) asked.may).1 in
         let kind = (brings_tied script world n host (GuestAsks session req ask) asked req session.number ask refl).kind in

@@ -217,3 +217,4 @@ pub mod FewerObjects
 mod BornStays
 pub mod BornInRuns
 pub mod OpeningOverlap
+mod MayInRuns

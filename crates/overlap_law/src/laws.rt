@@ -7,17 +7,21 @@ ghost use Rattle.object_id.specs.declared.limits.TheConstants.{INPUT_BYTES_MAX};
 ghost use Rattle.object_id.specs.declared.node.NodeId.{NodeId};
 ghost use Rattle.object_id.specs.declared.oid.Kind.{Kind};
 ghost use Rattle.object_list.specs.Gathered.{has_node};
+ghost use Rattle.peer_proto.specs.declared.ask.PeerReq.{PeerReq};
 ghost use Rattle.cluster_script.specs.declared.statement.Statement.{Statement};
 ghost use Rattle.cluster_script.specs.Language.{IsScript};
 ghost use Rattle.sheep_node.specs.declared.event.Event.{Event};
+ghost use Rattle.sheep_node.specs.declared.input.Input.TheVariants as inputs;
+ghost use Rattle.sheep_node.specs.May.{May};
 ghost use Rattle.sheep_node.specs.NodeInvariant.{IsSoundNode};
 ghost use Rattle.sheep_node.specs.Step.{is_due};
 ghost use Rattle.sheep_node.specs.StepState.{StepState};
 ghost use Rattle.sheep_world.specs.Began.{Began};
 ghost use Rattle.sheep_world.specs.Run.{run};
-ghost use Rattle.sheep_world.specs.World.{Host, World, host_at};
+ghost use Rattle.sheep_world.specs.World.{Host, World, host_at, is_host_up};
+ghost use Rattle.sheep_world.specs.NodeCauses.{NodeCause, input_of_cause, IsCause};
 ghost use Rattle.sheep_world.specs.OneWork.{WorksAskInRange};
-ghost use Rattle.sheep_world.specs.HoldsTogether.{RepliesFit};
+ghost use Rattle.sheep_world.specs.HoldsTogether.{RepliesFit, HoldsTogether};
 ghost use Rattle.sheep_world.specs.LogHolds.{MayGrow};
 ghost use Rattle.overlap_law.specs.Attempts.{MessageFate, Flying, Served, AttemptRecord, has_message, attempt_with_fate};
 ghost use Rattle.overlap_law.specs.Words.{Hosts, is_beyond, is_made, is_doomed, has_served, unit_start, unit_end, covers_unit, base_of};
@@ -327,6 +331,16 @@ pub fn attempts_of_the_refused_are_mute()
     ensures run { (script : List Statement) (events : List Event) (moment : MomentWithPast) → RunsAreInRange script
         → run_with_past script events ≡ Some moment
         → RefusedRequestsAreMute moment.world.wire moment.past.refused moment.past.attempts }
+{}
+
+/// In each world of a run in range nodes and wire go together, and so do works and requests, and all that is asked and told can be spelled;
+/// and an up node may take each step that an event has it take. Of a peer's request that it serves this isn't said: there is still to show
+/// that the piece ends inside the row.
+pub fn nodes_step_on_what_they_may()
+    ensures together { (script : List Statement) (world : World) → RunsAreInRange script → Began script world → HoldsTogether script world }
+    ensures may { (script : List Statement) (world : World) (n : ℕ) (host : Host) (cause : NodeCause) → RunsAreInRange script
+        → Began script world → host_at n world ≡ Some host → is_host_up host ≡ true → IsCause script world n host cause
+        → ((request : PeerReq) → input_of_cause cause ≢ inputs.Request request) → May (input_of_cause cause) host.node }
 {}
 
 /// In each run in range no message to create or write of a refused request succeeded, and neither it nor the reply to it was lost. So the

@@ -38,7 +38,7 @@ pub use laws::{
     each_target_has_its_fate, epochs_and_nodes_are_kept, gateways_know_the_fates,
     members_stay_until_they_are_lost, messages_touch_their_requests,
     no_read_of_what_was_borne_is_left_out, nodes_have_rows_of_few_objects,
-    open_works_have_messages, other_attempts_hear_nothing, packets_are_of_open_works,
+    nodes_step_on_what_they_may, open_works_have_messages, other_attempts_hear_nothing, packets_are_of_open_works,
     peers_of_another_epoch_change_nothing, recoveries_are_of_members_that_came,
     refused_requests_make_nothing, runs_of_few_controls_are_in_range, the_attempts_are_shaped,
     the_attempts_stay_in_order, the_past_follows_the_run, the_recovered_have_all,
