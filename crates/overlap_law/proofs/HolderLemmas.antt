@@ -31,7 +31,7 @@ has-itself (node ∷ nodes) (suc k) d within = or_right
     (node.0 == (slice_index_or nodes k d).0) (lists.has_node (slice_index_or nodes k d) nodes) (has-itself nodes k d (omega arith))
 
 -- the targets of an epoch are its members
-target-member : (log : List Entry) (epoch oid : ℕ) (policy : Policy) (node : NodeId) → lists.has_node node (targets_by log epoch oid policy) ≡ true
+pub target-member : (log : List Entry) (epoch oid : ℕ) (policy : Policy) (node : NodeId) → lists.has_node node (targets_by log epoch oid policy) ≡ true
     → is_member node.0 (members_in log epoch) ≡ true
 unfolding targets_by
 target-member log epoch oid policy node there =

@@ -213,6 +213,24 @@ pub mod ObjectsInRuns
 pub mod RangeOfFewObjects
 pub mod AskedMakers
 pub mod MakersInTraffic
+pub mod UnitPieces
+pub mod ReadingLaws
+pub mod OwedAttempts
+pub mod GrownAttempts
+pub mod CopyUnits
+pub mod FoundCopies
+pub mod RowLists
+pub mod RowKeeping
+pub mod EachRowKept
+pub mod NodesInMoments
+pub mod CopiesInSteps
+pub mod CopiesAtSteps
+pub mod CopiesInMoments
+pub mod OwedBeyond
+pub mod SinceInSteps
+pub mod SinceAtEntries
+pub mod SinceAtReadings
+pub mod ServedUnits
 pub mod FewerObjects
 mod BornStays
 pub mod BornInRuns

@@ -154,10 +154,10 @@ module _ (script : List Statement) (range : RunsAreInRange script) where
     change_has {before} {after} (moments.PhaseEnds event made happened h) have =
         same_have before.world.hosts after.world.hosts (ap (λ (m : EventOutcome). m.world.hosts) (sym h.made_so)) have
 
-  abbrev Have : MomentWithPast → Type 0
+  abbrev pub Have : MomentWithPast → Type 0
   Have moment = OpenAttemptsHaveMessages moment.world.hosts
 
-  kept_messages : KeptByChanges script Have
+  pub kept_messages : KeptByChanges script Have
   kept_messages = record { opens = opening_has script; keeps = λ start before after began change have. change_has start began change have }
 
   pub messages_in_run : (events : List Event) (moment : MomentWithPast) → run_with_past script events ≡ Some moment

@@ -24,6 +24,7 @@
 //! of `with_asks.rt` say why, and that what is owed of events and of reads gives the headline of those runs too.
 #![tactic(auto)]
 
+mod bytes;
 mod kept_event;
 mod laws;
 mod overlap;
@@ -31,6 +32,11 @@ mod rows;
 mod with_asks;
 mod writers;
 
+pub use bytes::{
+    copies_stay_of_attempts, rows_have_what_they_owe_as_attempts_begin,
+    rows_have_what_they_owe_as_entries_are_read, served_rows_have_what_they_owe,
+    what_a_node_passed_by_is_doomed,
+};
 pub use kept_event::keeps_overlap;
 pub use laws::{
     a_base_is_made, an_attempt_begins_where_one_opens, an_event_is_a_trail_of_changes,
