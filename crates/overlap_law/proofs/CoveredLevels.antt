@@ -17,11 +17,11 @@ Covers level epoch rows = list_any (row_covers epoch level) rows ≡ true
 
 -- ---- one row
 
-covers_from : (level epoch : ℕ) (row : SeenRow) → row_covers epoch level row ≡ true → row.from.0 ≤ level
+pub covers_from : (level epoch : ℕ) (row : SeenRow) → row_covers epoch level row ≡ true → row.from.0 ≤ level
 covers_from level epoch row covers =
     leb-true row.from.0 level (and_parts (nat_le row.from.0 level) (nat_le level (end_of_row epoch row.to)) covers).0
 
-covers_to : (level epoch : ℕ) (row : SeenRow) → row_covers epoch level row ≡ true → level ≤ end_of_row epoch row.to
+pub covers_to : (level epoch : ℕ) (row : SeenRow) → row_covers epoch level row ≡ true → level ≤ end_of_row epoch row.to
 covers_to level epoch row covers =
     leb-true level (end_of_row epoch row.to) (and_parts (nat_le row.from.0 level) (nat_le level (end_of_row epoch row.to)) covers).1
 
@@ -108,7 +108,7 @@ any_pushed p (row ∷ rows) new either = ⊎_elim
 
 -- ---- what a store makes of the rows of an object
 
-any_changed : (p : SeenRow → Bool) (test : SeenRow → Bool) (change : List ℕ → List ℕ)
+pub any_changed : (p : SeenRow → Bool) (test : SeenRow → Bool) (change : List ℕ → List ℕ)
     → ((row : SeenRow) → p (record row { bytes = change row.bytes }) ≡ p row) → (rows : List SeenRow)
     → list_any p (changed test change rows) ≡ list_any p rows
 any_changed p test change same [] = refl

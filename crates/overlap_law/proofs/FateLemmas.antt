@@ -35,7 +35,7 @@ pub made-marked : (told : MessageFate) (sender : NodeId) (number : ℕ) (attempt
     → is_made (attempt_with_fate told sender number attempt) ≡ true
 made-marked told sender number attempt e = made_if told number attempt (has_message sender number attempt) e
 
-in_vain-grows : (old new : Hosts) (epoch : ℕ) (target : NodeId) (fate : MessageFate) → (is_beyond old epoch target ≡ true → is_beyond new epoch target ≡ true)
+pub in_vain-grows : (old new : Hosts) (epoch : ℕ) (target : NodeId) (fate : MessageFate) → (is_beyond old epoch target ≡ true → is_beyond new epoch target ≡ true)
     → is_in_vain old epoch target fate ≡ true → is_in_vain new epoch target fate ≡ true
 in_vain-grows old new epoch target Flying grows e = grows e
 in_vain-grows old new epoch target Served grows e = absurd (cc)

@@ -165,13 +165,15 @@ goes_with node first so_far puts goes =
 
 -- the end that a node put
 pub ends_now : (hosts : Hosts) (k : ℕ) (old : Host) (first : Node) (so_far : StepState) (epoch : ℕ)
-    → tree.get hosts k ≡ Some (host_with_node old so_far.node) → PutsOnlyItsEnd first so_far → AsksListsIn (recovery_state_of first)
+    → tree.get hosts k ≡ Some (host_with_node old so_far.node) → old.is_lost ≡ false → PutsOnlyItsEnd first so_far
+    → AsksListsIn (recovery_state_of first)
     → 1 < first.recovery.epoch → IsOwnEnd first so_far.node.recovered epoch k → EndsNow hosts k epoch
-ends_now hosts k old first so_far epoch there puts so later end =
+ends_now hosts k old first so_far epoch there up puts so later end =
     let own = end.of_epoch in
     record {
       host = host_with_node old so_far.node;
       there = there;
+      up = up;
       of_epoch = ap (λ (s : RecoveryState). s.recovery.epoch) puts.state_so ∙ end.of_epoch;
       later = omega (arith, later, own);
       listed = ap (λ (s : RecoveryState). is_listed s.recovery) puts.state_so ∙ (finished_done (recovery_state_of first) so later end.finished).0;
@@ -252,7 +254,7 @@ module _ (script : List Statement) (range : RunsAreInRange script) (start : Mome
         (λ up epoch there. ⊎_elim
         (λ (old : list_any (recovers epoch stepping.n) first.outbox ≡ true). inl (was_to_put epoch old))
         (λ (end : IsOwnEnd first (last_in_step stepping).node.recovered epoch stepping.n).
-        inr (ends_now after.world.hosts stepping.n stepping.host first (last_in_step stepping) epoch (get-insert_same start.world.hosts stepping.n now) puts
+        inr (ends_now after.world.hosts stepping.n stepping.host first (last_in_step stepping) epoch (get-insert_same start.world.hosts stepping.n now) up puts
         sound_first.lists.asks_so (sound_first.recovers.put end.due) end))
         (puts.puts epoch stepping.n there))
 
@@ -273,7 +275,7 @@ module _ (script : List Statement) (range : RunsAreInRange script) (start : Mome
         inl (finished_by_outbox before.world.hosts before.world.log stepping.n epoch
         (record { host = was; there = get-insert_same start.world.hosts stepping.n was; up = up; puts = old })))
         (λ (end : IsOwnEnd so_far.node next.node.recovered epoch stepping.n).
-        inr (ends_now after.world.hosts stepping.n stepping.host so_far.node next epoch (get-insert_same start.world.hosts stepping.n now) puts
+        inr (ends_now after.world.hosts stepping.n stepping.host so_far.node next epoch (get-insert_same start.world.hosts stepping.n now) up puts
         sound_was.lists.asks_so (sound_was.recovers.put end.due) end))
         (puts.puts epoch stepping.n there))
 

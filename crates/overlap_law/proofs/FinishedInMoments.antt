@@ -84,7 +84,7 @@ module _ (script : List Statement) (range : RunsAreInRange script) (start : Mome
         ⊎_elim
         (λ (old : list_any (recovers epoch n) first.outbox ≡ true). none_at_back (recovers epoch n) log host.node old)
         (λ (end : IsOwnEnd first now.node.recovered epoch n).
-        ends_now after.world.hosts n (revived_host host) first (node_step (inputs.Back log) host.node) epoch now_there returned_puts asks (omega (arith, aim)) end)
+        ends_now after.world.hosts n (revived_host host) first (node_step (inputs.Back log) host.node) epoch now_there refl returned_puts asks (omega (arith, aim)) end)
         (returned_puts.puts epoch n puts)
 
     returned_later : host.node.peer.epoch < now.node.recovery.epoch
@@ -95,7 +95,7 @@ module _ (script : List Statement) (range : RunsAreInRange script) (start : Mome
 
   -- ---- each change
 
-  finished_before : {before after : MomentWithPast} → MomentChange script start before after → FinishedBefore before after
+  pub finished_before : {before after : MomentWithPast} → MomentChange script start before after → FinishedBefore before after
   finished_before (moments.StepBegins stepping is by) = begins_finished script range start began stepping is by
   finished_before (moments.StepGoesOn stepping so_far next is by within) = on_finished script range start began stepping is so_far next within
   finished_before (moments.StepIsMade stepping is by) = made_finished script range start began stepping is

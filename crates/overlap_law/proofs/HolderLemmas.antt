@@ -24,7 +24,7 @@ use Rattle.overlap_law.proofs.BaseLemmas.{made-served}
 use Rattle.overlap_law.proofs.OverlapLemmas.{IsBaseAt, base-at}
 
 -- a node of a list is one of it
-has-itself : (nodes : List NodeId) (k : ℕ) (d : NodeId) → k < length nodes → lists.has_node (slice_index_or nodes k d) nodes ≡ true
+pub has-itself : (nodes : List NodeId) (k : ℕ) (d : NodeId) → k < length nodes → lists.has_node (slice_index_or nodes k d) nodes ≡ true
 has-itself [] k d within = absurd (omega arith)
 has-itself (node ∷ nodes) zero d within = or_left (node.0 == node.0) (lists.has_node node nodes) (eq-eqb node.0 node.0 refl)
 has-itself (node ∷ nodes) (suc k) d within = or_right
@@ -111,7 +111,7 @@ at-greater moment o base j there made level (inr settled) target host at good = 
     → has_row_at host.node.peer.epoch host.node.peer.rows (object_of base) l ≡ true)
     (sym settled.0) (at-settled moment o base j there made settled.1 target host at good)
 
-greater : (own settled : ℕ) → ((max own settled ≡ own) × (settled ≤ own)) ⊎ ((max own settled ≡ settled) × (own < settled))
+pub greater : (own settled : ℕ) → ((max own settled ≡ own) × (settled ≤ own)) ⊎ ((max own settled ≡ settled) × (own < settled))
 greater own settled = ⊎_elim
     (λ (below : own < settled). inr (omega arith, below))
     (λ (above : settled ≤ own). inl (omega arith, above))

@@ -236,3 +236,16 @@ mod BornStays
 pub mod BornInRuns
 pub mod OpeningOverlap
 mod MayInRuns
+pub mod HeldLevels
+pub mod DoomedTraffic
+pub mod BeyondInMoments
+pub mod AvailableTargets
+pub mod IndexesHeld
+pub mod UnpassedLevels
+pub mod ListedObjects
+pub mod NotedLists
+pub mod ListEnds
+pub mod EarlierLevels
+pub mod PassedStays
+pub mod CarriedChanges
+pub mod KeptChanges

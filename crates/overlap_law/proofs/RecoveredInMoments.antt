@@ -79,10 +79,11 @@ plain_entry log entry n epoch plain stands = ⊎_elim
 
 -- ---- what it says
 
--- a node put its `Recovered` of the epoch that it recovers
+-- a node that isn't lost put its `Recovered` of the epoch that it recovers
 pub record EndsNow (hosts : Hosts) (n epoch : ℕ) : Type 0 where
   pub host : Host
   pub there : tree.get hosts n ≡ Some host
+  pub up : host.is_lost ≡ false
   pub of_epoch : host.node.recovery.epoch ≡ epoch
   pub later : 1 < epoch
   pub listed : is_listed host.node.recovery ≡ true

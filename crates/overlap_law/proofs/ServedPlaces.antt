@@ -90,51 +90,14 @@ AreSoOnSuccess hosts hosts_after P attempts = (name : MessageName) (to : NodeId)
     → answer.request ≡ message_request_at attempt place → P attempt to
 
 module _ (hosts hosts_after : Hosts) (wire : Wire) (attempts : List AttemptRecord) (fates : FatesAreOfTheWire wire attempts)
-    (P : AttemptRecord → NodeId → Type 0)
-    (told_so : (attempt : AttemptRecord) (told : List MessageFate) (target : NodeId) → P attempt target
-    → P (record attempt { fates = told }) target)
-    (before : AreServedSo P attempts) where
+    (P : AttemptRecord → NodeId → Type 0) where
   -- where a message that flew is served, its target is so
-  abbrev IsServedNow : MessageName → Type 0
+  abbrev pub IsServedNow : MessageName → Type 0
   IsServedNow name = (j : ℕ) (was : AttemptRecord) → slice_get attempts j ≡ Some was → (place : ℕ) (target : NodeId)
       → slice_get was.targets place ≡ Some target → message_name_at was place ≡ name → slice_get was.fates place ≡ Some Flying
       → P was target
 
-  -- at the message that is told of
-  told_here : (told : MessageFate) (name : MessageName) → (told ≡ Served → IsServedNow name) → (j : ℕ) (was : AttemptRecord)
-      → slice_get attempts j ≡ Some was → (place : ℕ) (target : NodeId) → slice_get was.targets place ≡ Some target
-      → message_name_at was place ≡ name → slice_get (fates_told told name.sender name.number was) place ≡ Some Served → P was target
-  told_here told name now j was at place target among own served =
-      let fates_so : slice_get (fates_told told name.sender name.number was) place
-      ≡ option_map (known_fate told) (slice_get was.fates place)
-      = ap (λ (b : Bool). slice_get (cond b (fates_with (name.number - was.first) told was.fates) was.fates) place)
-      (has_own was name place (slice_get_within was.targets place target among) own)
-      ∙ ap (λ (p : ℕ). slice_get (fates_with p told was.fates) place) (own_place was name place own)
-      ∙ told_own place told was.fates in
-      by_fate (slice_get was.fates place) refl (sym fates_so ∙ served)
-    where
-      by_fate : (o : Option MessageFate) → slice_get was.fates place ≡ o → option_map (known_fate told) o ≡ Some Served → P was target
-      by_fate None is so = absurd (cc (so))
-      by_fate (Some Flying) is so = now (ap fate_in so) j was at place target among own is
-      by_fate (Some Served) is so = before j was at place target among is
-      by_fate (Some Doomed) is so = absurd (cc (so))
-
-  marked : (told : MessageFate) (name : MessageName) → (told ≡ Served → IsServedNow name)
-      → AreServedSo P (attempts_with_fate told name.sender name.number attempts)
-  marked told name now j attempt there place target among served =
-      let (was, at, is) = got_marked told name.sender name.number attempts j attempt there in
-      let among_was : slice_get was.targets place ≡ Some target = ap (λ (a : AttemptRecord). slice_get a.targets place) is ∙ among in
-      let served_was : slice_get (fates_told told name.sender name.number was) place ≡ Some Served
-      = ap (λ (a : AttemptRecord). slice_get a.fates place) is ∙ served in
-      subst (λ (a : AttemptRecord). P a target) is
-      (told_so was (fates_told told name.sender name.number was) target
-      (⊎_elim
-      (λ (own : message_name_at was place ≡ name). told_here told name now j was at place target among_was own served_was)
-      (λ (apart : message_name_at was place ≢ name).
-      before j was at place target among_was (sym (other_place was name told place apart) ∙ served_was))
-      (tied_to wire name (message_name_at was place))))
-
-  answered : AreSoOnSuccess hosts hosts_after P attempts → (name : MessageName) (to : NodeId) (bytes : List ℕ) (up : Bool) (rsp : PeerRsp)
+  pub answered : AreSoOnSuccess hosts hosts_after P attempts → (name : MessageName) (to : NodeId) (bytes : List ℕ) (up : Bool) (rsp : PeerRsp)
       → tree.get wire name ≡ Some (Request to bytes) → (answer : IsAnswer hosts hosts_after name to bytes up rsp)
       → fate_of_say rsp.say ≡ Served → IsServedNow name
   answered newly name to bytes up rsp there answer served j was at place target among own flying =
@@ -149,22 +112,59 @@ module _ (hosts hosts_after : Hosts) (wire : Wire) (attempts : List AttemptRecor
       subst (P was) to_so
       (newly name to bytes up rsp answer served j was at place (among ∙ ap (λ (node : NodeId). Some node) (sym to_so)) request_so)
 
-  pub traffic_served : {later : Wire} {after : List AttemptRecord} → Traffic hosts hosts_after wire attempts later after
-      → AreSoOnSuccess hosts hosts_after P attempts → AreServedSo P after
-  traffic_served NothingMoves newly = before
-  traffic_served (MessageIsLost name packet there) newly = lost packet
-    where
-      lost : (packet : Packet) → AreServedSo P (attempts_with_loss name packet attempts)
-      lost (Request to bytes) = marked Doomed name (λ is. absurd (cc (is)))
-      lost (Reply sender bytes) = before
-  traffic_served (ReplyIsReceived name sender bytes there) newly = before
-  traffic_served (RequestIsAnswered name to bytes up rsp there answer) newly =
-      marked (fate_of_say rsp.say) name (λ served. answered newly name to bytes up rsp there answer served)
-  traffic_served (RequestsAreSent n sends by nothing) newly = before
-  traffic_served (AttemptBegins n sends new begun) newly = λ j attempt there place target among served. ⊎_elim
-      (λ (old : slice_get attempts j ≡ Some attempt). before j attempt old place target among served)
-      (λ own.
-      let flies = begun.flying place Served (ap (λ (a : AttemptRecord). slice_get a.fates place) own.1 ∙ served) in
-      absurd (cc (flies)))
-      (got_more attempts new j attempt there)
-  traffic_served (RepliesGo n) newly = before
+  module _ (told_so : (attempt : AttemptRecord) (told : List MessageFate) (target : NodeId) → P attempt target
+      → P (record attempt { fates = told }) target)
+      (before : AreServedSo P attempts) where
+    -- at the message that is told of
+    told_here : (told : MessageFate) (name : MessageName) → (told ≡ Served → IsServedNow name) → (j : ℕ) (was : AttemptRecord)
+        → slice_get attempts j ≡ Some was → (place : ℕ) (target : NodeId) → slice_get was.targets place ≡ Some target
+        → message_name_at was place ≡ name → slice_get (fates_told told name.sender name.number was) place ≡ Some Served → P was target
+    told_here told name now j was at place target among own served =
+        let fates_so : slice_get (fates_told told name.sender name.number was) place
+        ≡ option_map (known_fate told) (slice_get was.fates place)
+        = ap (λ (b : Bool). slice_get (cond b (fates_with (name.number - was.first) told was.fates) was.fates) place)
+        (has_own was name place (slice_get_within was.targets place target among) own)
+        ∙ ap (λ (p : ℕ). slice_get (fates_with p told was.fates) place) (own_place was name place own)
+        ∙ told_own place told was.fates in
+        by_fate (slice_get was.fates place) refl (sym fates_so ∙ served)
+      where
+        by_fate : (o : Option MessageFate) → slice_get was.fates place ≡ o → option_map (known_fate told) o ≡ Some Served → P was target
+        by_fate None is so = absurd (cc (so))
+        by_fate (Some Flying) is so = now (ap fate_in so) j was at place target among own is
+        by_fate (Some Served) is so = before j was at place target among is
+        by_fate (Some Doomed) is so = absurd (cc (so))
+
+    marked : (told : MessageFate) (name : MessageName) → (told ≡ Served → IsServedNow name)
+        → AreServedSo P (attempts_with_fate told name.sender name.number attempts)
+    marked told name now j attempt there place target among served =
+        let (was, at, is) = got_marked told name.sender name.number attempts j attempt there in
+        let among_was : slice_get was.targets place ≡ Some target = ap (λ (a : AttemptRecord). slice_get a.targets place) is ∙ among in
+        let served_was : slice_get (fates_told told name.sender name.number was) place ≡ Some Served
+        = ap (λ (a : AttemptRecord). slice_get a.fates place) is ∙ served in
+        subst (λ (a : AttemptRecord). P a target) is
+        (told_so was (fates_told told name.sender name.number was) target
+        (⊎_elim
+        (λ (own : message_name_at was place ≡ name). told_here told name now j was at place target among_was own served_was)
+        (λ (apart : message_name_at was place ≢ name).
+        before j was at place target among_was (sym (other_place was name told place apart) ∙ served_was))
+        (tied_to wire name (message_name_at was place))))
+
+    pub traffic_served : {later : Wire} {after : List AttemptRecord} → Traffic hosts hosts_after wire attempts later after
+        → AreSoOnSuccess hosts hosts_after P attempts → AreServedSo P after
+    traffic_served NothingMoves newly = before
+    traffic_served (MessageIsLost name packet there) newly = lost packet
+      where
+        lost : (packet : Packet) → AreServedSo P (attempts_with_loss name packet attempts)
+        lost (Request to bytes) = marked Doomed name (λ is. absurd (cc (is)))
+        lost (Reply sender bytes) = before
+    traffic_served (ReplyIsReceived name sender bytes there) newly = before
+    traffic_served (RequestIsAnswered name to bytes up rsp there answer) newly =
+        marked (fate_of_say rsp.say) name (λ served. answered newly name to bytes up rsp there answer served)
+    traffic_served (RequestsAreSent n sends by nothing) newly = before
+    traffic_served (AttemptBegins n sends new begun) newly = λ j attempt there place target among served. ⊎_elim
+        (λ (old : slice_get attempts j ≡ Some attempt). before j attempt old place target among served)
+        (λ own.
+        let flies = begun.flying place Served (ap (λ (a : AttemptRecord). slice_get a.fates place) own.1 ∙ served) in
+        absurd (cc (flies)))
+        (got_more attempts new j attempt there)
+    traffic_served (RepliesGo n) newly = before

@@ -104,7 +104,7 @@ some_entries [] vid spec made = none_known_yet [] vid spec made refl
 some_entries (first ∷ later) vid spec made = omega arith
 
 -- a log that grows gives an epoch that has begun the same targets
-targets_stay : (log more : List Entry) (epoch oid : ℕ) (policy : Policy) → 1 ≤ length log → epoch ≤ epoch_of log
+pub targets_stay : (log more : List Entry) (epoch oid : ℕ) (policy : Policy) → 1 ≤ length log → epoch ≤ epoch_of log
     → targets_by (log ++ more) epoch oid policy ≡ targets_by log epoch oid policy
 unfolding targets_by
 targets_stay log more epoch oid policy some begun =

@@ -126,7 +126,7 @@ module _ (script : List Statement) (range : RunsAreInRange script) (start before
       (holds.tied.reached.each j attempt there target served)
 
   -- one host's step keeps what a row covered
-  step_keeps : (n : ℕ) (was host : Host) → tree.get before.world.hosts n ≡ Some was → tree.get after.world.hosts n ≡ Some host
+  pub step_keeps : (n : ℕ) (was host : Host) → tree.get before.world.hosts n ≡ Some was → tree.get after.world.hosts n ≡ Some host
       → PeerStep was host → (oid level : ℕ) → level ≤ was.node.peer.epoch → IsAlive after oid
       → IsKeptAt was.node.peer oid level → IsKeptAt host.node.peer oid level
   step_keeps n was host there got step oid level most alive kept = ⊎_elim

@@ -1,6 +1,7 @@
 -- Each change of a moment is of one kind of traffic.
-use Rattle.std.proofs.Common.{◌≡◌, ℕ, true, List, [], ◌∷◌, ◌++◌, fold, map, Some, refl, sym, ap, subst, ◌∙◌, append-nil}
+use Rattle.std.proofs.Common.{◌≡◌, ℕ, not, true, List, [], ◌∷◌, ◌++◌, fold, map, Some, refl, sym, ap, subst, ◌∙◌, append-nil}
 use Rattle.std.specs.FinMap as tree
+use Rattle.std.proofs.lemmas.Bool.{and_parts, not-true}
 use Rattle.std.proofs.lemmas.List.Elements.{Contains-append_right}
 use Rattle.proof_tools.proofs.FiniteMaps.{get-insert_same}
 use Rattle.object_id.specs.declared.node.NodeId.{NodeId}
@@ -14,6 +15,7 @@ use Rattle.message_wire.specs.Message.{without_replies}
 use Rattle.sheep_node.specs.declared.event.Event.{Event}
 use Rattle.sheep_node.specs.declared.input.Input.{Input}
 use Rattle.sheep_node.specs.declared.input.Input.TheVariants as inputs
+use Rattle.sheep_node.specs.May.{has_numbers}
 use Rattle.sheep_node.specs.State.{Node}
 use Rattle.sheep_node.specs.StepState.{StepState}
 use Rattle.sheep_node.specs.Step.{on_request, node_step}
@@ -155,6 +157,7 @@ module _ (script : List Statement) (world : World) (n : ℕ) (host : Host) (atte
       (kinds.RequestIsAnswered name to so.bytes (is_up_among hosts name.sender.0) rsp so.there (record {
         host = host;
         there = ap (tree.get world.hosts) so.here ∙ there;
+        answers = not-true host.is_lost (and_parts (not host.is_lost) (has_numbers host.node) up).0;
         request = request;
         read = so.read;
         said = refl;

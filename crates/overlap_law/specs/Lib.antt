@@ -47,3 +47,4 @@ pub mod CommandDisks
 pub mod WriterClaims
 pub mod RowsInRange
 pub mod BornObjects
+pub mod HeldLevels

@@ -87,12 +87,13 @@ pub record IsBegunBy (hosts hosts_after : Hosts) (n : ℕ) (sends : List (NodeId
   pub opened : IsOpenAs sent_by.after.node attempt.req work current attempt
   pub unanswered : (place : ℕ) (message : Message) → slice_get current.messages place ≡ Some message → message.status ≡ Unanswered
 
--- the answer of the node that a request goes to, by what that node has: it can be read, and is on its way where the sender is up. The
--- node's peer is then as the request leaves it
+-- the answer of the node that a request goes to, which isn't lost, by what that node has: it can be read, and is on its way where the
+-- sender is up. The node's peer is then as the request leaves it
 pub record IsAnswer (hosts hosts_after : Hosts) (name : MessageName) (to : NodeId) (bytes : List ℕ) (up : Bool) (rsp : PeerRsp)
     : Type 0 where
   pub host : Host
   pub there : tree.get hosts to.0 ≡ Some host
+  pub answers : host.is_lost ≡ false
   pub request : PeerReq
   pub read : ask_in bytes ≡ Ok request
   pub said : reply_to host.node.peer request ≡ rsp

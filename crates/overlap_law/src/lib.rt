@@ -9,7 +9,7 @@
 //! (`specs/Contents.antt`, `specs/Facts.antt`), the headline (`specs/Headline.antt`), beside it that no object is missing
 //! (`specs/NoObjects.antt`), and the invariant that is to carry them (`specs/Overlap.antt`); the laws of `overlap.rt` say
 //! what it gives at once. The facts, the headline and that no object is missing aren't proved here, but for the headline's
-//! part on peers of another epoch; the laws of `laws.rt`, `writers.rt` and `rows.rt` say what the words mean.
+//! part on peers of another epoch; the laws of `laws.rt`, `writers.rt`, `rows.rt` and `heart.rt` say what the words mean.
 //!
 //! An event is taken apart into small changes of a moment (`specs/StepMoments.antt`, `specs/MomentChanges.antt`), each of one kind by
 //! what it makes of the wire and the attempts (`specs/Traffic.antt`). So what each of them keeps holds of every run in range: that the
@@ -25,6 +25,7 @@
 #![tactic(auto)]
 
 mod bytes;
+mod heart;
 mod kept_event;
 mod laws;
 mod overlap;
@@ -36,6 +37,11 @@ pub use bytes::{
     copies_stay_of_attempts, rows_have_what_they_owe_as_attempts_begin,
     rows_have_what_they_owe_as_entries_are_read, served_rows_have_what_they_owe,
     what_a_node_passed_by_is_doomed,
+};
+pub use heart::{
+    a_finished_list_is_complete, attempts_stay_carried, no_row_is_of_an_earlier_level,
+    no_search_has_passed_what_is_made, recovered_rows_stay_kept, what_is_good_has_targets,
+    what_is_made_is_held, what_was_passed_lacks_rows,
 };
 pub use kept_event::keeps_overlap;
 pub use laws::{

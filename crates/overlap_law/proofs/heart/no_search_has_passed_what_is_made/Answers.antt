@@ -1,0 +1,6 @@
+use Rattle.overlap_law.proofs.UnpassedLevels.{not_passed}
+use Rattle.overlap_law.proofs.heart.no_search_has_passed_what_is_made.Goals as goal
+
+pub returns : goal.returns
+returns c = λ script events start moment range is trail live good good_id overlap lives.
+    not_passed script range events start moment is trail live good good_id overlap lives
