@@ -77,7 +77,7 @@ asks_no_object (lines.Delete session name tag) work is = absurd (cc (is))
 asks_no_object (lines.Check session) work is = absurd (cc (is))
 asks_no_object _ work is = absurd (cc (is))
 
-no_object : (script : List Statement) (world : World) (n : ℕ) (host : Host) (cause : NodeCause) → IsCause script world n host cause
+pub no_object : (script : List Statement) (world : World) (n : ℕ) (host : Host) (cause : NodeCause) → IsCause script world n host cause
     → (req session : ℕ) (work : ObjWork) → input_of_cause cause ≡ inputs.Guest req session (asks.Object work) → ⊥
 no_object script world n host (GuestAsks of own ask) so req session work from =
     let same : ask ≡ asks.Object work = cc (from) in

@@ -23,6 +23,9 @@ use Rattle.overlap_law.proofs.MessagesInMoments.{messages_in_run}
 use Rattle.overlap_law.proofs.EpochsOfAttempts.{begun_in_run}
 use Rattle.overlap_law.proofs.AttemptsOfScript.{attempts_of_script}
 use Rattle.overlap_law.proofs.RequestsInRuns.{without_reply-in_run}
+use Rattle.overlap_law.proofs.CoursesOfScript.{requests-in_run}
+use Rattle.overlap_law.proofs.WholeInRuns.{whole-on_the_way}
+use Rattle.overlap_law.proofs.WaitedInRuns.{waited-in_run}
 use Rattle.overlap_law.proofs.RefusedInRuns.{refused_in_run}
 use Rattle.overlap_law.proofs.OneInodeWork.{one_inode_work-in_run}
 use Rattle.overlap_law.proofs.ApartInRuns.{begun_apart-in_run}
@@ -56,6 +59,7 @@ kept_so_far script range events moment is = record {
   epochs = terms-in_run script range events moment is;
   tied = run-kept script IsTied (kept_tied script range) events moment is;
   shaped = run-kept script AreShaped (kept_shaped script range) events moment is;
+  whole = whole-on_the_way script range events moment moment is moments.Still;
   fates = worked-in_run script range events moment is;
   works = awaited-in_run script range events moment is;
   touched = touched-in_run script range events moment is;
@@ -66,12 +70,14 @@ kept_so_far script range events moment is = record {
   begun = begun_in_run script range events moment is;
   scripts = attempts_of_script script range events moment is;
   unanswered = without_reply-in_run script range events moment is;
+  asked = requests-in_run script range events moment is;
   refused = refused_in_run script events moment is;
   inodes = one_inode_work-in_run script range events moment is;
   apart = begun_apart-in_run script range events moment is;
   may_write = works_may-in_run script range events moment moment is moments.Still;
   one_writer = one_writer-in_run script range events moment moment is moments.Still;
   held = held-in_run script range events moment moment is moments.Still;
+  waited_for = waited-in_run script range events moment is;
   granted = grants-in_run script range events moment moment is moments.Still;
   ends = ends-in_run script range events moment is;
   one_open = one_open-in_run script range events moment is;

@@ -60,13 +60,13 @@ pub vid-of_inode : (vid : ℕ) → IsVid vid → vid_of (inode_number vid) ≡ v
 vid-of_inode vid is = let most = is.1 in omega (arith, most)
 
 -- and the kinds of those
-kind-of_object : (vid index : ℕ) → IsVid vid → index < OBJECTS_MAX → kind_of (object_number vid index) ≡ Block
+pub kind-of_object : (vid index : ℕ) → IsVid vid → index < OBJECTS_MAX → kind_of (object_number vid index) ≡ Block
 kind-of_object vid index is few =
     let small : vid * 2 ^ 32 + index < 2 ^ 63 = omega (arith, is.1, few) in
     let none : bits (object_number vid index) 63 1 ≡ 0 = ap (λ (n : ℕ). n % 2 ^ 1) (div-eq_of_lt small) in
     ap (λ (n : ℕ). cond (n == 1) Inode Block) none
 
-kind-of_inode : (vid : ℕ) → IsVid vid → kind_of (inode_number vid) ≡ Inode
+pub kind-of_inode : (vid : ℕ) → IsVid vid → kind_of (inode_number vid) ≡ Inode
 kind-of_inode vid is =
     let top : bits (inode_number vid) 63 1 ≡ 1 = omega (arith, is.0, is.1) in
     ap (λ (n : ℕ). cond (n == 1) Inode Block) top

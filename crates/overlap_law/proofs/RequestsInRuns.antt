@@ -17,7 +17,7 @@ use Rattle.overlap_law.proofs.SessionsOfRequests.{are_asked}
 use Rattle.overlap_law.proofs.UnansweredRequests.{requests_tied}
 
 -- what a list contains stands at a place of it
-at_place : {X : Type 0} (xs : List X) (x : X) → Contains xs x → (place : ℕ) × (slice_get xs place ≡ Some x)
+pub at_place : {X : Type 0} (xs : List X) (x : X) → Contains xs x → (place : ℕ) × (slice_get xs place ≡ Some x)
 at_place [] x there = absurd (Contains-nil x there)
 at_place (y ∷ ys) x there = elim (Contains-cons_cases y ys x there) [
   | inl same ↦ (zero, ap Some same)
@@ -25,7 +25,7 @@ at_place (y ∷ ys) x there = elim (Contains-cons_cases y ys x there) [
 ]
 
 -- who asks has a statement
-statement_of : (session : ℕ) (o : Option Statement) → option_and_then session_of o ≡ Some session
+pub statement_of : (session : ℕ) (o : Option Statement) → option_and_then session_of o ≡ Some session
     → (statement : Statement) × (o ≡ Some statement) × (session_of statement ≡ Some session)
 statement_of session None asks = absurd (cc (asks))
 statement_of session (Some statement) asks = (statement, refl, asks)

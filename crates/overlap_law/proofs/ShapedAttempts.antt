@@ -175,15 +175,15 @@ module _ (script : List Statement) (range : RunsAreInRange script) (start : Mome
   abbrev world_after : World
   world_after = world_after_cause script o.stepping.n host o.stepping.cause start.world
 
-  began_after : Began script world_after
+  pub began_after : Began script world_after
   began_after =
       goes_on script (event_of_cause o.stepping.n o.stepping.cause) start.world (outcome_of_step script o.stepping.n host o.stepping.cause start.world) began o.is.made
 
   -- what the node has read by then are the first entries of the log
-  front : IsFront last.peer.entries world_after.log
+  pub front : IsFront last.peer.entries world_after.log
   front = all_read script world_after began_after o.stepping.n (host_with_node host last) (get-insert_same start.world.hosts o.stepping.n (host_with_node host last))
 
-  log_so : after.world.log ≡ entries ++ front.rest
+  pub log_so : after.world.log ≡ entries ++ front.rest
   log_so =
       ap (λ (m : MomentWithPast). m.world.log) o.moment_so ∙ front.is ∙ ap (λ (read : List Entry). read ++ front.rest) (step_reads input host.node)
 
@@ -205,7 +205,7 @@ module _ (script : List Statement) (range : RunsAreInRange script) (start : Mome
   lined_epochs =
       ap (λ (u : Untouched). u.epochs) is_same ∙ sym (step_epochs input host.node) ∙ follows.epochs_so ∙ ap epochs_of (step_reads input host.node)
 
-  work_so : work ≡ new.work
+  pub work_so : work ≡ new.work
   work_so = ap (λ (a : AttemptRecord). a.work) o.opened
 
   epoch_so : new.epoch ≡ epoch_of entries

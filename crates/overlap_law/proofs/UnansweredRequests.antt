@@ -101,7 +101,7 @@ stays_by_one req (Some session) guests q started other there = ⊎_elim
     (cases_eq q session)
 
 module _ (script : List Statement) where
-  stays_by : (replies : List (ℕ × GuestRsp)) (guests : Guests) (q : ℕ) (started : StartedRequest)
+  pub stays_by : (replies : List (ℕ × GuestRsp)) (guests : Guests) (q : ℕ) (started : StartedRequest)
       → ((reply : ℕ × GuestRsp) → Contains replies reply → reply.0 ≢ started.req) → Contains (unanswered_in q guests) started
       → Contains (unanswered_in q (fold (progress_after_reply script) guests replies)) started
   stays_by [] guests q started others there = there
@@ -161,7 +161,7 @@ module _ (script : List Statement) where
         subst (λ (list : List StartedRequest). Contains list started) (sym is) there)
         (cases_eq q session.number)
 
-    found_unanswered : (cause : NodeCause) (q : ℕ) (started : StartedRequest) → Contains (unanswered_in q world.guests) started
+    pub found_unanswered : (cause : NodeCause) (q : ℕ) (started : StartedRequest) → Contains (unanswered_in q world.guests) started
         → Contains (unanswered_in q (progress_at_cause cause world)) started
     found_unanswered (GuestAsks session req ask) q started there =
         more_unanswered session (record { req = req; disk = disk_open session world }) q started there
@@ -233,7 +233,7 @@ module _ (script : List Statement) where
         (λ reply among. step_apart (input_of_cause cause) host.node sound req request reply got among) (known.asked req request got)
 
   -- a request of another node isn't replied to
-  others_unreplied : (n m one other req session again : ℕ) → m ≢ n → IsAskedIn script n one req session → IsAskedIn script m other req again → ⊥
+  pub others_unreplied : (n m one other req session again : ℕ) → m ≢ n → IsAskedIn script n one req session → IsAskedIn script m other req again → ⊥
   others_unreplied n m one other req session again apart here there =
       let same : session ≡ again = cc (here.asking, there.asking) in
       let of : here.of ≡ there.of = cc (sym here.declared ∙ ap (λ (k : ℕ). session_numbered script k) same ∙ there.declared) in
@@ -248,7 +248,7 @@ module _ (script : List Statement) where
   none_there guests req request got = let none = tree.get-empty {X = Request} nat_cmp req in absurd (cc (none, got))
 
   -- a node that comes back has no requests, and replies to nobody
-  back_empty : (log : List Entry) (node : Node) → KnownIn (λ req session disk. ⊥) (node_step (inputs.Back log) node)
+  pub back_empty : (log : List Entry) (node : Node) → KnownIn (λ req session disk. ⊥) (node_step (inputs.Back log) node)
   unfolding on_back
   back_empty log node =
       kept_by_chain (KnownIn (λ req session disk. ⊥)) (change_known (λ req session disk. ⊥) (inputs.Back log) node (λ req session ask from. absurd (cc (from))))

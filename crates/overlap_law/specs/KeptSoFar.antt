@@ -1,17 +1,19 @@
 -- What is proved of the invariant of the overlap, of each moment that a run in range leads to; and what is proved beside it.
-use Rattle.std.specs.Prelude.{List}
+use Rattle.std.specs.Prelude.{ℕ, false, List}
 use Rattle.cluster_script.specs.declared.statement.Statement.{Statement}
+use Rattle.vdi_directory.specs.Decisions.{log_effects}
 use Rattle.overlap_law.specs.Past.{MomentWithPast}
 use Rattle.overlap_law.specs.Groups.{FlightIsKept, TermsAreKept}
 use Rattle.overlap_law.specs.TiedAttempts.{IsTied}
+use Rattle.overlap_law.specs.Fates.{AttemptsAreWhole}
 use Rattle.overlap_law.specs.ShapedAttempts.{AreShaped}
 use Rattle.overlap_law.specs.OpenWorks.{WorksKnowTheirFates, PacketsAreOfOpenWorks, ServedRequestsAreTouched, LosersAreTouched}
 use Rattle.overlap_law.specs.OpenWorks.{RefusedRequestsAreMute}
 use Rattle.overlap_law.specs.Traffic.{OpenAttemptsHaveMessages}
 use Rattle.overlap_law.specs.Writers.{WorksMayWrite, ThereIsOneWriter, AttemptsHaveBegun}
 use Rattle.overlap_law.specs.Sessions.{SessionsHaveOneInodeWork, BegunRequestsAreApart, OpenDisksAreHeld}
-use Rattle.overlap_law.specs.Courses.{CommandsKeepTheirGrants}
-use Rattle.overlap_law.specs.RequestsOfScript.{RequestsAreWithoutReply, AttemptsAreTheScripts, TheRefusedAreAnswered}
+use Rattle.overlap_law.specs.Courses.{WorksAreWaitedFor, CommandsKeepTheirGrants}
+use Rattle.overlap_law.specs.RequestsOfScript.{RequestsAreWithoutReply, RequestsAreTheScripts, AttemptsAreTheScripts, TheRefusedAreAnswered}
 use Rattle.overlap_law.specs.Holders.{is_live_object}
 use Rattle.overlap_law.specs.Rows.{RowsHaveEnds, OneRowIsOpen, RowsAreApart, ServedRowsStay}
 use Rattle.overlap_law.specs.Headline.{OtherEpochsChangeNothing, RefusedMakeNothing}
@@ -23,6 +25,7 @@ pub record IsKeptSoFar (script : List Statement) (moment : MomentWithPast) : Typ
   pub epochs : TermsAreKept moment.world.log moment.world.hosts
   pub tied : IsTied moment
   pub shaped : AreShaped moment
+  pub whole : AttemptsAreWhole (log_effects moment.world.log) moment.past.attempts
   pub fates : WorksKnowTheirFates moment.world.hosts moment.world.wire moment.past.attempts
   pub works : PacketsAreOfOpenWorks moment.world.hosts moment.world.wire moment.past.attempts
   pub touched : ServedRequestsAreTouched moment.world.hosts moment.world.wire moment.past.attempts
@@ -33,12 +36,14 @@ pub record IsKeptSoFar (script : List Statement) (moment : MomentWithPast) : Typ
   pub begun : AttemptsHaveBegun moment.world.log moment.past.attempts
   pub scripts : AttemptsAreTheScripts script moment.past.attempts
   pub unanswered : RequestsAreWithoutReply script moment.world
+  pub asked : RequestsAreTheScripts script moment.world
   pub refused : TheRefusedAreAnswered script moment.world moment.past.refused
   pub inodes : SessionsHaveOneInodeWork moment.world.hosts
   pub apart : BegunRequestsAreApart moment.world.hosts
   pub may_write : WorksMayWrite moment.world.log moment.world.hosts
   pub one_writer : ThereIsOneWriter moment.world.log moment.world.wire moment.past.attempts
   pub held : OpenDisksAreHeld moment.world.log moment.world.hosts
+  pub waited_for : WorksAreWaitedFor (log_effects moment.world.log) (λ (id : ℕ). false) moment.world.hosts moment.past.attempts
   pub granted : CommandsKeepTheirGrants moment.world.log moment.world.hosts
   pub ends : RowsHaveEnds moment.world.hosts
   pub one_open : OneRowIsOpen moment.world.hosts

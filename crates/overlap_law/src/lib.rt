@@ -10,6 +10,7 @@
 //! (`specs/NoObjects.antt`), and the invariant that is to carry them (`specs/Overlap.antt`); the laws of `overlap.rt` say
 //! what it gives at once. The facts, the headline and that no object is missing aren't proved here, but for the headline's
 //! part on peers of another epoch; the laws of `laws.rt`, `writers.rt`, `rows.rt` and `heart.rt` say what the words mean.
+//! part on peers of another epoch; the laws of `laws.rt`, `works.rt`, `writers.rt` and `rows.rt` say what the words mean.
 //!
 //! An event is taken apart into small changes of a moment (`specs/StepMoments.antt`, `specs/MomentChanges.antt`), each of one kind by
 //! what it makes of the wire and the attempts (`specs/Traffic.antt`). So what each of them keeps holds of every run in range: that the
@@ -31,6 +32,7 @@ mod laws;
 mod overlap;
 mod rows;
 mod with_asks;
+mod works;
 mod writers;
 
 pub use bytes::{
@@ -71,6 +73,7 @@ pub use with_asks::{
     a_clients_read_makes_nothing, a_run_with_asks_has_its_past, what_a_clients_read_keeps,
     what_is_owed_gives_the_headline, what_runs_with_asks_keep,
 };
+pub use works::{requests_of_nodes_are_the_scripts, the_attempts_are_whole, works_are_waited_for};
 pub use writers::{
     a_session_has_one_inode_work, attempts_are_of_epochs_that_began, begun_requests_are_apart,
     claims_of_sessions_are_kept, commands_keep_their_grants, each_attempt_is_for_a_request,

@@ -1,0 +1,236 @@
+-- Every change leaves each request of a node at a place that what it asked allows.
+use Rattle.std.proofs.Common.{◌≡◌, ◌≢◌, ℕ, Bool, true, false, [], ◌∷◌, ◌++◌, Option, Some, None, IfSome, refl, sym, ap, subst, ◌∙◌}
+use Rattle.std.specs.Ordering.{nat_cmp}
+use Rattle.std.specs.FinMap as tree
+use Rattle.std.proofs.lemmas.Option.{same_Some}
+use Rattle.object_id.specs.declared.cause.Cause.{Cause}
+use Rattle.object_id.specs.declared.cause.Cause.TheVariants.{Halt}
+use Rattle.inode.specs.Layout.{Content}
+use Rattle.peer_proto.specs.declared.guest.VdiAsk.TheVariants as disk_commands
+use Rattle.peer_proto.specs.declared.work.ObjWork.{ObjWork}
+use Rattle.peer_service.specs.State.{effects_of}
+use Rattle.peer_service.specs.LogReading.{decision_on}
+use Rattle.gateway.specs.Work.{zones_for}
+use Rattle.gateway.specs.State.{Work}
+use Rattle.guest_driver.specs.declared.disk.Disk.{Disk}
+use Rattle.guest_driver.specs.Driver.{begin_driver}
+use Rattle.guest_driver.specs.InodeQueue.{queue_with_open, queue_with_waiting, queue_after_end}
+use Rattle.disk_check.specs.Check.{Check, begin_check}
+use Rattle.vdi_ops.specs.Entries.{command_refusal}
+use Rattle.sheep_node.specs.declared.ask.Ask.{Ask}
+use Rattle.sheep_node.specs.declared.ask.Ask.TheVariants as asks
+use Rattle.sheep_node.specs.declared.input.Input.{Input}
+use Rattle.sheep_node.specs.declared.course.Request.{Request}
+use Rattle.sheep_node.specs.declared.session.Session.{Session}
+use Rattle.sheep_node.specs.declared.course.Course.TheVariants.{Waiting, Driving, Commanding, Checking, DoingWork, AwaitingDecision}
+use Rattle.sheep_node.specs.State.{Node}
+use Rattle.sheep_node.specs.StepState.{StepState, at_first, session_in}
+use Rattle.sheep_node.specs.Courses.{inode_open}
+use Rattle.sheep_node.specs.Guests.{queued_as, seen_by_command}
+use Rattle.sheep_node.specs.May.{May}
+use Rattle.sheep_node.specs.SessionQueues.{session_among, QueuesAreDiskRequests, CommandsAreAlone}
+use Rattle.sheep_node.specs.Changes as changes
+use Rattle.sheep_node.specs.Changes.{Arrival, Outcome, ToWork, ToEntry, ToReply, outcome_of_check, without_ended_work, without_denied_work, zones_of_members, RequestSteps, DiskBegins, DiskGoesOn, CommandBegins, CommandGoesOn, CommandDecided, CheckBegins, CheckGoesOn, ObjectBegins, ObjectIsDone, EntryBegins, EntryDecided, WorkIsNext, AtOnce, InTurn, Again, AgainAlone, input_received, Change, Leads}
+use Rattle.sheep_node.proofs.OneWorkParts.{Requests, Sessions}
+use Rattle.sheep_node.proofs.ReceivedInputs.{received_keeps}
+use Rattle.sheep_node.proofs.RefusedCourses.{course_refused-keeps, request_refused-keeps}
+use Rattle.sheep_node.proofs.SessionViews.{same_seen, own_seen}
+use Rattle.sheep_node.proofs.SoleCommands.{free, change_keeps_alone, received_alone}
+use Rattle.sheep_node.proofs.SoleParts.{CommandsAre, same_command, command_is_free}
+use Rattle.sheep_node.proofs.StepChain.{kept_by_chain}
+use Rattle.sheep_node.proofs.WantedSteps.{driver_begins-wanted, driver_goes_on-wanted}
+use Rattle.overlap_law.specs.RequestsOfScript.{IsDriverOf, IsOnDisk, IsCheckOf}
+use Rattle.overlap_law.proofs.CoursesOfAsks.{disk_in, id_of_disk, IsOfSession, check_working, IsPlacedAt, IsPlacedIn, ArePlaced, PlacedSoFar, IsBrought, session_placed, all_placed, but_one, moved_others, freed_placed, others_ended, ended_placed, course_placed, IsOutcomePlaced, HasMoved, driven_placed, commanded_placed, checked_placed}
+use Rattle.overlap_law.proofs.StepsOfAsks.{IsCheckAsked, driver_begins-asked, driver_goes_on-asked, check_begins-asked, check_goes_on-asked, command_begins-asked, command_goes_on-asked, command_decided-asked}
+
+-- a check that isn't refused is of the working disk that is open
+pub record IsOnWorking (opened : Option Disk) (inode : Content) : Type 0 where
+  pub disk : Disk
+  pub there : opened ≡ Some disk
+  pub same : disk.inode ≡ inode
+  pub working : disk.snapshot ≡ false
+
+pub on_working : (opened : Option Disk) (inode : Content) → command_refusal (seen_by_command opened) disk_commands.Check ≡ None
+    → inode_open opened ≡ Some inode → IsOnWorking opened inode
+on_working None inode allowed on = absurd (cc (on))
+on_working (Some disk) inode allowed on =
+    record { disk = disk; there = refl; same = same_Some disk.inode inode on; working = check_working disk allowed }
+
+module _ (asked : ℕ → Option Ask) (Began : ℕ → Option ℕ → Type 0) {input : Input} {node : Node} (may : May input node)
+    (queued : QueuesAreDiskRequests node) (sole : CommandsAreAlone node) (brought : IsBrought asked Began input node) where
+  abbrev Placed : StepState → Type 0
+  Placed = PlacedSoFar asked Began
+
+  abbrev AreInPlace : StepState → Type 0
+  AreInPlace so_far = CommandsAre so_far × Placed so_far
+
+  -- what a request that comes brings
+  abbrev Brings : ℕ → Ask → StepState → ℕ → Type 0
+  Brings session ask so_far req = IsOfSession ask × (asked req ≡ Some ask) × Began req (id_of_disk (session_in session so_far).disk)
+
+  brings : (so_far : StepState) (session req : ℕ) (ask : Ask) (refusal : Option Cause)
+      → Arrival input node so_far session req ask refusal → Brings session ask so_far req
+  brings so_far session req ask refusal arrival =
+      subst (λ (state : StepState). Brings session ask state req) (sym arrival.first) (brought req session ask arrival.from)
+
+  steps_placed : (so_far : StepState) (session req : ℕ) (next : Outcome) (moved : StepState)
+      → RequestSteps input node so_far session req next moved
+      → AreInPlace so_far → HasMoved asked Began req next moved
+  steps_placed so_far session req next moved (DiskBegins ask disk there on may_run) all =
+      let here = course_placed asked Began session req (Waiting ask) so_far there all.1 in
+      let wanted = driver_begins-wanted disk ask in
+      driven_placed asked Began session req (Waiting ask) disk
+      (begin_driver disk ask) so_far all.0 there refl on wanted.vid wanted.spec ask here.0 here.1
+      here.2.0 (subst (λ (d : Option Disk). IsOnDisk d here.0) on here.2.1) (driver_begins-asked disk ask) all.1
+  steps_placed so_far session req next moved (DiskGoesOn number work attempt status bytes driver disk step ends on is) all =
+      let freed = without_ended_work session req work status so_far in
+      let now = freed_placed asked Began session req work status so_far all.1 in
+      let here = course_placed asked Began session req (Driving driver) freed ends.ends.request now in
+      let wanted = driver_goes_on-wanted disk.inode bytes driver step is in
+      let same : disk ≡ here.2.on.disk = same_Some disk here.2.on.disk (sym on ∙ here.2.on.there) in
+      let alone : CommandsAre freed
+      = same_command so_far.node.requests so_far.node.sessions session
+      (record (session_in session so_far) { inode_queue = queue_after_end (session_in session so_far).inode_queue work.work }) refl all.0 in
+      driven_placed asked Began session req
+      (Driving driver) disk step freed alone ends.ends.request refl on wanted.vid wanted.spec here.2.ask here.0
+      here.1 here.2.of (record { disk = disk; there = refl; same = here.2.on.same ∙ ap (λ (d : Disk). Some d.inode.vid) (sym same) })
+      (driver_goes_on-asked disk here.2.ask disk.inode bytes driver step is
+      (subst (λ (d : Disk). IsDriverOf d here.2.ask driver) (sym same) here.2.is)) now
+  steps_placed so_far session req next moved (CommandBegins ask step arrival is) all =
+      let here = brings so_far session req (asks.Vdi ask) None arrival in
+      let disk = (session_in session so_far).disk in
+      commanded_placed asked Began session req step so_far (free may queued sole so_far session req (asks.Vdi ask) None arrival refl) ask
+      (id_of_disk disk)
+      here.2 here.1 (command_begins-asked ask so_far.node.me session (inode_open disk) step is) all.1
+  steps_placed so_far session req next moved (CommandGoesOn number work attempt status bytes op step ends is) all =
+      let freed = without_ended_work session req work status so_far in
+      let now = freed_placed asked Began session req work status so_far all.1 in
+      let here = course_placed asked Began session req (Commanding op) freed ends.ends.request now in
+      commanded_placed asked Began session req step freed
+      (command_is_free session req (Commanding op) so_far ends.ends.request refl all.0) here.2.ask
+      here.0 here.1 here.2.of (command_goes_on-asked here.2.ask bytes op step is here.2.is) now
+  steps_placed so_far session req next moved (CommandDecided entry op step from read there waits is) all =
+      let here = course_placed asked Began session req (Commanding op) so_far there all.1 in
+      commanded_placed asked Began session req step so_far
+      (command_is_free session req (Commanding op) so_far there refl all.0) here.2.ask here.0 here.1
+      here.2.of
+      (command_decided-asked here.2.ask (effects_of so_far.node.peer) (inode_open (session_in session so_far).disk) op step
+      (decision_on entry node.peer)
+      is here.2.is) all.1
+  steps_placed so_far session req next moved (CheckBegins inode arrival on) all =
+      let here = brings so_far session req (asks.Vdi disk_commands.Check) None arrival in
+      let opened = (session_in session so_far).disk in
+      let working = on_working opened inode arrival.refused on in
+      let began : id_of_disk opened ≡ Some working.disk.inode.vid = ap id_of_disk working.there in
+      let step = begin_check inode in
+      checked_placed asked Began session req step so_far working.disk working.there (id_of_disk opened) here.2
+      (record { disk = working.disk; there = refl; same = began }) working.working here.1
+      (subst (λ (i : Content). IsCheckAsked working.disk (begin_check i)) working.same (check_begins-asked working.disk)) all.1
+  steps_placed so_far session req next moved (CheckGoesOn number work attempt status bytes check step ends is) all =
+      let freed = without_ended_work session req work status so_far in
+      let now = freed_placed asked Began session req work status so_far all.1 in
+      let here = course_placed asked Began session req (Checking check) freed ends.ends.request now in
+      checked_placed asked Began session req step freed here.2.on.disk here.2.on.there here.0 here.1
+      (record { disk = here.2.on.disk; there = refl; same = here.2.on.same }) here.2.working here.2.of
+      (check_goes_on-asked here.2.on.disk bytes check step is here.2.is) now
+  steps_placed so_far session req next moved (ObjectBegins work arrival) all =
+      absurd (brings so_far session req (asks.Object work) None arrival).0
+  steps_placed so_far session req next moved (ObjectIsDone number work attempt status bytes does ends) all =
+      absurd (course_placed asked Began session req (DoingWork does) so_far ends.ends.request all.1).2
+  steps_placed so_far session req next moved (EntryBegins entry arrival) all =
+      absurd (brings so_far session req (asks.Entry entry) None arrival).0
+  steps_placed so_far session req next moved (EntryDecided entry wanted from read there waits) all =
+      absurd (course_placed asked Began session req (AwaitingDecision wanted) so_far there all.1).2
+
+  work_placed : (so_far : StepState) (session req : ℕ) (work : ObjWork) (moved : StepState)
+      → RequestSteps input node so_far session req (ToWork work) moved → AreInPlace so_far → Placed moved
+  work_placed so_far session req work moved steps all =
+      let now = steps_placed so_far session req (ToWork work) moved steps all in
+      all_placed asked Began req moved.node.requests moved.node.sessions now.0 now.1
+
+  next_placed : (so_far : StepState) (session req : ℕ) (one : Work) (lined : StepState) → WorkIsNext input node so_far session req one lined
+      → AreInPlace so_far → Placed lined
+  next_placed so_far session req one lined (AtOnce work moved steps begins) all =
+      session_placed asked Began moved.node.requests moved.node.sessions session
+      (record (session_in session moved) { inode_queue = queue_with_open (session_in session moved).inode_queue req work }) refl
+      (work_placed so_far session req work moved steps all)
+  next_placed so_far session req one lined (InTurn work later none is) all =
+      session_placed asked Began so_far.node.requests so_far.node.sessions session
+      (record (session_in session so_far) { inode_queue = record { current = Some req; waiting = later } }) refl all.1
+  next_placed so_far session req one lined (Again work course from next there request) all = all.1
+  next_placed so_far session req one lined (AgainAlone work from next there none) all = all.1
+
+  change_keeps_placed : (so_far next : StepState) → Change input node so_far next → AreInPlace so_far → Placed next
+  change_keeps_placed so_far next (changes.Marks req number work attempt status learns over) all = all.1
+  change_keeps_placed so_far next (changes.Fails session req number work attempt status course ends done why) all = all.1
+  change_keeps_placed so_far next (changes.Stops session req number work attempt status course bytes ends over) all =
+      freed_placed asked Began session req work status so_far all.1
+  change_keeps_placed so_far next (changes.Refuses session req number work attempt status course cause ends done why) all =
+      course_refused-keeps Placed (ended_placed asked Began) (λ entry before now. now) session req cause course
+      (without_ended_work session req work status so_far) (freed_placed asked Began session req work status so_far all.1)
+  change_keeps_placed so_far next (changes.Opens session req one lined comes short) all = next_placed so_far session req one lined comes all
+  change_keeps_placed so_far next (changes.Holds session req one lined comes short touched) all =
+      next_placed so_far session req one lined comes all
+  change_keeps_placed so_far next (changes.Denies session req one lined request comes short untouched there own) all =
+      request_refused-keeps Placed (ended_placed asked Began) (λ entry before now. now) req
+      (Halt (zones_of_members lined.node) (zones_for one.work)) request (without_denied_work session req one lined)
+      (session_placed asked Began lined.node.requests lined.node.sessions session
+      (record (session_in session lined) { inode_queue = queue_after_end (session_in session lined).inode_queue one.work }) refl
+      (next_placed so_far session req one lined comes all))
+  change_keeps_placed so_far next (changes.Strays req work gateway there none apart) all = all.1
+  change_keeps_placed so_far next (changes.Lines session req work moved steps waits) all =
+      session_placed asked Began moved.node.requests moved.node.sessions session
+      (record (session_in session moved) { inode_queue = queue_with_waiting (session_in session moved).inode_queue req work }) refl
+      (work_placed so_far session req work moved steps all)
+  change_keeps_placed so_far next (changes.Appends session req entry moved steps) all =
+      let now = steps_placed so_far session req (ToEntry entry) moved steps all in
+      all_placed asked Began req moved.node.requests moved.node.sessions now.0 now.1
+  change_keeps_placed so_far next (changes.Replies session req reply moved steps) all =
+      others_ended asked Began session req reply moved (steps_placed so_far session req (ToReply reply) moved steps all).0
+  change_keeps_placed so_far next (changes.Arrives session req ask disk arrival on) all =
+      let here = brings so_far session req (asks.Disk ask) None arrival in
+      let after : Session
+      = record (session_in session so_far) { queue = (session_in session so_far).queue ++ queued_as disk.inode.spec.shift req ask ∷ [] } in
+      let began : id_of_disk (session_in session so_far).disk ≡ Some disk.inode.vid = ap id_of_disk on in
+      all_placed asked Began req (tree.insert so_far.node.requests req (record { session = session; course = Waiting ask }))
+      (tree.insert so_far.node.sessions session after)
+      (moved_others asked Began req session (Waiting ask) after so_far
+      (λ q other. same_seen disk_in (IsPlacedAt asked Began q) so_far.node.sessions session after refl (tree.get so_far.node.requests q)
+      (all.1 q)))
+      (own_seen disk_in (IsPlacedAt asked Began req) so_far.node.sessions session after req (Waiting ask) so_far.node.requests
+      (id_of_disk (session_in session so_far).disk, here.2, (here.1, record { disk = disk; there = on; same = began })))
+  change_keeps_placed so_far next (changes.Rejects session req ask cause arrival) all = all.1
+  change_keeps_placed so_far next (changes.Recovers due) all = all.1
+
+  change_keeps_place : (so_far next : StepState) → Change input node so_far next → AreInPlace so_far → AreInPlace next
+  change_keeps_place so_far next change all =
+      (change_keeps_alone may queued sole so_far next change all.0, change_keeps_placed so_far next change all)
+
+pub none_placed : (asked : ℕ → Option Ask) (Began : ℕ → Option ℕ → Type 0) → ArePlaced asked Began tree.empty tree.empty
+none_placed asked Began req = subst (IsPlacedIn asked Began req tree.empty) (sym (tree.get-empty {X = Request} nat_cmp req)) tt
+
+received_placed : (asked : ℕ → Option Ask) (Began : ℕ → Option ℕ → Type 0) (input : Input) (node : Node)
+    → ArePlaced asked Began node.requests node.sessions → PlacedSoFar asked Began (input_received input (at_first node))
+received_placed asked Began =
+    received_keeps (λ works requests sessions. ArePlaced asked Began requests sessions) (none_placed asked Began)
+
+-- in the middle of a step
+pub placed_in_chain : (asked : ℕ → Option Ask) (Began : ℕ → Option ℕ → Type 0) (input : Input) (node : Node) → May input node
+    → QueuesAreDiskRequests node → CommandsAreAlone node → IsBrought asked Began input node
+    → ArePlaced asked Began node.requests node.sessions
+    → (so_far : StepState) → Leads input node (input_received input (at_first node)) so_far → PlacedSoFar asked Began so_far
+placed_in_chain asked Began input node may queued sole brought all so_far leads =
+    (kept_by_chain (AreInPlace asked Began may queued sole brought)
+    (λ so_far next change. change_keeps_place asked Began may queued sole brought so_far next change) leads
+    (received_alone input node sole, received_placed asked Began input node all)).1
+
+-- where more is known of the disks on which requests began
+pub placed_grows : (asked : ℕ → Option Ask) (Began Begins : ℕ → Option ℕ → Type 0) (requests : Requests) (sessions : Sessions)
+    → ((req : ℕ) (request : Request) (disk : Option ℕ) → tree.get requests req ≡ Some request → Began req disk → Begins req disk)
+    → ArePlaced asked Began requests sessions → ArePlaced asked Begins requests sessions
+placed_grows asked Began Begins requests sessions grows all req = by_got (tree.get requests req) refl (all req)
+  where
+    by_got : (o : Option Request) → tree.get requests req ≡ o → IsPlacedIn asked Began req sessions o
+        → IsPlacedIn asked Begins req sessions o
+    by_got None got is = tt
+    by_got (Some request) got (began, b, is) = (began, grows req request began got b, is)
