@@ -8,6 +8,7 @@ use Rattle.overlap_law.specs.MomentChanges.{RunsAreInRange}
 use Rattle.overlap_law.specs.Groups.{FlightIsKept}
 use Rattle.overlap_law.specs.TiedAttempts.{IsTied}
 use Rattle.overlap_law.specs.ShapedAttempts.{AreShaped}
+use Rattle.overlap_law.specs.Holders.{is_live_object}
 use Rattle.overlap_law.specs.KeptSoFar.{IsKeptSoFar}
 use Rattle.overlap_law.proofs.RunsByChanges.{run-kept}
 use Rattle.overlap_law.proofs.TiedInRuns.{kept_tied}
@@ -36,6 +37,9 @@ use Rattle.overlap_law.proofs.TurnsInRuns.{one_writer-in_run}
 use Rattle.overlap_law.proofs.EpochLemmas.{run-changes_nothing}
 use Rattle.overlap_law.proofs.TurnsOfRows.{ends-in_run, one_open-in_run, apart-in_run}
 use Rattle.overlap_law.proofs.StayingRows.{stays-on_the_way}
+use Rattle.overlap_law.proofs.WholeRows.{whole-in_run}
+use Rattle.overlap_law.proofs.PlacedInMoments.{placed-in_run}
+use Rattle.overlap_law.proofs.BegunInMoments.{begun-in_run}
 
 pub flight-in_run : (script : List Statement) → RunsAreInRange script → (events : List Event) (moment : MomentWithPast)
     → run_with_past script events ≡ Some moment
@@ -82,6 +86,9 @@ kept_so_far script range events moment is = record {
   ends = ends-in_run script range events moment is;
   one_open = one_open-in_run script range events moment is;
   rows_apart = apart-in_run script range events moment is;
+  row_shape = whole-in_run script range.is_script range.room events moment is;
+  placed = placed-in_run script range events moment is;
+  rows_begun = begun-in_run script range events moment is (is_live_object moment.world.log moment.past.attempts);
   stays = stays-on_the_way script range events moment moment is moments.Still;
   peers = run-changes_nothing script events moment is;
 }

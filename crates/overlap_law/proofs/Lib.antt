@@ -265,3 +265,16 @@ pub mod WorksAtCourses
 pub mod WaitedSteps
 pub mod WaitedChanges
 pub mod WaitedInRuns
+pub mod WholeRows
+pub mod PendingTargets
+pub mod PendingFalls
+pub mod PendingOfNodes
+pub mod PendingInRuns
+pub mod DistinctTargets
+pub mod RowSteps
+pub mod AskedKeys
+pub mod PlacedRows
+pub mod PlacedInMoments
+pub mod ServedCreates
+pub mod BegunRows
+pub mod BegunInMoments

@@ -73,24 +73,24 @@ closed_within epoch last next row from before later is = by_open (is_open row) r
 
 -- ---- rows that are changed each by itself
 
-all_mapped : (P Q : SeenRow → Type 0) (f : SeenRow → SeenRow) → ((row : SeenRow) → P row → Q (f row)) → (rows : List SeenRow)
+pub all_mapped : (P Q : SeenRow → Type 0) (f : SeenRow → SeenRow) → ((row : SeenRow) → P row → Q (f row)) → (rows : List SeenRow)
     → AllByRecursion P rows → AllByRecursion Q (map f rows)
 all_mapped P Q f so [] all = tt
 all_mapped P Q f so (row ∷ rows) all = (so row all.0, all_mapped P Q f so rows all.1)
 
-all_weaker : (P Q : SeenRow → Type 0) → ((row : SeenRow) → P row → Q row) → (rows : List SeenRow) → AllByRecursion P rows
+pub all_weaker : (P Q : SeenRow → Type 0) → ((row : SeenRow) → P row → Q row) → (rows : List SeenRow) → AllByRecursion P rows
     → AllByRecursion Q rows
 all_weaker P Q so [] all = tt
 all_weaker P Q so (row ∷ rows) all = (so row all.0, all_weaker P Q so rows all.1)
 
-all_filtered : (P : SeenRow → Type 0) (test : SeenRow → Bool) (rows : List SeenRow) → AllByRecursion P rows
+pub all_filtered : (P : SeenRow → Type 0) (test : SeenRow → Bool) (rows : List SeenRow) → AllByRecursion P rows
     → AllByRecursion P (filter test rows)
 all_filtered P test [] all = tt
 all_filtered P test (row ∷ rows) all =
     cond_either (AllByRecursion P) (test row) (row ∷ filter test rows) (filter test rows) (all.0, all_filtered P test rows all.1)
     (all_filtered P test rows all.1)
 
-all_changed : (P : SeenRow → Type 0) (test : SeenRow → Bool) (change : List ℕ → List ℕ)
+pub all_changed : (P : SeenRow → Type 0) (test : SeenRow → Bool) (change : List ℕ → List ℕ)
     → ((row : SeenRow) → P row → P (record row { bytes = change row.bytes })) → (rows : List SeenRow) → AllByRecursion P rows
     → AllByRecursion P (changed test change rows)
 all_changed P test change so [] all = tt

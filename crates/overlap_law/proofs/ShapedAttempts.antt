@@ -99,7 +99,7 @@ none_known_yet log vid spec made none =
     let nothing : spec_known (log_effects log) vid ≡ None = ap (λ (log : List Entry). spec_known (log_effects log) vid) none ∙ ap (λ (known : List Effect). spec_known known vid) log_effects-none in
     absurd (cc (made, nothing))
 
-some_entries : (log : List Entry) (vid : ℕ) (spec : VdiSpec) → spec_known (log_effects log) vid ≡ Some spec → 1 ≤ length log
+pub some_entries : (log : List Entry) (vid : ℕ) (spec : VdiSpec) → spec_known (log_effects log) vid ≡ Some spec → 1 ≤ length log
 some_entries [] vid spec made = none_known_yet [] vid spec made refl
 some_entries (first ∷ later) vid spec made = omega arith
 
@@ -138,7 +138,7 @@ entered_last entries zero some = absurd (omega (arith, some))
 entered_last entries (suc most) some =
     ap (λ (b : Bool). b || is_entered (epochs_up_to entries most) (suc most)) (eq-eqb (suc most) (suc most) refl)
 
-entered_newest : (entries : List Entry) → 1 ≤ length entries → is_entered (epochs_of entries) (epoch_of entries) ≡ true
+pub entered_newest : (entries : List Entry) → 1 ≤ length entries → is_entered (epochs_of entries) (epoch_of entries) ≡ true
 entered_newest [] some = absurd (omega (arith, some))
 entered_newest (first ∷ later) some = entered_last (first ∷ later) (epoch_of (first ∷ later)) (omega arith)
 

@@ -32,7 +32,7 @@ use Rattle.peer_service.proofs.EpochLemmas.{entered_rows, read_rows, back_rows}
 use Rattle.vnode_table.specs.Targets.{targets_in}
 use Rattle.gateway.specs.State as gateways
 use Rattle.recovery.specs.Frame.{Frame}
-use Rattle.recovery.specs.Shown.{NodeView, index_in}
+use Rattle.recovery.specs.Shown.{NodeView, first_in, index_in}
 use Rattle.recovery.specs.State.{RecoveryState}
 use Rattle.recovery.specs.Steps as recovery_steps
 use Rattle.recovery.specs.Steps.{message_end}
@@ -47,6 +47,7 @@ use Rattle.sheep_node.specs.LogReading.{epoch_members, epochs_with_entry, peer_w
 use Rattle.sheep_node.specs.Step.{on_request, recovery_stepped, on_put, on_recover_tick, node_step}
 use Rattle.sheep_node.specs.Changes.{input_received}
 use Rattle.sheep_node.proofs.StepResults.{step_peer}
+use Rattle.overlap_law.proofs.PendingTargets.{rows-after_tick, rows-after_end}
 use Rattle.overlap_law.proofs.RecoveryViews.{IsSearchedBy, begun-rows, KeptByRecovery, tick-keeps, end-keeps}
 
 -- what is there once a write was served
@@ -61,6 +62,19 @@ write_step_on found key offset bytes peer =
 abbrev pub write_step_if : Bool → Key → ℕ → List ℕ → Peer → serve.PeerStep
 write_step_if inside key offset bytes peer =
     peer_write_step (cond inside (Ok (with_write key offset bytes peer.rows)) (Err OutOfObject)) peer
+
+-- whether a recovery goes on by an input
+abbrev pub StepsRecovery : Input → Type 0
+StepsRecovery (inputs.Reply rsp) = Unit {0}
+StepsRecovery (inputs.Lost number) = Unit {0}
+StepsRecovery inputs.RecoverTick = Unit {0}
+StepsRecovery _ = ⊥
+
+-- a recovery goes on by the input, at a node at which something is pending
+pub record IsRecovering (node : Node) (input : Input) : Type 0 where
+  pub goes : StepsRecovery input
+  pub oid : ℕ
+  pub first : first_in node.peer.pending ≡ Some oid
 
 -- beside the rows, of which P speaks with the node's epoch and the object, V may say something of the node as its recovery sees it
 module _ (V : NodeId → ℕ → NodeView → Type 0) (P : ℕ → ℕ → List SeenRow → Type 0) where
@@ -100,6 +114,39 @@ module _ (V : NodeId → ℕ → NodeView → Type 0) (P : ℕ → ℕ → List 
     pub returned_dead : (entries : List Entry) → input ≡ inputs.Back entries → (oid : ℕ)
         → is_dead_object (come_back entries node.peer) oid ≡ true → P (epoch_of entries) oid []
 
+  -- the same, if the recovery's part is asked for only where it goes on and something is pending: else it makes no row
+  pub record KeepsRowsWhilePending (node : Node) (input : Input) : Type 0 where
+    pub view : IsRecovering node input → V node.recovery.me node.recovery.epoch (shown_node node)
+    pub views : KeptByRecovery V
+    -- the create of a request is served
+    pub created : (request : PeerReq) (key : Key) (size offset : ℕ) (bytes : List ℕ) → input ≡ inputs.Request request
+        → request.ask ≡ asks.Create key size offset bytes → epoch_refusal node.peer.epoch request.epoch.0 ≡ None → (rows : List SeenRow)
+        → P node.peer.epoch key.oid rows → P node.peer.epoch key.oid (create_in key.index node.peer.epoch size offset bytes rows)
+    -- a write is served, which ends inside the open row
+    pub written : (key : Key) (offset : ℕ) (bytes : List ℕ) (row : SeenRow) → open_row node.peer.rows key ≡ Some row
+        → offset + length bytes ≤ length row.bytes → P node.peer.epoch key.oid (rows_of node.peer.rows key.oid)
+        → P node.peer.epoch key.oid (write_in key.index offset bytes (rows_of node.peer.rows key.oid))
+    -- the recovery puts the row of an object
+    pub recovered : IsRecovering node input → (me : NodeId) (epoch : ℕ) (shown : NodeView) (oid : ℕ) (policy : Policy) (bytes : List ℕ)
+        → V me epoch shown → IsSearchedBy oid policy shown → (rows : List SeenRow) → P shown.epoch oid rows
+        → P shown.epoch oid (create_in (unwrap_or (index_in shown epoch oid policy me) 0) shown.epoch (length bytes) 0 bytes rows)
+    -- the node reads an entry that begins an epoch
+    pub entered : (entry : Entry) → input ≡ inputs.LogEntry entry → begins_epoch entry ≡ true → (oid : ℕ) (rows : List SeenRow)
+        → P node.peer.epoch oid rows → P (node.peer.epoch + 1) oid
+        (rows_entering node.me (targets_in (epochs_with_entry entry node)) (read_entry entry node.peer) oid rows)
+    -- or that makes an object's id dead
+    pub killed : (entry : Entry) → input ≡ inputs.LogEntry entry → (oid : ℕ) → kills_object entry node.peer oid ≡ true
+        → P node.peer.epoch oid []
+    -- or by which a later epoch is settled
+    pub settled : (entry : Entry) → input ≡ inputs.LogEntry entry → (epoch oid : ℕ) (rows : List SeenRow) → P epoch oid rows
+        → P epoch oid (purged (settled_of (read_entry entry node.peer).entries) rows)
+    -- the node comes back
+    pub returned : (entries : List Entry) → input ≡ inputs.Back entries → (oid : ℕ) (rows : List SeenRow) → P node.peer.epoch oid rows
+        → P (epoch_of entries) oid (purged (settled_of entries) (closed_all node.peer.epoch rows))
+    -- to a log by which an object's id is dead
+    pub returned_dead : (entries : List Entry) → input ≡ inputs.Back entries → (oid : ℕ)
+        → is_dead_object (come_back entries node.peer) oid ≡ true → P (epoch_of entries) oid []
+
   -- the rows of one object are put
   put_so : (epoch oid : ℕ) (rows : AllRows) (new : List SeenRow) → ((q : ℕ) → P epoch q (rows_of rows q)) → P epoch oid new
       → (q : ℕ) → P epoch q (rows_of (tree.insert rows oid new) q)
@@ -110,7 +157,7 @@ module _ (V : NodeId → ℕ → NodeView → Type 0) (P : ℕ → ℕ → List 
       (λ (other : q ≢ oid). subst (P epoch q) (sym (rows_of-insert_other rows oid new q other)) (are q))
       (cases_eq q oid)
 
-  module _ (node : Node) (input : Input) (keeps : KeepsRows node input) (are : AreRowsSo node.peer) where
+  module _ (node : Node) (input : Input) (keeps : KeepsRowsWhilePending node input) (are : AreRowsSo node.peer) where
     -- ---- a request is served
 
     written_so : (key : Key) (offset : ℕ) (bytes : List ℕ)
@@ -165,8 +212,8 @@ module _ (V : NodeId → ℕ → NodeView → Type 0) (P : ℕ → ℕ → List 
     abbrev ViewAndRows : NodeId → ℕ → NodeView → Type 0
     ViewAndRows me epoch shown = V me epoch shown × ((oid : ℕ) → P shown.epoch oid (rows_of shown.rows oid))
 
-    both_kept : KeptByRecovery ViewAndRows
-    both_kept = record {
+    both_kept : IsRecovering node input → KeptByRecovery ViewAndRows
+    both_kept recovering = record {
       listed = λ at is. (keeps.views.listed at is.0, is.1);
       gone = λ at oid is. (keeps.views.gone at oid is.0, is.1);
       found = λ at search policy bytes searched is. (
@@ -174,24 +221,41 @@ module _ (V : NodeId → ℕ → NodeView → Type 0) (P : ℕ → ℕ → List 
         put_so at.shown.epoch search.oid at.shown.rows
             (create_in (unwrap_or (index_in at.shown at.recovery.epoch search.oid policy at.recovery.me) 0) at.shown.epoch (length bytes) 0
             bytes (rows_of at.shown.rows search.oid)) is.1
-            (keeps.recovered at.recovery.me at.recovery.epoch at.shown search.oid policy bytes is.0 searched
+            (keeps.recovered recovering at.recovery.me at.recovery.epoch at.shown search.oid policy bytes is.0 searched
             (rows_of at.shown.rows search.oid)
             (is.1 search.oid)),
       );
     }
 
-    ended_so : (number : ℕ) (said : Option PeerSay) → AreRowsSo (recovery_stepped (message_end number said state) (at_first node)).node.peer
-    ended_so number said oid =
-        subst (λ (epoch : ℕ). P epoch oid (rows_of (message_end number said state).shown.rows oid))
-        (ap (λ (f : Frame). f.epoch) (frame_of_end number said state))
-        ((end-keeps ViewAndRows both_kept number said state (keeps.view, are)).1 oid)
+    -- the rows are as they were where nothing is pending
+    rests_so : (rows : AllRows) → rows ≡ node.peer.rows → (oid : ℕ) → P node.peer.epoch oid (rows_of rows oid)
+    rests_so rows same oid = subst (λ (all : AllRows). P node.peer.epoch oid (rows_of all oid)) (sym same) (are oid)
 
-    ticked_so : AreRowsSo (on_recover_tick (at_first node)).node.peer
+    ended_so : StepsRecovery input → (number : ℕ) (said : Option PeerSay)
+        → AreRowsSo (recovery_stepped (message_end number said state) (at_first node)).node.peer
+    ended_so goes number said = by_pending (first_in node.peer.pending) refl
+      where
+        by_pending : (o : Option ℕ) → first_in node.peer.pending ≡ o
+            → AreRowsSo (recovery_stepped (message_end number said state) (at_first node)).node.peer
+        by_pending None none = rests_so (message_end number said state).shown.rows (rows-after_end state none number said)
+        by_pending (Some first) is = λ oid.
+            let recovering : IsRecovering node input = record { goes = goes; oid = first; first = is } in
+            subst (λ (epoch : ℕ). P epoch oid (rows_of (message_end number said state).shown.rows oid))
+            (ap (λ (f : Frame). f.epoch) (frame_of_end number said state))
+            ((end-keeps ViewAndRows (both_kept recovering) number said state (keeps.view recovering, are)).1 oid)
+
+    ticked_so : StepsRecovery input → AreRowsSo (on_recover_tick (at_first node)).node.peer
     unfolding on_recover_tick
-    ticked_so oid =
-        subst (λ (epoch : ℕ). P epoch oid (rows_of (state_after_tick node.sends state).shown.rows oid))
-        (ap (λ (f : Frame). f.epoch) (frame_of_tick node.sends state))
-        ((tick-keeps ViewAndRows both_kept node.sends state (keeps.view, are)).1 oid)
+    ticked_so goes = by_pending (first_in node.peer.pending) refl
+      where
+        by_pending : (o : Option ℕ) → first_in node.peer.pending ≡ o → (oid : ℕ)
+            → P node.peer.epoch oid (rows_of (state_after_tick node.sends state).shown.rows oid)
+        by_pending None none = rests_so (state_after_tick node.sends state).shown.rows (rows-after_tick state none node.sends)
+        by_pending (Some first) is = λ oid.
+            let recovering : IsRecovering node input = record { goes = goes; oid = first; first = is } in
+            subst (λ (epoch : ℕ). P epoch oid (rows_of (state_after_tick node.sends state).shown.rows oid))
+            (ap (λ (f : Frame). f.epoch) (frame_of_tick node.sends state))
+            ((tick-keeps ViewAndRows (both_kept recovering) node.sends state (keeps.view recovering, are)).1 oid)
 
     -- ---- an entry is read
 
@@ -267,19 +331,37 @@ module _ (V : NodeId → ℕ → NodeView → Type 0) (P : ℕ → ℕ → List 
     received_so (inputs.Request request) comes = served_so request comes
     received_so (inputs.Reply rsp) comes =
         cond_either (λ (start : StepState). AreRowsSo start.node.peer) (gateways.gateway_awaits rsp.number node.gateway) (at_first node)
-        (recovery_stepped (recovery_steps.recovery_on_reply rsp state) (at_first node)) are (ended_so rsp.number (Some rsp.say))
+        (recovery_stepped (recovery_steps.recovery_on_reply rsp state) (at_first node)) are
+        (ended_so (subst StepsRecovery (sym comes) tt) rsp.number (Some rsp.say))
     received_so (inputs.Lost number) comes =
         cond_either (λ (start : StepState). AreRowsSo start.node.peer) (gateways.gateway_awaits number node.gateway) (at_first node)
-        (recovery_stepped (recovery_steps.recovery_on_loss number state) (at_first node)) are (ended_so number None)
+        (recovery_stepped (recovery_steps.recovery_on_loss number state) (at_first node)) are
+        (ended_so (subst StepsRecovery (sym comes) tt) number None)
     received_so (inputs.LogEntry entry) comes = entry_so entry comes
     received_so inputs.Put comes = by_outbox node.outbox
       where
         by_outbox : (outbox : List Entry) → AreRowsSo (on_put outbox (at_first node)).node.peer
         by_outbox [] = are
         by_outbox (entry ∷ later) = are
-    received_so inputs.RecoverTick comes = ticked_so
+    received_so inputs.RecoverTick comes = ticked_so (subst StepsRecovery (sym comes) tt)
     received_so inputs.RetryTick comes = are
     received_so (inputs.Back entries) comes = back_so entries comes
 
-    pub step-rows_so : AreRowsSo (node_step input node).node.peer
-    step-rows_so = subst AreRowsSo (sym (step_peer input node)) (received_so input refl)
+    pub step-rows_while_pending : AreRowsSo (node_step input node).node.peer
+    step-rows_while_pending = subst AreRowsSo (sym (step_peer input node)) (received_so input refl)
+
+  -- what is kept in each way is kept by a step
+  pub step-rows_so : (node : Node) (input : Input) → KeepsRows node input → AreRowsSo node.peer → AreRowsSo (node_step input node).node.peer
+  step-rows_so node input keeps are =
+      step-rows_while_pending node input (record {
+        view = λ recovering. keeps.view;
+        views = keeps.views;
+        created = keeps.created;
+        written = keeps.written;
+        recovered = λ recovering. keeps.recovered;
+        entered = keeps.entered;
+        killed = keeps.killed;
+        settled = keeps.settled;
+        returned = keeps.returned;
+        returned_dead = keeps.returned_dead;
+      }) are

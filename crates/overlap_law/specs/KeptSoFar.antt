@@ -14,8 +14,8 @@ use Rattle.overlap_law.specs.Writers.{WorksMayWrite, ThereIsOneWriter, AttemptsH
 use Rattle.overlap_law.specs.Sessions.{SessionsHaveOneInodeWork, BegunRequestsAreApart, OpenDisksAreHeld}
 use Rattle.overlap_law.specs.Courses.{WorksAreWaitedFor, CommandsKeepTheirGrants}
 use Rattle.overlap_law.specs.RequestsOfScript.{RequestsAreWithoutReply, RequestsAreTheScripts, AttemptsAreTheScripts, TheRefusedAreAnswered}
-use Rattle.overlap_law.specs.Holders.{is_live_object}
-use Rattle.overlap_law.specs.Rows.{RowsHaveEnds, OneRowIsOpen, RowsAreApart, ServedRowsStay}
+use Rattle.overlap_law.specs.Holders.{is_live_object, targets_by}
+use Rattle.overlap_law.specs.Rows.{RowsHaveEnds, OneRowIsOpen, RowsAreApart, ServedRowsStay, RowsAreWhole, RowsAreAtTargets, RowsAreBegun}
 use Rattle.overlap_law.specs.Headline.{OtherEpochsChangeNothing, RefusedMakeNothing}
 
 -- the groups of the wire and of epochs, what of the attempts, of the writers, of commands and of rows, and the headline's parts on refused
@@ -48,5 +48,9 @@ pub record IsKeptSoFar (script : List Statement) (moment : MomentWithPast) : Typ
   pub ends : RowsHaveEnds moment.world.hosts
   pub one_open : OneRowIsOpen moment.world.hosts
   pub rows_apart : RowsAreApart moment.world.hosts
+  pub row_shape : RowsAreWhole (log_effects moment.world.log) moment.world.hosts
+  pub placed : RowsAreAtTargets (targets_by moment.world.log) (log_effects moment.world.log) moment.world.hosts
+  pub rows_begun : RowsAreBegun moment.world.log (is_live_object moment.world.log moment.past.attempts) moment.world.hosts
+      moment.past.attempts
   pub stays : ServedRowsStay (is_live_object moment.world.log moment.past.attempts) moment.world.hosts moment.past.attempts
   pub peers : OtherEpochsChangeNothing script moment.world

@@ -52,14 +52,14 @@ pub use laws::{
     each_target_has_its_fate, epochs_and_nodes_are_kept, gateways_know_the_fates,
     members_stay_until_they_are_lost, messages_touch_their_requests,
     no_read_of_what_was_borne_is_left_out, nodes_have_rows_of_few_objects,
-    nodes_step_on_what_they_may, open_works_have_messages, other_attempts_hear_nothing, packets_are_of_open_works,
-    peers_of_another_epoch_change_nothing, recoveries_are_of_members_that_came,
-    refused_requests_make_nothing, runs_of_few_controls_are_in_range, the_attempts_are_shaped,
-    the_attempts_stay_in_order, the_past_follows_the_run, the_recovered_have_all,
-    the_wire_and_the_attempts_stay_tied, the_wire_is_kept, the_wire_is_linked,
-    units_follow_each_other, what_becomes_of_an_attempt, what_is_asked_is_of_the_past,
-    what_is_doomed_stays_doomed, what_is_made_stays_made, what_nodes_have_read_is_of_the_log,
-    who_joins_is_new,
+    nodes_step_on_what_they_may, open_works_have_messages, other_attempts_hear_nothing,
+    packets_are_of_open_works, peers_of_another_epoch_change_nothing,
+    recoveries_are_of_members_that_came, refused_requests_make_nothing,
+    runs_of_few_controls_are_in_range, the_attempts_are_shaped, the_attempts_stay_in_order,
+    the_past_follows_the_run, the_recovered_have_all, the_wire_and_the_attempts_stay_tied,
+    the_wire_is_kept, the_wire_is_linked, units_follow_each_other, what_becomes_of_an_attempt,
+    what_is_asked_is_of_the_past, what_is_doomed_stays_doomed, what_is_made_stays_made,
+    what_nodes_have_read_is_of_the_log, who_joins_is_new,
 };
 pub use overlap::{
     a_script_opens_with_the_overlap, the_messages_of_the_gone_are_fenced,
@@ -67,7 +67,8 @@ pub use overlap::{
     the_overlap_holds_of_fewer, the_overlap_makes_attempts_stand, the_settled_have_recovered,
 };
 pub use rows::{
-    requests_are_of_attempts, rows_stand_in_turn, served_rows_stay, what_nodes_have_was_born,
+    requests_are_of_attempts, rows_are_at_targets, rows_are_begun, rows_are_whole,
+    rows_stand_in_turn, served_rows_stay, what_nodes_have_was_born,
 };
 pub use with_asks::{
     a_clients_read_makes_nothing, a_run_with_asks_has_its_past, what_a_clients_read_keeps,
