@@ -15,7 +15,8 @@ use Rattle.proof_tools.proofs.FiniteMaps.{is_sorted-from_keys, entries-from_entr
 use Rattle.live_cells.specs.declared.step.Step.{Step}
 use Rattle.live_cells.specs.Cell.{CellState}
 use Rattle.schedule.specs.Merged.{Kept, KeptStep, all_steps, stamp_of, IsByStamp}
-use Rattle.live_run.specs.Steps.{kept_step, IsOther}
+use Rattle.live_merge.specs.Steps.{kept_step}
+use Rattle.live_workers.specs.OtherSteps.{IsOther}
 use Rattle.live_run.specs.KeptSteps.{cell_entry, steps_in, kept_steps_of, with_cell, with_other, IsWellKept}
 
 -- the cells are the map's entries

@@ -1,5 +1,3 @@
 pub mod KeptLemmas
-pub mod MergeLemmas
-pub mod OpeningLemmas
-pub mod PhasesDue
-pub mod RoundLemmas
+pub mod KeptNumbers
+pub mod OpeningWorlds

@@ -9,7 +9,8 @@ use Rattle.sheep_world.specs.Run.{initial_moment}
 use Rattle.live_cells.specs.declared.step.Step.{Step}
 use Rattle.live_cells.specs.Cell.{CellState}
 use Rattle.schedule.specs.Merged.{Kept, KeptStep, IsByStamp, IsClashAt}
-use Rattle.live_run.specs.Steps.{kept_step, IsOther}
+use Rattle.live_merge.specs.Steps.{kept_step}
+use Rattle.live_workers.specs.OtherSteps.{IsOther}
 
 -- the number of a cell's node, and its steps
 abbrev pub cell_entry : CellState → ℕ × List KeptStep

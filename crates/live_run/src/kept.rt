@@ -1,17 +1,18 @@
 //! What a live cluster kept, and the run into which it merges.
 
-ghost use Rattle.std.specs.Prelude.{◌≡◌, ◌<◌, ◌++◌, ℕ, false, [], ◌∷◌, map, Err, IfOk, OnOk, All};
+ghost use Rattle.std.specs.Prelude.{◌≡◌, ◌<◌, ◌++◌, ℕ, false, [], ◌∷◌, map, Err, IfOk, IfSome, OnOk, All};
 ghost use Rattle.std.specs.FinMap as tree;
-ghost use Rattle.sheep_world.specs.Run.{IsKept};
+ghost use Rattle.sheep_world.specs.Run.{IsKept, IsWholeRun};
 ghost use Rattle.schedule.specs.Merged.{all_steps, IsByStamp, IsMergeOf};
-ghost use Rattle.live_run.specs.declared.fault.MergeFault.TheVariants as faults;
-ghost use Rattle.live_run.specs.Steps.{kept_step, IsOther};
+ghost use Rattle.live_merge.specs.declared.fault.MergeFault.TheVariants as faults;
+ghost use Rattle.live_merge.specs.Steps.{kept_step};
+ghost use Rattle.live_workers.specs.OtherSteps.{IsOther};
 ghost use Rattle.live_run.specs.KeptSteps.{cell_entry, steps_in, nothing_kept, with_cell, with_other, Clashes};
 
-use crate::fault::MergeFault;
-use crate::merge::merge_all;
 use cluster_script::Script;
 use live_cells::{NodeCell, Step};
+use live_merge::{MergeFault, merge_all, whole_merge};
+use live_workers::add_copies;
 use object_id::NoMemory;
 use sheep_world::Run;
 use std::alloc::Global;
@@ -40,16 +41,6 @@ impl Model for Kept {
     ghost view = { λ kept. kept_steps_of kept.cells.items kept.others.items };
 
     ghost invariant = { λ kept. IsWellKept kept.cells.items kept.others.items };
-}
-
-/// Copies of these steps stand behind the others.
-fn add_copies(alloc: Global, steps: &mut Vec<Step>, later: &[Step]) -> Result<(), NoMemory>
-    ensures { OnOk result (steps.new.items ≡ steps.old.items ++ later.now) }
-{
-    for step in later {
-        steps.push(step.copy(alloc)?)?;
-    }
-    Ok(())
 }
 
 /// Copies of the steps of these cells, one cell behind the other.
@@ -140,5 +131,16 @@ impl Kept {
     {
         let steps = self.by_stamp(alloc)?;
         merge_all(alloc, script, steps.as_slice())
+    }
+
+    /// The run into which what is kept merges, if every phase is ended behind it; none if the steps clash, or a phase isn't ended. Costs
+    /// what merging them costs.
+    pub fn whole_run(&self, alloc: Global, script: &Script) -> Result<Option<Run>, NoMemory>
+        ensures merge { IfOk result (λ found. IfSome found (λ run. IsMergeOf script.now self.now run.events)) }
+        ensures whole { IfOk result (λ found. IfSome found (λ run. IsWholeRun script.now run.events)) }
+        ensures history { IfOk result (λ found. IfSome found (λ run. IsKept script.now run)) }
+    {
+        let steps = self.by_stamp(alloc)?;
+        whole_merge(alloc, script, steps.as_slice())
     }
 }

@@ -1,23 +1,25 @@
-//! The steps that a live cluster kept, merged into one run of its script.
+//! A cluster that lives on threads: up to 257 workers make its events in rounds, and what they made is one run of its script.
 //!
-//! Nodes on threads step at the same time, each behind its lock (`live_cells`), and keep every step with its stamp, input and outputs.
-//! [`merge_round`] makes these steps again, one after the other, on one world: Phase where it is due, and else the next step's event. Where
-//! that event isn't enabled, or its input or outputs are others than the step keeps, the steps clash, at the first such place. So what
-//! is merged is a run of the script, and each step did what the run's node does. [`merge_all`] merges from the opening world, and [`Kept`]
-//! has all that a cluster kept, cell by cell, and merges it by stamp.
+//! In a round all workers run at once (`live_workers`), until each finds nothing to do; between two rounds the round's steps are merged into
+//! one run (`live_merge`), and the phases that are due are ended. Once every phase is ended [`run_live`] keeps the cells, makes the run anew
+//! of what is kept ([`Kept`]), and answers it; where the steps clash, the cluster starts again. A [`Gate`] may hold a worker before an event.
+//! That the run is one of the script rests on the merge, and not on what the threads did.
 //!
-//! The crate stands on `sheep_world` for the world and the run, `live_cells` for the steps, and `schedule` for what merging means
-//! (`specs/Merged.antt` there). It starts no thread.
+//! The crate stands on `live_workers` for the events, `live_merge` and `sheep_world` for the run, and `stamp_clock` for the clock. What is
+//! promised is that of [`run_live`]; that it returns isn't.
 #![tactic(auto)]
 
-mod fault;
+mod coming_back;
+mod gate;
+mod keeping;
 mod kept;
-mod merge;
-mod same_guest;
-mod same_input;
-mod same_message;
-mod same_outputs;
+mod live;
+mod pause;
+mod rounds;
+mod sessions;
+mod workers;
 
-pub use fault::MergeFault;
+pub use gate::{FreeGate, Gate};
 pub use kept::Kept;
-pub use merge::{merge_all, merge_round};
+pub use live::run_live;
+pub use live_merge::{MergeFault, merge_round};

@@ -1,7 +1,7 @@
 //! What is kept merges.
 
 ghost use Rattle.std.specs.Prelude.{◌≡◌};
-ghost use Rattle.live_run.specs.Steps.{IsOther};
+ghost use Rattle.live_workers.specs.OtherSteps.{IsOther};
 
 use crate::merges::script_of;
 use live_cells::{NodeCell, StampList, Step};
@@ -63,5 +63,34 @@ fn merges(alloc: Global) -> Result<bool, Fail> {
 #[test]
 fn and_merges_to_its_run(rt: HostRuntime) -> Result<(), Fail> {
     assert!(rt; merges(rt.alloc())?);
+    Ok(())
+}
+
+/// Whether what is kept merges to the run in which every phase is ended.
+fn merges_whole(alloc: Global) -> Result<bool, Fail> {
+    let script = script_of(alloc, FAIL)?;
+    let kept = kept_of(alloc)?;
+    Ok(match kept.whole_run(alloc, &script)? {
+        Some(run) => run.events() == FAIL_EVENTS.as_slice(),
+        None => false,
+    })
+}
+
+#[test]
+fn which_ends_every_phase(rt: HostRuntime) -> Result<(), Fail> {
+    assert!(rt; merges_whole(rt.alloc())?);
+    Ok(())
+}
+
+/// Node 1 is to fail, and nothing of it is kept.
+fn nothing_merges_whole(alloc: Global) -> Result<bool, Fail> {
+    let script = script_of(alloc, FAIL)?;
+    let run = Kept::new(alloc).whole_run(alloc, &script)?;
+    Ok(run.is_some())
+}
+
+#[test]
+fn what_is_wanting_leaves_a_phase(rt: HostRuntime) -> Result<(), Fail> {
+    assert!(rt; !nothing_merges_whole(rt.alloc())?);
     Ok(())
 }

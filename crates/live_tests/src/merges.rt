@@ -3,7 +3,7 @@
 use crate::kept_run::kept_steps;
 use cluster_script::{Script, parse};
 use live_cells::Step;
-use live_run::{MergeFault, merge_all};
+use live_merge::{MergeFault, merge_all};
 use object_id::{INPUT_BYTES_MAX, NodeId};
 use schedule::run_seeded;
 use sheep_node::{Event, Input};

@@ -1,17 +1,9 @@
-use Rattle.std.proofs.Common.{◌≡◌, ℕ, ◌<◌, List, [], map, All, sym, ap, subst, ◌∙◌}
-use Rattle.std.specs.Ordering.{nat_cmp}
+use Rattle.std.proofs.Common.{ℕ, ◌<◌, All, sym, subst}
 use Rattle.std.specs.FinMap as tree
-use Rattle.std.proofs.lemmas.List.{nil_from_length}
 use Rattle.std.proofs.lemmas.List.Elements.{All-nil}
-use Rattle.schedule.specs.Merged.{Kept, KeptStep}
+use Rattle.schedule.specs.Merged.{Kept}
+use Rattle.live_run.proofs.KeptNumbers.{no_keys}
 use Rattle.live_tests.proofs.kept_merges.kept_of.Goals as goal
-
--- nothing that is kept has no key
-no_keys : tree.keys (tree.empty {K = ℕ} {X = List KeptStep} {R = nat_cmp}) ≡ []
-no_keys =
-    ap (map (λ (e : ℕ × List KeptStep). e.0))
-    (nil_from_length (tree.entries (tree.empty {K = ℕ} {X = List KeptStep} {R = nat_cmp}))
-    (sym (tree.len-entries (tree.empty {K = ℕ} {X = List KeptStep} {R = nat_cmp})) ∙ tree.len-empty nat_cmp (List KeptStep)))
 
 pub add_cell-requires-clause-later : goal.add_cell-requires-clause-later
 add_cell-requires-clause-later c =

@@ -1,7 +1,7 @@
 use Rattle.std.proofs.Common.{◌≡◌, ◌++◌, List, map, ap, ◌∙◌}
 use Rattle.live_cells.specs.declared.step.Step.{Step}
 use Rattle.schedule.specs.Merged.{all_steps}
-use Rattle.live_run.specs.Steps.{kept_step}
+use Rattle.live_merge.specs.Steps.{kept_step}
 use Rattle.live_run.specs.KeptSteps.{steps_in}
 use Rattle.live_run.proofs.KeptLemmas.{all_in_order}
 use Rattle.live_run.proofs.kept.Kept.all_steps.Goals as goal

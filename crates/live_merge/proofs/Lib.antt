@@ -1,0 +1,4 @@
+pub mod MergeLemmas
+pub mod OpeningLemmas
+pub mod PhasesDue
+pub mod RoundLemmas

@@ -1,6 +1,0 @@
-use Rattle.std.proofs.Common.{◌≡◌, take}
-use Rattle.live_run.proofs.same_input.same_entries.Given as goal
-
--- they are the same so far
-abbrev pub invariant-loop-place : goal.invariant-loop-place
-invariant-loop-place l = take l.place l.one ≡ take l.place l.other

@@ -1,0 +1,22 @@
+-- A cell stays that of its node, whatever is made of it.
+use Rattle.std.proofs.Common.{◌≡◌, ℕ, List, true, false, sym, ap, subst, ◌∙◌}
+use Rattle.object_id.specs.declared.node.NodeId.{NodeId}
+use Rattle.sheep_node.specs.declared.event.Event.{Event}
+use Rattle.sheep_node.specs.declared.input.Input.{Input}
+use Rattle.sheep_node.specs.Step.{node_step}
+use Rattle.live_cells.specs.Cell.{CellState, cell_after}
+use Rattle.live_workers.specs.Cells.{IsCellOf}
+
+-- of a spent one nothing is said
+pub spent_cell : (cell : CellState) → cell.spent ≡ true → (number : ℕ) → IsCellOf number cell
+spent_cell cell spent number live = absurd (cc)
+
+pub same_cell : (old new : CellState) → new ≡ old → (number : ℕ) → IsCellOf number old → IsCellOf number new
+same_cell old new same number of = subst (λ (cell : CellState). IsCellOf number cell) (sym same) of
+
+-- behind a step of its node
+pub stepped_cell : (stamp : ℕ) (event : Event) (input : Input) (used : List ℕ) (old new : CellState) → old.spent ≡ false
+    → new ≡ cell_after stamp event input used old → (node_step input old.node).node.me ≡ old.node.me
+    → (number : ℕ) → IsCellOf number old → IsCellOf number new
+stepped_cell stamp event input used old new live made own number of after_live =
+    ap (λ (cell : CellState). cell.node.me.0) made ∙ ap (λ (me : NodeId). me.0) own ∙ of live

@@ -1,0 +1,4 @@
+pub mod BroughtLemmas
+pub mod CellNumbers
+pub mod OpeningCells
+pub mod OtherStepLemmas
